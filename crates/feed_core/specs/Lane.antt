@@ -1,0 +1,68 @@
+-- A subscription's lane: what it was given to hand on, what it has handed on, and why and how it ended.
+-- (Reactive Streams 1.0, 1.1, 1.3, 1.5, 1.7, 1.9 and 3.8; `Flow` and `SubmissionPublisher`, Java SE 17)
+use Rattle.std.specs.Prelude.{◌≡◌, ℕ, ◌+◌, ◌<◌, ◌≤◌, ◌⊎◌, min, true, false, Option, None, Some, List, [], ◌∷◌, ◌++◌, length, map, take, Contains}
+use Rattle.flow_rules.specs.declared.texts.Item.{Item}
+use Rattle.flow_rules.specs.declared.signals.Ending.TheVariants.{Normal}
+use Rattle.flow_rules.specs.declared.signals.Fault.{Fault}
+use Rattle.flow_rules.specs.declared.signals.Signal.{Signal}
+use Rattle.flow_rules.specs.declared.signals.Signal.TheVariants.{Subscribed, Next, Complete, Error}
+use Rattle.flow_rules.specs.declared.signals.How.{How}
+use Rattle.flow_rules.specs.declared.signals.How.TheVariants.{Completed, Errored, Cancelled, Failed, OutOfMemory}
+use Rattle.flow_rules.specs.Signals.{IsFlowText, items_of}
+use Rattle.feed_core.specs.declared.causes.Causes.{Causes}
+use Rattle.feed_core.specs.Cause.{stops, IsFaultOf}
+
+-- accepted: the items that its buffer accepted, in order · given: how many of them were taken for onNext
+-- asked: the total that was requested · causes: why it may end · how: how it ended, if it did · told: what its subscriber was told
+pub record LaneState : Type 0 where
+  pub accepted : List Item
+  pub given : ℕ
+  pub asked : ℕ
+  pub causes : Causes
+  pub how : Option How
+  pub told : List Signal
+
+-- one list is the beginning of another
+abbrev pub IsFrontOf : List Item → List Item → Type 0
+IsFrontOf front whole = (rest : List Item) × (whole ≡ front ++ rest)
+
+-- as many items were told as were given, or one fewer where the last one met want of memory
+abbrev pub TellsGiven : LaneState → Type 0
+TellsGiven lane =
+    (length (items_of lane.told) ≡ lane.given)
+    ⊎ ((lane.how ≡ Some OutOfMemory) × (length (items_of lane.told) + 1 ≡ lane.given))
+
+-- the Flow rules on a lane
+pub record IsFlow (lane : LaneState) : Type 0 where
+  pub text : IsFlowText lane.told
+  pub in_order : IsFrontOf (items_of lane.told) lane.accepted
+  pub counted : TellsGiven lane
+  pub requested : lane.given ≤ lane.asked
+  pub completed : Contains lane.told Complete → (lane.causes.closing ≡ Some Normal) × (items_of lane.told ≡ lane.accepted)
+  pub errored : (fault : Fault) → Contains lane.told (Error fault) → IsFaultOf lane.causes fault
+
+-- no onComplete and no onError was told
+abbrev pub HasNoLastSignal : List Signal → Type 0
+HasNoLastSignal told = (Contains told Complete → ⊥) × ((fault : Fault) → Contains told (Error fault) → ⊥)
+
+-- a lane that has not ended has been told all that its demand allows, and nothing is there that would end it
+pub record IsIdle (lane : LaneState) : Type 0 where
+  pub runs_on : stops lane.causes ≡ None
+  pub unfailed : lane.causes.failed ≡ None
+  pub remembered : lane.causes.memory ≡ false
+  pub all_told : lane.told ≡ Subscribed ∷ map Next (take (min (length lane.accepted) lane.asked) lane.accepted)
+  pub open_or_short : lane.causes.closing ≡ Some Normal → lane.asked < length lane.accepted
+
+-- a lane that needs no turn, by how it ended
+abbrev pub IsSettledAs : LaneState → Option How → Type 0
+IsSettledAs lane None = IsIdle lane
+IsSettledAs lane (Some Completed) = lane.told ≡ Subscribed ∷ (map Next lane.accepted ++ Complete ∷ [])
+IsSettledAs lane (Some (Errored fault)) = (before : List Signal) × (lane.told ≡ before ++ Error fault ∷ [])
+IsSettledAs lane (Some Cancelled) = HasNoLastSignal lane.told × (lane.causes.cancel ≡ true)
+IsSettledAs lane (Some (Failed code)) = HasNoLastSignal lane.told × (lane.causes.failed ≡ Some code)
+IsSettledAs lane (Some OutOfMemory) = HasNoLastSignal lane.told × (lane.causes.memory ≡ true)
+
+-- nothing is forgotten: a lane at rest was told all that its demand and its ending allow
+pub record IsSettled (lane : LaneState) : Type 0 where
+  pub flow : IsFlow lane
+  pub rests : IsSettledAs lane lane.how

@@ -1,0 +1,3 @@
+pub mod Cause
+pub mod Lane
+pub mod PlainTurn

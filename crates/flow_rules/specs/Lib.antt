@@ -1,0 +1,7 @@
+pub mod Capacity
+pub mod Collected
+pub mod Demand
+pub mod Name
+pub mod Padding
+pub mod Refusal
+pub mod Signals
