@@ -1,0 +1,77 @@
+-- What was written, piece after piece.
+use Rattle.std.proofs.Common.{◌≡◌, ◌==◌, arith, ℕ, Bool, true, false, List, [], ◌∷◌, ◌++◌, length, take, drop, refl, sym, ap, ◌∙◌, append_assoc, subst, Option, Some, None, get_or, ◌+◌, ◌<◌}
+use Rattle.std.proofs.lemmas.List.{append-nil, take-append-drop, take_more}
+use Rattle.std.proofs.lemmas.Bool.Decides.{nat_tests}
+use Rattle.std.specs.Io.KnownBytes.{Appends, Keeps}
+use Rattle.std.proofs.KnownBytes.{Appends-nil, Appends-trans}
+use Rattle.flow_rules.specs.declared.signals.Signal.{Signal}
+use Rattle.lines_demo.specs.Report.{signal_line, signal_lines}
+use Rattle.lines_demo.specs.Writing.{Writes, IsFrontOf}
+
+-- what is kept has what was appended before
+pub Appends-kept : (a b c : Option (List ℕ)) (bs : List ℕ) → Appends a b bs → Keeps b c → Appends a c bs
+Appends-kept None b c bs p q = tt
+Appends-kept (Some x) None c bs p q = absurd p
+Appends-kept (Some x) (Some y) None bs p q = absurd q
+Appends-kept (Some x) (Some y) (Some z) bs p q = q ∙ p
+
+-- nothing was written
+pub writes-none : (a : Option (List ℕ)) (bytes : List ℕ) → Writes false a a bytes
+writes-none a bytes = record { written = []; appended = Appends-nil a; front = (bytes, refl); whole = λ e. cc }
+
+-- all was written
+pub writes-all : (a b : Option (List ℕ)) (bytes : List ℕ) → Appends a b bytes → Writes true a b bytes
+writes-all a b bytes p = record { written = bytes; appended = p; front = ([], sym (append-nil bytes)); whole = λ _. refl }
+
+-- a front was written
+pub writes-front : (a b : Option (List ℕ)) (written rest bytes : List ℕ) → Appends a b written → bytes ≡ written ++ rest → Writes false a b bytes
+writes-front a b written rest bytes p e = record { written = written; appended = p; front = (rest, e); whole = λ f. cc }
+
+-- where all was written, it was appended
+pub writes-done : (a b : Option (List ℕ)) (bytes : List ℕ) → Writes true a b bytes → Appends a b bytes
+writes-done a b bytes w = let P : List ℕ → Type 0 = λ x. Appends a b x in subst P (w.whole refl) w.appended
+
+-- a piece after what was appended before
+pub writes-after : (done : Bool) (a b c : Option (List ℕ)) (before bytes : List ℕ) → Appends a b before → Writes done b c bytes → Writes done a c (before ++ bytes)
+writes-after done a b c before bytes p w = record {
+  written = before ++ w.written;
+  appended = Appends-trans a b c before w.written p w.appended;
+  front = (w.front.0, ap (λ x. before ++ x) w.front.1 ∙ sym (append_assoc before w.written w.front.0));
+  whole = λ e. ap (λ x. before ++ x) (w.whole e)
+}
+
+-- what was not written whole is a front of more, too
+pub writes-less : (a b : Option (List ℕ)) (bytes more : List ℕ) → Writes false a b bytes → Writes false a b (bytes ++ more)
+writes-less a b bytes more w =
+    writes-front a b w.written (w.front.0 ++ more) (bytes ++ more) w.appended (ap (λ x. x ++ more) w.front.1 ∙ append_assoc w.written w.front.0 more)
+
+-- one more write of what was left
+pub writes-more : (a b c : Option (List ℕ)) (n : ℕ) (written rest bytes : List ℕ) → Appends a b written → bytes ≡ written ++ rest → Appends b c (take n rest)
+    → (written' : List ℕ) × Appends a c written' × (bytes ≡ written' ++ drop n rest)
+writes-more a b c n written rest bytes p e q =
+    (written ++ take n rest, Appends-trans a b c written (take n rest) p q,
+    e ∙ ap (λ x. written ++ x) (sym (take-append-drop n rest)) ∙ sym (append_assoc written (take n rest) (drop n rest)))
+
+-- the lines of some signals and of one more
+pub signal_lines-append : (name : List ℕ) (s t : List Signal) → signal_lines name (s ++ t) ≡ signal_lines name s ++ signal_lines name t
+signal_lines-append name [] t = refl
+signal_lines-append name (x ∷ s) t = ap (λ r. signal_line name x ++ r) (signal_lines-append name s t) ∙ sym (append_assoc (signal_line name x) (signal_lines name s) (signal_lines name t))
+
+-- the lines of the first signals, and of the next one
+pub signal_lines-more : (name : List ℕ) (signals : List Signal) (i : ℕ) (signal : Signal) → i < length signals → signal ≡ get_or signals i signal → signal_lines name (take (i + 1) signals) ≡ signal_lines name (take i signals) ++ signal_line name signal
+signal_lines-more name signals i signal more at =
+    ap (λ s. signal_lines name s) (take_more signals i signal more)
+    ∙ signal_lines-append name (take i signals) (get_or signals i signal ∷ [])
+    ∙ ap (λ s. signal_lines name (take i signals) ++ s) (append-nil (signal_line name (get_or signals i signal)))
+    ∙ ap (λ s. signal_lines name (take i signals) ++ signal_line name s) (sym at)
+
+-- a list of no elements is empty
+pub empty-is : (xs : List ℕ) → true ≡ (length xs == 0) → xs ≡ []
+empty-is [] e = refl
+empty-is (x ∷ xs) e =
+    let none : length (x ∷ xs) ≡ 0 = grind (arith, nat_tests) in
+    absurd (omega arith)
+
+-- the lines of all signals, cut at a place
+pub signal_lines-rest : (name : List ℕ) (signals : List Signal) (i : ℕ) → signal_lines name signals ≡ signal_lines name (take i signals) ++ signal_lines name (drop i signals)
+signal_lines-rest name signals i = ap (λ s. signal_lines name s) (sym (take-append-drop i signals)) ∙ signal_lines-append name (take i signals) (drop i signals)

@@ -1,0 +1,10 @@
+pub mod Command
+pub mod Faults
+pub mod Lane
+pub mod Lines
+pub mod Number
+pub mod Playing
+pub mod Report
+pub mod RunScript
+pub mod Script
+pub mod Writing

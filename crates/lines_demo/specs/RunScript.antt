@@ -1,0 +1,42 @@
+-- What playing a script does to its reader and its writer.
+use Rattle.std.specs.Prelude.{◌≡◌, ℕ, ◌≤◌, Bool, Option, Result, Ok, Err, IfSome, List, [], length, ⊤}
+use Rattle.std.specs.Io.KnownBytes.{Appends}
+use Rattle.lines_demo.specs.declared.faults.ScriptFault.{ScriptFault}
+use Rattle.lines_demo.specs.declared.faults.ScriptFault.TheVariants.{Read, Write, Memory}
+use Rattle.lines_demo.specs.Script.{script_output}
+use Rattle.lines_demo.specs.Writing.{IsFrontOf}
+
+-- the longest script
+abbrev pub LONGEST_SCRIPT : ℕ
+LONGEST_SCRIPT = 16777216
+
+-- the bytes that the script was played on: all that the reader had, or a front of it where the reading stopped
+abbrev pub IsScriptOf : Result (Unit {0}) ScriptFault → List ℕ → List ℕ → Type 0
+IsScriptOf (Ok _) known bytes = known ≡ bytes
+IsScriptOf (Err Read) known bytes = IsFrontOf bytes known
+IsScriptOf (Err Write) known bytes = known ≡ bytes
+IsScriptOf (Err Memory) known bytes = IsFrontOf bytes known
+
+-- the reading stopped
+abbrev pub StopsReading : Result (Unit {0}) ScriptFault → Type 0
+StopsReading (Ok _) = ⊥
+StopsReading (Err Read) = ⊤
+StopsReading (Err Write) = ⊥
+StopsReading (Err Memory) = ⊤
+
+-- how much of the output was written: all of it at the end, none where the reading failed, and else a front of it
+abbrev pub IsAsMuch : Result (Unit {0}) ScriptFault → List ℕ → List ℕ → Type 0
+IsAsMuch (Ok _) written output = written ≡ output
+IsAsMuch (Err Read) written output = written ≡ []
+IsAsMuch (Err Write) written output = IsFrontOf written output
+IsAsMuch (Err Memory) written output = IsFrontOf written output
+
+-- the script that was read was answered as the definition says, under some refusals of memory
+pub record PlaysScript (result : Result (Unit {0}) ScriptFault) (stock : ℕ) (known old new : Option (List ℕ)) : Type 0 where
+  pub bytes : List ℕ
+  pub refusals : List Bool
+  pub written : List ℕ
+  pub given : IfSome known (λ all. IsScriptOf result all bytes)
+  pub bounded : length bytes ≤ LONGEST_SCRIPT
+  pub appended : Appends old new written
+  pub as_much : IsAsMuch result written (script_output stock refusals bytes)
