@@ -3,6 +3,8 @@
 
 mod causes;
 mod outlooks;
+mod seens;
 
 pub use causes::Causes;
 pub use outlooks::Outlook;
+pub use seens::Seen;
