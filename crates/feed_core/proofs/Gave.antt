@@ -1,7 +1,8 @@
 -- The looks of one turn, one after the other.
-use Rattle.std.proofs.Common.{◌≡◌, ℕ, zero, suc, ◌+◌, ◌-◌, ◌<◌, ◌≤◌, ◌⊎◌, ◌↔◌, Bool, true, false, List, [], ◌∷◌, ◌++◌, map, length, drop, Contains, Option, None, Some, refl, ap, sym, ◌∙◌, subst, inl, inr, arith, append_assoc}
+use Rattle.std.proofs.Common.{◌≡◌, ℕ, zero, suc, ◌+◌, ◌-◌, ◌<◌, ◌≤◌, ◌⊎◌, ◌↔◌, Bool, true, false, List, [], ◌∷◌, ◌++◌, map, length, take, drop, Contains, Option, None, Some, refl, ap, sym, ◌∙◌, subst, inl, inr, arith, append_assoc}
 use Rattle.std.proofs.lemmas.List.{append-nil, length-append, length-map, map-append}
 use Rattle.std.proofs.lemmas.List.Elements.{Contains-append_cases, Contains-push}
+use Rattle.std.proofs.Math.Seq.{take-append-add}
 use Rattle.flow_rules.specs.declared.texts.Item.{Item}
 use Rattle.flow_rules.specs.declared.signals.Fault.{Fault}
 use Rattle.flow_rules.specs.declared.signals.Signal.{Signal}
@@ -13,8 +14,8 @@ use Rattle.feed_core.specs.declared.causes.Causes.{Causes}
 use Rattle.feed_core.specs.declared.outlooks.Outlook.{Outlook}
 use Rattle.feed_core.specs.declared.outlooks.Outlook.TheVariants.{Again, Resting, Ended}
 use Rattle.feed_core.specs.Cause.{stops}
-use Rattle.feed_core.specs.Desk.{DeskState, AfterTurn, causes_after, EndsIn, IsProperFrontOf, MeetsPlainTurn, Owes}
-use Rattle.feed_core.specs.Lane.{LaneState, IsFrontOf}
+use Rattle.feed_core.specs.Desk.{DeskState, AfterTurn, causes_after, EndsIn, IsProperFrontOf, MeetsPlainTurn, Owes, taken_in}
+use Rattle.feed_core.specs.Lane.{LaneState, IsFlow, IsFrontOf}
 use Rattle.feed_core.specs.PlainTurn.{Turn, again, greeting, last_signal, plain_turn_of, telling}
 use Rattle.feed_core.specs.Sound.{is_begun}
 use Rattle.feed_core.specs.Steps.{GoesOn, Greets, IsToldBy, Looks, rest_of_turn, turn_within}
@@ -29,10 +30,11 @@ pub record Gave (count : ℕ) (old new : DeskState) (seen : List Signal) : Type 
   pub items : List Item
   pub seen_is : seen ≡ greeting old.lane.told ++ map Next items
   pub counted : length items ≡ count
-  pub few : new.lane.given ≤ old.lane.given + count
+  pub given : new.lane.given ≡ old.lane.given + count
   pub waited : drop old.lane.given old.lane.accepted ≡ items ++ drop new.lane.given new.lane.accepted
   pub left : plain_turn_of old.lane ≡ telling seen (rest_of_turn (64 - count) new.lane)
   pub unstopped : 0 < count → stops new.lane.causes ≡ None
+  pub flow : 0 < count → IsFlow new.lane
 
 begun_by_greeting : (told : List Signal) → is_begun (told ++ greeting told) ≡ true
 begun_by_greeting [] = refl
@@ -61,10 +63,11 @@ gave_none old new seen seen' owed nothing greets =
       items = [];
       seen_is = seen_is ∙ sym (append-nil (greeting old.lane.told));
       counted = refl;
-      few = omega arith;
+      given = omega arith;
       waited = refl;
       left = ap (λ told. telling told (rest_of_turn 64 old.lane)) (sym seen_is);
       unstopped = λ some. absurd (omega (arith, some));
+      flow = λ some. absurd (omega (arith, some));
     })
 
 -- what two parts of a turn change, one after the other
@@ -111,10 +114,11 @@ module _ {count : ℕ} {old mid new : DeskState} {seen seen' : List Signal} (gav
         seen_is = seen_after ∙ ap (λ text. text ++ Next item ∷ []) gave.seen_is ∙ append_assoc (greeting old.lane.told) (map Next gave.items) (Next item ∷ [])
             ∙ ap (λ text. greeting old.lane.told ++ text) (sym (map-append Next gave.items (item ∷ [])));
         counted = length-append gave.items (item ∷ []) ∙ ap (λ n. n + 1) gave.counted;
-        few = omega (arith, gave.few, goes.counted);
+        given = omega (arith, gave.given, goes.counted);
         waited = gave.waited ∙ ap (λ rest. gave.items ++ rest) goes.waited ∙ sym (append_assoc gave.items (item ∷ []) (drop new.lane.given new.lane.accepted));
         left = gave.left ∙ ap (telling seen) step ∙ telling-telling seen (Next item ∷ []) (rest_of_turn m new.lane) ∙ ap (λ text. telling text (rest_of_turn m new.lane)) (sym seen_after);
         unstopped = λ some. ap stops looks.turned.causes ∙ goes.unstopped;
+        flow = λ some. looks.flow;
       }
 
 greeting-open : (told : List Signal) (s : Signal) → IsTerminal s → Contains (greeting told) s → ⊥
@@ -188,13 +192,35 @@ module _ {count : ℕ} {old mid : DeskState} {seen : List Signal} (gave : Gave c
   open_so_far s last ends = gave-open s last (last_contained seen s ends)
 
   -- after 64 items the turn is over, and another one is owed
+  whole_full : count ≡ 64 → plain_turn_of old.lane ≡ telling seen again
+  whole_full all =
+      let none : 64 - count ≡ 0 = omega arith in
+      gave.left ∙ ap (λ most. telling seen (rest_of_turn most mid.lane)) none
+      ∙ ap (telling seen) (full mid.lane.causes (drop mid.lane.given mid.lane.accepted) (mid.lane.asked - mid.lane.given) (gave.unstopped (omega arith)))
+
   pub plain_full : count ≡ 64 → MeetsPlainTurn (plain_turn_of old.lane) seen Again
   plain_full all =
-      let none : 64 - count ≡ 0 = omega arith in
-      let whole : plain_turn_of old.lane ≡ telling seen again =
-      gave.left ∙ ap (λ most. telling seen (rest_of_turn most mid.lane)) none
-      ∙ ap (telling seen) (full mid.lane.causes (drop mid.lane.given mid.lane.accepted) (mid.lane.asked - mid.lane.given) (gave.unstopped (omega arith))) in
+      let whole = whole_full all in
       inl (sym (ap (λ t. t.told) whole ∙ append-nil seen), sym (ap (λ t. t.outlook) whole))
+
+  -- what is taken in the rest of a turn is taken in the whole, after the items so far
+  taken_then : (turn : Turn) (last : List Signal) → plain_turn_of old.lane ≡ telling seen turn → taken_in (plain_turn_of old.lane) (seen ++ last) ≡ count + taken_in turn last
+  taken_then turn last whole =
+      let long : length (seen ++ last) + 1 ≡ length seen + (length last + 1) = omega (arith, length-append seen last) in
+      let counted = gave.counted in
+      let same : items_of (take (length (seen ++ last) + 1) (plain_turn_of old.lane).told) ≡ gave.items ++ items_of (take (length last + 1) turn.told) =
+      ap (λ t. items_of (take (length (seen ++ last) + 1) t.told)) whole
+      ∙ ap (λ n. items_of (take n (seen ++ turn.told))) long
+      ∙ ap items_of (take-append-add seen turn.told (length last + 1))
+      ∙ items_of-append seen (take (length last + 1) turn.told)
+      ∙ ap (λ items. items ++ items_of (take (length last + 1) turn.told)) items_of-gave in
+      ap length same ∙ length-append gave.items (items_of (take (length last + 1) turn.told)) ∙ ap (λ n. n + length (items_of (take (length last + 1) turn.told))) counted
+
+  pub taken_full : count ≡ 64 → mid.lane.given ≡ old.lane.given + taken_in (plain_turn_of old.lane) seen
+  taken_full all =
+      let before : mid.lane.given ≡ old.lane.given + count = gave.given in
+      let both : taken_in (plain_turn_of old.lane) seen ≡ count + 0 = ap (taken_in (plain_turn_of old.lane)) (sym (append-nil seen)) ∙ taken_then again [] (whole_full all) in
+      omega arith
 
   module _ {new : DeskState} {seen' : List Signal} {outlook : Outlook} (looks : Looks mid new seen seen' outlook) (other : outlook ≡ Again → ⊥) where
     items_after : items_of seen' ≡ gave.items
@@ -227,6 +253,17 @@ module _ {count : ℕ} {old mid : DeskState} {seen : List Signal} (gave : Gave c
       ],
       λ e. (seen, looks.seen_after ∙ ap (λ last. seen ++ last) (subst (λ o. IsToldBy o looks.last) e looks.shape)),
     )
+
+    pub taken_end : count < 64 → new.lane.given ≡ old.lane.given + taken_in (plain_turn_of old.lane) seen'
+    taken_end room =
+        let m : ℕ = 63 - count in
+        let more : 64 - count ≡ suc m = omega arith in
+        let whole : plain_turn_of old.lane ≡ telling seen (rest_of_turn (suc m) mid.lane) = gave.left ∙ ap (λ most. telling seen (rest_of_turn most mid.lane)) more in
+        let before : mid.lane.given ≡ old.lane.given + count = gave.given in
+        let after : new.lane.given ≡ mid.lane.given + taken_in (rest_of_turn (suc m) mid.lane) looks.last = looks.taken other m in
+        let both : taken_in (plain_turn_of old.lane) seen' ≡ count + taken_in (rest_of_turn (suc m) mid.lane) looks.last =
+        ap (taken_in (plain_turn_of old.lane)) looks.seen_after ∙ taken_then (rest_of_turn (suc m) mid.lane) looks.last whole in
+        omega arith
 
     pub plain_end : count < 64 → MeetsPlainTurn (plain_turn_of old.lane) seen' outlook
     plain_end room =

@@ -197,6 +197,22 @@ module _ {told : List Signal} {held : List Item} {given asked capacity : ℕ} {c
     pub sound_due : {told' : List Signal} (end : How) → IsDue (lane_of told held given asked causes how) end → told' ≡ told ++ last_signal end → IsSound (lane_of told' held given asked (with_cause_of end causes) (Some end)) held capacity running
     sound_due end due grows = sound_ended end (due_may (lane_of told held given asked causes how) end due) grows
 
+    -- an item whose callback met want of memory is taken and lost
+    pub sound_lost : {told' : List Signal} {held' : List Item} → told' ≡ told → held' ≡ held → given < length (items_of told ++ held) → given < asked → IsSound (lane_of told' held' (given + 1) asked (with_cause_of OutOfMemory causes) (Some OutOfMemory)) held' capacity running
+    sound_lost {told'} {held'} same_told same_held waits requested =
+        subst (λ text. IsSound (lane_of text held' (given + 1) asked (with_cause_of OutOfMemory causes) (Some OutOfMemory)) held' capacity running) (sym same_told)
+        (subst (λ rest. IsSound (lane_of told rest (given + 1) asked (with_cause_of OutOfMemory causes) (Some OutOfMemory)) rest capacity running) (sym same_held)
+        (let as_many = all_counted in
+        record {
+          holds = refl;
+          text = (sound_ended OutOfMemory tt (sym (append-nil told))).text;
+          counts = record { tells = omega arith; loses = omega arith; taken = omega arith; fits = let fits = sound.counts.fits in omega arith; requested = omega arith };
+          cause = has_cause (lane_of told held (given + 1) asked causes how) OutOfMemory told (items_of told ++ held) refl tt;
+          unfailed = λ e. cc;
+          remembered = λ e. cc;
+          rests = λ e. cc;
+        }))
+
     module _ {told' : List Signal} {held' : List Item} {seen seen' : List Signal} (moves : MovesNext told told' held held' seen seen') where
       items_after : items_of told' ≡ items_of told ++ moves.item ∷ []
       items_after = ap items_of moves.told_after ∙ items_of-append told (Next moves.item ∷ [])

@@ -8,17 +8,18 @@ use Rattle.flow_rules.specs.declared.signals.Ending.TheVariants.{Normal, Failed 
 use Rattle.flow_rules.specs.declared.signals.Signal.{Signal}
 use Rattle.flow_rules.specs.declared.signals.Signal.TheVariants.{Next}
 use Rattle.flow_rules.specs.declared.signals.How.{How}
-use Rattle.flow_rules.specs.declared.signals.How.TheVariants.{OutOfMemory}
+use Rattle.flow_rules.specs.declared.signals.How.TheVariants.{Completed, Errored, Cancelled, Failed, OutOfMemory}
 use Rattle.flow_rules.specs.Signals.{items_of}
 use Rattle.feed_core.specs.declared.causes.Causes.{Causes}
 use Rattle.feed_core.specs.declared.outlooks.Outlook.TheVariants.{Again, Resting, Ended}
 use Rattle.feed_core.specs.Cause.{stops, closes, completion, with_cause_of}
-use Rattle.feed_core.specs.Desk.{DeskState, IsProperFrontOf}
-use Rattle.feed_core.specs.Lane.{LaneState}
-use Rattle.feed_core.specs.PlainTurn.{last_signal, ended, resting, closing_or_resting}
+use Rattle.feed_core.specs.Desk.{DeskState, IsProperFrontOf, taken_in}
+use Rattle.feed_core.specs.Lane.{LaneState, IsFlow}
+use Rattle.feed_core.specs.PlainTurn.{Turn, last_signal, ended, resting, closing_or_resting, telling}
 use Rattle.feed_core.specs.Sound.{is_begun, lane_of, IsSound}
 use Rattle.feed_core.specs.Steps.{GoesOn, IsDue, Looks, MovesNext, rest_of_turn, turn_within}
-use Rattle.feed_core.proofs.Keeping.{accepted_kept, all_counted, one_more, waiting_held, ended_items}
+use Rattle.feed_core.proofs.Flow.{flow_kept}
+use Rattle.feed_core.proofs.Keeping.{accepted_kept, all_counted, ended_items, one_more, sound_due, sound_ended, sound_given, sound_lost, waiting_held}
 use Rattle.feed_core.proofs.Texts.{items_of-append}
 use Rattle.feed_core.proofs.Turning.{gives, pauses, stopped}
 
@@ -41,8 +42,8 @@ still_resting (Some Normal) (_ ∷ _) some = refl
 still_resting (Some (ClosedWith _)) waiting some = refl
 
 -- nothing was left to do
-pub looks_rested : (old : DeskState) (seen : List Signal) → old.lane.how ≡ None → stops old.lane.causes ≡ None → old.lane.given ≡ min (length old.lane.accepted) old.lane.asked → (old.lane.causes.closing ≡ Some Normal → old.lane.given < length old.lane.accepted) → Looks old (record old { running = false }) seen seen Resting
-looks_rested old seen unended unstopped all waits =
+pub looks_rested : (old : DeskState) (seen : List Signal) → IsFlow old.lane → old.lane.how ≡ None → stops old.lane.causes ≡ None → old.lane.given ≡ min (length old.lane.accepted) old.lane.asked → (old.lane.causes.closing ≡ Some Normal → old.lane.given < length old.lane.accepted) → Looks old (record old { running = false }) seen seen Resting
+looks_rested old seen flow unended unstopped all waits =
     let lane = old.lane in
     let left = length-drop lane.given lane.accepted in
     let rested : closing_or_resting (closes lane.causes) (drop lane.given lane.accepted) ≡ resting =
@@ -62,11 +63,31 @@ looks_rested old seen unended unstopped all waits =
         steady = λ steady. steady;
       };
       few = omega arith;
+      flow = flow;
       again = λ e. cc;
       ends = λ _ most.
           let turn = pauses most lane.causes (drop lane.given lane.accepted) (lane.asked - lane.given) unstopped (omega arith) ∙ rested in
           inl (sym (ap (λ t. t.told) turn), sym (ap (λ t. t.outlook) turn));
+      taken = λ _ most.
+          let turn = pauses most lane.causes (drop lane.given lane.accepted) (lane.asked - lane.given) unstopped (omega arith) ∙ rested in
+          let none : taken_in (rest_of_turn (suc most) lane) [] ≡ 0 = ap (λ t. taken_in t []) turn in
+          omega arith;
     }
+
+-- an ending has no items, told or missed
+no_item : (end : How) → taken_in (ended end) (last_signal end) ≡ 0
+no_item Completed = refl
+no_item (Errored _) = refl
+no_item Cancelled = refl
+no_item (Failed _) = refl
+no_item OutOfMemory = refl
+
+no_item_missed : (end : How) → taken_in (ended end) [] ≡ 0
+no_item_missed Completed = refl
+no_item_missed (Errored _) = refl
+no_item_missed Cancelled = refl
+no_item_missed (Failed _) = refl
+no_item_missed OutOfMemory = refl
 
 module _ {told : List Signal} {held : List Item} {given asked capacity : ℕ} {causes : Causes} {how : Option How} {running : Bool} (sound : IsSound (lane_of told held given asked causes how) held capacity running) (unended : how ≡ None) (runs : running ≡ true) (begun : is_begun told ≡ true) where
   -- an item was taken and told
@@ -89,6 +110,7 @@ module _ {told : List Signal} {held : List Item} {given asked capacity : ℕ} {c
           steady = stays;
         };
         few = omega arith;
+        flow = flow_kept (sound_given sound unended runs begun moves requested);
         again = λ _. record {
           item = moves.item;
           told = refl;
@@ -98,6 +120,7 @@ module _ {told : List Signal} {held : List Item} {given asked capacity : ℕ} {c
           unstopped = unstopped;
         };
         ends = λ other. absurd (other refl);
+        taken = λ other. absurd (other refl);
       }
 
   -- an item was taken, and its callback met want of memory
@@ -117,18 +140,25 @@ module _ {told : List Signal} {held : List Item} {given asked capacity : ℕ} {c
       steady = stays;
     };
     few = omega arith;
+    flow = flow_kept (sound_lost sound unended runs begun same_told same_held waits requested);
     again = λ e. cc;
-    ends = λ _ most. inr (refl, missed most held refl);
+    ends = λ _ most.
+        let next = gives_next most held refl in
+        inr (refl, (Next next.0, next.1.told, ap (λ t. t.told) next.2));
+    taken = λ _ most.
+        let next = gives_next most held refl in
+        let one : taken_in (rest_of_turn (suc most) (lane_of told held given asked causes how)) [] ≡ 1 = ap (λ t. taken_in t []) next.2 in
+        omega arith;
   } where
-    missed : (most : ℕ) (items : List Item) → held ≡ items → IsProperFrontOf [] (rest_of_turn (suc most) (lane_of told held given asked causes how)).told
-    missed most [] e =
+    -- the plain turn would have given an item
+    gives_next : (most : ℕ) (items : List Item) → held ≡ items → (item : Item) × (rest : Turn) × (rest_of_turn (suc most) (lane_of told held given asked causes how) ≡ telling (Next item ∷ []) rest)
+    gives_next most [] e =
         let counted = all_counted sound unended in
         let none : length (items_of told ++ held) ≡ length (items_of told) = ap (λ rest. length (items_of told ++ rest)) e ∙ ap length (append-nil (items_of told)) in
         absurd (omega arith)
-    missed most (item ∷ items) e =
+    gives_next most (item ∷ items) e =
         let waiting : drop given (items_of told ++ held) ≡ item ∷ items = waiting_held sound unended ∙ e in
-        let turn = ap (λ rest. turn_within (suc most) causes rest (asked - given)) waiting ∙ gives most causes item items (asked - given) unstopped (omega arith) in
-        (Next item, (turn_within most causes items (asked - given - 1)).told, ap (λ t. t.told) turn)
+        (item, turn_within most causes items (asked - given - 1), ap (λ rest. turn_within (suc most) causes rest (asked - given)) waiting ∙ gives most causes item items (asked - given) unstopped (omega arith))
 
   module _ {told' : List Signal} {seen seen' : List Signal} {steady steady' : Bool} (end : How) (due : IsDue (lane_of told held given asked causes how) end) (stays : steady ≡ true → steady' ≡ true) where
     -- the ending that was due was told
@@ -150,10 +180,15 @@ module _ {told : List Signal} {held : List Item} {given asked capacity : ℕ} {c
             steady = stays;
           };
           few = omega arith;
+          flow = flow_kept (sound_due sound unended runs begun end due grows);
           again = λ e. cc;
           ends = λ _ most.
               let turn = due_turn (lane_of told held given asked causes how) end most due in
               inl (sym (ap (λ t. t.told) turn), sym (ap (λ t. t.outlook) turn));
+          taken = λ _ most.
+              let turn = due_turn (lane_of told held given asked causes how) end most due in
+              let none : taken_in (rest_of_turn (suc most) (lane_of told held given asked causes how)) (last_signal end) ≡ 0 = ap (λ t. taken_in t (last_signal end)) turn ∙ no_item end in
+              omega arith;
         }
 
     -- the callback of the ending that was due met want of memory
@@ -173,8 +208,13 @@ module _ {told : List Signal} {held : List Item} {given asked capacity : ℕ} {c
         steady = stays;
       };
       few = omega arith;
+      flow = flow_kept (sound_ended sound unended runs begun OutOfMemory tt (same_told ∙ sym (append-nil told)));
       again = λ e. cc;
       ends = λ _ most.
           let turn = due_turn (lane_of told held given asked causes how) end most due in
           inr (refl, (missed.0, missed.1, ap (λ t. t.told) turn ∙ missed.2));
+      taken = λ _ most.
+          let turn = due_turn (lane_of told held given asked causes how) end most due in
+          let none : taken_in (rest_of_turn (suc most) (lane_of told held given asked causes how)) [] ≡ 0 = ap (λ t. taken_in t []) turn ∙ no_item_missed end in
+          omega arith;
     }

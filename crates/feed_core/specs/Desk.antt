@@ -1,11 +1,12 @@
 -- One subscription as plain state: what its calls change, and what they answer.
-use Rattle.std.specs.Prelude.{◌≡◌, ◌⊎◌, ◌↔◌, ℕ, ◌+◌, ◌-◌, ◌<◌, ◌≤◌, ◌==◌, if◌then◌else◌, min, Bool, true, false, Option, None, Some, IsSome, List, [], ◌∷◌, ◌++◌, length, map, take, drop}
+use Rattle.std.specs.Prelude.{◌≡◌, ◌⊎◌, ◌↔◌, ℕ, ◌+◌, ◌-◌, ◌<◌, Bool, true, false, Option, None, Some, IsSome, List, [], ◌∷◌, ◌++◌, length, take}
 use Rattle.flow_rules.specs.Capacity.{IsCapacityOf}
 use Rattle.flow_rules.specs.Demand.{total_after}
 use Rattle.flow_rules.specs.declared.signals.Ending.{Ending}
 use Rattle.flow_rules.specs.declared.texts.Item.{Item}
 use Rattle.flow_rules.specs.declared.signals.Signal.{Signal}
 use Rattle.flow_rules.specs.declared.signals.Signal.TheVariants.{Next}
+use Rattle.flow_rules.specs.Signals.{items_of}
 use Rattle.flow_rules.specs.declared.signals.How.{How}
 use Rattle.flow_rules.specs.declared.signals.How.TheVariants.{OutOfMemory}
 use Rattle.feed_core.specs.declared.causes.Causes.{Causes}
@@ -55,6 +56,14 @@ IsOpen lane = (lane.how ≡ None) × (lane.causes.closing ≡ None)
 -- it takes no more items: it has ended or was closed
 abbrev pub IsGone : LaneState → Type 0
 IsGone lane = IsSome lane.how ⊎ IsSome lane.causes.closing
+
+-- it takes items, and its buffer is full
+abbrev pub IsFull : DeskState → Type 0
+IsFull desk = IsOpen desk.lane × (lag_of desk.lane ≡ desk.capacity)
+
+-- the item came back, and nothing has changed
+abbrev pub GivesBack : DeskState → DeskState → Item → Item → Type 0
+GivesBack old new item back = (back ≡ item) × (new ≡ old)
 
 -- a change of the lane was signalled: the lane is the new one, and the task was started
 abbrev pub signalled : DeskState → LaneState → DeskState
@@ -122,3 +131,8 @@ abbrev pub MeetsPlainTurn : Turn → List Signal → Outlook → Type 0
 MeetsPlainTurn plain seen outlook =
     ((seen ≡ plain.told) × (outlook ≡ plain.outlook))
     ⊎ ((outlook ≡ Ended OutOfMemory) × IsProperFrontOf seen plain.told)
+
+-- how many items were taken for onNext where this was told of the plain turn: those that were told, and the one whose
+-- onNext came next, which met want of memory
+abbrev pub taken_in : Turn → List Signal → ℕ
+taken_in plain seen = length (items_of (take (length seen + 1) plain.told))

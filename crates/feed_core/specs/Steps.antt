@@ -9,8 +9,8 @@ use Rattle.feed_core.specs.declared.causes.Causes.{Causes}
 use Rattle.feed_core.specs.declared.outlooks.Outlook.{Outlook}
 use Rattle.feed_core.specs.declared.outlooks.Outlook.TheVariants.{Again, Resting, Ended}
 use Rattle.feed_core.specs.Cause.{stops, closes, with_cause_of}
-use Rattle.feed_core.specs.Desk.{DeskState, AfterTurn, MeetsPlainTurn}
-use Rattle.feed_core.specs.Lane.{LaneState}
+use Rattle.feed_core.specs.Desk.{DeskState, AfterTurn, MeetsPlainTurn, taken_in}
+use Rattle.feed_core.specs.Lane.{LaneState, IsFlow}
 use Rattle.feed_core.specs.PlainTurn.{Turn, again, greeting, telling, last_signal, unless_stopped, closing_or_resting}
 
 -- the first of the held items was told, and moved to what was seen
@@ -63,8 +63,10 @@ pub record Looks (old new : DeskState) (seen seen' : List Signal) (outlook : Out
   pub seen_after : seen' ≡ seen ++ last
   pub turned : AfterTurn old new last outlook
   pub few : new.lane.given ≤ old.lane.given + 1
+  pub flow : IsFlow new.lane
   pub again : outlook ≡ Again → GoesOn old.lane new.lane last
   pub ends : (outlook ≡ Again → ⊥) → (most : ℕ) → MeetsPlainTurn (rest_of_turn (suc most) old.lane) last outlook
+  pub taken : (outlook ≡ Again → ⊥) → (most : ℕ) → new.lane.given ≡ old.lane.given + taken_in (rest_of_turn (suc most) old.lane) last
 
 -- the subscriber was greeted, and nothing else changed
 pub record Greets (old new : DeskState) (seen seen' : List Signal) : Type 0 where

@@ -2,7 +2,7 @@ ghost use Rattle.std.specs.Prelude.{◌≡◌, ◌↔◌, ◌⊎◌, ◌^◌, �
 ghost use Rattle.flow_rules.specs.Put.{IfAccepted, IfFull, IfGone};
 ghost use Rattle.flow_rules.specs.Demand.{total_after};
 ghost use Rattle.flow_rules.specs.declared.signals.Ending.TheVariants.{Normal};
-ghost use Rattle.feed_core.specs.Desk.{AcceptsItem, IsOpen, IsGone, Rests, lag_of, closed_by, requested, signalled};
+ghost use Rattle.feed_core.specs.Desk.{AcceptsItem, GivesBack, IsFull, IsGone, Rests, closed_by, requested, signalled};
 
 use super::Desk;
 use flow_rules::{Ending, Item, Put, Subscriber};
@@ -15,8 +15,8 @@ impl<B: Subscriber> Desk<B> {
     pub fn put(&mut self, item: Item) -> Put<()>
         requires few { length self.old.lane.accepted < 2 ^ 62 }
         ensures accepted { IfAccepted result (AcceptsItem self.old self.new item) }
-        ensures full { IfFull result (λ back. IsOpen self.old.lane × (lag_of self.old.lane ≡ self.old.capacity) × (back ≡ item) × (self.new ≡ self.old)) }
-        ensures gone { IfGone result (λ back. IsGone self.old.lane × (back ≡ item) × (self.new ≡ self.old)) }
+        ensures full { IfFull result (λ back. IsFull self.old × GivesBack self.old self.new item back) }
+        ensures gone { IfGone result (λ back. IsGone self.old.lane × GivesBack self.old self.new item back) }
     {
         if self.how.is_some() || self.causes.closing.is_some() {
             return Put::Gone(item);

@@ -7,8 +7,8 @@ ghost use Rattle.flow_rules.specs.declared.signals.Signal.TheVariants.{Complete,
 ghost use Rattle.flow_rules.specs.declared.signals.How.TheVariants.{Completed, Errored, OutOfMemory};
 ghost use Rattle.feed_core.specs.declared.outlooks.Outlook.TheVariants.{Again, Resting, Ended};
 ghost use Rattle.feed_core.specs.Cause.{stops, with_cause_of};
-ghost use Rattle.feed_core.specs.Desk.{AfterTurn, EndsIn, MeetsPlainTurn, Owes};
-ghost use Rattle.feed_core.specs.Lane.{IsFrontOf};
+ghost use Rattle.feed_core.specs.Desk.{AfterTurn, EndsIn, MeetsPlainTurn, Owes, taken_in};
+ghost use Rattle.feed_core.specs.Lane.{IsFlow, IsFrontOf};
 ghost use Rattle.feed_core.specs.PlainTurn.{plain_turn_of, greeting};
 ghost use Rattle.feed_core.specs.Sound.{is_begun};
 ghost use Rattle.feed_core.specs.Steps.{Looks, Greets, IsDue, ended_by};
@@ -38,6 +38,8 @@ impl<B: Subscriber> Desk<B> {
         ensures completed { EndsIn seen.new Complete ↔ (result ≡ Ended Completed) }
         ensures errored { (fault : Fault) → EndsIn seen.new (Error fault) ↔ (result ≡ Ended (Errored fault)) }
         ensures plain { MeetsPlainTurn (plain_turn_of self.old.lane) seen.new result }
+        ensures taken { self.new.lane.given ≡ self.old.lane.given + taken_in (plain_turn_of self.old.lane) seen.new }
+        ensures flow { IsFlow self.new.lane }
     {
         seen.clear();
         if let Err(NoMemory) = self.greet(seen) {
@@ -126,6 +128,7 @@ impl<B: Subscriber> Desk<B> {
         requires untold { self.old.lane.told ≡ [] }
         ensures value { result ≡ Ended OutOfMemory }
         ensures ended { self.new ≡ record self.old { lane = ended_by OutOfMemory self.old.lane } }
+        ensures flow { IsFlow self.new.lane }
     {
         end_as(How::OutOfMemory, &mut self.causes, &mut self.how)
     }

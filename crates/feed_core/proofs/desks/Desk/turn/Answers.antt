@@ -4,7 +4,7 @@ use Rattle.flow_rules.specs.declared.signals.Signal.TheVariants.{Subscribed, Com
 use Rattle.flow_rules.specs.Signals.{items_of}
 use Rattle.feed_core.specs.Desk.{IsProperFrontOf}
 use Rattle.feed_core.specs.PlainTurn.{plain_turn_of}
-use Rattle.feed_core.proofs.Gave.{after_look, completes, errs, few_signals, gave_more, greets_first, in_order, in_order_so_far, items_of-gave, length-gave, open_so_far, plain_end, plain_full}
+use Rattle.feed_core.proofs.Gave.{after_look, completes, errs, few_signals, gave_more, greets_first, in_order, in_order_so_far, items_of-gave, length-gave, open_so_far, plain_end, plain_full, taken_end, taken_full}
 use Rattle.feed_core.proofs.desks.Desk.turn.Goals as goal
 
 pub look-requires-clause-room : goal.look-requires-clause-room
@@ -21,12 +21,14 @@ returns-in_default-look g c =
     record {
       after = after_look gave looks;
       in_order = in_order gave looks other;
-      at_most = let few = gave.few in let one = looks.few in let under = c.loop-test.true in omega arith;
+      at_most = let given = gave.given in let one = looks.few in let under = c.loop-test.true in omega arith;
       few = few_signals gave looks other c.loop-test.true;
       again = λ e. absurd (other e);
       completed = completes gave looks other;
       errored = errs gave looks other;
       plain = plain_end gave looks other c.loop-test.true;
+      taken = taken_end gave looks other c.loop-test.true;
+      flow = looks.flow;
     }
 
 pub returns-clause-in_order : goal.returns-clause-in_order
@@ -60,3 +62,9 @@ returns-in-Err-clause-plain g c =
 
 pub returns-clause-plain : goal.returns-clause-plain
 returns-clause-plain g c = plain_full c.loop.invariant (omega arith)
+
+pub returns-clause-taken : goal.returns-clause-taken
+returns-clause-taken g c = taken_full c.loop.invariant (omega arith)
+
+pub returns-clause-flow : goal.returns-clause-flow
+returns-clause-flow g c = c.loop.invariant.flow (omega arith)
