@@ -5,7 +5,7 @@ use Rattle.flow_rules.specs.declared.signals.Ending.TheVariants.{Normal, Failed 
 use Rattle.flow_rules.specs.declared.signals.Fault.{Fault}
 use Rattle.flow_rules.specs.declared.signals.Fault.TheVariants.{Published, IllegalArgument, IllegalState}
 use Rattle.flow_rules.specs.declared.signals.How.{How}
-use Rattle.flow_rules.specs.declared.signals.How.TheVariants.{Completed, Errored, Cancelled}
+use Rattle.flow_rules.specs.declared.signals.How.TheVariants.{Completed, Errored, Cancelled, Failed, OutOfMemory}
 use Rattle.feed_core.specs.declared.causes.Causes.{Causes}
 
 -- no cause at all
@@ -46,3 +46,11 @@ abbrev pub IsFaultOf : Causes → Fault → Type 0
 IsFaultOf causes (Published code) = causes.closing ≡ Some (ClosedWith code)
 IsFaultOf causes IllegalArgument = causes.argument ≡ true
 IsFaultOf causes IllegalState = causes.state ≡ true
+
+-- the causes, and with them the one that a callback brought about with this end
+abbrev pub with_cause_of : How → Causes → Causes
+with_cause_of Completed causes = causes
+with_cause_of (Errored _) causes = causes
+with_cause_of Cancelled causes = record causes { cancel = true }
+with_cause_of (Failed code) causes = record causes { failed = Some code }
+with_cause_of OutOfMemory causes = record causes { memory = true }

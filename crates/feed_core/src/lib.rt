@@ -2,7 +2,12 @@
 #![tactic(auto)]
 
 mod causes;
+mod desks;
 mod outlooks;
+mod seens;
+mod telling;
 
 pub use causes::Causes;
+pub use desks::Desk;
 pub use outlooks::Outlook;
+pub use seens::Seen;

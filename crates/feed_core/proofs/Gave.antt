@@ -1,0 +1,278 @@
+-- The looks of one turn, one after the other.
+use Rattle.std.proofs.Common.{◌≡◌, ℕ, zero, suc, ◌+◌, ◌-◌, ◌<◌, ◌≤◌, ◌⊎◌, ◌↔◌, Bool, true, false, List, [], ◌∷◌, ◌++◌, map, length, take, drop, Contains, Option, None, Some, refl, ap, sym, ◌∙◌, subst, inl, inr, arith, append_assoc}
+use Rattle.std.proofs.lemmas.List.{append-nil, length-append, length-map, map-append}
+use Rattle.std.proofs.lemmas.List.Elements.{Contains-append_cases, Contains-push}
+use Rattle.std.proofs.Math.Seq.{take-append-add}
+use Rattle.flow_rules.specs.declared.texts.Item.{Item}
+use Rattle.flow_rules.specs.declared.signals.Fault.{Fault}
+use Rattle.flow_rules.specs.declared.signals.Signal.{Signal}
+use Rattle.flow_rules.specs.declared.signals.Signal.TheVariants.{Subscribed, Next, Complete, Error}
+use Rattle.flow_rules.specs.declared.signals.How.{How}
+use Rattle.flow_rules.specs.declared.signals.How.TheVariants.{Completed, Errored, Cancelled, Failed, OutOfMemory}
+use Rattle.flow_rules.specs.Signals.{items_of}
+use Rattle.feed_core.specs.declared.causes.Causes.{Causes}
+use Rattle.feed_core.specs.declared.outlooks.Outlook.{Outlook}
+use Rattle.feed_core.specs.declared.outlooks.Outlook.TheVariants.{Again, Resting, Ended}
+use Rattle.feed_core.specs.Cause.{stops}
+use Rattle.feed_core.specs.Desk.{DeskState, AfterTurn, causes_after, EndsIn, IsProperFrontOf, MeetsPlainTurn, Owes, taken_in}
+use Rattle.feed_core.specs.Lane.{LaneState, IsFlow, IsFrontOf}
+use Rattle.feed_core.specs.PlainTurn.{Turn, again, greeting, last_signal, plain_turn_of, telling}
+use Rattle.feed_core.specs.Sound.{is_begun}
+use Rattle.feed_core.specs.Steps.{GoesOn, Greets, IsToldBy, Looks, rest_of_turn, turn_within}
+use Rattle.feed_core.proofs.Keeping.{is_begun-append, items_of-last}
+use Rattle.feed_core.proofs.Texts.{IsTerminal, complete-last, error-last, items_of-append, items_of-nexts, nexts-open, opening-open, Contains-none, Contains-one}
+use Rattle.feed_core.proofs.Turning.{full, gives}
+
+-- so many items were given since the turn began, and the rest of the plain turn is left
+pub record Gave (count : ℕ) (old new : DeskState) (seen : List Signal) : Type 0 where
+  pub turned : AfterTurn old new seen Again
+  pub begun : is_begun new.lane.told ≡ true
+  pub items : List Item
+  pub seen_is : seen ≡ greeting old.lane.told ++ map Next items
+  pub counted : length items ≡ count
+  pub given : new.lane.given ≡ old.lane.given + count
+  pub waited : drop old.lane.given old.lane.accepted ≡ items ++ drop new.lane.given new.lane.accepted
+  pub left : plain_turn_of old.lane ≡ telling seen (rest_of_turn (64 - count) new.lane)
+  pub unstopped : 0 < count → stops new.lane.causes ≡ None
+  pub flow : 0 < count → IsFlow new.lane
+
+begun_by_greeting : (told : List Signal) → is_begun (told ++ greeting told) ≡ true
+begun_by_greeting [] = refl
+begun_by_greeting (_ ∷ _) = refl
+
+-- a plain turn of a subscriber that was told nothing begins with onSubscribe
+pub greets_first : (lane : LaneState) → lane.told ≡ [] → IsProperFrontOf [] (plain_turn_of lane).told
+greets_first lane nothing = (Subscribed, (rest_of_turn 64 lane).told, ap (λ told. greeting told ++ (rest_of_turn 64 lane).told) nothing)
+
+-- once the subscriber was greeted, no item was given yet
+pub gave_none : (old new : DeskState) (seen seen' : List Signal) → Owes old → seen ≡ [] → Greets old new seen seen' → Gave 0 old new seen'
+gave_none old new seen seen' owed nothing greets =
+    let seen_is : seen' ≡ greeting old.lane.told = greets.seen_after ∙ ap (λ before. before ++ greeting old.lane.told) nothing in
+    subst (λ desk. Gave 0 old desk seen') (sym greets.desk) (record {
+      turned = record {
+        recorded = ap (λ more. old.lane.told ++ more) (sym seen_is);
+        accepted = refl;
+        asked = refl;
+        causes = refl;
+        how = owed.1;
+        running = owed.0;
+        capacity = refl;
+        steady = λ steady. steady;
+      };
+      begun = begun_by_greeting old.lane.told;
+      items = [];
+      seen_is = seen_is ∙ sym (append-nil (greeting old.lane.told));
+      counted = refl;
+      given = omega arith;
+      waited = refl;
+      left = ap (λ told. telling told (rest_of_turn 64 old.lane)) (sym seen_is);
+      unstopped = λ some. absurd (omega (arith, some));
+      flow = λ some. absurd (omega (arith, some));
+    })
+
+-- what two parts of a turn change, one after the other
+after_then : (old mid new : DeskState) (seen more : List Signal) (outlook : Outlook) → AfterTurn old mid seen Again → AfterTurn mid new more outlook → AfterTurn old new (seen ++ more) outlook
+after_then old mid new seen more outlook first second = record {
+  recorded = second.recorded ∙ ap (λ told. told ++ more) first.recorded ∙ append_assoc old.lane.told seen more;
+  accepted = second.accepted ∙ first.accepted;
+  asked = second.asked ∙ first.asked;
+  causes = second.causes ∙ ap (λ causes. causes_after outlook causes) first.causes;
+  how = second.how;
+  running = second.running;
+  capacity = second.capacity ∙ first.capacity;
+  steady = λ steady. second.steady (first.steady steady);
+}
+
+-- signals told in two parts
+telling-telling : (seen more : List Signal) (turn : Turn) → telling seen (telling more turn) ≡ telling (seen ++ more) turn
+telling-telling seen more turn = ap (λ told. record { told = told; outlook = turn.outlook }) (sym (append_assoc seen more turn.told))
+
+module _ {count : ℕ} {old mid new : DeskState} {seen seen' : List Signal} (gave : Gave count old mid seen) where
+  -- the turn as a whole, where one more look was its last or was followed by others
+  pub after_look : {outlook : Outlook} → Looks mid new seen seen' outlook → AfterTurn old new seen' outlook
+  after_look {outlook} looks = subst (λ text. AfterTurn old new text outlook) (sym looks.seen_after) (after_then old mid new seen looks.last outlook gave.turned looks.turned)
+
+  -- one more item
+  pub gave_more : count < 64 → Looks mid new seen seen' Again → Gave (count + 1) old new seen'
+  gave_more room looks =
+      let goes = looks.again refl in
+      let item = goes.item in
+      let seen_after : seen' ≡ seen ++ Next item ∷ [] = looks.seen_after ∙ ap (λ last. seen ++ last) goes.told in
+      let m : ℕ = 64 - (count + 1) in
+      let more : 64 - count ≡ suc m = omega arith in
+      let unmet : mid.lane.asked - mid.lane.given - 1 ≡ new.lane.asked - new.lane.given = omega (arith, looks.turned.asked, goes.counted) in
+      let step : rest_of_turn (64 - count) mid.lane ≡ telling (Next item ∷ []) (rest_of_turn m new.lane) =
+      ap (λ most. rest_of_turn most mid.lane) more
+      ∙ ap (λ waiting. turn_within (suc m) mid.lane.causes waiting (mid.lane.asked - mid.lane.given)) goes.waited
+      ∙ gives m mid.lane.causes item (drop new.lane.given new.lane.accepted) (mid.lane.asked - mid.lane.given) goes.unstopped (omega (arith, goes.requested))
+      ∙ ap (λ n. telling (Next item ∷ []) (turn_within m mid.lane.causes (drop new.lane.given new.lane.accepted) n)) unmet
+      ∙ ap (λ causes. telling (Next item ∷ []) (turn_within m causes (drop new.lane.given new.lane.accepted) (new.lane.asked - new.lane.given))) (sym looks.turned.causes) in
+      record {
+        turned = after_look looks;
+        begun = ap is_begun looks.turned.recorded ∙ is_begun-append mid.lane.told looks.last gave.begun;
+        items = gave.items ++ item ∷ [];
+        seen_is = seen_after ∙ ap (λ text. text ++ Next item ∷ []) gave.seen_is ∙ append_assoc (greeting old.lane.told) (map Next gave.items) (Next item ∷ [])
+            ∙ ap (λ text. greeting old.lane.told ++ text) (sym (map-append Next gave.items (item ∷ [])));
+        counted = length-append gave.items (item ∷ []) ∙ ap (λ n. n + 1) gave.counted;
+        given = omega (arith, gave.given, goes.counted);
+        waited = gave.waited ∙ ap (λ rest. gave.items ++ rest) goes.waited ∙ sym (append_assoc gave.items (item ∷ []) (drop new.lane.given new.lane.accepted));
+        left = gave.left ∙ ap (telling seen) step ∙ telling-telling seen (Next item ∷ []) (rest_of_turn m new.lane) ∙ ap (λ text. telling text (rest_of_turn m new.lane)) (sym seen_after);
+        unstopped = λ some. ap stops looks.turned.causes ∙ goes.unstopped;
+        flow = λ some. looks.flow;
+      }
+
+greeting-open : (told : List Signal) (s : Signal) → IsTerminal s → Contains (greeting told) s → ⊥
+greeting-open [] s last h = opening-open true s last h
+greeting-open (_ ∷ _) s last h = opening-open false s last h
+
+items_of-greeting : (told : List Signal) → items_of (greeting told) ≡ []
+items_of-greeting [] = refl
+items_of-greeting (_ ∷ _) = refl
+
+length-greeting : (told : List Signal) → length (greeting told) ≤ 1
+length-greeting [] = omega arith
+length-greeting (_ ∷ _) = omega arith
+
+length-last : (how : How) → length (last_signal how) ≤ 1
+length-last Completed = omega arith
+length-last (Errored _) = omega arith
+length-last Cancelled = omega arith
+length-last (Failed _) = omega arith
+length-last OutOfMemory = omega arith
+
+-- one look tells one signal at most
+length-told : (outlook : Outlook) (last : List Signal) → IsToldBy outlook last → length last ≤ 1
+length-told Again last shape = let one : length last ≡ 1 = ap length shape.1 in omega arith
+length-told Resting last shape = let none : length last ≡ 0 = ap length shape in omega arith
+length-told (Ended how) last shape = subst (λ text. length text ≤ 1) (sym shape) (length-last how)
+
+-- the last look of a turn tells no item
+items_of-told : (outlook : Outlook) (last : List Signal) → (outlook ≡ Again → ⊥) → IsToldBy outlook last → items_of last ≡ []
+items_of-told Again last other shape = absurd (other refl)
+items_of-told Resting last other shape = ap items_of shape
+items_of-told (Ended how) last other shape = ap items_of shape ∙ items_of-last how
+
+complete_told : (outlook : Outlook) (last : List Signal) → IsToldBy outlook last → Contains last Complete → outlook ≡ Ended Completed
+complete_told Again last shape h = let e = Contains-one (Next shape.0) Complete (subst (λ text. Contains text Complete) shape.1 h) in cc
+complete_told Resting last shape h = absurd (Contains-none Complete (subst (λ text. Contains text Complete) shape h))
+complete_told (Ended how) last shape h = ap Ended (complete-last how (subst (λ text. Contains text Complete) shape h))
+
+error_told : (outlook : Outlook) (last : List Signal) (fault : Fault) → IsToldBy outlook last → Contains last (Error fault) → outlook ≡ Ended (Errored fault)
+error_told Again last fault shape h = let e = Contains-one (Next shape.0) (Error fault) (subst (λ text. Contains text (Error fault)) shape.1 h) in cc
+error_told Resting last fault shape h = absurd (Contains-none (Error fault) (subst (λ text. Contains text (Error fault)) shape h))
+error_told (Ended how) last fault shape h = ap Ended (error-last how fault (subst (λ text. Contains text (Error fault)) shape h))
+
+-- the end of a text is in it
+last_contained : (text : List Signal) (s : Signal) → EndsIn text s → Contains text s
+last_contained text s ends = subst (λ t. Contains t s) (sym ends.1) (Contains-push ends.0 s)
+
+module _ {count : ℕ} {old mid : DeskState} {seen : List Signal} (gave : Gave count old mid seen) where
+  -- no ending was told yet
+  gave-open : (s : Signal) → IsTerminal s → Contains seen s → ⊥
+  gave-open s last h = elim (Contains-append_cases (greeting old.lane.told) (map Next gave.items) s (subst (λ text. Contains text s) gave.seen_is h)) [
+    | inl first ↦ greeting-open old.lane.told s last first
+    | inr later ↦ nexts-open gave.items s last later
+  ]
+
+  pub items_of-gave : items_of seen ≡ gave.items
+  items_of-gave = ap items_of gave.seen_is ∙ items_of-append (greeting old.lane.told) (map Next gave.items) ∙ ap (λ items. items ++ items_of (map Next gave.items)) (items_of-greeting old.lane.told) ∙ items_of-nexts gave.items
+
+  pub length-gave : length seen ≤ count + 1
+  length-gave =
+      let greeted = length-greeting old.lane.told in
+      let long : length seen ≡ length (greeting old.lane.told) + length (map Next gave.items) = ap length gave.seen_is ∙ length-append (greeting old.lane.told) (map Next gave.items) in
+      omega (arith, long, length-map gave.items Next, gave.counted)
+
+  -- the items so far are the next accepted ones
+  pub in_order_so_far : IsFrontOf (items_of seen) (drop old.lane.given old.lane.accepted)
+  in_order_so_far = (drop mid.lane.given mid.lane.accepted, gave.waited ∙ ap (λ items. items ++ drop mid.lane.given mid.lane.accepted) (sym items_of-gave))
+
+  -- no ending ends the text so far
+  pub open_so_far : (s : Signal) → IsTerminal s → EndsIn seen s → ⊥
+  open_so_far s last ends = gave-open s last (last_contained seen s ends)
+
+  -- after 64 items the turn is over, and another one is owed
+  whole_full : count ≡ 64 → plain_turn_of old.lane ≡ telling seen again
+  whole_full all =
+      let none : 64 - count ≡ 0 = omega arith in
+      gave.left ∙ ap (λ most. telling seen (rest_of_turn most mid.lane)) none
+      ∙ ap (telling seen) (full mid.lane.causes (drop mid.lane.given mid.lane.accepted) (mid.lane.asked - mid.lane.given) (gave.unstopped (omega arith)))
+
+  pub plain_full : count ≡ 64 → MeetsPlainTurn (plain_turn_of old.lane) seen Again
+  plain_full all =
+      let whole = whole_full all in
+      inl (sym (ap (λ t. t.told) whole ∙ append-nil seen), sym (ap (λ t. t.outlook) whole))
+
+  -- what is taken in the rest of a turn is taken in the whole, after the items so far
+  taken_then : (turn : Turn) (last : List Signal) → plain_turn_of old.lane ≡ telling seen turn → taken_in (plain_turn_of old.lane) (seen ++ last) ≡ count + taken_in turn last
+  taken_then turn last whole =
+      let long : length (seen ++ last) + 1 ≡ length seen + (length last + 1) = omega (arith, length-append seen last) in
+      let counted = gave.counted in
+      let same : items_of (take (length (seen ++ last) + 1) (plain_turn_of old.lane).told) ≡ gave.items ++ items_of (take (length last + 1) turn.told) =
+      ap (λ t. items_of (take (length (seen ++ last) + 1) t.told)) whole
+      ∙ ap (λ n. items_of (take n (seen ++ turn.told))) long
+      ∙ ap items_of (take-append-add seen turn.told (length last + 1))
+      ∙ items_of-append seen (take (length last + 1) turn.told)
+      ∙ ap (λ items. items ++ items_of (take (length last + 1) turn.told)) items_of-gave in
+      ap length same ∙ length-append gave.items (items_of (take (length last + 1) turn.told)) ∙ ap (λ n. n + length (items_of (take (length last + 1) turn.told))) counted
+
+  pub taken_full : count ≡ 64 → mid.lane.given ≡ old.lane.given + taken_in (plain_turn_of old.lane) seen
+  taken_full all =
+      let before : mid.lane.given ≡ old.lane.given + count = gave.given in
+      let both : taken_in (plain_turn_of old.lane) seen ≡ count + 0 = ap (taken_in (plain_turn_of old.lane)) (sym (append-nil seen)) ∙ taken_then again [] (whole_full all) in
+      omega arith
+
+  module _ {new : DeskState} {seen' : List Signal} {outlook : Outlook} (looks : Looks mid new seen seen' outlook) (other : outlook ≡ Again → ⊥) where
+    items_after : items_of seen' ≡ gave.items
+    items_after = ap items_of looks.seen_after ∙ items_of-append seen looks.last ∙ ap (λ items. items_of seen ++ items) (items_of-told outlook looks.last other looks.shape) ∙ append-nil (items_of seen) ∙ items_of-gave
+
+    pub in_order : IsFrontOf (items_of seen') (drop old.lane.given old.lane.accepted)
+    in_order = (drop mid.lane.given mid.lane.accepted, gave.waited ∙ ap (λ items. items ++ drop mid.lane.given mid.lane.accepted) (sym items_after))
+
+    pub few_signals : count < 64 → length seen' ≤ 66
+    few_signals room =
+        let one = length-told outlook looks.last looks.shape in
+        let long : length seen' ≡ length seen + length looks.last = ap length looks.seen_after ∙ length-append seen looks.last in
+        let before = length-gave in
+        omega arith
+
+    pub completes : EndsIn seen' Complete ↔ (outlook ≡ Ended Completed)
+    completes = (
+      λ ends. elim (Contains-append_cases seen looks.last Complete (subst (λ text. Contains text Complete) looks.seen_after (last_contained seen' Complete ends))) [
+        | inl first ↦ absurd (gave-open Complete tt first)
+        | inr later ↦ complete_told outlook looks.last looks.shape later
+      ],
+      λ e. (seen, looks.seen_after ∙ ap (λ last. seen ++ last) (subst (λ o. IsToldBy o looks.last) e looks.shape)),
+    )
+
+    pub errs : (fault : Fault) → EndsIn seen' (Error fault) ↔ (outlook ≡ Ended (Errored fault))
+    errs fault = (
+      λ ends. elim (Contains-append_cases seen looks.last (Error fault) (subst (λ text. Contains text (Error fault)) looks.seen_after (last_contained seen' (Error fault) ends))) [
+        | inl first ↦ absurd (gave-open (Error fault) tt first)
+        | inr later ↦ error_told outlook looks.last fault looks.shape later
+      ],
+      λ e. (seen, looks.seen_after ∙ ap (λ last. seen ++ last) (subst (λ o. IsToldBy o looks.last) e looks.shape)),
+    )
+
+    pub taken_end : count < 64 → new.lane.given ≡ old.lane.given + taken_in (plain_turn_of old.lane) seen'
+    taken_end room =
+        let m : ℕ = 63 - count in
+        let more : 64 - count ≡ suc m = omega arith in
+        let whole : plain_turn_of old.lane ≡ telling seen (rest_of_turn (suc m) mid.lane) = gave.left ∙ ap (λ most. telling seen (rest_of_turn most mid.lane)) more in
+        let before : mid.lane.given ≡ old.lane.given + count = gave.given in
+        let after : new.lane.given ≡ mid.lane.given + taken_in (rest_of_turn (suc m) mid.lane) looks.last = looks.taken other m in
+        let both : taken_in (plain_turn_of old.lane) seen' ≡ count + taken_in (rest_of_turn (suc m) mid.lane) looks.last =
+        ap (taken_in (plain_turn_of old.lane)) looks.seen_after ∙ taken_then (rest_of_turn (suc m) mid.lane) looks.last whole in
+        omega arith
+
+    pub plain_end : count < 64 → MeetsPlainTurn (plain_turn_of old.lane) seen' outlook
+    plain_end room =
+        let m : ℕ = 63 - count in
+        let more : 64 - count ≡ suc m = omega arith in
+        let whole : plain_turn_of old.lane ≡ telling seen (rest_of_turn (suc m) mid.lane) = gave.left ∙ ap (λ most. telling seen (rest_of_turn most mid.lane)) more in
+        elim (looks.ends other m) [
+          | inl same ↦ inl (looks.seen_after ∙ ap (λ last. seen ++ last) same.0 ∙ sym (ap (λ t. t.told) whole), same.1 ∙ sym (ap (λ t. t.outlook) whole))
+          | inr missed ↦
+              let front = missed.1 in
+              inr (missed.0, (front.0, front.1, ap (λ t. t.told) whole ∙ ap (λ rest. seen ++ rest) front.2 ∙ sym (append_assoc seen looks.last (front.0 ∷ front.1)) ∙ ap (λ text. text ++ front.0 ∷ front.1) (sym looks.seen_after)))
+        ]

@@ -1,0 +1,220 @@
+-- One look does what is left of the plain turn.
+use Rattle.std.proofs.Common.{◌≡◌, ℕ, suc, ◌+◌, ◌-◌, ◌<◌, ◌≤◌, min, Bool, true, false, List, [], ◌∷◌, ◌++◌, map, length, drop, Option, None, Some, refl, ap, sym, ◌∙◌, subst, inl, inr, arith}
+use Rattle.std.proofs.lemmas.List.{append-nil, length-append, length-drop}
+use Rattle.std.proofs.Math.Seq.{drop-append_seam, drop-length}
+use Rattle.flow_rules.specs.declared.texts.Item.{Item}
+use Rattle.flow_rules.specs.declared.signals.Ending.{Ending}
+use Rattle.flow_rules.specs.declared.signals.Ending.TheVariants.{Normal, Failed as ClosedWith}
+use Rattle.flow_rules.specs.declared.signals.Signal.{Signal}
+use Rattle.flow_rules.specs.declared.signals.Signal.TheVariants.{Next}
+use Rattle.flow_rules.specs.declared.signals.How.{How}
+use Rattle.flow_rules.specs.declared.signals.How.TheVariants.{Completed, Errored, Cancelled, Failed, OutOfMemory}
+use Rattle.flow_rules.specs.Signals.{items_of}
+use Rattle.feed_core.specs.declared.causes.Causes.{Causes}
+use Rattle.feed_core.specs.declared.outlooks.Outlook.TheVariants.{Again, Resting, Ended}
+use Rattle.feed_core.specs.Cause.{stops, closes, completion, with_cause_of}
+use Rattle.feed_core.specs.Desk.{DeskState, IsProperFrontOf, taken_in}
+use Rattle.feed_core.specs.Lane.{LaneState, IsFlow}
+use Rattle.feed_core.specs.PlainTurn.{Turn, last_signal, ended, resting, closing_or_resting, telling}
+use Rattle.feed_core.specs.Sound.{is_begun, lane_of, IsSound}
+use Rattle.feed_core.specs.Steps.{GoesOn, IsDue, Looks, MovesNext, rest_of_turn, turn_within}
+use Rattle.feed_core.proofs.Flow.{flow_kept}
+use Rattle.feed_core.proofs.Keeping.{accepted_kept, all_counted, ended_items, one_more, sound_due, sound_ended, sound_given, sound_lost, waiting_held}
+use Rattle.feed_core.proofs.Texts.{items_of-append}
+use Rattle.feed_core.proofs.Turning.{gives, pauses, stopped}
+
+-- an end that is due is what is left of the turn
+due_turn : (lane : LaneState) (end : How) (most : ℕ) → IsDue lane end → rest_of_turn (suc most) lane ≡ ended end
+due_turn lane end most (inl e) = stopped (suc most) lane.causes (drop lane.given lane.accepted) (lane.asked - lane.given) end e
+due_turn lane end most (inr e) =
+    let nothing : drop lane.given lane.accepted ≡ [] = ap (λ k. drop k lane.accepted) e.2 ∙ drop-length lane.accepted in
+    ap (λ waiting. turn_within (suc most) lane.causes waiting (lane.asked - lane.given)) nothing ∙ pauses most lane.causes [] (lane.asked - lane.given) e.0 (omega arith) ∙ ap (λ close. closing_or_resting close []) e.1
+
+-- a subscription of these parts
+abbrev pub desk_of : LaneState → ℕ → Bool → Bool → DeskState
+desk_of lane capacity running steady = record { lane = lane; capacity = capacity; running = running; is_steady = steady }
+
+-- where completion is due, items are left
+still_resting : (closing : Option Ending) (waiting : List Item) → (closing ≡ Some Normal → 0 < length waiting) → closing_or_resting (completion closing) waiting ≡ resting
+still_resting None waiting some = refl
+still_resting (Some Normal) [] some = let above : 0 < 0 = some refl in absurd (omega arith)
+still_resting (Some Normal) (_ ∷ _) some = refl
+still_resting (Some (ClosedWith _)) waiting some = refl
+
+-- nothing was left to do
+pub looks_rested : (old : DeskState) (seen : List Signal) → IsFlow old.lane → old.lane.how ≡ None → stops old.lane.causes ≡ None → old.lane.given ≡ min (length old.lane.accepted) old.lane.asked → (old.lane.causes.closing ≡ Some Normal → old.lane.given < length old.lane.accepted) → Looks old (record old { running = false }) seen seen Resting
+looks_rested old seen flow unended unstopped all waits =
+    let lane = old.lane in
+    let left = length-drop lane.given lane.accepted in
+    let rested : closing_or_resting (closes lane.causes) (drop lane.given lane.accepted) ≡ resting =
+    still_resting lane.causes.closing (drop lane.given lane.accepted) (λ e. let some = waits e in omega arith) in
+    record {
+      last = [];
+      shape = refl;
+      seen_after = sym (append-nil seen);
+      turned = record {
+        recorded = sym (append-nil lane.told);
+        accepted = refl;
+        asked = refl;
+        causes = refl;
+        how = unended;
+        running = refl;
+        capacity = refl;
+        steady = λ steady. steady;
+      };
+      few = omega arith;
+      flow = flow;
+      again = λ e. cc;
+      ends = λ _ most.
+          let turn = pauses most lane.causes (drop lane.given lane.accepted) (lane.asked - lane.given) unstopped (omega arith) ∙ rested in
+          inl (sym (ap (λ t. t.told) turn), sym (ap (λ t. t.outlook) turn));
+      taken = λ _ most.
+          let turn = pauses most lane.causes (drop lane.given lane.accepted) (lane.asked - lane.given) unstopped (omega arith) ∙ rested in
+          let none : taken_in (rest_of_turn (suc most) lane) [] ≡ 0 = ap (λ t. taken_in t []) turn in
+          omega arith;
+    }
+
+-- an ending has no items, told or missed
+no_item : (end : How) → taken_in (ended end) (last_signal end) ≡ 0
+no_item Completed = refl
+no_item (Errored _) = refl
+no_item Cancelled = refl
+no_item (Failed _) = refl
+no_item OutOfMemory = refl
+
+no_item_missed : (end : How) → taken_in (ended end) [] ≡ 0
+no_item_missed Completed = refl
+no_item_missed (Errored _) = refl
+no_item_missed Cancelled = refl
+no_item_missed (Failed _) = refl
+no_item_missed OutOfMemory = refl
+
+module _ {told : List Signal} {held : List Item} {given asked capacity : ℕ} {causes : Causes} {how : Option How} {running : Bool} (sound : IsSound (lane_of told held given asked causes how) held capacity running) (unended : how ≡ None) (runs : running ≡ true) (begun : is_begun told ≡ true) where
+  -- an item was taken and told
+  pub looks_given : {told' : List Signal} {held' : List Item} {seen seen' : List Signal} {steady steady' : Bool} → MovesNext told told' held held' seen seen' → stops causes ≡ None → given < asked → (steady ≡ true → steady' ≡ true) → Looks (desk_of (lane_of told held given asked causes how) capacity running steady) (desk_of (lane_of told' held' (given + 1) asked causes how) capacity running steady') seen seen' Again
+  looks_given {told'} {held'} moves unstopped requested stays =
+      let after : drop (given + 1) (items_of told' ++ held') ≡ held' =
+      ap (λ k. drop k (items_of told' ++ held')) (sym (one_more sound unended runs begun moves)) ∙ drop-append_seam (items_of told') held' in
+      record {
+        last = Next moves.item ∷ [];
+        shape = (moves.item, refl);
+        seen_after = moves.seen_after;
+        turned = record {
+          recorded = moves.told_after;
+          accepted = accepted_kept sound unended runs begun moves;
+          asked = refl;
+          causes = refl;
+          how = unended;
+          running = runs;
+          capacity = refl;
+          steady = stays;
+        };
+        few = omega arith;
+        flow = flow_kept (sound_given sound unended runs begun moves requested);
+        again = λ _. record {
+          item = moves.item;
+          told = refl;
+          waited = waiting_held sound unended ∙ moves.waited ∙ ap (λ rest. moves.item ∷ rest) (sym after);
+          counted = refl;
+          requested = requested;
+          unstopped = unstopped;
+        };
+        ends = λ other. absurd (other refl);
+        taken = λ other. absurd (other refl);
+      }
+
+  -- an item was taken, and its callback met want of memory
+  pub looks_lost : {told' : List Signal} {held' : List Item} {seen seen' : List Signal} {steady steady' : Bool} → told' ≡ told → held' ≡ held → seen' ≡ seen → stops causes ≡ None → given < length (items_of told ++ held) → given < asked → (steady ≡ true → steady' ≡ true) → Looks (desk_of (lane_of told held given asked causes how) capacity running steady) (desk_of (lane_of told' held' (given + 1) asked (with_cause_of OutOfMemory causes) (Some OutOfMemory)) capacity running steady') seen seen' (Ended OutOfMemory)
+  looks_lost {told'} {held'} {seen} same_told same_held same_seen unstopped waits requested stays = record {
+    last = [];
+    shape = refl;
+    seen_after = same_seen ∙ sym (append-nil seen);
+    turned = record {
+      recorded = same_told ∙ sym (append-nil told);
+      accepted = ap (λ text. items_of text ++ held') same_told ∙ ap (λ rest. items_of told ++ rest) same_held;
+      asked = refl;
+      causes = refl;
+      how = refl;
+      running = runs;
+      capacity = refl;
+      steady = stays;
+    };
+    few = omega arith;
+    flow = flow_kept (sound_lost sound unended runs begun same_told same_held waits requested);
+    again = λ e. cc;
+    ends = λ _ most.
+        let next = gives_next most held refl in
+        inr (refl, (Next next.0, next.1.told, ap (λ t. t.told) next.2));
+    taken = λ _ most.
+        let next = gives_next most held refl in
+        let one : taken_in (rest_of_turn (suc most) (lane_of told held given asked causes how)) [] ≡ 1 = ap (λ t. taken_in t []) next.2 in
+        omega arith;
+  } where
+    -- the plain turn would have given an item
+    gives_next : (most : ℕ) (items : List Item) → held ≡ items → (item : Item) × (rest : Turn) × (rest_of_turn (suc most) (lane_of told held given asked causes how) ≡ telling (Next item ∷ []) rest)
+    gives_next most [] e =
+        let counted = all_counted sound unended in
+        let none : length (items_of told ++ held) ≡ length (items_of told) = ap (λ rest. length (items_of told ++ rest)) e ∙ ap length (append-nil (items_of told)) in
+        absurd (omega arith)
+    gives_next most (item ∷ items) e =
+        let waiting : drop given (items_of told ++ held) ≡ item ∷ items = waiting_held sound unended ∙ e in
+        (item, turn_within most causes items (asked - given - 1), ap (λ rest. turn_within (suc most) causes rest (asked - given)) waiting ∙ gives most causes item items (asked - given) unstopped (omega arith))
+
+  module _ {told' : List Signal} {seen seen' : List Signal} {steady steady' : Bool} (end : How) (due : IsDue (lane_of told held given asked causes how) end) (stays : steady ≡ true → steady' ≡ true) where
+    -- the ending that was due was told
+    pub looks_ended : told' ≡ told ++ last_signal end → seen' ≡ seen ++ last_signal end → Looks (desk_of (lane_of told held given asked causes how) capacity running steady) (desk_of (lane_of told' held given asked (with_cause_of end causes) (Some end)) capacity running steady') seen seen' (Ended end)
+    looks_ended grows seen_grows =
+        let same : items_of told' ≡ items_of told = ended_items told told' end grows in
+        record {
+          last = last_signal end;
+          shape = refl;
+          seen_after = seen_grows;
+          turned = record {
+            recorded = grows;
+            accepted = ap (λ items. items ++ held) same;
+            asked = refl;
+            causes = refl;
+            how = refl;
+            running = runs;
+            capacity = refl;
+            steady = stays;
+          };
+          few = omega arith;
+          flow = flow_kept (sound_due sound unended runs begun end due grows);
+          again = λ e. cc;
+          ends = λ _ most.
+              let turn = due_turn (lane_of told held given asked causes how) end most due in
+              inl (sym (ap (λ t. t.told) turn), sym (ap (λ t. t.outlook) turn));
+          taken = λ _ most.
+              let turn = due_turn (lane_of told held given asked causes how) end most due in
+              let none : taken_in (rest_of_turn (suc most) (lane_of told held given asked causes how)) (last_signal end) ≡ 0 = ap (λ t. taken_in t (last_signal end)) turn ∙ no_item end in
+              omega arith;
+        }
+
+    -- the callback of the ending that was due met want of memory
+    pub looks_missed : told' ≡ told → seen' ≡ seen → IsProperFrontOf [] (last_signal end) → Looks (desk_of (lane_of told held given asked causes how) capacity running steady) (desk_of (lane_of told' held given asked (with_cause_of OutOfMemory causes) (Some OutOfMemory)) capacity running steady') seen seen' (Ended OutOfMemory)
+    looks_missed same_told same_seen missed = record {
+      last = [];
+      shape = refl;
+      seen_after = same_seen ∙ sym (append-nil seen);
+      turned = record {
+        recorded = same_told ∙ sym (append-nil told);
+        accepted = ap (λ text. items_of text ++ held) same_told;
+        asked = refl;
+        causes = refl;
+        how = refl;
+        running = runs;
+        capacity = refl;
+        steady = stays;
+      };
+      few = omega arith;
+      flow = flow_kept (sound_ended sound unended runs begun OutOfMemory tt (same_told ∙ sym (append-nil told)));
+      again = λ e. cc;
+      ends = λ _ most.
+          let turn = due_turn (lane_of told held given asked causes how) end most due in
+          inr (refl, (missed.0, missed.1, ap (λ t. t.told) turn ∙ missed.2));
+      taken = λ _ most.
+          let turn = due_turn (lane_of told held given asked causes how) end most due in
+          let none : taken_in (rest_of_turn (suc most) (lane_of told held given asked causes how)) [] ≡ 0 = ap (λ t. taken_in t []) turn ∙ no_item_missed end in
+          omega arith;
+    }

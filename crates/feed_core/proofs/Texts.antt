@@ -1,0 +1,108 @@
+-- Texts of signals: their items, and what they contain.
+use Rattle.std.proofs.Common.{◌≡◌, ℕ, zero, suc, ◌<◌, ◌⊎◌, Bool, true, false, List, [], ◌∷◌, ◌++◌, map, length, slice_index_or, Contains, Option, None, Some, refl, ap, sym, inl, inr, arith}
+use Rattle.std.proofs.lemmas.List.Elements.{Contains-append_cases}
+use Rattle.flow_rules.specs.declared.texts.Item.{Item}
+use Rattle.flow_rules.specs.declared.signals.Fault.{Fault}
+use Rattle.flow_rules.specs.declared.signals.Signal.{Signal}
+use Rattle.flow_rules.specs.declared.signals.Signal.TheVariants.{Subscribed, Next, Complete, Error}
+use Rattle.flow_rules.specs.declared.signals.How.{How}
+use Rattle.flow_rules.specs.declared.signals.How.TheVariants.{Completed, Errored, Cancelled, Failed, OutOfMemory}
+use Rattle.flow_rules.specs.Signals.{IsEnding, items_of}
+use Rattle.feed_core.specs.PlainTurn.{last_signal}
+use Rattle.feed_core.specs.Sound.{ending_of, opening, text_of}
+
+-- the items of two texts, one after the other
+pub items_of-append : (s t : List Signal) → items_of (s ++ t) ≡ items_of s ++ items_of t
+items_of-append [] t = refl
+items_of-append (Subscribed ∷ s) t = items_of-append s t
+items_of-append (Next item ∷ s) t = ap (λ items. item ∷ items) (items_of-append s t)
+items_of-append (Complete ∷ s) t = items_of-append s t
+items_of-append (Error _ ∷ s) t = items_of-append s t
+
+-- the items of onNexts
+pub items_of-nexts : (items : List Item) → items_of (map Next items) ≡ items
+items_of-nexts [] = refl
+items_of-nexts (item ∷ items) = ap (λ rest. item ∷ rest) (items_of-nexts items)
+
+-- no text is one of onSubscribe and onNext
+abbrev pub IsTerminal : Signal → Type 0
+IsTerminal Subscribed = ⊥
+IsTerminal (Next _) = ⊥
+IsTerminal Complete = Unit {0}
+IsTerminal (Error _) = Unit {0}
+
+open_at : (items : List Item) (s : Signal) (k : ℕ) → IsTerminal s → k < length (map Next items) → slice_index_or (map Next items) k s ≡ s → ⊥
+open_at [] s k last lt is = omega arith
+open_at (item ∷ items) Subscribed zero last lt is = last
+open_at (item ∷ items) (Next _) zero last lt is = last
+open_at (item ∷ items) Complete zero last lt is = cc
+open_at (item ∷ items) (Error _) zero last lt is = cc
+open_at (item ∷ items) s (suc k) last lt is = open_at items s k last (omega arith) is
+
+-- no onNext is a terminal signal
+pub nexts-open : (items : List Item) (s : Signal) → IsTerminal s → Contains (map Next items) s → ⊥
+nexts-open items s last h = open_at items s h.0 last h.1 h.2
+
+-- a list of one element contains no other
+pub Contains-one : (s x : Signal) → Contains (s ∷ []) x → s ≡ x
+Contains-one s x h = by h.0 h.1 h.2 where
+  by : (k : ℕ) → k < 1 → slice_index_or (s ∷ []) k x ≡ x → s ≡ x
+  by zero lt is = is
+  by (suc k) lt is = absurd (omega arith)
+
+-- an empty list contains nothing
+pub Contains-none : (s : Signal) → Contains [] s → ⊥
+Contains-none s h = let lt : h.0 < 0 = h.1 in omega arith
+
+-- no onSubscribe is a terminal signal
+pub opening-open : (begun : Bool) (s : Signal) → IsTerminal s → Contains (opening begun) s → ⊥
+opening-open false s last h = Contains-none s h
+opening-open true Subscribed last h = last
+opening-open true (Next _) last h = last
+opening-open true Complete last h = let e = Contains-one Subscribed Complete h in cc
+opening-open true (Error f) last h = let e = Contains-one Subscribed (Error f) h in cc
+
+-- a terminal signal is in a text only as its ending
+pub terminal-last : (begun : Bool) (items : List Item) (ending : List Signal) (s : Signal) → IsTerminal s → Contains (opening begun ++ (map Next items ++ ending)) s → Contains ending s
+terminal-last begun items ending s last h =
+    elim (Contains-append_cases (opening begun) (map Next items ++ ending) s h) [
+      | inl first ↦ absurd (opening-open begun s last first)
+      | inr later ↦ elim (Contains-append_cases (map Next items) ending s later) [
+        | inl inside ↦ absurd (nexts-open items s last inside)
+        | inr ends ↦ ends
+      ]
+    ]
+
+-- onComplete ends the text of a completed subscription alone
+pub complete-last : (how : How) → Contains (last_signal how) Complete → how ≡ Completed
+complete-last Completed h = refl
+complete-last (Errored f) h = let e = Contains-one (Error f) Complete h in cc
+complete-last Cancelled h = absurd (Contains-none Complete h)
+complete-last (Failed _) h = absurd (Contains-none Complete h)
+complete-last OutOfMemory h = absurd (Contains-none Complete h)
+
+-- onError ends the text of a subscription that ended with that error alone
+pub error-last : (how : How) (fault : Fault) → Contains (last_signal how) (Error fault) → how ≡ Errored fault
+error-last Completed fault h = let e = Contains-one Complete (Error fault) h in cc
+error-last (Errored f) fault h = let e = Contains-one (Error f) (Error fault) h in cc
+error-last Cancelled fault h = absurd (Contains-none (Error fault) h)
+error-last (Failed _) fault h = absurd (Contains-none (Error fault) h)
+error-last OutOfMemory fault h = absurd (Contains-none (Error fault) h)
+
+-- the same of the ending of a lane
+pub complete-ending : (how : Option How) → Contains (ending_of how) Complete → how ≡ Some Completed
+complete-ending None h = absurd (Contains-none Complete h)
+complete-ending (Some how) h = ap Some (complete-last how h)
+
+pub error-ending : (how : Option How) (fault : Fault) → Contains (ending_of how) (Error fault) → how ≡ Some (Errored fault)
+error-ending None fault h = absurd (Contains-none (Error fault) h)
+error-ending (Some how) fault h = ap Some (error-last how fault h)
+
+-- an ending is none, one onComplete or one onError
+pub is_ending : (how : Option How) → IsEnding (ending_of how)
+is_ending None = inl refl
+is_ending (Some Completed) = inr (inl refl)
+is_ending (Some (Errored fault)) = inr (inr (fault, refl))
+is_ending (Some Cancelled) = inl refl
+is_ending (Some (Failed _)) = inl refl
+is_ending (Some OutOfMemory) = inl refl

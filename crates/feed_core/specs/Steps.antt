@@ -1,0 +1,74 @@
+-- The steps that a turn is made of.
+use Rattle.std.specs.Prelude.{◌≡◌, ℕ, suc, ◌+◌, ◌-◌, ◌<◌, ◌≤◌, ◌==◌, if◌then◌else◌, min, Bool, true, false, ◌⊎◌, Option, None, Some, List, [], ◌∷◌, ◌++◌, length, map, take, drop}
+use Rattle.flow_rules.specs.declared.texts.Item.{Item}
+use Rattle.flow_rules.specs.declared.signals.Signal.{Signal}
+use Rattle.flow_rules.specs.declared.signals.Signal.TheVariants.{Next}
+use Rattle.flow_rules.specs.declared.signals.How.{How}
+use Rattle.flow_rules.specs.Signals.{items_of}
+use Rattle.feed_core.specs.declared.causes.Causes.{Causes}
+use Rattle.feed_core.specs.declared.outlooks.Outlook.{Outlook}
+use Rattle.feed_core.specs.declared.outlooks.Outlook.TheVariants.{Again, Resting, Ended}
+use Rattle.feed_core.specs.Cause.{stops, closes, with_cause_of}
+use Rattle.feed_core.specs.Desk.{DeskState, AfterTurn, MeetsPlainTurn, taken_in}
+use Rattle.feed_core.specs.Lane.{LaneState, IsFlow}
+use Rattle.feed_core.specs.PlainTurn.{Turn, again, greeting, telling, last_signal, unless_stopped, closing_or_resting}
+
+-- the first of the held items was told, and moved to what was seen
+pub record MovesNext (told told' : List Signal) (held held' : List Item) (seen seen' : List Signal) : Type 0 where
+  pub item : Item
+  pub waited : held ≡ item ∷ held'
+  pub told_after : told' ≡ told ++ Next item ∷ []
+  pub seen_after : seen' ≡ seen ++ Next item ∷ []
+
+-- what a turn of at most so many items does once its subscriber was greeted
+abbrev pub turn_within : ℕ → Causes → List Item → ℕ → Turn
+turn_within most causes waiting unmet =
+    let n = min (min (length waiting) unmet) most in
+    unless_stopped (stops causes)
+    (telling (map Next (take n waiting)) (if n == most then again else closing_or_resting (closes causes) (drop n waiting)))
+
+-- the same of a lane
+abbrev pub rest_of_turn : ℕ → LaneState → Turn
+rest_of_turn most lane = turn_within most lane.causes (drop lane.given lane.accepted) (lane.asked - lane.given)
+
+-- an end is due: one at once, or completion where every item was given
+abbrev pub IsDue : LaneState → How → Type 0
+IsDue lane how =
+    (stops lane.causes ≡ Some how)
+    ⊎ ((stops lane.causes ≡ None) × (closes lane.causes ≡ Some how) × (lane.given ≡ length lane.accepted))
+
+-- the lane, ended in this way
+abbrev pub ended_by : How → LaneState → LaneState
+ended_by how lane = record lane { causes = with_cause_of how lane.causes; how = Some how }
+
+-- what one look tells, by its outlook: an item, nothing, or the ending
+abbrev pub IsToldBy : Outlook → List Signal → Type 0
+IsToldBy Again last = (item : Item) × (last ≡ Next item ∷ [])
+IsToldBy Resting last = last ≡ []
+IsToldBy (Ended how) last = last ≡ last_signal how
+
+-- an item was given, which was waiting and requested, and nothing stopped it
+pub record GoesOn (old new : LaneState) (last : List Signal) : Type 0 where
+  pub item : Item
+  pub told : last ≡ Next item ∷ []
+  pub waited : drop old.given old.accepted ≡ item ∷ drop new.given new.accepted
+  pub counted : new.given ≡ old.given + 1
+  pub requested : old.given < old.asked
+  pub unstopped : stops old.causes ≡ None
+
+-- one look at the causes, and what followed: an item, the end, or rest
+pub record Looks (old new : DeskState) (seen seen' : List Signal) (outlook : Outlook) : Type 0 where
+  pub last : List Signal
+  pub shape : IsToldBy outlook last
+  pub seen_after : seen' ≡ seen ++ last
+  pub turned : AfterTurn old new last outlook
+  pub few : new.lane.given ≤ old.lane.given + 1
+  pub flow : IsFlow new.lane
+  pub again : outlook ≡ Again → GoesOn old.lane new.lane last
+  pub ends : (outlook ≡ Again → ⊥) → (most : ℕ) → MeetsPlainTurn (rest_of_turn (suc most) old.lane) last outlook
+  pub taken : (outlook ≡ Again → ⊥) → (most : ℕ) → new.lane.given ≡ old.lane.given + taken_in (rest_of_turn (suc most) old.lane) last
+
+-- the subscriber was greeted, and nothing else changed
+pub record Greets (old new : DeskState) (seen seen' : List Signal) : Type 0 where
+  pub desk : new ≡ record old { lane = record old.lane { told = old.lane.told ++ greeting old.lane.told } }
+  pub seen_after : seen' ≡ seen ++ greeting old.lane.told
