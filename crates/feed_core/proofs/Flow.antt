@@ -1,10 +1,9 @@
 -- What a Desk keeps gives the Flow rules of its lane, and, where no turn is owed, that nothing is forgotten.
-use Rattle.std.proofs.Common.{◌≡◌, ℕ, ◌+◌, ◌<◌, ◌≤◌, ◌⊎◌, min, Bool, true, false, List, [], ◌∷◌, ◌++◌, map, length, take, Contains, Option, None, Some, is_some, refl, ap, sym, ◌∙◌, subst, inl, inr, arith}
+use Rattle.std.proofs.Common.{◌≡◌, ℕ, ◌+◌, ◌≤◌, ◌⊎◌, min, Bool, true, false, List, [], ◌∷◌, ◌++◌, map, length, take, Contains, Option, None, Some, is_some, refl, ap, sym, ◌∙◌, subst, inl, inr, arith}
 use Rattle.std.proofs.lemmas.Bool.{cases_eq}
 use Rattle.std.proofs.lemmas.List.{append-nil, length-append, nil_from_length}
 use Rattle.std.proofs.Math.Seq.{take-append_seam}
 use Rattle.flow_rules.specs.declared.texts.Item.{Item}
-use Rattle.flow_rules.specs.declared.signals.Ending.TheVariants.{Normal}
 use Rattle.flow_rules.specs.declared.signals.Fault.{Fault}
 use Rattle.flow_rules.specs.declared.signals.Fault.TheVariants.{Published, IllegalArgument, IllegalState}
 use Rattle.flow_rules.specs.declared.signals.Signal.{Signal}
@@ -13,7 +12,7 @@ use Rattle.flow_rules.specs.declared.signals.How.{How}
 use Rattle.flow_rules.specs.declared.signals.How.TheVariants.{Completed, Errored, Cancelled, Failed, OutOfMemory}
 use Rattle.flow_rules.specs.Signals.{IsFlowText, items_of}
 use Rattle.feed_core.specs.Cause.{IsFaultOf}
-use Rattle.feed_core.specs.Lane.{LaneState, IsFlow, IsIdle, IsSettled, IsSettledAs, HasNoLastSignal, TellsGiven}
+use Rattle.feed_core.specs.Lane.{LaneState, IsFlow, IsIdle, IsSettled, IsSettledAs, HasNoLastSignal}
 use Rattle.feed_core.specs.PlainTurn.{last_signal}
 use Rattle.feed_core.specs.Sound.{is_begun, ending_of, text_of, lost_by, IsSound}
 use Rattle.feed_core.proofs.Texts.{terminal-last, complete-ending, error-ending, is_ending}
@@ -24,7 +23,8 @@ allowed [] items how e = inl refl
 allowed (s ∷ told) items how e = inr (items, ending_of how, e, is_ending how)
 
 -- every taken item was told, or the last one was lost
-tells_given : (how : Option How) (told given : ℕ) → told ≤ given → given ≤ told + lost_by how → (told ≡ given) ⊎ ((how ≡ Some OutOfMemory) × (told + 1 ≡ given))
+tells_given : (how : Option How) (told given : ℕ) → told ≤ given → given ≤ told + lost_by how
+    → (told ≡ given) ⊎ ((how ≡ Some OutOfMemory) × (told + 1 ≡ given))
 tells_given None told given low high = inl (omega arith)
 tells_given (Some Completed) told given low high = inl (omega arith)
 tells_given (Some (Errored _)) told given low high = inl (omega arith)
@@ -85,9 +85,11 @@ module _ {lane : LaneState} {held : List Item} {capacity : ℕ} {running : Bool}
   )
 
   -- an end with a terminal signal was told after onSubscribe
-  ended_text : (how : How) (s : Signal) → lane.how ≡ Some how → last_signal how ≡ s ∷ [] → lane.told ≡ Subscribed ∷ (map Next (items_of lane.told) ++ s ∷ [])
+  ended_text : (how : How) (s : Signal) → lane.how ≡ Some how → last_signal how ≡ s ∷ []
+      → lane.told ≡ Subscribed ∷ (map Next (items_of lane.told) ++ s ∷ [])
   ended_text how s e last = by lane.told refl (subst (λ h. lane.told ≡ text_of (is_begun lane.told) (items_of lane.told) h) e sound.text) where
-    by : (told : List Signal) → told ≡ lane.told → lane.told ≡ text_of (is_begun told) (items_of lane.told) (Some how) → lane.told ≡ Subscribed ∷ (map Next (items_of lane.told) ++ s ∷ [])
+    by : (told : List Signal) → told ≡ lane.told → lane.told ≡ text_of (is_begun told) (items_of lane.told) (Some how)
+        → lane.told ≡ Subscribed ∷ (map Next (items_of lane.told) ++ s ∷ [])
     by [] is text =
         let nothing : items_of lane.told ≡ [] = ap items_of (sym is) in
         let ending : lane.told ≡ last_signal how = text ∙ ap (λ items. map Next items ++ last_signal how) nothing in
