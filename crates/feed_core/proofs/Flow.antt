@@ -36,11 +36,13 @@ tells_given (Some OutOfMemory) told given low high = elim (cases_eq told given) 
 ]
 
 module _ {lane : LaneState} {held : List Item} {capacity : ℕ} {running : Bool} (sound : IsSound lane held capacity running) where
+  -- onComplete was told only where the subscription completed
   complete_told : Contains lane.told Complete → lane.how ≡ Some Completed
   complete_told h =
       let inside = subst (λ told. Contains told Complete) sound.text h in
       complete-ending lane.how (terminal-last (is_begun lane.told) (items_of lane.told) (ending_of lane.how) Complete tt inside)
 
+  -- onError was told only where it ended with that error
   error_told : (fault : Fault) → Contains lane.told (Error fault) → lane.how ≡ Some (Errored fault)
   error_told fault h =
       let inside = subst (λ told. Contains told (Error fault)) sound.text h in
@@ -61,6 +63,7 @@ module _ {lane : LaneState} {held : List Item} {capacity : ℕ} {running : Bool}
       let long : length lane.accepted ≡ length (items_of lane.told) + length held = ap length sound.holds ∙ length-append (items_of lane.told) held in
       whole (omega arith)
 
+  -- and that error has its cause
   fault_of : (fault : Fault) → lane.how ≡ Some (Errored fault) → IsFaultOf lane.causes fault
   fault_of (Published code) e = sound.cause.published code e
   fault_of IllegalArgument e = sound.cause.argument e
@@ -96,6 +99,7 @@ module _ {lane : LaneState} {held : List Item} {capacity : ℕ} {running : Bool}
         cc
     by (x ∷ told) is text = text ∙ ap (λ ending. Subscribed ∷ (map Next (items_of lane.told) ++ ending)) last
 
+  -- what was told fits the end
   settled_as : (how : How) → lane.how ≡ Some how → IsSettledAs lane (Some how)
   settled_as Completed e = rw (completed_whole e) at (ended_text Completed Complete e refl)
   settled_as (Errored fault) e = (Subscribed ∷ map Next (items_of lane.told), ended_text (Errored fault) (Error fault) e refl)

@@ -182,9 +182,11 @@ module _ {count : ℕ} {old mid : DeskState} {seen : List Signal} (gave : Gave c
     | inr later ↦ nexts-open gave.items s last later
   ]
 
+  -- the items so far
   pub items_of-gave : items_of seen ≡ gave.items
   items_of-gave = ap items_of gave.seen_is ∙ items_of-append (greeting old.lane.told) (map Next gave.items) ∙ ap (λ items. items ++ items_of (map Next gave.items)) (items_of-greeting old.lane.told) ∙ items_of-nexts gave.items
 
+  -- a signal for each item, and one for the greeting
   pub length-gave : length seen ≤ count + 1
   length-gave =
       let greeted = length-greeting old.lane.told in
@@ -233,12 +235,15 @@ module _ {count : ℕ} {old mid : DeskState} {seen : List Signal} (gave : Gave c
       omega arith
 
   module _ {new : DeskState} {seen' : List Signal} {outlook : Outlook} (looks : Looks mid new seen seen' outlook) (other : outlook ≡ Again → ⊥) where
+    -- the last look adds no item
     items_after : items_of seen' ≡ gave.items
     items_after = ap items_of looks.seen_after ∙ items_of-append seen looks.last ∙ ap (λ items. items_of seen ++ items) (items_of-told outlook looks.last other looks.shape) ∙ append-nil (items_of seen) ∙ items_of-gave
 
+    -- so the items of the turn are the next accepted ones
     pub in_order : IsFrontOf (items_of seen') (drop old.lane.given old.lane.accepted)
     in_order = (drop mid.lane.given mid.lane.accepted, gave.waited ∙ ap (λ items. items ++ drop mid.lane.given mid.lane.accepted) (sym items_after))
 
+    -- and its signals fit
     pub few_signals : count < 64 → length seen' ≤ 66
     few_signals room =
         let one = length-told outlook looks.last looks.shape in
@@ -246,6 +251,7 @@ module _ {count : ℕ} {old mid : DeskState} {seen : List Signal} (gave : Gave c
         let before = length-gave in
         omega arith
 
+    -- the turn ends in onComplete exactly where it completed the subscription
     pub completes : EndsIn seen' Complete ↔ (outlook ≡ Ended Completed)
     completes = (
       λ ends. elim (Contains-append_cases seen looks.last Complete (subst (λ text. Contains text Complete) looks.seen_after (last_contained seen' Complete ends))) [
@@ -255,6 +261,7 @@ module _ {count : ℕ} {old mid : DeskState} {seen : List Signal} (gave : Gave c
       λ e. (seen, looks.seen_after ∙ ap (λ last. seen ++ last) (subst (λ o. IsToldBy o looks.last) e looks.shape)),
     )
 
+    -- and in onError exactly where it ended with that error
     pub errs : (fault : Fault) → EndsIn seen' (Error fault) ↔ (outlook ≡ Ended (Errored fault))
     errs fault = (
       λ ends. elim (Contains-append_cases seen looks.last (Error fault) (subst (λ text. Contains text (Error fault)) looks.seen_after (last_contained seen' (Error fault) ends))) [
@@ -264,6 +271,7 @@ module _ {count : ℕ} {old mid : DeskState} {seen : List Signal} (gave : Gave c
       λ e. (seen, looks.seen_after ∙ ap (λ last. seen ++ last) (subst (λ o. IsToldBy o looks.last) e looks.shape)),
     )
 
+    -- the items taken are those of the plain turn, as far as it came
     pub taken_end : count < 64 → new.lane.given ≡ old.lane.given + taken_in (plain_turn_of old.lane) seen'
     taken_end room =
         let m : ℕ = 63 - count in
@@ -275,6 +283,7 @@ module _ {count : ℕ} {old mid : DeskState} {seen : List Signal} (gave : Gave c
         ap (taken_in (plain_turn_of old.lane)) looks.seen_after ∙ taken_then (rest_of_turn (suc m) mid.lane) looks.last whole in
         omega arith
 
+    -- the turn is the plain one, or met want of memory before its end
     pub plain_end : count < 64 → MeetsPlainTurn (plain_turn_of old.lane) seen' outlook
     plain_end room =
         let m : ℕ = 63 - count in

@@ -46,6 +46,7 @@ MayEnd lane Cancelled = Unit {0}
 MayEnd lane (Failed _) = Unit {0}
 MayEnd lane OutOfMemory = Unit {0}
 
+-- an end at once has its cause
 stops_may : (lane : LaneState) (how : How) → stops lane.causes ≡ Some how → MayEnd lane how
 stops_may lane how e = by lane.causes.cancel lane.causes.argument lane.causes.state lane.causes.closing refl refl refl refl e where
   by : (cancel argument state : Bool) (closing : Option Ending) → lane.causes.cancel ≡ cancel
@@ -59,6 +60,7 @@ stops_may lane how e = by lane.causes.cancel lane.causes.argument lane.causes.st
   by false false false (Some Normal) c a s l e = cc
   by false false false (Some (ClosedWith code)) c a s l e = let is : Errored (Published code) ≡ how = cc in subst (MayEnd lane) is l
 
+-- completion is asked for, and comes after every item
 closes_may : (lane : LaneState) (how : How) → closes lane.causes ≡ Some how → lane.given ≡ length lane.accepted → MayEnd lane how
 closes_may lane how e all = by lane.causes.closing refl e where
   by : (closing : Option Ending) → lane.causes.closing ≡ closing → completion closing ≡ Some how → MayEnd lane how
@@ -112,6 +114,7 @@ module _ {told : List Signal} {held : List Item} {given asked capacity : ℕ} {c
   waiting_held = ap (λ k. drop k (items_of told ++ held)) all_counted ∙ drop-append_seam (items_of told) held
 
   module _ (runs : running ≡ true) (begun : is_begun told ≡ true) where
+    -- what was told so far
     text_so_far : told ≡ Subscribed ∷ map Next (items_of told)
     text_so_far = open_text sound unended begun
 
@@ -168,6 +171,7 @@ module _ {told : List Signal} {held : List Item} {given asked capacity : ℕ} {c
         }))
 
     module _ {told' : List Signal} {held' : List Item} {seen seen' : List Signal} (moves : MovesNext told told' held held' seen seen') where
+      -- one more item was told
       items_after : items_of told' ≡ items_of told ++ moves.item ∷ []
       items_after = ap items_of moves.told_after ∙ items_of-append told (Next moves.item ∷ [])
 
@@ -175,9 +179,11 @@ module _ {told : List Signal} {held : List Item} {given asked capacity : ℕ} {c
       pub accepted_kept : items_of told' ++ held' ≡ items_of told ++ held
       accepted_kept = ap (λ items. items ++ held') items_after ∙ append_assoc (items_of told) (moves.item ∷ []) held' ∙ ap (λ rest. items_of told ++ rest) (sym moves.waited)
 
+      -- and counted
       pub one_more : length (items_of told') ≡ given + 1
       one_more = let before = all_counted in omega (arith, ap length items_after, length-append (items_of told) (moves.item ∷ []))
 
+      -- an item that is told keeps what a Desk keeps
       pub sound_given : given < asked → IsSound (lane_of told' held' (given + 1) asked causes how) held' capacity running
       sound_given requested =
           let told_one_more = one_more in

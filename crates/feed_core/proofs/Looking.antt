@@ -77,7 +77,7 @@ looks_rested old seen flow unended unstopped all waits =
           omega arith;
     }
 
--- an ending has no items, told or missed
+-- an ending that was told has no items
 no_item : (end : How) → taken_in (ended end) (last_signal end) ≡ 0
 no_item Completed = refl
 no_item (Errored _) = refl
@@ -85,6 +85,7 @@ no_item Cancelled = refl
 no_item (Failed _) = refl
 no_item OutOfMemory = refl
 
+-- the first signal of an ending is no item either
 no_item_missed : (end : How) → taken_in (ended end) [] ≡ 0
 no_item_missed Completed = refl
 no_item_missed (Errored _) = refl

@@ -31,6 +31,7 @@ IsTerminal (Next _) = ⊥
 IsTerminal Complete = Unit {0}
 IsTerminal (Error _) = Unit {0}
 
+-- no onNext at any place is a terminal signal
 open_at : (items : List Item) (s : Signal) (k : ℕ) → IsTerminal s → k < length (map Next items) → slice_index_or (map Next items) k s ≡ s → ⊥
 open_at [] s k last lt is = omega arith
 open_at (item ∷ items) Subscribed zero last lt is = last
