@@ -1,10 +1,9 @@
 -- What a Desk keeps gives the Flow rules of its lane, and, where no turn is owed, that nothing is forgotten.
-use Rattle.std.proofs.Common.{◌≡◌, ℕ, ◌+◌, ◌<◌, ◌≤◌, ◌⊎◌, min, Bool, true, false, List, [], ◌∷◌, ◌++◌, map, length, take, Contains, Option, None, Some, is_some, refl, ap, sym, ◌∙◌, subst, inl, inr, arith}
+use Rattle.std.proofs.Common.{◌≡◌, ℕ, ◌+◌, ◌≤◌, ◌⊎◌, min, Bool, true, false, List, [], ◌∷◌, ◌++◌, map, length, take, Contains, Option, None, Some, is_some, refl, ap, sym, ◌∙◌, subst, inl, inr, arith}
 use Rattle.std.proofs.lemmas.Bool.{cases_eq}
 use Rattle.std.proofs.lemmas.List.{append-nil, length-append, nil_from_length}
 use Rattle.std.proofs.Math.Seq.{take-append_seam}
 use Rattle.flow_rules.specs.declared.texts.Item.{Item}
-use Rattle.flow_rules.specs.declared.signals.Ending.TheVariants.{Normal}
 use Rattle.flow_rules.specs.declared.signals.Fault.{Fault}
 use Rattle.flow_rules.specs.declared.signals.Fault.TheVariants.{Published, IllegalArgument, IllegalState}
 use Rattle.flow_rules.specs.declared.signals.Signal.{Signal}
@@ -13,7 +12,7 @@ use Rattle.flow_rules.specs.declared.signals.How.{How}
 use Rattle.flow_rules.specs.declared.signals.How.TheVariants.{Completed, Errored, Cancelled, Failed, OutOfMemory}
 use Rattle.flow_rules.specs.Signals.{IsFlowText, items_of}
 use Rattle.feed_core.specs.Cause.{IsFaultOf}
-use Rattle.feed_core.specs.Lane.{LaneState, IsFlow, IsIdle, IsSettled, IsSettledAs, HasNoLastSignal, TellsGiven}
+use Rattle.feed_core.specs.Lane.{LaneState, IsFlow, IsIdle, IsSettled, IsSettledAs, HasNoLastSignal}
 use Rattle.feed_core.specs.PlainTurn.{last_signal}
 use Rattle.feed_core.specs.Sound.{is_begun, ending_of, text_of, lost_by, IsSound}
 use Rattle.feed_core.proofs.Texts.{terminal-last, complete-ending, error-ending, is_ending}
@@ -24,7 +23,8 @@ allowed [] items how e = inl refl
 allowed (s ∷ told) items how e = inr (items, ending_of how, e, is_ending how)
 
 -- every taken item was told, or the last one was lost
-tells_given : (how : Option How) (told given : ℕ) → told ≤ given → given ≤ told + lost_by how → (told ≡ given) ⊎ ((how ≡ Some OutOfMemory) × (told + 1 ≡ given))
+tells_given : (how : Option How) (told given : ℕ) → told ≤ given → given ≤ told + lost_by how
+    → (told ≡ given) ⊎ ((how ≡ Some OutOfMemory) × (told + 1 ≡ given))
 tells_given None told given low high = inl (omega arith)
 tells_given (Some Completed) told given low high = inl (omega arith)
 tells_given (Some (Errored _)) told given low high = inl (omega arith)
@@ -36,11 +36,13 @@ tells_given (Some OutOfMemory) told given low high = elim (cases_eq told given) 
 ]
 
 module _ {lane : LaneState} {held : List Item} {capacity : ℕ} {running : Bool} (sound : IsSound lane held capacity running) where
+  -- onComplete was told only where the subscription completed
   complete_told : Contains lane.told Complete → lane.how ≡ Some Completed
   complete_told h =
       let inside = subst (λ told. Contains told Complete) sound.text h in
       complete-ending lane.how (terminal-last (is_begun lane.told) (items_of lane.told) (ending_of lane.how) Complete tt inside)
 
+  -- onError was told only where it ended with that error
   error_told : (fault : Fault) → Contains lane.told (Error fault) → lane.how ≡ Some (Errored fault)
   error_told fault h =
       let inside = subst (λ told. Contains told (Error fault)) sound.text h in
@@ -61,6 +63,7 @@ module _ {lane : LaneState} {held : List Item} {capacity : ℕ} {running : Bool}
       let long : length lane.accepted ≡ length (items_of lane.told) + length held = ap length sound.holds ∙ length-append (items_of lane.told) held in
       whole (omega arith)
 
+  -- and that error has its cause
   fault_of : (fault : Fault) → lane.how ≡ Some (Errored fault) → IsFaultOf lane.causes fault
   fault_of (Published code) e = sound.cause.published code e
   fault_of IllegalArgument e = sound.cause.argument e
@@ -85,15 +88,18 @@ module _ {lane : LaneState} {held : List Item} {capacity : ℕ} {running : Bool}
   )
 
   -- an end with a terminal signal was told after onSubscribe
-  ended_text : (how : How) (s : Signal) → lane.how ≡ Some how → last_signal how ≡ s ∷ [] → lane.told ≡ Subscribed ∷ (map Next (items_of lane.told) ++ s ∷ [])
+  ended_text : (how : How) (s : Signal) → lane.how ≡ Some how → last_signal how ≡ s ∷ []
+      → lane.told ≡ Subscribed ∷ (map Next (items_of lane.told) ++ s ∷ [])
   ended_text how s e last = by lane.told refl (subst (λ h. lane.told ≡ text_of (is_begun lane.told) (items_of lane.told) h) e sound.text) where
-    by : (told : List Signal) → told ≡ lane.told → lane.told ≡ text_of (is_begun told) (items_of lane.told) (Some how) → lane.told ≡ Subscribed ∷ (map Next (items_of lane.told) ++ s ∷ [])
+    by : (told : List Signal) → told ≡ lane.told → lane.told ≡ text_of (is_begun told) (items_of lane.told) (Some how)
+        → lane.told ≡ Subscribed ∷ (map Next (items_of lane.told) ++ s ∷ [])
     by [] is text =
         let nothing : items_of lane.told ≡ [] = ap items_of (sym is) in
         let ending : lane.told ≡ last_signal how = text ∙ ap (λ items. map Next items ++ last_signal how) nothing in
         cc
     by (x ∷ told) is text = text ∙ ap (λ ending. Subscribed ∷ (map Next (items_of lane.told) ++ ending)) last
 
+  -- what was told fits the end
   settled_as : (how : How) → lane.how ≡ Some how → IsSettledAs lane (Some how)
   settled_as Completed e = rw (completed_whole e) at (ended_text Completed Complete e refl)
   settled_as (Errored fault) e = (Subscribed ∷ map Next (items_of lane.told), ended_text (Errored fault) (Error fault) e refl)

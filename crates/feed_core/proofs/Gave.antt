@@ -1,5 +1,5 @@
 -- The looks of one turn, one after the other.
-use Rattle.std.proofs.Common.{◌≡◌, ℕ, zero, suc, ◌+◌, ◌-◌, ◌<◌, ◌≤◌, ◌⊎◌, ◌↔◌, Bool, true, false, List, [], ◌∷◌, ◌++◌, map, length, take, drop, Contains, Option, None, Some, refl, ap, sym, ◌∙◌, subst, inl, inr, arith, append_assoc}
+use Rattle.std.proofs.Common.{◌≡◌, ℕ, suc, ◌+◌, ◌-◌, ◌<◌, ◌≤◌, ◌↔◌, true, false, List, [], ◌∷◌, ◌++◌, map, length, take, drop, Contains, None, refl, ap, sym, ◌∙◌, subst, inl, inr, arith, append_assoc}
 use Rattle.std.proofs.lemmas.List.{append-nil, length-append, length-map, map-append}
 use Rattle.std.proofs.lemmas.List.Elements.{Contains-append_cases, Contains-push}
 use Rattle.std.proofs.Math.Seq.{take-append-add}
@@ -10,7 +10,6 @@ use Rattle.flow_rules.specs.declared.signals.Signal.TheVariants.{Subscribed, Nex
 use Rattle.flow_rules.specs.declared.signals.How.{How}
 use Rattle.flow_rules.specs.declared.signals.How.TheVariants.{Completed, Errored, Cancelled, Failed, OutOfMemory}
 use Rattle.flow_rules.specs.Signals.{items_of}
-use Rattle.feed_core.specs.declared.causes.Causes.{Causes}
 use Rattle.feed_core.specs.declared.outlooks.Outlook.{Outlook}
 use Rattle.feed_core.specs.declared.outlooks.Outlook.TheVariants.{Again, Resting, Ended}
 use Rattle.feed_core.specs.Cause.{stops}
@@ -18,7 +17,7 @@ use Rattle.feed_core.specs.Desk.{DeskState, AfterTurn, causes_after, EndsIn, IsP
 use Rattle.feed_core.specs.Lane.{LaneState, IsFlow, IsFrontOf}
 use Rattle.feed_core.specs.PlainTurn.{Turn, again, greeting, last_signal, plain_turn_of, telling}
 use Rattle.feed_core.specs.Sound.{is_begun}
-use Rattle.feed_core.specs.Steps.{GoesOn, Greets, IsToldBy, Looks, rest_of_turn, turn_within}
+use Rattle.feed_core.specs.Steps.{Greets, IsToldBy, Looks, rest_of_turn, turn_within}
 use Rattle.feed_core.proofs.Keeping.{is_begun-append, items_of-last}
 use Rattle.feed_core.proofs.Texts.{IsTerminal, complete-last, error-last, items_of-append, items_of-nexts, nexts-open, opening-open, Contains-none, Contains-one}
 use Rattle.feed_core.proofs.Turning.{full, gives}
@@ -36,6 +35,7 @@ pub record Gave (count : ℕ) (old new : DeskState) (seen : List Signal) : Type 
   pub unstopped : 0 < count → stops new.lane.causes ≡ None
   pub flow : 0 < count → IsFlow new.lane
 
+-- a greeted subscriber was told something
 begun_by_greeting : (told : List Signal) → is_begun (told ++ greeting told) ≡ true
 begun_by_greeting [] = refl
 begun_by_greeting (_ ∷ _) = refl
@@ -71,7 +71,8 @@ gave_none old new seen seen' owed nothing greets =
     })
 
 -- what two parts of a turn change, one after the other
-after_then : (old mid new : DeskState) (seen more : List Signal) (outlook : Outlook) → AfterTurn old mid seen Again → AfterTurn mid new more outlook → AfterTurn old new (seen ++ more) outlook
+after_then : (old mid new : DeskState) (seen more : List Signal) (outlook : Outlook) → AfterTurn old mid seen Again
+    → AfterTurn mid new more outlook → AfterTurn old new (seen ++ more) outlook
 after_then old mid new seen more outlook first second = record {
   recorded = second.recorded ∙ ap (λ told. told ++ more) first.recorded ∙ append_assoc old.lane.told seen more;
   accepted = second.accepted ∙ first.accepted;
@@ -121,18 +122,22 @@ module _ {count : ℕ} {old mid new : DeskState} {seen seen' : List Signal} (gav
         flow = λ some. looks.flow;
       }
 
+-- the greeting has no terminal signal
 greeting-open : (told : List Signal) (s : Signal) → IsTerminal s → Contains (greeting told) s → ⊥
 greeting-open [] s last h = opening-open true s last h
 greeting-open (_ ∷ _) s last h = opening-open false s last h
 
+-- nor an item
 items_of-greeting : (told : List Signal) → items_of (greeting told) ≡ []
 items_of-greeting [] = refl
 items_of-greeting (_ ∷ _) = refl
 
+-- and is one signal at most
 length-greeting : (told : List Signal) → length (greeting told) ≤ 1
 length-greeting [] = omega arith
 length-greeting (_ ∷ _) = omega arith
 
+-- an ending is one signal at most
 length-last : (how : How) → length (last_signal how) ≤ 1
 length-last Completed = omega arith
 length-last (Errored _) = omega arith
@@ -152,12 +157,15 @@ items_of-told Again last other shape = absurd (other refl)
 items_of-told Resting last other shape = ap items_of shape
 items_of-told (Ended how) last other shape = ap items_of shape ∙ items_of-last how
 
+-- the last look tells onComplete only where it completed the subscription
 complete_told : (outlook : Outlook) (last : List Signal) → IsToldBy outlook last → Contains last Complete → outlook ≡ Ended Completed
 complete_told Again last shape h = let e = Contains-one (Next shape.0) Complete (subst (λ text. Contains text Complete) shape.1 h) in cc
 complete_told Resting last shape h = absurd (Contains-none Complete (subst (λ text. Contains text Complete) shape h))
 complete_told (Ended how) last shape h = ap Ended (complete-last how (subst (λ text. Contains text Complete) shape h))
 
-error_told : (outlook : Outlook) (last : List Signal) (fault : Fault) → IsToldBy outlook last → Contains last (Error fault) → outlook ≡ Ended (Errored fault)
+-- and an onError only where it ended with that error
+error_told : (outlook : Outlook) (last : List Signal) (fault : Fault) → IsToldBy outlook last
+    → Contains last (Error fault) → outlook ≡ Ended (Errored fault)
 error_told Again last fault shape h = let e = Contains-one (Next shape.0) (Error fault) (subst (λ text. Contains text (Error fault)) shape.1 h) in cc
 error_told Resting last fault shape h = absurd (Contains-none (Error fault) (subst (λ text. Contains text (Error fault)) shape h))
 error_told (Ended how) last fault shape h = ap Ended (error-last how fault (subst (λ text. Contains text (Error fault)) shape h))
@@ -174,9 +182,11 @@ module _ {count : ℕ} {old mid : DeskState} {seen : List Signal} (gave : Gave c
     | inr later ↦ nexts-open gave.items s last later
   ]
 
+  -- the items so far
   pub items_of-gave : items_of seen ≡ gave.items
   items_of-gave = ap items_of gave.seen_is ∙ items_of-append (greeting old.lane.told) (map Next gave.items) ∙ ap (λ items. items ++ items_of (map Next gave.items)) (items_of-greeting old.lane.told) ∙ items_of-nexts gave.items
 
+  -- a signal for each item, and one for the greeting
   pub length-gave : length seen ≤ count + 1
   length-gave =
       let greeted = length-greeting old.lane.told in
@@ -191,20 +201,22 @@ module _ {count : ℕ} {old mid : DeskState} {seen : List Signal} (gave : Gave c
   pub open_so_far : (s : Signal) → IsTerminal s → EndsIn seen s → ⊥
   open_so_far s last ends = gave-open s last (last_contained seen s ends)
 
-  -- after 64 items the turn is over, and another one is owed
+  -- after 64 items nothing is left of the plain turn but that another one is owed
   whole_full : count ≡ 64 → plain_turn_of old.lane ≡ telling seen again
   whole_full all =
       let none : 64 - count ≡ 0 = omega arith in
       gave.left ∙ ap (λ most. telling seen (rest_of_turn most mid.lane)) none
       ∙ ap (telling seen) (full mid.lane.causes (drop mid.lane.given mid.lane.accepted) (mid.lane.asked - mid.lane.given) (gave.unstopped (omega arith)))
 
+  -- so the turn is the plain one
   pub plain_full : count ≡ 64 → MeetsPlainTurn (plain_turn_of old.lane) seen Again
   plain_full all =
       let whole = whole_full all in
       inl (sym (ap (λ t. t.told) whole ∙ append-nil seen), sym (ap (λ t. t.outlook) whole))
 
   -- what is taken in the rest of a turn is taken in the whole, after the items so far
-  taken_then : (turn : Turn) (last : List Signal) → plain_turn_of old.lane ≡ telling seen turn → taken_in (plain_turn_of old.lane) (seen ++ last) ≡ count + taken_in turn last
+  taken_then : (turn : Turn) (last : List Signal) → plain_turn_of old.lane ≡ telling seen turn
+      → taken_in (plain_turn_of old.lane) (seen ++ last) ≡ count + taken_in turn last
   taken_then turn last whole =
       let long : length (seen ++ last) + 1 ≡ length seen + (length last + 1) = omega (arith, length-append seen last) in
       let counted = gave.counted in
@@ -223,12 +235,15 @@ module _ {count : ℕ} {old mid : DeskState} {seen : List Signal} (gave : Gave c
       omega arith
 
   module _ {new : DeskState} {seen' : List Signal} {outlook : Outlook} (looks : Looks mid new seen seen' outlook) (other : outlook ≡ Again → ⊥) where
+    -- the last look adds no item
     items_after : items_of seen' ≡ gave.items
     items_after = ap items_of looks.seen_after ∙ items_of-append seen looks.last ∙ ap (λ items. items_of seen ++ items) (items_of-told outlook looks.last other looks.shape) ∙ append-nil (items_of seen) ∙ items_of-gave
 
+    -- so the items of the turn are the next accepted ones
     pub in_order : IsFrontOf (items_of seen') (drop old.lane.given old.lane.accepted)
     in_order = (drop mid.lane.given mid.lane.accepted, gave.waited ∙ ap (λ items. items ++ drop mid.lane.given mid.lane.accepted) (sym items_after))
 
+    -- and its signals fit
     pub few_signals : count < 64 → length seen' ≤ 66
     few_signals room =
         let one = length-told outlook looks.last looks.shape in
@@ -236,6 +251,7 @@ module _ {count : ℕ} {old mid : DeskState} {seen : List Signal} (gave : Gave c
         let before = length-gave in
         omega arith
 
+    -- the turn ends in onComplete exactly where it completed the subscription
     pub completes : EndsIn seen' Complete ↔ (outlook ≡ Ended Completed)
     completes = (
       λ ends. elim (Contains-append_cases seen looks.last Complete (subst (λ text. Contains text Complete) looks.seen_after (last_contained seen' Complete ends))) [
@@ -245,6 +261,7 @@ module _ {count : ℕ} {old mid : DeskState} {seen : List Signal} (gave : Gave c
       λ e. (seen, looks.seen_after ∙ ap (λ last. seen ++ last) (subst (λ o. IsToldBy o looks.last) e looks.shape)),
     )
 
+    -- and in onError exactly where it ended with that error
     pub errs : (fault : Fault) → EndsIn seen' (Error fault) ↔ (outlook ≡ Ended (Errored fault))
     errs fault = (
       λ ends. elim (Contains-append_cases seen looks.last (Error fault) (subst (λ text. Contains text (Error fault)) looks.seen_after (last_contained seen' (Error fault) ends))) [
@@ -254,6 +271,7 @@ module _ {count : ℕ} {old mid : DeskState} {seen : List Signal} (gave : Gave c
       λ e. (seen, looks.seen_after ∙ ap (λ last. seen ++ last) (subst (λ o. IsToldBy o looks.last) e looks.shape)),
     )
 
+    -- the items taken are those of the plain turn, as far as it came
     pub taken_end : count < 64 → new.lane.given ≡ old.lane.given + taken_in (plain_turn_of old.lane) seen'
     taken_end room =
         let m : ℕ = 63 - count in
@@ -265,6 +283,7 @@ module _ {count : ℕ} {old mid : DeskState} {seen : List Signal} (gave : Gave c
         ap (taken_in (plain_turn_of old.lane)) looks.seen_after ∙ taken_then (rest_of_turn (suc m) mid.lane) looks.last whole in
         omega arith
 
+    -- the turn is the plain one, or met want of memory before its end
     pub plain_end : count < 64 → MeetsPlainTurn (plain_turn_of old.lane) seen' outlook
     plain_end room =
         let m : ℕ = 63 - count in

@@ -46,9 +46,13 @@ MayEnd lane Cancelled = Unit {0}
 MayEnd lane (Failed _) = Unit {0}
 MayEnd lane OutOfMemory = Unit {0}
 
+-- an end at once has its cause
 stops_may : (lane : LaneState) (how : How) → stops lane.causes ≡ Some how → MayEnd lane how
 stops_may lane how e = by lane.causes.cancel lane.causes.argument lane.causes.state lane.causes.closing refl refl refl refl e where
-  by : (cancel argument state : Bool) (closing : Option Ending) → lane.causes.cancel ≡ cancel → lane.causes.argument ≡ argument → lane.causes.state ≡ state → lane.causes.closing ≡ closing → end_where cancel Cancelled (end_where argument (Errored IllegalArgument) (end_where state (Errored IllegalState) (closing_error closing))) ≡ Some how → MayEnd lane how
+  by : (cancel argument state : Bool) (closing : Option Ending) → lane.causes.cancel ≡ cancel
+      → lane.causes.argument ≡ argument → lane.causes.state ≡ state → lane.causes.closing ≡ closing
+      → end_where cancel Cancelled (end_where argument (Errored IllegalArgument) (end_where state (Errored IllegalState) (closing_error closing))) ≡ Some how
+      → MayEnd lane how
   by true argument state closing c a s l e = let is : Cancelled ≡ how = cc in subst (MayEnd lane) is tt
   by false true state closing c a s l e = let is : Errored IllegalArgument ≡ how = cc in subst (MayEnd lane) is a
   by false false true closing c a s l e = let is : Errored IllegalState ≡ how = cc in subst (MayEnd lane) is s
@@ -56,6 +60,7 @@ stops_may lane how e = by lane.causes.cancel lane.causes.argument lane.causes.st
   by false false false (Some Normal) c a s l e = cc
   by false false false (Some (ClosedWith code)) c a s l e = let is : Errored (Published code) ≡ how = cc in subst (MayEnd lane) is l
 
+-- completion is asked for, and comes after every item
 closes_may : (lane : LaneState) (how : How) → closes lane.causes ≡ Some how → lane.given ≡ length lane.accepted → MayEnd lane how
 closes_may lane how e all = by lane.causes.closing refl e where
   by : (closing : Option Ending) → lane.causes.closing ≡ closing → completion closing ≡ Some how → MayEnd lane how
@@ -68,76 +73,18 @@ due_may : (lane : LaneState) (how : How) → IsDue lane how → MayEnd lane how
 due_may lane how (inl e) = stops_may lane how e
 due_may lane how (inr e) = closes_may lane how e.1 e.2
 
-has_cause : (lane : LaneState) (how : How) (told : List Signal) (accepted : List Item) → length accepted ≡ length lane.accepted → MayEnd lane how → HasCause (record { accepted = accepted; given = lane.given; asked = lane.asked; causes = with_cause_of how lane.causes; how = Some how; told = told })
-has_cause lane Completed told accepted long may = record {
-  completed = λ e. may.0;
-  whole = λ e. may.1 ∙ sym long;
-  published = λ code e. cc;
-  argument = λ e. cc;
-  state = λ e. cc;
-  cancelled = λ e. cc;
-  failed = λ code e. cc;
-  refused = λ e. cc;
-}
-has_cause lane (Errored (Published code)) told accepted long may = record {
-  completed = λ e. cc;
-  whole = λ e. cc;
-  published = λ other e. cc;
-  argument = λ e. cc;
-  state = λ e. cc;
-  cancelled = λ e. cc;
-  failed = λ code e. cc;
-  refused = λ e. cc;
-}
-has_cause lane (Errored IllegalArgument) told accepted long may = record {
-  completed = λ e. cc;
-  whole = λ e. cc;
-  published = λ code e. cc;
-  argument = λ e. may;
-  state = λ e. cc;
-  cancelled = λ e. cc;
-  failed = λ code e. cc;
-  refused = λ e. cc;
-}
-has_cause lane (Errored IllegalState) told accepted long may = record {
-  completed = λ e. cc;
-  whole = λ e. cc;
-  published = λ code e. cc;
-  argument = λ e. cc;
-  state = λ e. may;
-  cancelled = λ e. cc;
-  failed = λ code e. cc;
-  refused = λ e. cc;
-}
-has_cause lane Cancelled told accepted long may = record {
-  completed = λ e. cc;
-  whole = λ e. cc;
-  published = λ code e. cc;
-  argument = λ e. cc;
-  state = λ e. cc;
-  cancelled = λ e. refl;
-  failed = λ code e. cc;
-  refused = λ e. cc;
-}
-has_cause lane (Failed code) told accepted long may = record {
-  completed = λ e. cc;
-  whole = λ e. cc;
-  published = λ code e. cc;
-  argument = λ e. cc;
-  state = λ e. cc;
-  cancelled = λ e. cc;
-  failed = λ other e. cc;
-  refused = λ e. cc;
-}
-has_cause lane OutOfMemory told accepted long may = record {
-  completed = λ e. cc;
-  whole = λ e. cc;
-  published = λ code e. cc;
-  argument = λ e. cc;
-  state = λ e. cc;
-  cancelled = λ e. cc;
-  failed = λ code e. cc;
-  refused = λ e. refl;
+-- a lane that ends as it may has a cause for it
+has_cause : (lane : LaneState) (how : How) (told : List Signal) (accepted : List Item) → length accepted ≡ length lane.accepted → MayEnd lane how
+    → HasCause (record { accepted = accepted; given = lane.given; asked = lane.asked; causes = with_cause_of how lane.causes; how = Some how; told = told })
+has_cause lane how told accepted long may = record {
+  completed = λ e. let is : Completed ≡ how = cc in subst (λ h. MayEnd lane h → (with_cause_of h lane.causes).closing ≡ Some Normal) is (λ m. m.0) may;
+  whole = λ e. let is : Completed ≡ how = cc in subst (λ h. MayEnd lane h → lane.given ≡ length lane.accepted) is (λ m. m.1) may ∙ sym long;
+  published = λ code e. let is : Errored (Published code) ≡ how = cc in subst (λ h. MayEnd lane h → (with_cause_of h lane.causes).closing ≡ Some (ClosedWith code)) is (λ m. m) may;
+  argument = λ e. let is : Errored IllegalArgument ≡ how = cc in subst (λ h. MayEnd lane h → (with_cause_of h lane.causes).argument ≡ true) is (λ m. m) may;
+  state = λ e. let is : Errored IllegalState ≡ how = cc in subst (λ h. MayEnd lane h → (with_cause_of h lane.causes).state ≡ true) is (λ m. m) may;
+  cancelled = λ e. let is : Cancelled ≡ how = cc in subst (λ h. (with_cause_of h lane.causes).cancel ≡ true) is refl;
+  failed = λ code e. let is : Failed code ≡ how = cc in subst (λ h. (with_cause_of h lane.causes).failed ≡ Some code) is refl;
+  refused = λ e. let is : OutOfMemory ≡ how = cc in subst (λ h. (with_cause_of h lane.causes).memory ≡ true) is refl;
 }
 
 -- a lane that has not ended needs no cause
@@ -153,7 +100,8 @@ no_cause lane unended = record {
   refused = λ e. cc;
 }
 
-module _ {told : List Signal} {held : List Item} {given asked capacity : ℕ} {causes : Causes} {how : Option How} {running : Bool} (sound : IsSound (lane_of told held given asked causes how) held capacity running) (unended : how ≡ None) where
+module _ {told : List Signal} {held : List Item} {given asked capacity : ℕ} {causes : Causes} {how : Option How} {running : Bool}
+    (sound : IsSound (lane_of told held given asked causes how) held capacity running) (unended : how ≡ None) where
   -- as many items were told as were given
   pub all_counted : given ≡ length (items_of told)
   all_counted =
@@ -166,17 +114,22 @@ module _ {told : List Signal} {held : List Item} {given asked capacity : ℕ} {c
   waiting_held = ap (λ k. drop k (items_of told ++ held)) all_counted ∙ drop-append_seam (items_of told) held
 
   module _ (runs : running ≡ true) (begun : is_begun told ≡ true) where
+    -- what was told so far
     text_so_far : told ≡ Subscribed ∷ map Next (items_of told)
     text_so_far = open_text sound unended begun
 
     -- what was told grows by more items or an ending
-    grown_text : {told' : List Signal} (more : List Signal) (how' : Option How) → told' ≡ told ++ more → map Next (items_of told) ++ more ≡ map Next (items_of told') ++ ending_of how' → told' ≡ text_of (is_begun told') (items_of told') how'
+    grown_text : {told' : List Signal} (more : List Signal) (how' : Option How) → told' ≡ told ++ more
+        → map Next (items_of told) ++ more ≡ map Next (items_of told') ++ ending_of how'
+        → told' ≡ text_of (is_begun told') (items_of told') how'
     grown_text {told'} more how' grows is =
         let whole : told' ≡ Subscribed ∷ (map Next (items_of told) ++ more) = grows ∙ ap (λ text. text ++ more) text_so_far in
         subst (λ b. told' ≡ opening b ++ (map Next (items_of told') ++ ending_of how')) (sym (ap is_begun whole)) (whole ∙ ap (λ rest. Subscribed ∷ rest) is)
 
     -- an end that is due, or comes of a callback, keeps what a Desk keeps
-    pub sound_ended : {told' : List Signal} (end : How) → MayEnd (lane_of told held given asked causes how) end → told' ≡ told ++ last_signal end → IsSound (lane_of told' held given asked (with_cause_of end causes) (Some end)) held capacity running
+    pub sound_ended : {told' : List Signal} (end : How) → MayEnd (lane_of told held given asked causes how) end
+        → told' ≡ told ++ last_signal end
+        → IsSound (lane_of told' held given asked (with_cause_of end causes) (Some end)) held capacity running
     sound_ended {told'} end may grows =
         let same : items_of told' ≡ items_of told = ended_items told told' end grows in
         let accepted_same : items_of told' ++ held ≡ items_of told ++ held = ap (λ items. items ++ held) same in
@@ -194,11 +147,15 @@ module _ {told : List Signal} {held : List Item} {given asked capacity : ℕ} {c
         }
 
     -- the same of an end that is due
-    pub sound_due : {told' : List Signal} (end : How) → IsDue (lane_of told held given asked causes how) end → told' ≡ told ++ last_signal end → IsSound (lane_of told' held given asked (with_cause_of end causes) (Some end)) held capacity running
+    pub sound_due : {told' : List Signal} (end : How) → IsDue (lane_of told held given asked causes how) end
+        → told' ≡ told ++ last_signal end
+        → IsSound (lane_of told' held given asked (with_cause_of end causes) (Some end)) held capacity running
     sound_due end due grows = sound_ended end (due_may (lane_of told held given asked causes how) end due) grows
 
     -- an item whose callback met want of memory is taken and lost
-    pub sound_lost : {told' : List Signal} {held' : List Item} → told' ≡ told → held' ≡ held → given < length (items_of told ++ held) → given < asked → IsSound (lane_of told' held' (given + 1) asked (with_cause_of OutOfMemory causes) (Some OutOfMemory)) held' capacity running
+    pub sound_lost : {told' : List Signal} {held' : List Item} → told' ≡ told → held' ≡ held
+        → given < length (items_of told ++ held) → given < asked
+        → IsSound (lane_of told' held' (given + 1) asked (with_cause_of OutOfMemory causes) (Some OutOfMemory)) held' capacity running
     sound_lost {told'} {held'} same_told same_held waits requested =
         subst (λ text. IsSound (lane_of text held' (given + 1) asked (with_cause_of OutOfMemory causes) (Some OutOfMemory)) held' capacity running) (sym same_told)
         (subst (λ rest. IsSound (lane_of told rest (given + 1) asked (with_cause_of OutOfMemory causes) (Some OutOfMemory)) rest capacity running) (sym same_held)
@@ -214,6 +171,7 @@ module _ {told : List Signal} {held : List Item} {given asked capacity : ℕ} {c
         }))
 
     module _ {told' : List Signal} {held' : List Item} {seen seen' : List Signal} (moves : MovesNext told told' held held' seen seen') where
+      -- one more item was told
       items_after : items_of told' ≡ items_of told ++ moves.item ∷ []
       items_after = ap items_of moves.told_after ∙ items_of-append told (Next moves.item ∷ [])
 
@@ -221,9 +179,11 @@ module _ {told : List Signal} {held : List Item} {given asked capacity : ℕ} {c
       pub accepted_kept : items_of told' ++ held' ≡ items_of told ++ held
       accepted_kept = ap (λ items. items ++ held') items_after ∙ append_assoc (items_of told) (moves.item ∷ []) held' ∙ ap (λ rest. items_of told ++ rest) (sym moves.waited)
 
+      -- and counted
       pub one_more : length (items_of told') ≡ given + 1
       one_more = let before = all_counted in omega (arith, ap length items_after, length-append (items_of told) (moves.item ∷ []))
 
+      -- an item that is told keeps what a Desk keeps
       pub sound_given : given < asked → IsSound (lane_of told' held' (given + 1) asked causes how) held' capacity running
       sound_given requested =
           let told_one_more = one_more in

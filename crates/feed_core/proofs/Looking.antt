@@ -1,6 +1,6 @@
 -- One look does what is left of the plain turn.
-use Rattle.std.proofs.Common.{◌≡◌, ℕ, suc, ◌+◌, ◌-◌, ◌<◌, ◌≤◌, min, Bool, true, false, List, [], ◌∷◌, ◌++◌, map, length, drop, Option, None, Some, refl, ap, sym, ◌∙◌, subst, inl, inr, arith}
-use Rattle.std.proofs.lemmas.List.{append-nil, length-append, length-drop}
+use Rattle.std.proofs.Common.{◌≡◌, ℕ, suc, ◌+◌, ◌-◌, ◌<◌, min, Bool, true, false, List, [], ◌∷◌, ◌++◌, length, drop, Option, None, Some, refl, ap, sym, ◌∙◌, inl, inr, arith}
+use Rattle.std.proofs.lemmas.List.{append-nil, length-drop}
 use Rattle.std.proofs.Math.Seq.{drop-append_seam, drop-length}
 use Rattle.flow_rules.specs.declared.texts.Item.{Item}
 use Rattle.flow_rules.specs.declared.signals.Ending.{Ending}
@@ -17,10 +17,9 @@ use Rattle.feed_core.specs.Desk.{DeskState, IsProperFrontOf, taken_in}
 use Rattle.feed_core.specs.Lane.{LaneState, IsFlow}
 use Rattle.feed_core.specs.PlainTurn.{Turn, last_signal, ended, resting, closing_or_resting, telling}
 use Rattle.feed_core.specs.Sound.{is_begun, lane_of, IsSound}
-use Rattle.feed_core.specs.Steps.{GoesOn, IsDue, Looks, MovesNext, rest_of_turn, turn_within}
+use Rattle.feed_core.specs.Steps.{IsDue, Looks, MovesNext, rest_of_turn, turn_within}
 use Rattle.feed_core.proofs.Flow.{flow_kept}
 use Rattle.feed_core.proofs.Keeping.{accepted_kept, all_counted, ended_items, one_more, sound_due, sound_ended, sound_given, sound_lost, waiting_held}
-use Rattle.feed_core.proofs.Texts.{items_of-append}
 use Rattle.feed_core.proofs.Turning.{gives, pauses, stopped}
 
 -- an end that is due is what is left of the turn
@@ -35,14 +34,18 @@ abbrev pub desk_of : LaneState → ℕ → Bool → Bool → DeskState
 desk_of lane capacity running steady = record { lane = lane; capacity = capacity; running = running; is_steady = steady }
 
 -- where completion is due, items are left
-still_resting : (closing : Option Ending) (waiting : List Item) → (closing ≡ Some Normal → 0 < length waiting) → closing_or_resting (completion closing) waiting ≡ resting
+still_resting : (closing : Option Ending) (waiting : List Item) → (closing ≡ Some Normal → 0 < length waiting)
+    → closing_or_resting (completion closing) waiting ≡ resting
 still_resting None waiting some = refl
 still_resting (Some Normal) [] some = let above : 0 < 0 = some refl in absurd (omega arith)
 still_resting (Some Normal) (_ ∷ _) some = refl
 still_resting (Some (ClosedWith _)) waiting some = refl
 
 -- nothing was left to do
-pub looks_rested : (old : DeskState) (seen : List Signal) → IsFlow old.lane → old.lane.how ≡ None → stops old.lane.causes ≡ None → old.lane.given ≡ min (length old.lane.accepted) old.lane.asked → (old.lane.causes.closing ≡ Some Normal → old.lane.given < length old.lane.accepted) → Looks old (record old { running = false }) seen seen Resting
+pub looks_rested : (old : DeskState) (seen : List Signal) → IsFlow old.lane → old.lane.how ≡ None
+    → stops old.lane.causes ≡ None → old.lane.given ≡ min (length old.lane.accepted) old.lane.asked
+    → (old.lane.causes.closing ≡ Some Normal → old.lane.given < length old.lane.accepted)
+    → Looks old (record old { running = false }) seen seen Resting
 looks_rested old seen flow unended unstopped all waits =
     let lane = old.lane in
     let left = length-drop lane.given lane.accepted in
@@ -74,7 +77,7 @@ looks_rested old seen flow unended unstopped all waits =
           omega arith;
     }
 
--- an ending has no items, told or missed
+-- an ending that was told has no items
 no_item : (end : How) → taken_in (ended end) (last_signal end) ≡ 0
 no_item Completed = refl
 no_item (Errored _) = refl
@@ -82,6 +85,7 @@ no_item Cancelled = refl
 no_item (Failed _) = refl
 no_item OutOfMemory = refl
 
+-- the first signal of an ending is no item either
 no_item_missed : (end : How) → taken_in (ended end) [] ≡ 0
 no_item_missed Completed = refl
 no_item_missed (Errored _) = refl
@@ -89,9 +93,14 @@ no_item_missed Cancelled = refl
 no_item_missed (Failed _) = refl
 no_item_missed OutOfMemory = refl
 
-module _ {told : List Signal} {held : List Item} {given asked capacity : ℕ} {causes : Causes} {how : Option How} {running : Bool} (sound : IsSound (lane_of told held given asked causes how) held capacity running) (unended : how ≡ None) (runs : running ≡ true) (begun : is_begun told ≡ true) where
+module _ {told : List Signal} {held : List Item} {given asked capacity : ℕ} {causes : Causes} {how : Option How} {running : Bool}
+    (sound : IsSound (lane_of told held given asked causes how) held capacity running) (unended : how ≡ None) (runs : running ≡ true) (begun : is_begun told ≡ true) where
   -- an item was taken and told
-  pub looks_given : {told' : List Signal} {held' : List Item} {seen seen' : List Signal} {steady steady' : Bool} → MovesNext told told' held held' seen seen' → stops causes ≡ None → given < asked → (steady ≡ true → steady' ≡ true) → Looks (desk_of (lane_of told held given asked causes how) capacity running steady) (desk_of (lane_of told' held' (given + 1) asked causes how) capacity running steady') seen seen' Again
+  pub looks_given : {told' : List Signal} {held' : List Item} {seen seen' : List Signal} {steady steady' : Bool}
+      → MovesNext told told' held held' seen seen' → stops causes ≡ None → given < asked
+      → (steady ≡ true → steady' ≡ true)
+      → Looks (desk_of (lane_of told held given asked causes how) capacity running steady)
+      (desk_of (lane_of told' held' (given + 1) asked causes how) capacity running steady') seen seen' Again
   looks_given {told'} {held'} moves unstopped requested stays =
       let after : drop (given + 1) (items_of told' ++ held') ≡ held' =
       ap (λ k. drop k (items_of told' ++ held')) (sym (one_more sound unended runs begun moves)) ∙ drop-append_seam (items_of told') held' in
@@ -124,7 +133,11 @@ module _ {told : List Signal} {held : List Item} {given asked capacity : ℕ} {c
       }
 
   -- an item was taken, and its callback met want of memory
-  pub looks_lost : {told' : List Signal} {held' : List Item} {seen seen' : List Signal} {steady steady' : Bool} → told' ≡ told → held' ≡ held → seen' ≡ seen → stops causes ≡ None → given < length (items_of told ++ held) → given < asked → (steady ≡ true → steady' ≡ true) → Looks (desk_of (lane_of told held given asked causes how) capacity running steady) (desk_of (lane_of told' held' (given + 1) asked (with_cause_of OutOfMemory causes) (Some OutOfMemory)) capacity running steady') seen seen' (Ended OutOfMemory)
+  pub looks_lost : {told' : List Signal} {held' : List Item} {seen seen' : List Signal} {steady steady' : Bool}
+      → told' ≡ told → held' ≡ held → seen' ≡ seen → stops causes ≡ None → given < length (items_of told ++ held)
+      → given < asked → (steady ≡ true → steady' ≡ true)
+      → Looks (desk_of (lane_of told held given asked causes how) capacity running steady)
+      (desk_of (lane_of told' held' (given + 1) asked (with_cause_of OutOfMemory causes) (Some OutOfMemory)) capacity running steady') seen seen' (Ended OutOfMemory)
   looks_lost {told'} {held'} {seen} same_told same_held same_seen unstopped waits requested stays = record {
     last = [];
     shape = refl;
@@ -151,7 +164,8 @@ module _ {told : List Signal} {held : List Item} {given asked capacity : ℕ} {c
         omega arith;
   } where
     -- the plain turn would have given an item
-    gives_next : (most : ℕ) (items : List Item) → held ≡ items → (item : Item) × (rest : Turn) × (rest_of_turn (suc most) (lane_of told held given asked causes how) ≡ telling (Next item ∷ []) rest)
+    gives_next : (most : ℕ) (items : List Item) → held ≡ items
+        → (item : Item) × (rest : Turn) × (rest_of_turn (suc most) (lane_of told held given asked causes how) ≡ telling (Next item ∷ []) rest)
     gives_next most [] e =
         let counted = all_counted sound unended in
         let none : length (items_of told ++ held) ≡ length (items_of told) = ap (λ rest. length (items_of told ++ rest)) e ∙ ap length (append-nil (items_of told)) in
@@ -162,7 +176,9 @@ module _ {told : List Signal} {held : List Item} {given asked capacity : ℕ} {c
 
   module _ {told' : List Signal} {seen seen' : List Signal} {steady steady' : Bool} (end : How) (due : IsDue (lane_of told held given asked causes how) end) (stays : steady ≡ true → steady' ≡ true) where
     -- the ending that was due was told
-    pub looks_ended : told' ≡ told ++ last_signal end → seen' ≡ seen ++ last_signal end → Looks (desk_of (lane_of told held given asked causes how) capacity running steady) (desk_of (lane_of told' held given asked (with_cause_of end causes) (Some end)) capacity running steady') seen seen' (Ended end)
+    pub looks_ended : told' ≡ told ++ last_signal end → seen' ≡ seen ++ last_signal end
+        → Looks (desk_of (lane_of told held given asked causes how) capacity running steady)
+        (desk_of (lane_of told' held given asked (with_cause_of end causes) (Some end)) capacity running steady') seen seen' (Ended end)
     looks_ended grows seen_grows =
         let same : items_of told' ≡ items_of told = ended_items told told' end grows in
         record {
@@ -192,7 +208,9 @@ module _ {told : List Signal} {held : List Item} {given asked capacity : ℕ} {c
         }
 
     -- the callback of the ending that was due met want of memory
-    pub looks_missed : told' ≡ told → seen' ≡ seen → IsProperFrontOf [] (last_signal end) → Looks (desk_of (lane_of told held given asked causes how) capacity running steady) (desk_of (lane_of told' held given asked (with_cause_of OutOfMemory causes) (Some OutOfMemory)) capacity running steady') seen seen' (Ended OutOfMemory)
+    pub looks_missed : told' ≡ told → seen' ≡ seen → IsProperFrontOf [] (last_signal end)
+        → Looks (desk_of (lane_of told held given asked causes how) capacity running steady)
+        (desk_of (lane_of told' held given asked (with_cause_of OutOfMemory causes) (Some OutOfMemory)) capacity running steady') seen seen' (Ended OutOfMemory)
     looks_missed same_told same_seen missed = record {
       last = [];
       shape = refl;

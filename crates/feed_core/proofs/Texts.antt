@@ -1,5 +1,5 @@
 -- Texts of signals: their items, and what they contain.
-use Rattle.std.proofs.Common.{◌≡◌, ℕ, zero, suc, ◌<◌, ◌⊎◌, Bool, true, false, List, [], ◌∷◌, ◌++◌, map, length, slice_index_or, Contains, Option, None, Some, refl, ap, sym, inl, inr, arith}
+use Rattle.std.proofs.Common.{◌≡◌, ℕ, zero, suc, ◌<◌, Bool, true, false, List, [], ◌∷◌, ◌++◌, map, length, slice_index_or, Contains, Option, None, Some, refl, ap, inl, inr, arith}
 use Rattle.std.proofs.lemmas.List.Elements.{Contains-append_cases}
 use Rattle.flow_rules.specs.declared.texts.Item.{Item}
 use Rattle.flow_rules.specs.declared.signals.Fault.{Fault}
@@ -9,7 +9,7 @@ use Rattle.flow_rules.specs.declared.signals.How.{How}
 use Rattle.flow_rules.specs.declared.signals.How.TheVariants.{Completed, Errored, Cancelled, Failed, OutOfMemory}
 use Rattle.flow_rules.specs.Signals.{IsEnding, items_of}
 use Rattle.feed_core.specs.PlainTurn.{last_signal}
-use Rattle.feed_core.specs.Sound.{ending_of, opening, text_of}
+use Rattle.feed_core.specs.Sound.{ending_of, opening}
 
 -- the items of two texts, one after the other
 pub items_of-append : (s t : List Signal) → items_of (s ++ t) ≡ items_of s ++ items_of t
@@ -31,6 +31,7 @@ IsTerminal (Next _) = ⊥
 IsTerminal Complete = Unit {0}
 IsTerminal (Error _) = Unit {0}
 
+-- no onNext at any place is a terminal signal
 open_at : (items : List Item) (s : Signal) (k : ℕ) → IsTerminal s → k < length (map Next items) → slice_index_or (map Next items) k s ≡ s → ⊥
 open_at [] s k last lt is = omega arith
 open_at (item ∷ items) Subscribed zero last lt is = last
@@ -63,7 +64,8 @@ opening-open true Complete last h = let e = Contains-one Subscribed Complete h i
 opening-open true (Error f) last h = let e = Contains-one Subscribed (Error f) h in cc
 
 -- a terminal signal is in a text only as its ending
-pub terminal-last : (begun : Bool) (items : List Item) (ending : List Signal) (s : Signal) → IsTerminal s → Contains (opening begun ++ (map Next items ++ ending)) s → Contains ending s
+pub terminal-last : (begun : Bool) (items : List Item) (ending : List Signal) (s : Signal) → IsTerminal s
+    → Contains (opening begun ++ (map Next items ++ ending)) s → Contains ending s
 terminal-last begun items ending s last h =
     elim (Contains-append_cases (opening begun) (map Next items ++ ending) s h) [
       | inl first ↦ absurd (opening-open begun s last first)

@@ -1,13 +1,12 @@
 -- The plain turn, one look at a time.
-use Rattle.std.proofs.Common.{◌≡◌, ℕ, zero, suc, ◌+◌, ◌-◌, ◌<◌, ◌≤◌, ◌==◌, min, Bool, true, false, if◌then◌else◌, nat_eq, List, [], ◌∷◌, ◌++◌, map, length, take, drop, Option, None, Some, refl, ap, sym, ◌∙◌, subst, inl, inr, arith}
+use Rattle.std.proofs.Common.{◌≡◌, ℕ, suc, ◌-◌, ◌<◌, ◌==◌, min, false, List, [], ◌∷◌, length, None, Some, refl, ap, sym, ◌∙◌, inl, inr, arith}
 use Rattle.std.proofs.lemmas.Bool.Decides.{nat_tests, eqb_tells}
 use Rattle.flow_rules.specs.declared.texts.Item.{Item}
-use Rattle.flow_rules.specs.declared.signals.Signal.{Signal}
-use Rattle.flow_rules.specs.declared.signals.Signal.TheVariants.{Subscribed, Next, Complete, Error}
+use Rattle.flow_rules.specs.declared.signals.Signal.TheVariants.{Next}
 use Rattle.flow_rules.specs.declared.signals.How.{How}
 use Rattle.feed_core.specs.declared.causes.Causes.{Causes}
 use Rattle.feed_core.specs.Cause.{stops, closes}
-use Rattle.feed_core.specs.PlainTurn.{Turn, again, ended, telling, unless_stopped, closing_or_resting}
+use Rattle.feed_core.specs.PlainTurn.{again, ended, telling, closing_or_resting}
 use Rattle.feed_core.specs.Steps.{turn_within}
 
 -- the next numbers are equal where these are
@@ -24,18 +23,23 @@ same_next m n = elim (eqb_tells (suc m) (suc n)) [
 ]
 
 -- an end that is due at once is the whole of what is left of a turn
-pub stopped : (most : ℕ) (causes : Causes) (waiting : List Item) (unmet : ℕ) (how : How) → stops causes ≡ Some how → turn_within most causes waiting unmet ≡ ended how
+pub stopped : (most : ℕ) (causes : Causes) (waiting : List Item) (unmet : ℕ) (how : How) → stops causes ≡ Some how
+    → turn_within most causes waiting unmet ≡ ended how
 stopped most causes waiting unmet how e = rw e refl
 
 -- an item that waits and was requested comes first, and then what is left of the turn
-pub gives : (most : ℕ) (causes : Causes) (item : Item) (waiting : List Item) (unmet : ℕ) → stops causes ≡ None → 0 < unmet → turn_within (suc most) causes (item ∷ waiting) unmet ≡ telling (Next item ∷ []) (turn_within most causes waiting (unmet - 1))
+pub gives : (most : ℕ) (causes : Causes) (item : Item) (waiting : List Item) (unmet : ℕ) → stops causes ≡ None
+    → 0 < unmet
+    → turn_within (suc most) causes (item ∷ waiting) unmet ≡ telling (Next item ∷ []) (turn_within most causes waiting (unmet - 1))
 gives most causes item waiting unmet e some =
     let m : ℕ = min (min (length waiting) (unmet - 1)) most in
     let n : min (min (suc (length waiting)) unmet) (suc most) ≡ suc m = omega arith in
     rw (e, n, same_next m most) refl
 
 -- where no item waits or none was requested, completion is due, or rest
-pub pauses : (most : ℕ) (causes : Causes) (waiting : List Item) (unmet : ℕ) → stops causes ≡ None → min (length waiting) unmet ≡ 0 → turn_within (suc most) causes waiting unmet ≡ closing_or_resting (closes causes) waiting
+pub pauses : (most : ℕ) (causes : Causes) (waiting : List Item) (unmet : ℕ) → stops causes ≡ None
+    → min (length waiting) unmet ≡ 0
+    → turn_within (suc most) causes waiting unmet ≡ closing_or_resting (closes causes) waiting
 pauses most causes waiting unmet e none =
     let n : min (min (length waiting) unmet) (suc most) ≡ 0 = omega arith in
     let some : (0 == suc most) ≡ false = grind (arith, nat_tests) in

@@ -5,16 +5,15 @@ use Rattle.flow_rules.specs.Demand.{total_after}
 use Rattle.flow_rules.specs.declared.signals.Ending.{Ending}
 use Rattle.flow_rules.specs.declared.texts.Item.{Item}
 use Rattle.flow_rules.specs.declared.signals.Signal.{Signal}
-use Rattle.flow_rules.specs.declared.signals.Signal.TheVariants.{Next}
 use Rattle.flow_rules.specs.Signals.{items_of}
 use Rattle.flow_rules.specs.declared.signals.How.{How}
 use Rattle.flow_rules.specs.declared.signals.How.TheVariants.{OutOfMemory}
 use Rattle.feed_core.specs.declared.causes.Causes.{Causes}
 use Rattle.feed_core.specs.declared.outlooks.Outlook.{Outlook}
 use Rattle.feed_core.specs.declared.outlooks.Outlook.TheVariants.{Again, Resting, Ended}
-use Rattle.feed_core.specs.Cause.{no_causes, stops, closes, with_cause_of}
+use Rattle.feed_core.specs.Cause.{no_causes, with_cause_of}
 use Rattle.feed_core.specs.Lane.{LaneState}
-use Rattle.feed_core.specs.PlainTurn.{Turn, again, telling, unless_stopped, closing_or_resting}
+use Rattle.feed_core.specs.PlainTurn.{Turn}
 
 -- a subscription: its lane, the capacity of its buffer, whether its task was started and is not at rest since
 -- (which stays so once it has ended), and whether its subscriber only goes on

@@ -1,10 +1,9 @@
 -- The steps that a turn is made of.
-use Rattle.std.specs.Prelude.{◌≡◌, ℕ, suc, ◌+◌, ◌-◌, ◌<◌, ◌≤◌, ◌==◌, if◌then◌else◌, min, Bool, true, false, ◌⊎◌, Option, None, Some, List, [], ◌∷◌, ◌++◌, length, map, take, drop}
+use Rattle.std.specs.Prelude.{◌≡◌, ℕ, suc, ◌+◌, ◌-◌, ◌<◌, ◌≤◌, ◌==◌, if◌then◌else◌, min, ◌⊎◌, None, Some, List, [], ◌∷◌, ◌++◌, length, map, take, drop}
 use Rattle.flow_rules.specs.declared.texts.Item.{Item}
 use Rattle.flow_rules.specs.declared.signals.Signal.{Signal}
 use Rattle.flow_rules.specs.declared.signals.Signal.TheVariants.{Next}
 use Rattle.flow_rules.specs.declared.signals.How.{How}
-use Rattle.flow_rules.specs.Signals.{items_of}
 use Rattle.feed_core.specs.declared.causes.Causes.{Causes}
 use Rattle.feed_core.specs.declared.outlooks.Outlook.{Outlook}
 use Rattle.feed_core.specs.declared.outlooks.Outlook.TheVariants.{Again, Resting, Ended}
@@ -66,7 +65,8 @@ pub record Looks (old new : DeskState) (seen seen' : List Signal) (outlook : Out
   pub flow : IsFlow new.lane
   pub again : outlook ≡ Again → GoesOn old.lane new.lane last
   pub ends : (outlook ≡ Again → ⊥) → (most : ℕ) → MeetsPlainTurn (rest_of_turn (suc most) old.lane) last outlook
-  pub taken : (outlook ≡ Again → ⊥) → (most : ℕ) → new.lane.given ≡ old.lane.given + taken_in (rest_of_turn (suc most) old.lane) last
+  pub taken : (outlook ≡ Again → ⊥) → (most : ℕ)
+      → new.lane.given ≡ old.lane.given + taken_in (rest_of_turn (suc most) old.lane) last
 
 -- the subscriber was greeted, and nothing else changed
 pub record Greets (old new : DeskState) (seen seen' : List Signal) : Type 0 where

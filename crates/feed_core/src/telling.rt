@@ -33,8 +33,10 @@ pub(crate) fn tell_next<B: Subscriber>(
 ) -> Result<(), NoMemory>
     requires some { 0 < deque_len held.old }
     requires room { length seen.old < Seen.ROOM }
-    ensures ok { OnOk result (MovesNext (B.told subscriber.old) (B.told subscriber.new) held.old.items held.new.items seen.old seen.new) }
-    ensures err { OnErr result ((B.told subscriber.new ≡ B.told subscriber.old) × (held.new.items ≡ held.old.items) × (seen.new ≡ seen.old)) }
+    ensures ok { OnOk result (MovesNext
+        (B.told subscriber.old) (B.told subscriber.new) held.old.items held.new.items seen.old seen.new) }
+    ensures err { OnErr result ((B.told subscriber.new ≡ B.told subscriber.old)
+        × (held.new.items ≡ held.old.items) × (seen.new ≡ seen.old)) }
     ensures kept { deque_capacity held.new ≡ deque_capacity held.old }
     ensures steady { B.is_steady subscriber.old ≡ true → B.is_steady subscriber.new ≡ true }
 {

@@ -38,7 +38,8 @@ impl<B: Subscriber> Desk<B> {
     #[must_use]
     pub fn end(&mut self, ending: Ending) -> Option<()>
         requires normal { ending ≡ Normal }
-        ensures first { self.old.lane.causes.closing ≡ None → self.new ≡ signalled self.old (closed_by ending self.old.lane) }
+        ensures first { self.old.lane.causes.closing ≡ None
+            → self.new ≡ signalled self.old (closed_by ending self.old.lane) }
         ensures later { IsSome self.old.lane.causes.closing → self.new ≡ self.old }
         ensures starts { IsSome result ↔ ((self.old.lane.causes.closing ≡ None) × Rests self.old) }
     {

@@ -139,7 +139,8 @@ impl<B: Subscriber> Desk<B> {
         requires begun { is_begun self.old.lane.told ≡ true }
         requires unstopped { stops self.old.lane.causes ≡ None }
         requires all_given { self.old.lane.given ≡ min (length self.old.lane.accepted) self.old.lane.asked }
-        requires waits { self.old.lane.causes.closing ≡ Some Normal → self.old.lane.given < length self.old.lane.accepted }
+        requires waits { self.old.lane.causes.closing ≡ Some Normal
+            → self.old.lane.given < length self.old.lane.accepted }
         ensures { (seen : List Signal) → Looks self.old self.new seen seen result }
     {
         self.running = false;

@@ -1,11 +1,10 @@
 -- The ending that is due is told, or its callback met want of memory.
-use Rattle.std.proofs.Common.{◌≡◌, ◌++◌, length, true, None, Some, ap, sym, ◌∙◌, subst}
+use Rattle.std.proofs.Common.{◌++◌, length, ap, sym, ◌∙◌, subst}
 use Rattle.std.proofs.lemmas.List.{append-nil}
 use Rattle.flow_rules.specs.declared.signals.How.TheVariants.{OutOfMemory}
 use Rattle.feed_core.specs.Desk.{DeskState}
-use Rattle.feed_core.specs.PlainTurn.{last_signal}
 use Rattle.feed_core.specs.Sound.{is_begun}
-use Rattle.feed_core.specs.Steps.{IsDue, Looks}
+use Rattle.feed_core.specs.Steps.{IsDue}
 use Rattle.feed_core.proofs.Keeping.{ended_items, sound_due, sound_ended}
 use Rattle.feed_core.proofs.Looking.{looks_ended, looks_missed}
 use Rattle.feed_core.proofs.desks.Desk.finish.Goals as goal

@@ -1,5 +1,5 @@
 -- What a Desk keeps gives the rules of its lane, and a lane that owes no turn is at rest or has ended.
-use Rattle.std.proofs.Common.{◌≡◌, subst, ap, ◌∙◌, not}
+use Rattle.std.proofs.Common.{subst, ap, ◌∙◌, not}
 use Rattle.feed_core.specs.Desk.{DeskState}
 use Rattle.feed_core.specs.Lane.{IsFlow, IsSettled}
 use Rattle.feed_core.proofs.Flow.{flow_kept, settled_at_rest, settled_some}

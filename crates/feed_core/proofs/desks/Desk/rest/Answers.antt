@@ -1,5 +1,5 @@
 -- Nothing was left to do.
-use Rattle.std.proofs.Common.{◌≡◌, false, sym, subst}
+use Rattle.std.proofs.Common.{false, sym, subst}
 use Rattle.feed_core.specs.declared.outlooks.Outlook.TheVariants.{Resting}
 use Rattle.feed_core.specs.Desk.{DeskState}
 use Rattle.feed_core.specs.Lane.{IsFlow}

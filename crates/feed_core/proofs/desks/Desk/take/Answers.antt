@@ -1,10 +1,8 @@
 -- The item that was taken moves from the held ones to the told ones, or is lost where its callback met want of memory.
-use Rattle.std.proofs.Common.{◌≡◌, ◌+◌, ◌<◌, ◌≤◌, ◌++◌, length, true, None, Some, ap, sym, ◌∙◌, subst}
-use Rattle.feed_core.specs.declared.outlooks.Outlook.TheVariants.{Again, Ended}
+use Rattle.std.proofs.Common.{◌<◌, ◌≤◌, length, ap, sym, ◌∙◌, subst}
 use Rattle.feed_core.specs.Cause.{stops}
 use Rattle.feed_core.specs.Desk.{DeskState}
 use Rattle.feed_core.specs.Sound.{is_begun}
-use Rattle.feed_core.specs.Steps.{Looks}
 use Rattle.feed_core.proofs.Keeping.{accepted_kept, sound_given}
 use Rattle.feed_core.proofs.Looking.{looks_given, looks_lost}
 use Rattle.feed_core.proofs.desks.Desk.take.Goals as goal

@@ -1,6 +1,6 @@
 -- Each look is one step of the plain turn, and the turn is over after 64 items at most.
-use Rattle.std.proofs.Common.{◌≡◌, ◌+◌, ◌<◌, ◌≤◌, ◌++◌, [], ◌∷◌, length, drop, refl, ap, sym, ◌∙◌, subst, inl, inr, arith}
-use Rattle.flow_rules.specs.declared.signals.Signal.TheVariants.{Subscribed, Complete, Error}
+use Rattle.std.proofs.Common.{◌++◌, length, drop, ap, sym, ◌∙◌, subst, inr, arith}
+use Rattle.flow_rules.specs.declared.signals.Signal.TheVariants.{Complete, Error}
 use Rattle.flow_rules.specs.Signals.{items_of}
 use Rattle.feed_core.specs.Desk.{IsProperFrontOf}
 use Rattle.feed_core.specs.PlainTurn.{plain_turn_of}
