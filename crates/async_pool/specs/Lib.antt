@@ -1,0 +1,5 @@
+pub mod Amounts
+pub mod Bag
+pub mod Inboxes
+pub mod Pools
+pub mod Workers

@@ -1,0 +1,169 @@
+//! What a pool's threads do, and where they wait.
+ghost use Rattle.std.specs.Prelude.{◌<◌};
+ghost use Rattle.std.specs.Arc.{arc_value};
+ghost use Rattle.async_pool.specs.Pools.{pool_workers};
+
+use super::{Numbered, hand_in, no_runs};
+use crate::{Gate, Job, Pool, Wide};
+use std::cell::Cell;
+use std::sync::atomic::Ordering::SeqCst;
+use std::sync::atomic::{AtomicBool, AtomicU64};
+use std::sync::{Arc, Wait};
+use std::test::Fail;
+use std::thread;
+
+// How often a test looks for what another thread does before it gives up.
+const PATIENCE: u64 = 10_000_000;
+
+#[test]
+fn each_job_of_two_workers_ran_twice(rt: HostRuntime) -> Result<(), Fail> {
+    let runs = no_runs(rt.alloc(), 100)?;
+    let pool = Pool::new(rt.alloc(), 2)?;
+    assert!(rt; hand_in(&rt, &pool, 100, 1, &runs)?);
+    pool.shut(&rt);
+    let (mut first, mut second) = (0, 0);
+    let mut one = || pool.worker_loop(&rt, 0, &Wide, &mut first);
+    let mut other = || pool.worker_loop(&rt, 1, &Wide, &mut second);
+    thread::join_mut(&rt, &mut one, &mut other);
+    assert!(rt; first.saturating_add(second) == 200);
+    assert!(rt; runs.iter().all(|run| run.load(SeqCst) == 2));
+    assert!(rt; pool.stop(&rt).is_empty());
+    Ok(())
+}
+
+// A job that is Send, and not Sync.
+#[derive(Drop)]
+struct Local(Cell<u64>);
+
+impl Job for Local {
+    type Context = u64;
+
+    fn run<R: Wait>(self, _rt: &R, context: &mut u64) -> Option<Local> {
+        self.0.set(self.0.get().saturating_add(1));
+        *context = self.0.get();
+        None
+    }
+}
+
+#[test]
+fn a_job_need_not_be_sync(rt: HostRuntime) -> Result<(), Fail> {
+    let pool = Arc::new(rt.alloc(), Pool::new(rt.alloc(), 1)?)?;
+    let theirs = Arc::try_clone(&pool)?;
+    assert!(rt; pool.execute(&rt, Local(Cell::new(6))).is_ok());
+    let worker = thread::spawn(
+        &rt,
+        move ||
+            requires { 0 < pool_workers (arc_value theirs) }
+        {
+            let mut last = 0;
+            theirs.worker_loop(&rt, 0, &Wide, &mut last);
+            last
+        },
+    )?;
+    pool.shut(&rt);
+    assert!(rt; worker.join(&rt) == 7);
+    Ok(())
+}
+
+// A gate that counts how often it was passed.
+#[derive(Drop)]
+struct Counting(AtomicU64);
+
+impl Gate for Counting {
+    fn pass(&self, _worker: usize) {
+        self.0.fetch_add(1, SeqCst);
+    }
+}
+
+#[test]
+fn the_gate_is_passed_once_for_each_job(rt: HostRuntime) -> Result<(), Fail> {
+    let runs = no_runs(rt.alloc(), 1)?;
+    let pool = Pool::new(rt.alloc(), 1)?;
+    assert!(rt; hand_in(&rt, &pool, 5, 1, &runs)?);
+    pool.shut(&rt);
+    let gate = Counting(AtomicU64::new(0));
+    let mut ran = 0;
+    pool.worker_loop(&rt, 0, &gate, &mut ran);
+    // Ten runs, and the look that finds that the pool is over.
+    assert!(rt; ran == 10 && gate.0.load(SeqCst) == 11);
+    Ok(())
+}
+
+// A gate that holds a worker until it is opened.
+#[derive(Drop)]
+struct Held {
+    reached: AtomicBool,
+    open: AtomicBool,
+}
+
+// Waits for what another thread does, but not for ever.
+fn wait_until<F: Fn() -> bool + Drop>(is_done: F) -> bool
+    requires { F.IsAlwaysCallable is_done }
+{
+    for _ in 0..PATIENCE {
+        if is_done() {
+            return true;
+        }
+        thread::yield_now();
+    }
+    false
+}
+
+impl Gate for Held {
+    fn pass(&self, _worker: usize) {
+        self.reached.store(true, SeqCst);
+        wait_until(|| self.open.load(SeqCst));
+    }
+}
+
+#[test]
+fn a_second_loop_of_a_number_returns_at_once(rt: HostRuntime) -> Result<(), Fail> {
+    let pool = Pool::<Numbered>::new(rt.alloc(), 2)?;
+    pool.shut(&rt);
+    let held = Held {
+        reached: AtomicBool::new(false),
+        open: AtomicBool::new(false),
+    };
+    let gate = Counting(AtomicU64::new(0));
+    let (mut first, mut second) = (0, 0);
+    let mut one = || pool.worker_loop(&rt, 0, &held, &mut first);
+    let mut other = ||
+        requires { 0 < pool_workers pool }
+    {
+        if wait_until(|| held.reached.load(SeqCst)) {
+            pool.worker_loop(&rt, 0, &gate, &mut second);
+        }
+        held.open.store(true, SeqCst);
+    };
+    thread::join_mut(&rt, &mut one, &mut other);
+    assert!(rt; gate.0.load(SeqCst) == 0);
+    // Once that loop has ended, another of its number runs.
+    let mut third = 0;
+    pool.worker_loop(&rt, 0, &gate, &mut third);
+    assert!(rt; gate.0.load(SeqCst) == 1);
+    Ok(())
+}
+
+#[test]
+fn a_worker_that_sleeps_is_woken(rt: HostRuntime) -> Result<(), Fail> {
+    let ran = no_runs(rt.alloc(), 1)?;
+    let pool = Pool::new(rt.alloc(), 1)?;
+    let mut runs = 0;
+    let mut worker = || pool.worker_loop(&rt, 0, &Wide, &mut runs);
+    let mut caller = || {
+        // Time enough for the worker to find nothing, and to sleep.
+        for _ in 0..100_000 {
+            thread::yield_now();
+        }
+        let came_in = matches!(hand_in(&rt, &pool, 1, 0, &ran), Ok(true));
+        let ran_open = wait_until(|| ran.iter().all(|run| run.load(SeqCst) == 1));
+        for _ in 0..100_000 {
+            thread::yield_now();
+        }
+        pool.shut(&rt);
+        came_in && ran_open
+    };
+    let (_, ran_open) = thread::join_mut(&rt, &mut worker, &mut caller);
+    assert!(rt; ran_open && runs == 1);
+    Ok(())
+}

@@ -1,0 +1,23 @@
+//! The count that finds the last of several parties, as `tryComplete` of `java.util.concurrent.CountedCompleter`
+//! (Java SE 17) does: of all who hold a ticket, the one that spends the last ticket learns it, and nobody else.
+//!
+//! [`Count::new`] gives the [`Opening`], which is the first ticket and makes all others. A [`Ticket`] is spent by
+//! `try_complete`, in any thread, and answers `true` where it was the last one. `CountedCompleter`'s pending count is
+//! the number of unspent tickets less one. A ticket that is dropped stays unspent, so nobody is the last one then.
+//!
+//! The number of unspent tickets is one word, which all tickets of a count share. To add a ticket is one
+//! fetch-and-add, and to spend one is one fetch-and-sub, which learns by the number that it found whether it was the
+//! last. No call waits, and none but [`Count::new`] and [`Opening::add`] can be refused memory.
+#![tactic(auto)]
+
+mod holders;
+mod laws;
+mod opening;
+mod rule;
+#[cfg(test)]
+mod tests;
+mod ticket;
+
+pub use holders::{Opening, Spent, Ticket};
+pub use laws::{last_once, none_left, none_open};
+pub use opening::Count;
