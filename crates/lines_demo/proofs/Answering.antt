@@ -1,15 +1,20 @@
 -- What each command does, by the definition, under the refusals that the code met.
-use Rattle.std.proofs.Common.{◌≡◌, ◌==◌, ℕ, ◌+◌, ◌-◌, ◌<◌, ◌≤◌, ◌^◌, Bool, true, false, nat_lt, nat_le, ◌||◌, if◌then◌else◌, List, [], ◌∷◌, ◌++◌, length, refl, sym, ap, ◌∙◌, append_assoc, arith, Option, Some, None, Ok, Err}
-use Rattle.std.specs.Prelude.{is_some, option_map}
+use Rattle.std.proofs.Common.{◌≡◌, ◌==◌, ℕ, zero, suc, ◌-◌, ◌<◌, ◌≤◌, Bool, true, false, not, nat_lt, ◌&&◌, ◌||◌, if◌then◌else◌, List, [], ◌∷◌, ◌++◌, length, refl, sym, ap, subst, ◌∙◌, append_assoc, arith, Option, Some, None, Ok, Err, pos, negsuc, int_lt}
+use Rattle.std.specs.Prelude.{is_some, option_map, codes}
+use Rattle.std.specs.Option.{ForSome}
 use Rattle.std.proofs.lemmas.List.{append-nil}
 use Rattle.std.proofs.lemmas.Bool.Decides.{nat_tests}
-use Rattle.flow_rules.specs.declared.refusals.Refusal.TheVariants.{TooMany, NoMemory, LineTooLong, Unknown, BadCommand, Exhausted}
-use Rattle.lines_demo.specs.Script.{Stage, EntryState, Played, Turned, subscribe, sub_line, new_entry, offer, offer_line, answer_of, entry_offered, next_item, unless_refused, answered, run_entry, PUBLICATIONS, LONGEST_TEXT}
-use Rattle.std.specs.Prelude.{codes}
 use Rattle.std.proofs.KnownBytes.{Appends-trans}
+use Rattle.flow_rules.specs.declared.texts.Item.{Item}
+use Rattle.flow_rules.specs.declared.refusals.Refusal.{Refusal}
+use Rattle.flow_rules.specs.declared.refusals.Refusal.TheVariants.{BadCapacity, Closed, Duplicate, TooMany, NoMemory, LineTooLong, BadWorkers, StillHeld, Unsettled, Unknown, WouldWait, BadCommand, Exhausted}
+use Rattle.flow_rules.specs.Capacity.{capacity_of}
+use Rattle.feed_core.specs.Desk.{accepting, lag_of, requested as asking}
+use Rattle.lines_demo.specs.Lane.{is_gone}
 use Rattle.lines_demo.specs.Report.{line_of}
-use Rattle.lines_demo.specs.Writing.{Writes, IsFrontOf}
-use Rattle.lines_demo.specs.Playing.{Plays, Answers, TurnsOut}
+use Rattle.lines_demo.specs.Script.{Stage, EntryState, Played, Turned, subscribe, sub_line, new_lane, new_entry, requested, answer_of, answer_line, entry_offered, next_item, publish, published, unpublished, unsubmitted, or_waiting, would_wait, set_size, cap_line, run_entry, LONGEST_TEXT}
+use Rattle.lines_demo.specs.Writing.{Writes}
+use Rattle.lines_demo.specs.Playing.{Plays, Answers, TurnsOut, IsItemOf}
 
 -- a value that is not there
 pub none-of : {X : Type 0} (o : Option X) → is_some o ≡ false → o ≡ None
@@ -19,6 +24,12 @@ none-of (Some x) e = cc
 pub none-unless : {X : Type 0} (o : Option X) → ((x : X) → o ≡ Some x → ⊥) → o ≡ None
 none-unless None never = refl
 none-unless (Some x) never = absurd (never x refl)
+
+-- a fact of the one value is one of each
+pub some-only : {X : Type 0} (P : X → Type 0) (x : X) → P x → ForSome (Some x) P
+some-only {X = X} P x p = λ y is. subst P (some-same is) p where
+  some-same : {y : X} → Some x ≡ Some y → x ≡ y
+  some-same is = cc
 
 -- where there is a subscription already, or none is left in the stock, one more is refused
 pub subscribe-full : (stage : Stage) (name : List ℕ) (number : ℕ) → (is_some stage.entry || stage.stock == 0) ≡ true → Plays (λ refusals. subscribe stage refusals name number) (sub_line name (Err TooMany)) stage
@@ -32,37 +43,113 @@ subscribe-refused stage name number free some =
 
 -- the next subscriber of the stock subscribes
 pub subscribe-done : (stage : Stage) (name : List ℕ) (number : ℕ) → stage.entry ≡ None → 0 < stage.stock
-    → Plays (λ refusals. subscribe stage refusals name number) (sub_line name (Ok tt)) (record stage { stock = stage.stock - 1; entry = Some (new_entry name number) })
+    → Plays (λ refusals. subscribe stage refusals name number) (sub_line name (Ok tt)) (record stage { stock = stage.stock - 1; entry = Some (new_entry stage name number) })
 subscribe-done stage name number free some =
     let left : (stage.stock == 0) ≡ false = grind (arith, nat_tests) in
     record { used = false ∷ []; plays = λ more. rw (free, left) refl }
 
--- the text is too long
-pub offer-long : (stage : Stage) (text : List ℕ) → LONGEST_TEXT < length text → Plays (λ refusals. offer stage refusals text) (offer_line (Err LineTooLong)) stage
-offer-long stage text long =
-    let test : nat_lt LONGEST_TEXT (length text) ≡ true = grind (arith, nat_tests) in
-    record { used = []; plays = λ more. rw test refl }
+-- a subscription that was made now and requests nothing, and one that requests some
+pub new-unrequested : (stage : Stage) (name : List ℕ) (capacity : ℕ) → capacity ≡ capacity_of stage.size
+    → record { name = name; capacity = capacity; lane = new_lane stage.is_closed; is_woken = true } ≡ new_entry stage name 0
+new-unrequested stage name capacity size = λ k. record { name = name; capacity = size k; lane = lane stage.is_closed k; is_woken = true } where
+  lane : (closed : Bool) → new_lane closed ≡ asking 0 (new_lane closed)
+  lane true = refl
+  lane false = refl
 
--- memory is refused for the text
-pub offer-refused : (stage : Stage) (text : List ℕ) → length text ≤ LONGEST_TEXT → Plays (λ refusals. offer stage refusals text) (offer_line (Err NoMemory)) stage
-offer-refused stage text short =
-    let test : nat_lt LONGEST_TEXT (length text) ≡ false = grind (arith, nat_tests) in
-    record { used = true ∷ []; plays = λ more. rw test refl }
+pub new-requested : (stage : Stage) (name : List ℕ) (number capacity : ℕ) → capacity ≡ capacity_of stage.size
+    → requested (record { name = name; capacity = capacity; lane = new_lane stage.is_closed; is_woken = true }) number ≡ new_entry stage name number
+new-requested stage name number capacity size = λ k. record { name = name; capacity = size k; lane = asking number (new_lane stage.is_closed); is_woken = true }
 
--- there are as many publications as there may be
-pub offer-exhausted : (stage : Stage) (text : List ℕ) → length text ≤ LONGEST_TEXT → PUBLICATIONS ≤ stage.serial → Plays (λ refusals. offer stage refusals text) (offer_line (Err Exhausted)) stage
-offer-exhausted stage text short last =
-    let test : nat_lt LONGEST_TEXT (length text) ≡ false = grind (arith, nat_tests) in
-    let full : nat_le PUBLICATIONS stage.serial ≡ true = grind (arith, nat_tests) in
-    record { used = false ∷ []; plays = λ more. rw (test, full) refl }
+-- a new subscription has accepted nothing
+pub new-empty : (stage : Stage) (name : List ℕ) (number : ℕ) → length (new_entry stage name number).lane.accepted ≡ 0
+new-empty stage name number = lane stage.is_closed where
+  lane : (closed : Bool) → length (asking number (new_lane closed)).accepted ≡ 0
+  lane true = refl
+  lane false = refl
 
--- the item is offered
-pub offer-done : (stage : Stage) (text : List ℕ) → length text ≤ LONGEST_TEXT → stage.serial < PUBLICATIONS
-    → Plays (λ refusals. offer stage refusals text) (offer_line (Ok (answer_of stage.entry))) (record stage { serial = stage.serial + 1; entry = option_map (λ entry. entry_offered entry (next_item stage text)) stage.entry })
-offer-done stage text short more_to_come =
+-- a publication of which there is no item is refused
+pub publish-refused : (why_not : Stage → Option Refusal) (stage : Stage) (text : List ℕ) (word : List ℕ) (refusal : Refusal) → ((other : Refusal) → unpublished stage ≡ Some other → why_not stage ≡ Some other)
+    → IsItemOf stage text (Err refusal) → Plays (λ refusals. publish why_not stage refusals text word) (answer_line word (Err refusal)) stage
+publish-refused why_not stage text word refusal judges no_item = by_refusal refusal no_item where
+  short-test : length text ≤ LONGEST_TEXT → nat_lt LONGEST_TEXT (length text) ≡ false
+  short-test short = grind (arith, nat_tests)
+
+  for_other : (other : Refusal) → (length text ≤ LONGEST_TEXT) × (unpublished stage ≡ Some other) → Plays (λ refusals. publish why_not stage refusals text word) (answer_line word (Err other)) stage
+  for_other other why =
+      let test = short-test why.0 in
+      let judged = judges other why.1 in
+      record { used = false ∷ []; plays = λ more. rw (test, judged) refl }
+
+  by_refusal : (r : Refusal) → IsItemOf stage text (Err r) → Plays (λ refusals. publish why_not stage refusals text word) (answer_line word (Err r)) stage
+  by_refusal LineTooLong long =
+      let test : nat_lt LONGEST_TEXT (length text) ≡ true = grind (arith, nat_tests) in
+      record { used = []; plays = λ more. rw test refl }
+  by_refusal NoMemory short =
+      let test = short-test short in
+      record { used = true ∷ []; plays = λ more. rw test refl }
+  by_refusal BadCapacity why = for_other BadCapacity why
+  by_refusal (Closed ending) why = for_other (Closed ending) why
+  by_refusal Duplicate why = for_other Duplicate why
+  by_refusal TooMany why = for_other TooMany why
+  by_refusal BadWorkers why = for_other BadWorkers why
+  by_refusal (StillHeld back) why = for_other (StillHeld back) why
+  by_refusal (Unsettled back) why = for_other (Unsettled back) why
+  by_refusal Unknown why = for_other Unknown why
+  by_refusal WouldWait why = for_other WouldWait why
+  by_refusal BadCommand why = for_other BadCommand why
+  by_refusal Exhausted why = for_other Exhausted why
+
+-- there is an item, and nothing speaks against it: it is published
+pub publish-done : (why_not : Stage → Option Refusal) (stage : Stage) (text : List ℕ) (word : List ℕ) → length text ≤ LONGEST_TEXT → why_not stage ≡ None
+    → Plays (λ refusals. publish why_not stage refusals text word) (answer_line word (Ok (answer_of stage.entry (next_item stage text)))) (published stage text)
+publish-done why_not stage text word short nothing =
     let test : nat_lt LONGEST_TEXT (length text) ≡ false = grind (arith, nat_tests) in
-    let room : nat_le PUBLICATIONS stage.serial ≡ false = grind (arith, nat_tests) in
-    record { used = false ∷ []; plays = λ more. rw (test, room) refl }
+    record { used = false ∷ []; plays = λ more. rw (test, nothing) refl }
+
+-- there is an item, but it may not be published
+pub publish-against : (why_not : Stage → Option Refusal) (stage : Stage) (text : List ℕ) (word : List ℕ) (refusal : Refusal) → length text ≤ LONGEST_TEXT → why_not stage ≡ Some refusal
+    → Plays (λ refusals. publish why_not stage refusals text word) (answer_line word (Err refusal)) stage
+publish-against why_not stage text word refusal short why =
+    let test : nat_lt LONGEST_TEXT (length text) ≡ false = grind (arith, nat_tests) in
+    record { used = false ∷ []; plays = λ more. rw (test, why) refl }
+
+-- what speaks against any publication, speaks against a submit
+pub unsubmitted-too : (stage : Stage) (other : Refusal) → unpublished stage ≡ Some other → unsubmitted stage ≡ Some other
+unsubmitted-too stage other why = ap (λ o. or_waiting o (would_wait stage.entry)) why
+
+-- an offer answers below 0 just where a submit would wait
+pub waits-below-0 : (entry : Option EntryState) (item : Item) → int_lt (answer_of entry item) (pos 0) ≡ would_wait entry
+waits-below-0 None item = refl
+waits-below-0 (Some entry) item = by_gone (is_gone entry.lane) (lag_of entry.lane == entry.capacity) where
+  by_gone : (gone full : Bool) → int_lt (if gone then pos 0 else (if full then negsuc 0 else pos (lag_of (accepting item entry.lane)))) (pos 0) ≡ (not gone && full)
+  by_gone true full = refl
+  by_gone false true = refl
+  by_gone false false = grind (arith, nat_tests)
+
+-- nothing or false, is nothing
+or-false : (b : Bool) → (b || false) ≡ b
+or-false true = refl
+or-false false = refl
+
+-- then nothing changes
+pub waits-unchanged : (entry : Option EntryState) (item : Item) → would_wait entry ≡ true → option_map (λ e. entry_offered e item) entry ≡ entry
+waits-unchanged None item waits = refl
+waits-unchanged (Some entry) item waits = ap Some (by_gone (is_gone entry.lane) (lag_of entry.lane == entry.capacity) waits) where
+  by_gone : (gone full : Bool) → (not gone && full) ≡ true → (record entry { lane = (if not gone && not full then accepting item entry.lane else entry.lane); is_woken = entry.is_woken || (not gone && not full) }) ≡ entry
+  by_gone true full waits = cc
+  by_gone false false waits = cc
+  by_gone false true waits = ap (λ woken. record entry { is_woken = woken }) (or-false entry.is_woken)
+
+-- a number that is not 0 is above it
+pub above-0 : (n : ℕ) → (n ≡ 0 → ⊥) → 0 < n
+above-0 zero other = absurd (other refl)
+above-0 (suc n) other = omega arith
+
+-- the capacity is asked for
+pub set_size-done : (stage : Stage) (size : ℕ) → stage.has_begun ≡ false → 0 < size → Plays (λ refusals. set_size stage refusals size) (cap_line (Ok (capacity_of size))) (record stage { size = size })
+set_size-done stage size fresh some =
+    let test : (size == 0) ≡ false = grind (arith, nat_tests) in
+    record { used = false ∷ []; plays = λ more. rw (fresh, test) refl }
 
 -- no subscription: there is no turn
 pub run-nobody : (stage : Stage) (is_done : Bool) (old new : Option (List ℕ)) → stage.entry ≡ None → Writes is_done old new (line_of (codes "idle")) → Answers is_done (λ refusals. run_entry stage stage.entry refusals) old new stage
@@ -71,7 +158,7 @@ run-nobody stage is_done old new nobody w = record {
   written = w.written;
   appended = w.appended;
   front = rw nobody w.front;
-  whole = λ all more. rw (nobody, w.whole all) refl
+  whole = λ all more. rw (nobody, w.whole all) refl;
 }
 
 -- the turns of the subscription were made, and then the last line
@@ -80,17 +167,19 @@ pub run-done : (stage : Stage) (entry after : EntryState) (is_done : Bool) (a b 
 run-done stage entry after is_done a b c is turns w =
     let idle = line_of (codes "idle") in
     let last : (more : List Bool) → run_entry stage stage.entry (turns.used ++ more) ≡ record { output = turns.written ++ idle; stage = record stage { entry = Some after }; refusals = more } = λ more.
-        let finish : Turned → Played = λ all. record { output = all.output ++ idle; stage = record stage { entry = Some all.entry }; refusals = all.refusals } in
-        rw is (ap finish (turns.whole refl more)) in
+    let finish : Turned → Played = λ all. record { output = all.output ++ idle; stage = record stage { entry = Some all.entry }; refusals = all.refusals } in
+    rw is (ap finish (turns.whole refl more)) in
     let output_of : Played → List ℕ = λ p. p.output in
     record {
       used = turns.used;
       written = turns.written ++ w.written;
       appended = Appends-trans a b c turns.written w.written turns.appended w.appended;
-      front = (w.front.0,
-          ap (λ refusals. (run_entry stage stage.entry refusals).output) (sym (append-nil turns.used)) ∙ ap output_of (last [])
-          ∙ ap (λ bytes. turns.written ++ bytes) w.front.1 ∙ sym (append_assoc turns.written w.written w.front.0));
-      whole = λ all more. rw (w.whole all) (last more)
+      front = (
+        w.front.0,
+        ap (λ refusals. (run_entry stage stage.entry refusals).output) (sym (append-nil turns.used)) ∙ ap output_of (last [])
+            ∙ ap (λ bytes. turns.written ++ bytes) w.front.1 ∙ sym (append_assoc turns.written w.written w.front.0),
+      );
+      whole = λ all more. rw (w.whole all) (last more);
     }
 
 -- the writing failed within the turns
@@ -101,7 +190,7 @@ run-fault stage later entry after a b is turns = record {
   written = turns.written;
   appended = turns.appended;
   front = rw is (turns.front.0 ++ line_of (codes "idle"), ap (λ bytes. bytes ++ line_of (codes "idle")) turns.front.1 ∙ append_assoc turns.written turns.front.0 (line_of (codes "idle")));
-  whole = λ e. cc
+  whole = λ e. cc;
 }
 
 -- what a command did is answered
@@ -113,7 +202,7 @@ said is_done play output stage old new plays w =
       written = w.written;
       appended = w.appended;
       front = (w.front.0, ap (λ refusals. (play refusals).output) (sym (append-nil plays.used)) ∙ ap output_of (plays.plays []) ∙ w.front.1);
-      whole = λ all more. rw (w.whole all) (plays.plays more)
+      whole = λ all more. rw (w.whole all) (plays.plays more);
     }
 
 -- an answer that needs no memory and changes nothing

@@ -1,18 +1,19 @@
 -- The lines of a script, and its answers, line after line.
-use Rattle.std.proofs.Common.{◌≡◌, ◌==◌, ℕ, zero, suc, ◌+◌, ◌<◌, ◌≤◌, Bool, true, false, not, cond, if◌then◌else◌, nat_lt, List, [], ◌∷◌, ◌++◌, length, take, drop, refl, sym, ap, ◌∙◌, append_assoc, arith, Option, Some, None}
-use Rattle.std.specs.List.{before_first, after_first, position_or_len, prefix_len}
+use Rattle.std.proofs.Common.{◌≡◌, ◌==◌, ℕ, suc, ◌+◌, ◌<◌, ◌≤◌, Bool, true, false, not, cond, if◌then◌else◌, nat_lt, List, [], ◌∷◌, ◌++◌, length, take, drop, refl, sym, ap, ◌∙◌, append_assoc, arith, Option, Some, None}
+use Rattle.std.specs.List.{before_first, after_first, position_or_len}
 use Rattle.std.proofs.lemmas.List.{append-nil}
 use Rattle.std.proofs.lemmas.Bool.Decides.{nat_tests}
 use Rattle.std.specs.Io.KnownBytes.{Appends}
 use Rattle.std.proofs.KnownBytes.{Appends-nil, Appends-trans}
 use Rattle.flow_rules.specs.declared.refusals.Refusal.TheVariants.{LineTooLong, BadCommand}
 use Rattle.lines_demo.specs.declared.commands.Command.{Command}
+use Rattle.lines_demo.specs.declared.commands.Command.TheVariants.{Cap, Sub, Offer, Submit, Request, Close, Run}
 use Rattle.lines_demo.specs.Command.{command_of}
 use Rattle.lines_demo.specs.Lines.{is_line_feed, at_front, lines_of, without_return}
 use Rattle.lines_demo.specs.Report.{refused}
-use Rattle.lines_demo.specs.Script.{Stage, Played, played, command_played, output_of, script_output, start, LONGEST_LINE}
-use Rattle.lines_demo.specs.Writing.{IsFrontOf, Writes}
-use Rattle.lines_demo.specs.Playing.{Plays, Answers, AnswersScript}
+use Rattle.lines_demo.specs.Script.{Stage, Played, played, begun, begun_played, command_played, output_of, script_output, start, LONGEST_LINE}
+use Rattle.lines_demo.specs.Writing.{Writes}
+use Rattle.lines_demo.specs.Playing.{Answers, AnswersScript}
 use Rattle.lines_demo.proofs.Answering.{said, plays-now}
 
 -- ---- one line
@@ -24,7 +25,7 @@ same-play f g same d a b stage answers = record {
   written = answers.written;
   appended = answers.appended;
   front = (answers.front.0, ap (λ p. p.output) (same answers.used) ∙ answers.front.1);
-  whole = λ all more. same (answers.used ++ more) ∙ answers.whole all more
+  whole = λ all more. same (answers.used ++ more) ∙ answers.whole all more;
 }
 
 -- an empty line is answered with nothing
@@ -35,7 +36,7 @@ line-empty stage line a empty = record {
   written = [];
   appended = Appends-nil a;
   front = rw (← empty) ([], refl);
-  whole = λ all more. rw (← empty) refl
+  whole = λ all more. rw (← empty) refl;
 }
 
 -- a line that is too long is refused
@@ -102,6 +103,21 @@ pub record Progress (stock : ℕ) (bytes rest : List ℕ) (stage : Stage) (old n
 pub progress-start : (stock : ℕ) (bytes : List ℕ) (a : Option (List ℕ)) → Progress stock bytes bytes (start stock) a a
 progress-start stock bytes a = record { used = []; written = []; appended = Appends-nil a; so_far = λ more. refl }
 
+-- a command other than `cap`
+pub command-begun : (is_done : Bool) (stage later : Stage) (command : Command) (old new : Option (List ℕ)) → ((size : ℕ) → command ≡ Cap size → ⊥)
+    → Answers is_done (λ refusals. begun_played (begun stage) refusals command) old new later → Answers is_done (λ refusals. command_played stage refusals (Some command)) old new later
+command-begun is_done stage later (Cap size) old new other answers = absurd (other size refl)
+command-begun is_done stage later (Sub name number) old new other answers = answers
+command-begun is_done stage later (Offer text) old new other answers = answers
+command-begun is_done stage later (Submit text) old new other answers = answers
+command-begun is_done stage later (Request name number) old new other answers = answers
+command-begun is_done stage later Close old new other answers = answers
+command-begun is_done stage later Run old new other answers = answers
+
+-- memory was refused before the first line: nothing was written
+pub nothing-written : (stock : ℕ) (bytes : List ℕ) (a : Option (List ℕ)) → AnswersScript false stock bytes a a
+nothing-written stock bytes a = record { used = []; written = []; appended = Appends-nil a; front = (script_output stock [] bytes, refl); whole = λ e. cc }
+
 -- the answers to lines that are there: those to the first line, and those to the others
 first-output : (before line rest : List ℕ) (refusals : List Bool) (stage : Stage) → 0 < length before
     → line ≡ before_first is_line_feed before → rest ≡ after_first is_line_feed before
@@ -133,7 +149,7 @@ progress-more stock bytes before line rest stage later a b c progress some is le
   written = progress.written ++ answers.written;
   appended = Appends-trans a b c progress.written answers.written progress.appended answers.appended;
   so_far = λ more. progress-line stock bytes before line rest progress.written progress.used answers.used stage _ progress.so_far
-      (λ refusals. first-output before line rest refusals stage some is left) more (answers.whole refl more)
+      (λ refusals. first-output before line rest refusals stage some is left) more (answers.whole refl more);
 }
 
 -- the writing failed within a line
@@ -143,30 +159,32 @@ pub progress-fault : (stock : ℕ) (bytes before line rest : List ℕ) (stage la
 progress-fault stock bytes before line rest stage later a b c progress some is left answers =
     let first = played stage answers.used (without_return line) in
     let whole = progress-line stock bytes before line rest progress.written progress.used answers.used stage first progress.so_far
-        (λ refusals. first-output before line rest refusals stage some is left) [] (ap (λ refusals. played stage refusals (without_return line)) (append-nil answers.used)) in
+    (λ refusals. first-output before line rest refusals stage some is left) [] (ap (λ refusals. played stage refusals (without_return line)) (append-nil answers.used)) in
     let tail = output_of (lines_of rest) first.refusals first.stage in
     record {
       used = progress.used ++ answers.used;
       written = progress.written ++ answers.written;
       appended = Appends-trans a b c progress.written answers.written progress.appended answers.appended;
-      front = (answers.front.0 ++ tail,
-          ap (λ refusals. script_output stock refusals bytes) (sym (append-nil (progress.used ++ answers.used))) ∙ whole
-          ∙ ap (λ output. (progress.written ++ output) ++ tail) answers.front.1
-          ∙ ap (λ output. output ++ tail) (sym (append_assoc progress.written answers.written answers.front.0))
-          ∙ append_assoc (progress.written ++ answers.written) answers.front.0 tail);
-      whole = λ e. cc
+      front = (
+        answers.front.0 ++ tail,
+        ap (λ refusals. script_output stock refusals bytes) (sym (append-nil (progress.used ++ answers.used))) ∙ whole
+            ∙ ap (λ output. (progress.written ++ output) ++ tail) answers.front.1
+            ∙ ap (λ output. output ++ tail) (sym (append_assoc progress.written answers.written answers.front.0))
+            ∙ append_assoc (progress.written ++ answers.written) answers.front.0 tail,
+      );
+      whole = λ e. cc;
     }
 
 -- all lines were played
 pub progress-end : (stock : ℕ) (bytes rest : List ℕ) (stage : Stage) (a b : Option (List ℕ)) → Progress stock bytes rest stage a b → rest ≡ [] → AnswersScript true stock bytes a b
 progress-end stock bytes rest stage a b progress none =
     let all : script_output stock progress.used bytes ≡ progress.written =
-        ap (λ refusals. script_output stock refusals bytes) (sym (append-nil progress.used)) ∙ progress.so_far []
-        ∙ ap (λ r. progress.written ++ output_of (lines_of r) [] stage) none ∙ append-nil progress.written in
+    ap (λ refusals. script_output stock refusals bytes) (sym (append-nil progress.used)) ∙ progress.so_far []
+    ∙ ap (λ r. progress.written ++ output_of (lines_of r) [] stage) none ∙ append-nil progress.written in
     record {
       used = progress.used;
       written = progress.written;
       appended = progress.appended;
       front = ([], all ∙ sym (append-nil progress.written));
-      whole = λ e. sym all
+      whole = λ e. sym all;
     }

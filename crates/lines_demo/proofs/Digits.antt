@@ -1,5 +1,5 @@
 -- Numbers of few digits fit 64 bits.
-use Rattle.std.proofs.Common.{◌≡◌, ℕ, zero, suc, ◌+◌, ◌*◌, ◌^◌, ◌<◌, ◌≤◌, ◌-◌, add-one, arith, refl}
+use Rattle.std.proofs.Common.{◌≡◌, ℕ, zero, suc, ◌+◌, ◌*◌, ◌^◌, ◌<◌, ◌≤◌, ◌-◌, add-one, arith}
 use Rattle.std.proofs.Math.Nat.{pow-suc}
 
 -- a power of ten is at most a later one

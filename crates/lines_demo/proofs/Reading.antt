@@ -1,15 +1,11 @@
 -- What was read is all that the reader had.
-use Rattle.std.proofs.Common.{◌≡◌, ℕ, ◌<◌, ◌≤◌, List, length, take, refl, sym, ap, ◌∙◌, arith, Bool, true, false, [], Option, Some, None, Result, Ok, Err}
+use Rattle.std.proofs.Common.{◌≡◌, ℕ, ◌<◌, ◌≤◌, List, length, take, refl, sym, ap, ◌∙◌, arith, [], Option, Some, None, Err}
 use Rattle.std.specs.Prelude.{IfSome, option_map}
-use Rattle.std.proofs.lemmas.List.{append-nil, length-take, take_all}
+use Rattle.std.proofs.lemmas.List.{length-take, take_all}
 use Rattle.std.proofs.KnownBytes.{Appends-nil}
 use Rattle.lines_demo.specs.declared.faults.ScriptFault.{ScriptFault}
 use Rattle.lines_demo.specs.declared.faults.ScriptFault.TheVariants.{Read, Write, Memory}
-use Rattle.lines_demo.specs.declared.outputs.OutputFault.{OutputFault}
-use Rattle.lines_demo.specs.declared.outputs.OutputFault.TheVariants.{Write as WriteFailed, Memory as NoRoom}
-use Rattle.lines_demo.specs.Faults.{fault_of}
-use Rattle.lines_demo.specs.Playing.{AnswersScript}
-use Rattle.lines_demo.specs.RunScript.{PlaysScript, IsScriptOf, IsAsMuch, LONGEST_SCRIPT}
+use Rattle.lines_demo.specs.RunScript.{PlaysScript, IsScriptOf, IsAsMuch}
 use Rattle.lines_demo.specs.Script.{script_output}
 
 -- a read that stopped short of its limit has taken all
@@ -29,13 +25,14 @@ reading-stopped fault stock known a no_write = record {
   given = by_fault fault no_write known;
   bounded = omega arith;
   appended = Appends-nil a;
-  as_much = nothing fault
+  as_much = nothing fault;
 } where
   by_fault : (fault : ScriptFault) → (fault ≡ Write → ⊥) → (known : Option (List ℕ)) → IfSome known (λ all. IsScriptOf (Err fault) all [])
   by_fault fault no_write None = tt
   by_fault Read no_write (Some all) = (all, refl)
   by_fault Write no_write (Some all) = absurd (no_write refl)
   by_fault Memory no_write (Some all) = (all, refl)
+
   nothing : (fault : ScriptFault) → IsAsMuch (Err fault) [] (script_output stock [] [])
   nothing Read = refl
   nothing Write = (_, refl)

@@ -6,7 +6,7 @@ use Rattle.std.specs.Io.KnownBytes.{Appends, Keeps}
 use Rattle.std.proofs.KnownBytes.{Appends-nil, Appends-trans}
 use Rattle.flow_rules.specs.declared.signals.Signal.{Signal}
 use Rattle.lines_demo.specs.Report.{signal_line, signal_lines}
-use Rattle.lines_demo.specs.Writing.{Writes, IsFrontOf}
+use Rattle.lines_demo.specs.Writing.{Writes}
 
 -- what is kept has what was appended before
 pub Appends-kept : (a b c : Option (List ℕ)) (bs : List ℕ) → Appends a b bs → Keeps b c → Appends a c bs
@@ -37,7 +37,7 @@ writes-after done a b c before bytes p w = record {
   written = before ++ w.written;
   appended = Appends-trans a b c before w.written p w.appended;
   front = (w.front.0, ap (λ x. before ++ x) w.front.1 ∙ sym (append_assoc before w.written w.front.0));
-  whole = λ e. ap (λ x. before ++ x) (w.whole e)
+  whole = λ e. ap (λ x. before ++ x) (w.whole e);
 }
 
 -- what was not written whole is a front of more, too
@@ -48,9 +48,11 @@ writes-less a b bytes more w =
 -- one more write of what was left
 pub writes-more : (a b c : Option (List ℕ)) (n : ℕ) (written rest bytes : List ℕ) → Appends a b written → bytes ≡ written ++ rest → Appends b c (take n rest)
     → (written' : List ℕ) × Appends a c written' × (bytes ≡ written' ++ drop n rest)
-writes-more a b c n written rest bytes p e q =
-    (written ++ take n rest, Appends-trans a b c written (take n rest) p q,
-    e ∙ ap (λ x. written ++ x) (sym (take-append-drop n rest)) ∙ sym (append_assoc written (take n rest) (drop n rest)))
+writes-more a b c n written rest bytes p e q = (
+  written ++ take n rest,
+  Appends-trans a b c written (take n rest) p q,
+  e ∙ ap (λ x. written ++ x) (sym (take-append-drop n rest)) ∙ sym (append_assoc written (take n rest) (drop n rest)),
+)
 
 -- the lines of some signals and of one more
 pub signal_lines-append : (name : List ℕ) (s t : List Signal) → signal_lines name (s ++ t) ≡ signal_lines name s ++ signal_lines name t

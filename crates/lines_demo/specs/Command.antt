@@ -1,11 +1,12 @@
 -- The commands of a script. Words are separated by exactly one space.
-use Rattle.std.specs.Prelude.{ℕ, ◌==◌, Bool, if◌then◌else◌, nat_le, Option, Some, None, List, [], ◌∷◌, codes}
+use Rattle.std.specs.Prelude.{ℕ, ◌≤◌, ⊤, ◌==◌, Bool, if◌then◌else◌, nat_le, Option, Some, None, List, [], ◌∷◌, codes}
 use Rattle.std.specs.List.{before_first, after_first}
 use Rattle.std.specs.Cmp.Lexicographic.{pointwise}
 use Rattle.flow_rules.specs.Name.{is_name}
+use Rattle.flow_rules.specs.declared.demands.TheConstants.{UNBOUNDED}
 use Rattle.lines_demo.specs.Number.{number_of}
 use Rattle.lines_demo.specs.declared.commands.Command.{Command}
-use Rattle.lines_demo.specs.declared.commands.Command.TheVariants.{Sub, Offer, Request, Run}
+use Rattle.lines_demo.specs.declared.commands.Command.TheVariants.{Cap, Sub, Offer, Submit, Request, Close, Run}
 
 abbrev pub is_space : ℕ → Bool
 is_space byte = byte == 32
@@ -41,9 +42,14 @@ positive None = None
 positive (Some number) = if nat_le 1 number then Some number else None
 
 -- a text of at least one byte
-abbrev pub text_command : (List ℕ → Command) → List ℕ → Option Command
-text_command command [] = None
-text_command command (byte ∷ text) = Some (command (byte ∷ text))
+abbrev pub text_of : List ℕ → Option (List ℕ)
+text_of [] = None
+text_of (byte ∷ text) = Some (byte ∷ text)
+
+-- a command of a text, if it is there
+abbrev pub with_text : (List ℕ → Command) → Option (List ℕ) → Option Command
+with_text command None = None
+with_text command (Some text) = Some (command text)
 
 -- the command that a line spells, if it spells one
 unfoldable pub command_of : List ℕ → Option Command
@@ -51,7 +57,20 @@ command_of line =
     let word = first_word line in
     let rest = after_space line in
     if is_word line (codes "run") then Some Run
-    else (if is_word word (codes "offer") then text_command Offer rest
+    else (if is_word line (codes "close") then Some Close
+    else (if is_word word (codes "offer") then with_text Offer (text_of rest)
+    else (if is_word word (codes "submit") then with_text Submit (text_of rest)
+    else (if is_word word (codes "cap") then with_number Cap (number_of rest)
     else (if is_word word (codes "sub") then with_name Sub (name_of (first_word rest)) (number_of (after_space rest))
     else (if is_word word (codes "request") then with_name Request (name_of (first_word rest)) (positive (number_of (after_space rest)))
-    else None)))
+    else None))))))
+
+-- the numbers of a command are in range
+abbrev pub IsInRange : Command → Type 0
+IsInRange (Cap size) = size ≤ UNBOUNDED
+IsInRange (Sub name number) = number ≤ UNBOUNDED
+IsInRange (Offer text) = ⊤
+IsInRange (Submit text) = ⊤
+IsInRange (Request name number) = (1 ≤ number) × (number ≤ UNBOUNDED)
+IsInRange Close = ⊤
+IsInRange Run = ⊤

@@ -1,13 +1,17 @@
 -- What the code has to do with a definition that may choose: there are refusals under which the definition says just that.
-use Rattle.std.specs.Prelude.{◌≡◌, ℕ, ◌+◌, Bool, true, Option, List, [], ◌++◌, length}
+use Rattle.std.specs.Prelude.{◌≡◌, ℕ, ◌+◌, ◌<◌, ◌≤◌, Bool, true, Option, Some, None, Result, Ok, Err, List, [], ◌++◌, length}
+use Rattle.flow_rules.specs.declared.texts.Item.{Item}
+use Rattle.flow_rules.specs.declared.refusals.Refusal.{Refusal}
+use Rattle.flow_rules.specs.declared.refusals.Refusal.TheVariants.{NoMemory, LineTooLong}
 use Rattle.std.specs.Io.KnownBytes.{Appends}
 use Rattle.flow_rules.specs.declared.signals.Signal.{Signal}
 use Rattle.flow_rules.specs.declared.signals.How.{How}
 use Rattle.flow_rules.specs.declared.signals.How.TheVariants.{Completed, Errored, Cancelled, Failed, OutOfMemory}
 use Rattle.feed_core.specs.declared.outlooks.Outlook.{Outlook}
 use Rattle.feed_core.specs.declared.outlooks.Outlook.TheVariants.{Again, Resting, Ended}
+use Rattle.feed_core.specs.Desk.{lag_of}
 use Rattle.lines_demo.specs.Report.{signal_lines, memory_line}
-use Rattle.lines_demo.specs.Script.{Stage, EntryState, Played, Turned, turn, turns, script_output}
+use Rattle.lines_demo.specs.Script.{Stage, EntryState, Played, Turned, turn, turns, script_output, unpublished, next_item, LONGEST_TEXT}
 use Rattle.lines_demo.specs.Writing.{IsFrontOf, Writes}
 
 -- under some refusals this is what is answered, and the script goes on from this stage
@@ -49,7 +53,7 @@ pub record TurnsOnce (is_done : Bool) (before after : EntryState) (old new : Opt
 
 -- all the turns that are due, under some refusals
 abbrev pub turns_due : EntryState → List Bool → Turned
-turns_due entry refusals = turns (length entry.lane.waiting + 1) entry refusals
+turns_due entry refusals = turns (lag_of entry.lane + 1) entry refusals
 
 pub record TurnsOut (is_done : Bool) (before after : EntryState) (old new : Option (List ℕ)) : Type 0 where
   pub used : List Bool
@@ -65,3 +69,10 @@ pub record AnswersScript (is_done : Bool) (stock : ℕ) (bytes : List ℕ) (old 
   pub appended : Appends old new written
   pub front : IsFrontOf written (script_output stock used bytes)
   pub whole : is_done ≡ true → written ≡ script_output stock used bytes
+
+-- the item of the next publication, or why there is none: the text is too long, memory was refused for it, or it may not be published
+abbrev pub IsItemOf : Stage → List ℕ → Result Item Refusal → Type 0
+IsItemOf stage text (Ok item) = (length text ≤ LONGEST_TEXT) × (unpublished stage ≡ None) × (item ≡ next_item stage text)
+IsItemOf stage text (Err LineTooLong) = LONGEST_TEXT < length text
+IsItemOf stage text (Err NoMemory) = length text ≤ LONGEST_TEXT
+IsItemOf stage text (Err refusal) = (length text ≤ LONGEST_TEXT) × (unpublished stage ≡ Some refusal)

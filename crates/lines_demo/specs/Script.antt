@@ -1,17 +1,22 @@
 -- What a script is answered: a function of its bytes, of the size of the stock, and of the points at which memory is refused.
-use Rattle.std.specs.Prelude.{◌≡◌, ℕ, zero, suc, ◌+◌, ◌-◌, ◌^◌, ◌==◌, ℤ, pos, Bool, true, false, ◌||◌, not, if◌then◌else◌, nat_le, nat_lt, Option, Some, None, is_some, option_map, Result, Ok, Err, List, [], ◌∷◌, ◌++◌, length, drop, codes}
+use Rattle.std.specs.Prelude.{ℕ, zero, suc, ◌+◌, ◌-◌, ◌^◌, ◌==◌, ℤ, pos, Bool, true, false, ◌&&◌, ◌||◌, not, if◌then◌else◌, nat_le, nat_lt, Option, Some, None, is_some, option_map, Result, Ok, Err, List, [], ◌∷◌, ◌++◌, length, codes, decimal}
 use Rattle.std.specs.Fmt.{signed_decimal}
 use Rattle.flow_rules.specs.declared.texts.Item.{Item}
+use Rattle.flow_rules.specs.declared.signals.Ending.TheVariants.{Normal}
 use Rattle.flow_rules.specs.declared.signals.Signal.{Signal}
 use Rattle.flow_rules.specs.declared.signals.How.TheVariants.{OutOfMemory}
 use Rattle.flow_rules.specs.declared.refusals.Refusal.{Refusal}
-use Rattle.flow_rules.specs.declared.refusals.Refusal.TheVariants.{TooMany, NoMemory, LineTooLong, Unknown, BadCommand, Exhausted}
-use Rattle.flow_rules.specs.Demand.{total_after}
+use Rattle.flow_rules.specs.declared.refusals.Refusal.TheVariants.{BadCapacity, Closed, TooMany, NoMemory, LineTooLong, Unknown, WouldWait, BadCommand, Exhausted}
+use Rattle.flow_rules.specs.Capacity.{capacity_of}
 use Rattle.feed_core.specs.declared.outlooks.Outlook.{Outlook}
+use Rattle.feed_core.specs.declared.outlooks.Outlook.TheVariants.{Ended}
+use Rattle.feed_core.specs.Desk.{lag_of, empty_lane, closed_by, requested as asking}
+use Rattle.feed_core.specs.Lane.{LaneState}
+use Rattle.feed_core.specs.PlainTurn.{plain_turn_of}
 use Rattle.lines_demo.specs.declared.commands.Command.{Command}
-use Rattle.lines_demo.specs.declared.commands.Command.TheVariants.{Sub, Offer, Request, Run}
+use Rattle.lines_demo.specs.declared.commands.Command.TheVariants.{Cap, Sub, Offer, Submit, Request, Close, Run}
 use Rattle.lines_demo.specs.Command.{command_of, is_word}
-use Rattle.lines_demo.specs.Lane.{LaneParts, new_lane, turn_of, how_after, is_again, lane_after, accepts, offer_answer, lane_offered}
+use Rattle.lines_demo.specs.Lane.{is_again, lane_after, is_gone, accepts, offer_answer, lane_offered}
 use Rattle.lines_demo.specs.Lines.{lines_of, without_return}
 use Rattle.lines_demo.specs.Report.{line_of, refused, signal_lines, memory_line}
 
@@ -25,14 +30,23 @@ LONGEST_TEXT = 4096
 abbrev pub PUBLICATIONS : ℕ
 PUBLICATIONS = 2 ^ 62
 
--- a subscription: who it is, its lane, and whether a turn is due
+-- the capacity where none was asked for
+abbrev pub DEFAULT_SIZE : ℕ
+DEFAULT_SIZE = 256
+
+-- a subscription: who it is, the capacity of its buffer, its lane, and whether a turn is due
 pub record EntryState : Type 0 where
   pub name : List ℕ
-  pub lane : LaneParts
+  pub capacity : ℕ
+  pub lane : LaneState
   pub is_woken : Bool
 
--- where a script stands: the next serial number, how many subscribers are left, and the subscription, if there is one
+-- where a script stands: the capacity that was asked for, whether a command other than `cap` was read, whether the publisher was
+-- closed, the next serial number, how many subscribers are left, and the subscription, if there is one
 pub record Stage : Type 0 where
+  pub size : ℕ
+  pub has_begun : Bool
+  pub is_closed : Bool
   pub serial : ℕ
   pub stock : ℕ
   pub entry : Option EntryState
@@ -81,18 +95,18 @@ pub record Turned : Type 0 where
 abbrev pub turned : EntryState → Outlook → Heard → List Signal → Turned
 turned entry outlook heard [] = record {
   output = signal_lines entry.name heard.told;
-  entry = record entry { lane = lane_after entry.lane heard.told (how_after outlook); is_woken = is_again outlook };
-  refusals = heard.refusals
+  entry = record entry { lane = lane_after entry.lane heard.told outlook; is_woken = is_again outlook };
+  refusals = heard.refusals;
 }
 turned entry outlook heard (_ ∷ _) = record {
   output = signal_lines entry.name heard.told ++ memory_line entry.name;
-  entry = record entry { lane = lane_after entry.lane heard.told (Some OutOfMemory); is_woken = false };
-  refusals = heard.refusals
+  entry = record entry { lane = lane_after entry.lane heard.told (Ended OutOfMemory); is_woken = false };
+  refusals = heard.refusals;
 }
 
 abbrev pub turn : EntryState → List Bool → Turned
 turn entry refusals =
-    let plain = turn_of entry.lane in
+    let plain = plain_turn_of entry.lane in
     let heard = hear refusals plain.told in
     turned entry plain.outlook heard heard.missed
 
@@ -124,19 +138,25 @@ ok_line (Err refusal) = refused refusal
 abbrev pub run_entry : Stage → Option EntryState → List Bool → Played
 run_entry stage None refusals = answered stage refusals (line_of (codes "idle"))
 run_entry stage (Some entry) refusals =
-    let all = turns (length entry.lane.waiting + 1) entry refusals in
+    let all = turns (lag_of entry.lane + 1) entry refusals in
     record {
       output = all.output ++ line_of (codes "idle");
       stage = record stage { entry = Some all.entry };
-      refusals = all.refusals
+      refusals = all.refusals;
     }
 
+-- the lane of a new subscription: closed at once where the publisher was
+abbrev pub new_lane : Bool → LaneState
+new_lane true = closed_by Normal empty_lane
+new_lane false = empty_lane
+
 -- a subscription that was made now: its first turn is due
-abbrev pub new_entry : List ℕ → ℕ → EntryState
-new_entry name number = record {
+abbrev pub new_entry : Stage → List ℕ → ℕ → EntryState
+new_entry stage name number = record {
   name = name;
-  lane = record new_lane { asked = total_after 0 number };
-  is_woken = true
+  capacity = capacity_of stage.size;
+  lane = asking number (new_lane stage.is_closed);
+  is_woken = true;
 }
 
 abbrev pub subscribe : Stage → List Bool → List ℕ → ℕ → Played
@@ -144,8 +164,8 @@ subscribe stage refusals name number =
     if is_some stage.entry || stage.stock == 0 then answered stage refusals (sub_line name (Err TooMany))
     else unless_refused stage refusals (λ left. record {
       output = sub_line name (Ok tt);
-      stage = record stage { stock = stage.stock - 1; entry = Some (new_entry name number) };
-      refusals = left
+      stage = record stage { stock = stage.stock - 1; entry = Some (new_entry stage name number) };
+      refusals = left;
     })
 
 -- the next item of a script: all have source 0, so its number among the source's items is its serial number
@@ -153,41 +173,109 @@ abbrev pub next_item : Stage → List ℕ → Item
 next_item stage text = record { source = 0; seq = stage.serial; serial = stage.serial; text = text }
 
 -- what an offer answers where there is a subscription, and where there is none
-abbrev pub answer_of : Option EntryState → ℤ
-answer_of None = pos 0
-answer_of (Some entry) = offer_answer entry.lane
+abbrev pub answer_of : Option EntryState → Item → ℤ
+answer_of None item = pos 0
+answer_of (Some entry) item = offer_answer entry.capacity entry.lane item
 
 -- the subscription after an offer: it is woken where the item waits now
 abbrev pub entry_offered : EntryState → Item → EntryState
 entry_offered entry item = record entry {
-  lane = lane_offered entry.lane item;
-  is_woken = entry.is_woken || accepts entry.lane
+  lane = lane_offered entry.capacity entry.lane item;
+  is_woken = entry.is_woken || accepts entry.capacity entry.lane;
 }
 
--- `offer R`
-abbrev pub offer_line : Result ℤ Refusal → List ℕ
-offer_line (Ok answer) = line_of (codes "offer " ++ signed_decimal answer)
-offer_line (Err refusal) = refused refusal
+-- where a script stands after a publication: each has a serial number of its own
+abbrev pub published : Stage → List ℕ → Stage
+published stage text = record stage {
+  serial = stage.serial + 1;
+  entry = option_map (λ entry. entry_offered entry (next_item stage text)) stage.entry;
+}
 
+-- `offer R` and `submit R`
+abbrev pub answer_line : List ℕ → Result ℤ Refusal → List ℕ
+answer_line word (Ok answer) = line_of (word ++ signed_decimal answer)
+answer_line word (Err refusal) = refused refusal
+
+abbrev pub offer_line : Result ℤ Refusal → List ℕ
+offer_line = answer_line (codes "offer ")
+
+abbrev pub submit_line : Result ℤ Refusal → List ℕ
+submit_line = answer_line (codes "submit ")
+
+-- why a text is not published, if it is not: the publisher was closed, or there are no more serial numbers
+abbrev pub unpublished : Stage → Option Refusal
+unpublished stage =
+    if stage.is_closed then Some (Closed Normal) else (if nat_le PUBLICATIONS stage.serial then Some Exhausted else None)
+
+-- a publication, unless it is refused; both calls judge the text first, and then take memory for it
+abbrev pub publish_unless : Option Refusal → Stage → List Bool → List ℕ → List ℕ → Played
+publish_unless (Some refusal) stage refusals text word = answered stage refusals (refused refusal)
+publish_unless None stage refusals text word =
+    record { output = answer_line word (Ok (answer_of stage.entry (next_item stage text))); stage = published stage text; refusals = refusals }
+
+abbrev pub publish : (Stage → Option Refusal) → Stage → List Bool → List ℕ → List ℕ → Played
+publish why_not stage refusals text word =
+    if nat_lt LONGEST_TEXT (length text) then answered stage refusals (refused LineTooLong)
+    else unless_refused stage refusals (λ left. publish_unless (why_not stage) stage left text word)
+
+-- an offer drops the item where there is no room
 abbrev pub offer : Stage → List Bool → List ℕ → Played
-offer stage refusals text =
-    if nat_lt LONGEST_TEXT (length text) then answered stage refusals (offer_line (Err LineTooLong))
-    else unless_refused stage refusals (λ left.
-      if nat_le PUBLICATIONS stage.serial then answered stage left (offer_line (Err Exhausted))
-      else record {
-        output = offer_line (Ok (answer_of stage.entry));
-        stage = record stage {
-          serial = stage.serial + 1;
-          entry = option_map (λ entry. entry_offered entry (next_item stage text)) stage.entry
-        };
-        refusals = left
-      })
+offer stage refusals text = publish unpublished stage refusals text (codes "offer ")
+
+-- a submit would wait where a subscription that takes items has no room
+abbrev pub would_wait : Option EntryState → Bool
+would_wait None = false
+would_wait (Some entry) = not (is_gone entry.lane) && (lag_of entry.lane == entry.capacity)
+
+abbrev pub or_waiting : Option Refusal → Bool → Option Refusal
+or_waiting (Some refusal) waits = Some refusal
+or_waiting None true = Some WouldWait
+or_waiting None false = None
+
+-- why a text is not submitted, if it is not
+abbrev pub unsubmitted : Stage → Option Refusal
+unsubmitted stage = or_waiting (unpublished stage) (would_wait stage.entry)
+
+abbrev pub submit : Stage → List Bool → List ℕ → Played
+submit stage refusals text = publish unsubmitted stage refusals text (codes "submit ")
+
+-- the subscription when the publisher is closed: the first close wakes it, unless it has ended
+abbrev pub entry_closed : EntryState → EntryState
+entry_closed entry =
+    if is_some entry.lane.causes.closing then entry
+    else record entry { lane = closed_by Normal entry.lane; is_woken = entry.is_woken || not (is_some entry.lane.how) }
+
+-- only the first close does anything
+abbrev pub close : Stage → List Bool → Played
+close stage refusals =
+    if stage.is_closed then answered stage refusals (ok_line (Ok tt))
+    else record {
+      output = ok_line (Ok tt);
+      stage = record stage { is_closed = true; entry = option_map entry_closed stage.entry };
+      refusals = refusals;
+    }
+
+-- `cap C`
+abbrev pub cap_line : Result ℕ Refusal → List ℕ
+cap_line (Ok capacity) = line_of (codes "cap " ++ decimal capacity)
+cap_line (Err refusal) = refused refusal
+
+-- the capacity may be asked for as long as no other command was read
+abbrev pub set_size : Stage → List Bool → ℕ → Played
+set_size stage refusals size =
+    if stage.has_begun then answered stage refusals (cap_line (Err BadCommand))
+    else (if size == 0 then answered stage refusals (cap_line (Err BadCapacity))
+    else unless_refused stage refusals (λ left. record {
+      output = cap_line (Ok (capacity_of size));
+      stage = record stage { size = size };
+      refusals = left;
+    }))
 
 -- an entry with more demand: a turn is due, unless it has ended
 abbrev pub requested : EntryState → ℕ → EntryState
 requested entry number = record entry {
-  lane = record entry.lane { asked = total_after entry.lane.asked number };
-  is_woken = entry.is_woken || not (is_some entry.lane.how)
+  lane = asking number entry.lane;
+  is_woken = entry.is_woken || not (is_some entry.lane.how);
 }
 
 abbrev pub request_of : Stage → Option EntryState → List Bool → List ℕ → ℕ → Played
@@ -197,19 +285,36 @@ request_of stage (Some entry) refusals name number =
     then record {
       output = ok_line (Ok tt);
       stage = record stage { entry = Some (requested entry number) };
-      refusals = refusals
+      refusals = refusals;
     }
     else answered stage refusals (ok_line (Err Unknown))
 
 -- ---- lines
 
+-- a command other than `cap` was read
+abbrev pub begun : Stage → Stage
+begun stage = record stage { has_begun = true }
+
+-- what a command is answered once a command other than `cap` was read
+abbrev pub begun_played : Stage → List Bool → Command → Played
+begun_played stage refusals (Cap size) = answered stage refusals (refused BadCommand)
+begun_played stage refusals (Sub name number) = subscribe stage refusals name number
+begun_played stage refusals (Offer text) = offer stage refusals text
+begun_played stage refusals (Submit text) = submit stage refusals text
+begun_played stage refusals (Request name number) = request_of stage stage.entry refusals name number
+begun_played stage refusals Close = close stage refusals
+begun_played stage refusals Run = run_entry stage stage.entry refusals
+
 -- what a command is answered
 abbrev pub command_played : Stage → List Bool → Option Command → Played
 command_played stage refusals None = answered stage refusals (refused BadCommand)
-command_played stage refusals (Some (Sub name number)) = subscribe stage refusals name number
-command_played stage refusals (Some (Offer text)) = offer stage refusals text
-command_played stage refusals (Some (Request name number)) = request_of stage stage.entry refusals name number
-command_played stage refusals (Some Run) = run_entry stage stage.entry refusals
+command_played stage refusals (Some (Cap size)) = set_size stage refusals size
+command_played stage refusals (Some (Sub name number)) = begun_played (begun stage) refusals (Sub name number)
+command_played stage refusals (Some (Offer text)) = begun_played (begun stage) refusals (Offer text)
+command_played stage refusals (Some (Submit text)) = begun_played (begun stage) refusals (Submit text)
+command_played stage refusals (Some (Request name number)) = begun_played (begun stage) refusals (Request name number)
+command_played stage refusals (Some Close) = begun_played (begun stage) refusals Close
+command_played stage refusals (Some Run) = begun_played (begun stage) refusals Run
 
 -- what a line is answered: nothing where it is empty, and a refusal where it is too long
 unfoldable pub played : Stage → List Bool → List ℕ → Played
@@ -227,7 +332,7 @@ output_of (line ∷ lines) refusals stage =
 
 -- where a script starts, with so many subscribers to take from
 abbrev pub start : ℕ → Stage
-start stock = record { serial = 0; stock = stock; entry = None }
+start stock = record { size = DEFAULT_SIZE; has_begun = false; is_closed = false; serial = 0; stock = stock; entry = None }
 
 -- what a script is answered
 abbrev pub script_output : ℕ → List Bool → List ℕ → List ℕ

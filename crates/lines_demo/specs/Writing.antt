@@ -1,5 +1,5 @@
 -- What reaches a writer.
-use Rattle.std.specs.Prelude.{◌≡◌, ℕ, ◌≤◌, Bool, true, Option, Some, None, List, [], ◌++◌, length, ⊤}
+use Rattle.std.specs.Prelude.{◌≡◌, ℕ, Bool, true, Option, List, ◌++◌}
 use Rattle.std.specs.Io.KnownBytes.{Appends}
 
 -- one list is the beginning of another

@@ -1,5 +1,5 @@
-ghost use Rattle.std.specs.Prelude.{◌≡◌, Some};
-ghost use Rattle.lines_demo.specs.Command.{first_word, after_space, positive};
+ghost use Rattle.std.specs.Prelude.{◌≡◌, ◌≤◌, Some, IfSome};
+ghost use Rattle.lines_demo.specs.Command.{first_word, after_space, positive, text_of};
 
 use crate::lines::split_at_byte;
 use crate::numbers::number;
@@ -37,33 +37,47 @@ impl<'a> Words<'a> {
 /// A command of a script.
 #[derive(Debug, Drop)]
 pub enum Command<'a> {
+    /// `cap N`: the capacity of the buffers, before any other command.
+    Cap(u64),
     /// `sub NAME N`: the next subscriber of the stock subscribes with this name and requests N items.
     Sub(Name, u64),
-    /// `offer TEXT`
+    /// `offer TEXT`: drops the text where there is no room.
     Offer(Words<'a>),
+    /// `submit TEXT`: is refused where there is no room.
+    Submit(Words<'a>),
     /// `request NAME N`, N at least 1
     Request(Name, u64),
+    /// `close`
+    Close,
     /// `run`: turns until none is due.
     Run,
 }
 
 impl<'a> Command<'a> {
-    ghost use Rattle.lines_demo.specs.Command.{command_of};
+    ghost use Rattle.std.specs.Prelude.{◌≡◌, IfSome};
+    ghost use Rattle.lines_demo.specs.Command.{command_of, IsInRange};
 
     #[tactic(auto, unfolding(crate::specs::Command::command_of))]
     /// The command that a line spells, or `None` where its form is wrong.
     pub fn parse(line: &'a [u8]) -> Option<Command<'a>>
-        ensures { result ≡ command_of line.entry.now }
+        ensures value { result ≡ command_of line.entry.now }
+        ensures in_range { IfSome result IsInRange }
     {
         if line == b"run".as_slice() {
             return Some(Command::Run);
         }
+        if line == b"close".as_slice() {
+            return Some(Command::Close);
+        }
         let (word, rest) = split_word(line);
         if word == b"offer".as_slice() {
-            if rest.is_empty() {
-                return None;
-            }
-            return Some(Command::Offer(Words::new(rest)));
+            return Some(Command::Offer(text(rest)?));
+        }
+        if word == b"submit".as_slice() {
+            return Some(Command::Submit(text(rest)?));
+        }
+        if word == b"cap".as_slice() {
+            return Some(Command::Cap(number(rest)?));
         }
         if word == b"sub".as_slice() {
             let (name, digits) = split_word(rest);
@@ -85,9 +99,21 @@ fn split_word(bytes: &[u8]) -> (&[u8], &[u8])
     split_at_byte(bytes, b' ')
 }
 
+/// The text, if it has at least one byte.
+fn text(bytes: &[u8]) -> Option<Words<'_>>
+    ensures { result ≡ text_of bytes.entry.now }
+{
+    if bytes.is_empty() {
+        None
+    } else {
+        Some(Words::new(bytes))
+    }
+}
+
 /// The number, if it is at least 1.
 fn positive(number: u64) -> Option<u64>
-    ensures { result ≡ positive (Some number) }
+    ensures value { result ≡ positive (Some number) }
+    ensures positive { IfSome result (λ n. (1 ≤ n) × (n ≡ number)) }
 {
     if number == 0 { None } else { Some(number) }
 }

@@ -1,43 +1,50 @@
-ghost use Rattle.std.specs.Prelude.{◌≡◌, ◌<◌, true, IsTrue, None, is_ok, length};
+ghost use Rattle.std.specs.Prelude.{◌≡◌, ◌<◌, ◌^◌, ◌<ℤ◌, pos, unsigned_abs, true, None, is_ok, length};
+ghost use Rattle.feed_core.specs.Desk.{lag_of};
 ghost use Rattle.lines_demo.specs.Lane.{is_again, offer_answer};
 ghost use Rattle.lines_demo.specs.Playing.{TurnsOnce, TurnsOut};
-ghost use Rattle.lines_demo.specs.Script.{entry_offered, requested};
+ghost use Rattle.lines_demo.specs.Script.{entry_offered, entry_closed, requested};
 
 use crate::outputs::{OutputFault, say_turn};
-use crate::subscriptions::Subscription;
-use feed_core::Outlook;
-use flow_rules::{Item, Name, Subscriber};
+use feed_core::{Desk, Outlook, Seen};
+use flow_rules::{Ending, Item, Name, Put, Subscriber};
 use std::io::Write;
 use std::marker::Model;
 
-/// A subscription of a script, its name, and whether a turn is due.
+/// A subscription of a script, its name, and whether a turn is due. Its subscriber is steady.
 #[derive(Drop)]
 pub struct Entry<B: Subscriber> {
     name: Name,
-    subscription: Subscription<B>,
+    desk: Desk<B>,
     is_woken: bool,
 }
 
 impl<B: Subscriber> Model for Entry<B> {
-    ghost use Rattle.std.specs.Prelude.{◌≡◌, true, None};
+    ghost use Rattle.std.specs.Prelude.{◌≡◌, ◌&&◌, true, is_none};
     ghost use Rattle.lines_demo.specs.Script.{EntryState};
 
     ghost Value = { EntryState };
 
-    ghost view = { λ e. record { name = e.name; lane = e.subscription; is_woken = e.is_woken } };
+    ghost view = { λ e. record {
+      name = e.name;
+      capacity = e.desk.capacity;
+      lane = e.desk.lane;
+      is_woken = e.is_woken;
+    } };
 
-    ghost invariant = { λ e. e.is_woken ≡ true → e.subscription.how ≡ None };
+    ghost invariant = { λ e. (e.desk.is_steady ≡ true) × (e.is_woken ≡ (e.desk.running && is_none e.desk.lane.how)) };
 }
 
 impl<B: Subscriber> Entry<B> {
     /// A subscription that was made now: its first turn is due.
-    pub fn new(name: Name, subscription: Subscription<B>) -> Entry<B>
-        requires { subscription.how ≡ None }
-        ensures { result ≡ record { name = name; lane = subscription; is_woken = true } }
+    pub fn new(name: Name, desk: Desk<B>) -> Entry<B>
+        requires steady { desk.is_steady ≡ true }
+        requires due { desk.running ≡ true }
+        requires live { desk.lane.how ≡ None }
+        ensures { result ≡ record { name = name; capacity = desk.capacity; lane = desk.lane; is_woken = true } }
     {
         Entry {
             name,
-            subscription,
+            desk,
             is_woken: true,
         }
     }
@@ -57,41 +64,71 @@ impl<B: Subscriber> Entry<B> {
     }
 
     /// Adds to the demand, and wakes the subscription unless it has ended.
-    pub fn request(&mut self, number: u64)
-        ensures { self.new ≡ requested self.old number }
+    pub fn request(&mut self, number: i64)
+        requires { pos 0 <ℤ number }
+        ensures { self.new ≡ requested self.old (unsigned_abs number) }
     {
-        self.subscription.request(number);
-        self.is_woken = self.is_woken || !self.subscription.has_ended();
+        if self.desk.request(number).is_some() {
+            self.is_woken = true;
+        }
     }
 
     /// Offers an item, and wakes the subscription if the item waits now. The answer is the lag, -1 or 0.
     pub fn offer(&mut self, item: Item) -> i64
-        ensures answer { result ≡ offer_answer self.old.lane }
+        requires { length self.old.lane.accepted < 2 ^ 62 }
+        ensures answer { result ≡ offer_answer self.old.capacity self.old.lane item }
         ensures entry { self.new ≡ entry_offered self.old item }
     {
-        let answer = self.subscription.offer(item);
-        self.is_woken = self.is_woken || answer > 0;
-        answer
+        match self.desk.put(item) {
+            Put::Accepted { lag, start } => {
+                if start.is_some() {
+                    self.is_woken = true;
+                }
+                lag as i64
+            }
+            Put::Full(_) => -1,
+            Put::Gone(_) => 0,
+        }
+    }
+
+    /// Closes the subscription, and wakes it unless it has ended. Only the first call does anything.
+    pub fn close(&mut self)
+        ensures { self.new ≡ entry_closed self.old }
+    {
+        if self.desk.end(Ending::Normal).is_some() {
+            self.is_woken = true;
+        }
     }
 
     /// One turn, with its lines.
-    pub fn turn<W: Write>(&mut self, writer: &mut W, line: &mut Vec<u8>) -> Result<(), OutputFault>
+    pub fn turn<W: Write>(
+        &mut self,
+        seen: &mut Seen,
+        writer: &mut W,
+        line: &mut Vec<u8>,
+    ) -> Result<(), OutputFault>
         requires { self.old.is_woken ≡ true }
         ensures turn { TurnsOnce (is_ok result) self.old self.new (W.contents writer.old) (W.contents writer.new) }
-        ensures fewer { self.new.is_woken ≡ true → length self.new.lane.waiting < length self.old.lane.waiting }
+        ensures fewer { self.new.is_woken ≡ true → lag_of self.new.lane < lag_of self.old.lane }
+        ensures kept { self.new.lane.accepted ≡ self.old.lane.accepted }
     {
-        let before = self.subscription.told().len();
-        let outlook = self.subscription.turn();
+        let outlook = self.desk.turn(seen);
         self.is_woken = is_again(outlook);
-        say_turn(writer, line, &self.name, &self.subscription.told()[before..], outlook)
+        say_turn(writer, line, &self.name, seen.as_slice(), outlook)
     }
 
     /// Turns until none is due, with their lines.
-    pub fn run<W: Write>(&mut self, writer: &mut W, line: &mut Vec<u8>) -> Result<(), OutputFault>
-        ensures { TurnsOut (is_ok result) self.old self.new (W.contents writer.old) (W.contents writer.new) }
+    pub fn run<W: Write>(
+        &mut self,
+        seen: &mut Seen,
+        writer: &mut W,
+        line: &mut Vec<u8>,
+    ) -> Result<(), OutputFault>
+        ensures turns { TurnsOut (is_ok result) self.old self.new (W.contents writer.old) (W.contents writer.new) }
+        ensures kept { self.new.lane.accepted ≡ self.old.lane.accepted }
     {
         while self.is_woken() {
-            self.turn(writer, line)?;
+            self.turn(seen, writer, line)?;
         }
         Ok(())
     }

@@ -10,11 +10,10 @@ use faults::ScriptFault;
 use flow_rules::{Collector, Subscriber};
 use scripts::run_script;
 use std::alloc::{AllocError, Global};
-use std::env;
-use std::io;
 use std::io::{BufWriter, Write};
 use std::process::ExitCode;
 use std::rt::Env;
+use std::{env, io};
 
 mod commands;
 mod entries;
@@ -24,8 +23,6 @@ mod numbers;
 mod outputs;
 mod scripts;
 mod sessions;
-mod subscriptions;
-mod turns;
 
 /// How many subscribers a script may use.
 const STOCK: usize = 1024;

@@ -1,4 +1,4 @@
-ghost use Rattle.std.specs.Prelude.{◌≡◌, ◌≤◌, length, IsTrue, All};
+ghost use Rattle.std.specs.Prelude.{◌≡◌, ◌≤◌, length, IsTrue, IfSome, All};
 ghost use Rattle.std.specs.List.{list_all};
 ghost use Rattle.lines_demo.specs.Number.{is_digit, is_number, value_of, number_of, IsDigit};
 
@@ -10,13 +10,18 @@ const MOST_DIGITS: usize = 19;
 #[tactic(auto, unfolding(crate::specs::Number::number_of))]
 /// The number that the bytes spell: 1 to 19 digits, up to 2^63-1.
 pub fn number(bytes: &[u8]) -> Option<u64>
-    ensures { result ≡ number_of bytes.now }
+    ensures value { result ≡ number_of bytes.now }
+    ensures bounded { IfSome result (λ n. n ≤ UNBOUNDED) }
 {
     if !is_number(bytes) {
         return None;
     }
     let value = value_of(bytes);
-    if value <= UNBOUNDED { Some(value) } else { None }
+    if value <= UNBOUNDED {
+        Some(value)
+    } else {
+        None
+    }
 }
 
 fn is_number(bytes: &[u8]) -> bool

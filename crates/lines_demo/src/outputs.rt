@@ -42,7 +42,11 @@ fn write_whole<W: Write>(writer: &mut W, bytes: &[u8]) -> Result<(), OutputFault
 }
 
 /// Answers a line of this text. The line is made up in the buffer.
-pub fn say<W: Write, D: Display + Drop>(writer: &mut W, line: &mut Vec<u8>, text: D) -> Result<(), OutputFault>
+pub fn say<W: Write, D: Display + Drop>(
+    writer: &mut W,
+    line: &mut Vec<u8>,
+    text: D,
+) -> Result<(), OutputFault>
     ensures { IfSome (D.output text) (λ bytes.
         Writes (is_ok result) (W.contents writer.old) (W.contents writer.new) (line_of bytes)) }
 {
@@ -66,7 +70,12 @@ fn make_next(line: &mut Vec<u8>, name: &Name, text: &[u8]) -> Result<(), AllocEr
 }
 
 /// Answers the line of a signal that the subscriber of this name was told.
-fn say_signal<W: Write>(writer: &mut W, line: &mut Vec<u8>, name: &Name, signal: &Signal) -> Result<(), OutputFault>
+fn say_signal<W: Write>(
+    writer: &mut W,
+    line: &mut Vec<u8>,
+    name: &Name,
+    signal: &Signal,
+) -> Result<(), OutputFault>
     ensures { Writes (is_ok result) (W.contents writer.old) (W.contents writer.new) (signal_line name.now signal.now) }
 {
     match signal {
@@ -78,14 +87,27 @@ fn say_signal<W: Write>(writer: &mut W, line: &mut Vec<u8>, name: &Name, signal:
             write_whole(writer, line.as_slice())
         }
         Signal::Complete => say(writer, line, format_args!("{name} complete")),
-        Signal::Error(Fault::Published(code)) => say(writer, line, format_args!("{name} error published {code}")),
-        Signal::Error(Fault::IllegalArgument) => say(writer, line, format_args!("{name} error argument")),
+        Signal::Error(Fault::Published(code)) => say(
+            writer,
+            line,
+            format_args!("{name} error published {code}"),
+        ),
+        Signal::Error(Fault::IllegalArgument) => say(
+            writer,
+            line,
+            format_args!("{name} error argument"),
+        ),
         Signal::Error(Fault::IllegalState) => say(writer, line, format_args!("{name} error state")),
     }
 }
 
 /// Answers the lines of several signals.
-fn say_signals<W: Write>(writer: &mut W, line: &mut Vec<u8>, name: &Name, signals: &[Signal]) -> Result<(), OutputFault>
+fn say_signals<W: Write>(
+    writer: &mut W,
+    line: &mut Vec<u8>,
+    name: &Name,
+    signals: &[Signal],
+) -> Result<(), OutputFault>
     ensures { Writes (is_ok result) (W.contents writer.old) (W.contents writer.new) (signal_lines name.now signals.now) }
 {
     for signal in signals {
@@ -95,7 +117,13 @@ fn say_signals<W: Write>(writer: &mut W, line: &mut Vec<u8>, name: &Name, signal
 }
 
 /// Answers the lines of a turn: what was told, and whether a callback was refused memory.
-pub fn say_turn<W: Write>(writer: &mut W, line: &mut Vec<u8>, name: &Name, told: &[Signal], outlook: Outlook) -> Result<(), OutputFault>
+pub fn say_turn<W: Write>(
+    writer: &mut W,
+    line: &mut Vec<u8>,
+    name: &Name,
+    told: &[Signal],
+    outlook: Outlook,
+) -> Result<(), OutputFault>
     ensures { Writes (is_ok result) (W.contents writer.old) (W.contents writer.new) (turn_lines name.now told.now outlook) }
 {
     say_signals(writer, line, name, told)?;
@@ -106,7 +134,12 @@ pub fn say_turn<W: Write>(writer: &mut W, line: &mut Vec<u8>, name: &Name, told:
 }
 
 /// Answers the line of an end that the subscriber was not told of, if there is one.
-fn say_end<W: Write>(writer: &mut W, line: &mut Vec<u8>, name: &Name, how: How) -> Result<(), OutputFault>
+fn say_end<W: Write>(
+    writer: &mut W,
+    line: &mut Vec<u8>,
+    name: &Name,
+    how: How,
+) -> Result<(), OutputFault>
     ensures { Writes (is_ok result) (W.contents writer.old) (W.contents writer.new) (end_lines name.now how) }
 {
     match how {

@@ -3,7 +3,8 @@ ghost use Rattle.lines_demo.specs.Faults.{fault_of};
 ghost use Rattle.lines_demo.specs.Lines.{without_return};
 ghost use Rattle.lines_demo.specs.Playing.{Answers, AnswersScript};
 ghost use Rattle.lines_demo.specs.RunScript.{PlaysScript, StopsReading, LONGEST_SCRIPT};
-ghost use Rattle.lines_demo.specs.Script.{played, command_played, output_of};
+ghost use Rattle.lines_demo.specs.Command.{IsInRange};
+ghost use Rattle.lines_demo.specs.Script.{played, command_played, begun_played, output_of};
 
 use crate::commands::Command;
 use crate::faults::ScriptFault;
@@ -27,7 +28,10 @@ fn read_script<R: Read>(alloc: Global, reader: &mut R) -> Result<Vec<u8>, Script
     ensures no_write { IfErr result (λ fault. fault ≡ ScriptFault.Write → ⊥) }
 {
     let mut bytes = Vec::new(alloc);
-    match reader.take(LONGEST_SCRIPT as u64 + 1).read_to_end(&mut bytes) {
+    match reader
+        .take(LONGEST_SCRIPT as u64 + 1)
+        .read_to_end(&mut bytes)
+    {
         Ok(_) => {}
         Err(error) => {
             return Err(match error.kind() {
@@ -80,12 +84,19 @@ fn play_script<R: Read, W: Write, B: Subscriber>(
 }
 
 /// Plays the lines of a script, and answers them.
-fn play_lines<W: Write, B: Subscriber>(alloc: Global, bytes: &[u8], writer: &mut W, stock: Vec<B>) -> Result<(), OutputFault>
+fn play_lines<W: Write, B: Subscriber>(
+    alloc: Global,
+    bytes: &[u8],
+    writer: &mut W,
+    stock: Vec<B>,
+) -> Result<(), OutputFault>
     requires untold { All (λ b. B.told b ≡ []) stock.items }
     requires steady { All (λ b. B.is_steady b ≡ true) stock.items }
     ensures { AnswersScript (is_ok result) (length stock.items) bytes.now (W.contents writer.old) (W.contents writer.new) }
 {
-    let mut session = Session::new(stock);
+    let Ok(mut session) = Session::new(alloc, stock) else {
+        return Err(OutputFault::Memory);
+    };
     let mut buffer = Vec::new(alloc);
     let mut rest = bytes;
     while !rest.is_empty() {
@@ -127,10 +138,36 @@ fn play_command<W: Write, B: Subscriber>(
     buffer: &mut Vec<u8>,
     command: Command<'_>,
 ) -> Result<(), OutputFault>
+    requires { IsInRange command }
     ensures { Answers (is_ok result) (λ refusals. command_played session.old refusals (Some command.entry))
         (W.contents writer.old) (W.contents writer.new) session.new }
 {
     match command {
+        Command::Cap(size) => match session.set_size(size as usize) {
+            Ok(capacity) => say(writer, buffer, format_args!("cap {capacity}")),
+            Err(refusal) => say(writer, buffer, refusal),
+        },
+        command => {
+            session.begin();
+            play_begun(session, alloc, writer, buffer, command)
+        }
+    }
+}
+
+/// Does what a command other than `cap` says, and answers it.
+fn play_begun<W: Write, B: Subscriber>(
+    session: &mut Session<B>,
+    alloc: Global,
+    writer: &mut W,
+    buffer: &mut Vec<u8>,
+    command: Command<'_>,
+) -> Result<(), OutputFault>
+    requires { IsInRange command }
+    ensures { Answers (is_ok result) (λ refusals. begun_played session.old refusals command.entry)
+        (W.contents writer.old) (W.contents writer.new) session.new }
+{
+    match command {
+        Command::Cap(_) => say(writer, buffer, Refusal::BadCommand),
         Command::Sub(name, number) => match session.subscribe(alloc, name, number) {
             Ok(()) => say(writer, buffer, format_args!("sub {name}")),
             Err(refusal) => say(writer, buffer, refusal),
@@ -139,10 +176,18 @@ fn play_command<W: Write, B: Subscriber>(
             Ok(answer) => say(writer, buffer, format_args!("offer {answer}")),
             Err(refusal) => say(writer, buffer, refusal),
         },
+        Command::Submit(text) => match session.submit(alloc, text.as_bytes()) {
+            Ok(answer) => say(writer, buffer, format_args!("submit {answer}")),
+            Err(refusal) => say(writer, buffer, refusal),
+        },
         Command::Request(name, number) => match session.request(name, number) {
             Ok(()) => say(writer, buffer, "ok"),
             Err(refusal) => say(writer, buffer, refusal),
         },
+        Command::Close => {
+            session.close();
+            say(writer, buffer, "ok")
+        }
         Command::Run => session.run(writer, buffer),
     }
 }

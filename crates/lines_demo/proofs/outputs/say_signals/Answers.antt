@@ -1,4 +1,4 @@
-use Rattle.std.proofs.Common.{◌≡◌, ◌+◌, rules}
+use Rattle.std.proofs.Common.{◌+◌}
 use Rattle.std.proofs.lemmas.Result.{err_from_is_err_and}
 use Rattle.lines_demo.proofs.Writers.{writes-less, writes-after, writes-done, signal_lines-more, signal_lines-rest}
 use Rattle.lines_demo.proofs.outputs.say_signals.Goals as goal

@@ -1,4 +1,4 @@
-use Rattle.std.proofs.Common.{◌≡◌, take}
+use Rattle.std.proofs.Common.{take}
 use Rattle.std.specs.Io.KnownBytes.{Appends}
 use Rattle.lines_demo.specs.Report.{signal_lines}
 use Rattle.lines_demo.proofs.outputs.say_signals.Given as goal

@@ -1,4 +1,4 @@
-use Rattle.std.proofs.Common.{◌≡◌, [], ◌++◌, ◌∙◌, refl, ap, rules}
+use Rattle.std.proofs.Common.{◌≡◌, [], ◌++◌, ◌∙◌, refl, ap}
 use Rattle.std.proofs.lemmas.List.{append-nil, take_rest}
 use Rattle.std.proofs.KnownBytes.{Appends-nil}
 use Rattle.lines_demo.proofs.Writers.{Appends-kept, writes-all, writes-front, writes-more, empty-is}
@@ -30,9 +30,9 @@ loop-preserved g c =
     let i = c.loop.invariant in
     elim c.match-write.branch [
       | in-Ok w ↦
-        let more = writes-more _ _ _ w.in-Ok.count i.0 c.loop.rest.now c.args.bytes.now i.1 i.2 w.in-Ok.ensures.bytes in
-        let left = take_rest c.loop.rest.now w.in-Ok.count in
-        (more.0, more.1, rw (w.rest-is, left) more.2)
+          let more = writes-more _ _ _ w.in-Ok.count i.0 c.loop.rest.now c.args.bytes.now i.1 i.2 w.in-Ok.ensures.bytes in
+          let left = take_rest c.loop.rest.now w.in-Ok.count in
+          (more.0, more.1, rw (w.rest-is, left) more.2)
       | in-Err+else-ne w ↦ (i.0, Appends-kept _ _ _ i.0 i.1 w.in-Err.ensures.bytes, rw w.rest-is i.2)
     ]
 

@@ -1,11 +1,14 @@
-use Rattle.std.proofs.Common.{◌≡◌, ◌<◌, [], ◌∷◌, List, ℕ, length, true, rules, sym}
+use Rattle.std.proofs.Common.{◌≡◌, ◌<◌, [], length, rules}
 use Rattle.std.proofs.lemmas.Result.{err_from_is_err_and}
 use Rattle.lines_demo.proofs.Writers.{empty-is}
-use Rattle.lines_demo.proofs.Cutting.{progress-start, progress-more, progress-fault, progress-end}
+use Rattle.lines_demo.proofs.Cutting.{nothing-written, progress-start, progress-more, progress-fault, progress-end}
 use Rattle.lines_demo.proofs.scripts.play_lines.Goals as goal
 
 pub loop-rest-init : goal.loop-rest-init
-loop-rest-init g c = rw c.new-session.ensures (progress-start _ _ _)
+loop-rest-init g c = rw c.in-Ok.ensures (progress-start _ _ _)
+
+pub returns-in_default : goal.returns-in_default
+returns-in_default g c = nothing-written _ _ _
 
 pub returns-in_err-play_line : goal.returns-in_err-play_line
 returns-in_err-play_line g c =

@@ -1,4 +1,4 @@
-use Rattle.std.proofs.Common.{◌≡◌, ◌<◌, length, rules}
+use Rattle.std.proofs.Common.{◌<◌, length, rules}
 use Rattle.lines_demo.proofs.Reading.{all-read}
 use Rattle.lines_demo.proofs.scripts.read_script.Goals as goal
 

@@ -1,28 +1,25 @@
-use Rattle.std.proofs.Common.{◌≡◌, ◌<◌, ◌≤◌, ℕ, List, length, Option, Ok, ℤ, w64, subst, ◌+◌, ap, sym, ◌∙◌, arith, rules, refl}
+use Rattle.std.proofs.Common.{◌≡◌, ◌+◌, length, Ok, ℤ, w64, subst, ap, sym, ◌∙◌, rules}
+use Rattle.std.specs.Prelude.{Option, option_map, codes}
 use Rattle.std.proofs.lemmas.Int.{to_z-of_z}
 use Rattle.std.proofs.lemmas.Result.{err_from_is_err_and}
-use Rattle.std.specs.Prelude.{option_map}
-use Rattle.lines_demo.specs.Script.{Stage, EntryState, offer, offer_line, entry_offered, next_item}
-use Rattle.lines_demo.specs.Playing.{Plays}
-use Rattle.lines_demo.proofs.Answering.{offer-refused, offer-exhausted, offer-done}
+use Rattle.flow_rules.specs.declared.texts.Item.{Item}
+use Rattle.lines_demo.specs.Script.{Stage, EntryState, offer, offer_line, entry_offered, unpublished}
+use Rattle.lines_demo.specs.Playing.{Plays, IsItemOf}
+use Rattle.lines_demo.proofs.Answering.{publish-refused, publish-done}
 use Rattle.lines_demo.proofs.sessions.Session.offer.Goals as goal
 
-pub returns-in_err-text : goal.returns-in_err-text
-returns-in_err-text g c =
+pub returns-in_err-item : goal.returns-in_err-item
+returns-in_err-item g c =
     let failed = err_from_is_err_and c.from_residual.result c.from_residual.ensures.1 in
-    rw (failed.1, failed.2) (offer-refused _ _ c.if-text-gt-LONGEST.false)
-
-pub returns-then-self-ge-PUBLICATIONS : goal.returns-then-self-ge-PUBLICATIONS
-returns-then-self-ge-PUBLICATIONS g c =
-    let stage : Stage = record { serial = c.self.inside.serial; stock = length c.self.inside.stock.items; entry = c.self.inside.entry } in
-    rw (← c.self.view_is) (offer-exhausted stage _ c.if-text-gt-LONGEST.false c.if-self-ge-PUBLICATIONS.true)
+    rw (failed.1, failed.2) (publish-refused unpublished c.args.self.now c.args.text.now (codes "offer ") _ (λ other why. why) c.in_err-item.ensures.made)
 
 pub returns : goal.returns
 returns g c =
-    let stage : Stage = record { serial = c.self.inside.serial; stock = length c.self.inside.stock.items; entry = c.self.inside.entry } in
-    let offered : List ℕ → Option EntryState = λ text. option_map (λ entry. entry_offered entry (next_item stage text)) stage.entry in
-    let after : c.offer_to.new.entry ≡ offered c.args.text.now = c.offer_to.ensures.offered ∙ ap offered c.in_ok-text.ensures in
-    let final : Stage = record { serial = c.self.inside.serial + 1; stock = length c.self.inside.stock.items; entry = c.offer_to.new.entry } in
+    let stage : Stage = record { size = c.self.inside.size; has_begun = c.self.inside.has_begun; is_closed = c.self.inside.is_closed; serial = c.self.inside.serial; stock = length c.self.inside.stock.items; entry = c.self.inside.entry } in
+    let made : IsItemOf stage c.args.text.now (Ok c.in_ok-item.item) = subst (λ s. IsItemOf s c.args.text.now (Ok c.in_ok-item.item)) (sym c.self.view_is) c.in_ok-item.ensures.made in
+    let offered : Item → Option EntryState = λ item. option_map (λ entry. entry_offered entry item) stage.entry in
+    let after : c.offer_to-answer.new.entry ≡ offered _ = c.offer_to-answer.ensures.offered ∙ ap offered made.2 in
+    let final : Stage = record stage { serial = stage.serial + 1; entry = c.offer_to-answer.new.entry } in
     let P : ℤ → Stage → Type 0 = λ answer s. Plays (λ refusals. offer s refusals c.args.text.now) (offer_line (Ok answer)) final in
-    let done = subst (P c.offer_to.result) c.self.view_is (rw (c.offer_to.ensures.answer, after) (offer-done stage c.args.text.now c.if-text-gt-LONGEST.false c.if-self-ge-PUBLICATIONS.false)) in
-    subst (λ (answer : ℤ). P answer c.args.self.now) (sym (to_z-of_z w64 c.offer_to.result (search rules))) done
+    let done = subst (P c.offer_to-answer.result) c.self.view_is (rw (c.offer_to-answer.ensures.answer, after, made.2) (publish-done unpublished stage c.args.text.now (codes "offer ") made.0 made.1)) in
+    subst (λ (answer : ℤ). P answer c.args.self.now) (sym (to_z-of_z w64 c.offer_to-answer.result (search rules))) done

@@ -1,4 +1,4 @@
-use Rattle.std.proofs.Common.{◌≡◌, length, is_ok, Some, None, Ok, false, subst, sym, ◌∙◌}
+use Rattle.std.proofs.Common.{length, is_ok, Some, false, subst}
 use Rattle.std.proofs.lemmas.Result.{err_from_is_err_and}
 use Rattle.lines_demo.specs.Script.{Stage, run_entry}
 use Rattle.lines_demo.specs.Playing.{Answers}
@@ -8,22 +8,22 @@ use Rattle.lines_demo.proofs.sessions.Session.run.Goals.{in-Some+in_ok-run, in_d
 
 pub returns-in_err-run : goal.returns-in_err-run
 returns-in_err-run g c =
-    let stage : Stage = record { serial = c.self.inside.serial; stock = length c.self.inside.stock.items; entry = c.self.inside.entry } in
-    let final : Stage = record { serial = c.self.inside.serial; stock = length c.self.inside.stock.items; entry = Some c.run.new.self } in
+    let stage : Stage = record { size = c.self.inside.size; has_begun = c.self.inside.has_begun; is_closed = c.self.inside.is_closed; serial = c.self.inside.serial; stock = length c.self.inside.stock.items; entry = c.self.inside.entry } in
+    let final : Stage = record stage { entry = Some c.run.new.self } in
     let P : Stage → Type 0 = λ s. Answers false (λ refusals. run_entry s s.entry refusals) (g.W.Write.contents c.args.writer.now) (g.W.Write.contents c.run.new.writer) final in
     let failed = err_from_is_err_and c.from_residual.result c.from_residual.ensures.1 in
-    rw failed.1 (subst P c.self.view_is (run-fault stage final c.in-Some.entry c.run.new.self _ _ c.in-Some.is c.in_err-run.ensures))
+    rw failed.1 (subst P c.self.view_is (run-fault stage final c.in-Some.entry c.run.new.self _ _ c.in-Some.is c.in_err-run.ensures.turns))
 
 pub returns : goal.returns
 returns g c =
-    let stage : Stage = record { serial = c.self.inside.serial; stock = length c.self.inside.stock.items; entry = c.self.inside.entry } in
-    let final : Stage = record { serial = c.match-self.self-inside.serial; stock = length c.match-self.self-inside.stock.items; entry = c.match-self.self-inside.entry } in
+    let stage : Stage = record { size = c.self.inside.size; has_begun = c.self.inside.has_begun; is_closed = c.self.inside.is_closed; serial = c.self.inside.serial; stock = length c.self.inside.stock.items; entry = c.self.inside.entry } in
+    let final : Stage = c.match-self.self in
     let P : Stage → Type 0 = λ s. Answers (is_ok c.say.result) (λ refusals. run_entry s s.entry refusals) (g.W.Write.contents c.args.writer.now) (g.W.Write.contents c.say.new.writer) final in
     subst P c.self.view_is (elim c.match-self.branch [
       | in-Some+in_ok-run w ↦
-        let said = rw w.writer-is at c.say.ensures in
-        rw w.self-inside-is (run-done stage w.in-Some.entry w.run.new.self _ _ _ _ w.in-Some.is w.in_ok-run.ensures said)
+          let said = rw w.writer-is at c.say.ensures in
+          rw w.self-is (run-done stage w.in-Some.entry w.run.new.self _ _ _ _ w.in-Some.is w.in_ok-run.ensures.turns said)
       | in_default w ↦
-        let said = rw w.writer-is at c.say.ensures in
-        rw w.self-inside-is (run-nobody stage _ _ _ (none-unless _ w.in_default.not-Some) said)
+          let said = rw w.writer-is at c.say.ensures in
+          rw w.self-is (run-nobody stage _ _ _ (none-unless _ w.in_default.not-Some) said)
     ])
