@@ -23,6 +23,8 @@ mod numbers;
 mod outputs;
 mod scripts;
 mod sessions;
+#[cfg(test)]
+mod tests;
 
 /// How many subscribers a script may use.
 const STOCK: usize = 1024;
