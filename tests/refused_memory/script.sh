@@ -4,8 +4,8 @@
 #
 # - Status 0, and the whole output is one of these outputs, each made from runs with ample memory:
 #   - the output of the script;
-#   - that of the script without one of its commands `cap`, `sub`, `offer` or `submit`, with the line `refused 5 memory` where
-#     that command's answer would stand: a refused command changes nothing;
+#   - that of the script with `request - 1`, of a name that nobody has, in the place of one of its commands `sub`, `offer` or
+#     `submit`, and with the line `refused 5 memory` as its answer: a refused command changes nothing;
 #   - that of the script up to some line that a subscriber NAME is told in a `run`, then `NAME memory`, then the answers of
 #     the rest as to a subscription that has ended: NAME is told nothing more, `offer` and `submit` answer 0.
 # - Status 1, with the line `lines_demo: memory` on standard error, and what was written is a front of the script's output.
@@ -41,12 +41,13 @@ make_outputs() {
         size=$(wc -c <"$work/before")
         command=$(sed -n "${k}p" "$1")
         case $command in
-        cap* | sub* | offer* | submit*)
-            sed "${k}d" "$1" >"$work/without"
+        sub* | offer* | submit*)
+            # another refused command in its place
+            sed "${k}s/.*/request - 1/" "$1" >"$work/without"
             {
                 cat "$work/before"
                 echo 'refused 5 memory'
-                play "$work/without" | tail -c "+$((size + 1))"
+                play "$work/without" | tail -c "+$((size + 1))" | sed 1d
             } >"$work/may/line $k, $command"
             ;;
         run)
@@ -133,7 +134,7 @@ each() {
         n=$((n + 1))
     done
     [ "$n" -le "$MOST" ] || fault 'still met'
-    # Each command that takes memory was refused it. A second `sub` is refused before it asks for any, and `cap` takes none.
+    # Each command that takes memory was refused it. A second `sub` is refused before it asks for any.
     ls "$work/may" | grep -E ', (sub a|offer|submit)' >"$work/wanted"
     while IFS= read -r kind; do
         grep -qxF "$kind" "$work/met" || fault "never met: $kind"
@@ -141,7 +142,7 @@ each() {
     grep -q callback "$work/met" || fault 'no callback was refused'
     grep -qx stopped "$work/met" || fault 'no run was stopped'
     echo "$script: $((n - 1)) requests, each refused in turn: $(grep -cx stopped "$work/met") stopped the script," \
-        "$(grep -c ', callback' "$work/met") a callback, $(grep -cE ', (cap|sub|offer|submit)' "$work/met") a command," \
+        "$(grep -c ', callback' "$work/met") a callback, $(grep -cE ', (sub|offer|submit)' "$work/met") a command," \
         "$(grep -cx nothing "$work/met") nothing"
 }
 
