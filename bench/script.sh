@@ -1,0 +1,80 @@
+#!/bin/sh
+# Measures how long the native program takes to play scripts of 1, 4 and 16 MiB, made of offers, requests and runs, and
+# how much memory it has at its peak, both for each byte of the script, and prints each as a ratio to the script of 1 MiB.
+# It sets no bounds. The subscriber keeps all that it is told, so memory grows with the script.
+# It needs the program, which `rt run` and `rt ci` leave in crates/lines_demo/out, and GNU time or Python 3.
+# Usage: bench/script.sh [RUNS]; each figure is the median of RUNS runs (5).
+set -eu
+cd "$(dirname "$0")/.."
+program=${PROGRAM:-crates/lines_demo/out/lines_demo}
+runs=${1:-5}
+work=$(mktemp -d)
+trap 'rm -rf "$work"' EXIT
+
+# make MIB: a script of at most so many bytes. 64 texts of 24 bytes are offered, requested and told, again and again.
+make() {
+    awk -v most="$(($1 * 1048576))" 'BEGIN {
+        line = "sub a 0\nrun\n"
+        printf "%s", line
+        size = length(line)
+        for (block = 0; ; block++) {
+            text = ""
+            for (i = 0; i < 64; i++) text = text sprintf("offer line %08d of %06d x\n", block, i)
+            text = text "request a 64\nrun\n"
+            size += length(text)
+            if (size > most) exit
+            printf "%s", text
+        }
+    }'
+}
+
+# peak FILE: the KiB at the peak of one run.
+if [ -x /usr/bin/time ] && /usr/bin/time -f %M true >/dev/null 2>&1; then
+    peak() {
+        /usr/bin/time -o "$work/time" -f %M "$program" script <"$1" >"$work/out"
+        cat "$work/time"
+    }
+else
+    peak() {
+        python3 - "$program" "$1" "$work/out" <<'PROGRAM'
+import resource, subprocess, sys
+with open(sys.argv[2], "rb") as script, open(sys.argv[3], "wb") as out:
+    subprocess.run([sys.argv[1], "script"], stdin=script, stdout=out, check=True)
+print(resource.getrusage(resource.RUSAGE_CHILDREN).ru_maxrss)
+PROGRAM
+    }
+fi
+
+# spent FILE: the nanoseconds of one run, that of starting the program among them.
+spent() {
+    start=$(date +%s%N)
+    "$program" script <"$1" >"$work/out"
+    echo $(($(date +%s%N) - start))
+}
+
+# median WHAT FILE: the run in the middle.
+median() {
+    run=0
+    while [ "$run" -lt "$runs" ]; do
+        "$1" "$2"
+        run=$((run + 1))
+    done | sort -n | sed -n "$(((runs + 1) / 2))p"
+}
+
+printf 'MiB    bytes seconds ns_per_byte ratio peak_KiB peak_bytes_per_byte ratio\n'
+first=
+for size in 1 4 16; do
+    make "$size" >"$work/script"
+    bytes=$(wc -c <"$work/script")
+    time=$(median spent "$work/script")
+    memory=$(median peak "$work/script")
+    first=${first:-"$bytes $time $memory"}
+    echo "$first $bytes $time $memory" | awk -v size="$size" '{
+        base_time = $2 / $1
+        base_memory = $3 * 1024 / $1
+        time = $5 / $4
+        memory = $6 * 1024 / $4
+        printf "%3d %8d %7.3f %11.1f %5.2f %8d %19.2f %5.2f\n",
+            size, $4, $5 / 1e9, time, time / base_time, $6, memory, memory / base_memory
+    }'
+done

@@ -1,0 +1,177 @@
+#!/bin/sh
+# Plays scripts on the native program, and compares whole outputs and the status.
+# It needs the program, which `rt run` and `rt ci` leave in crates/lines_demo/out.
+set -eu
+cd "$(dirname "$0")/../.."
+program=${PROGRAM:-crates/lines_demo/out/lines_demo}
+work=$(mktemp -d)
+trap 'rm -rf "$work"' EXIT
+failures=0
+
+# fault WHAT
+fault() {
+    echo "$row: $1"
+    failures=$((failures + 1))
+}
+
+# same FILE FILE WHAT
+same() {
+    cmp "$1" "$2" >"$work/cmp" 2>&1 || fault "$3: $(cat "$work/cmp")"
+}
+
+# row NAME: plays $work/in. It must write $work/want, nothing on standard error, and end with status 0.
+row() {
+    row=$1
+    status=0
+    "$program" script <"$work/in" >"$work/out" 2>"$work/err" || status=$?
+    [ "$status" -eq 0 ] || fault "status $status"
+    same "$work/want" "$work/out" 'standard output'
+    [ ! -s "$work/err" ] || fault "standard error: $(cat "$work/err")"
+}
+
+# ended NAME STATUS LINE: a run that has ended with $status was to end so, with this line alone on standard error.
+ended() {
+    row=$1
+    [ "$status" -eq "$2" ] || fault "status $status"
+    printf '%s\n' "$3" >"$work/want"
+    same "$work/want" "$work/err" 'standard error'
+}
+
+# bytes COUNT BYTE: this byte so often.
+bytes() {
+    head -c "$1" /dev/zero | tr '\0' "$2"
+}
+
+# The scripts that stand beside their outputs, and the example.
+for script in tests/scripts/*.script; do
+    cp "$script" "$work/in"
+    cp "${script%.script}.expected" "$work/want"
+    row "$script"
+done
+cp examples/first.script "$work/in"
+cp examples/first.expected "$work/want"
+row 'the example'
+
+# Nothing at all.
+: >"$work/in"
+: >"$work/want"
+row 'an empty script'
+
+# A line may have 4,200 bytes, its line feed and the carriage return before it not counted.
+{
+    bytes 4200 x && printf '\n'
+    bytes 4200 x && printf '\r\n'
+    bytes 4201 x && printf '\n'
+    bytes 4200 x && printf '\r\r\n'
+    bytes 4201 x
+} >"$work/in"
+printf 'refused 12 command\nrefused 12 command\nrefused 6 line\nrefused 6 line\nrefused 6 line\n' >"$work/want"
+row 'lines of 4,200 and 4,201 bytes'
+
+# A text may have 4,096 bytes.
+{
+    printf 'sub a 9\n'
+    printf 'offer ' && bytes 4096 x && printf '\n'
+    printf 'offer ' && bytes 4097 x && printf '\n'
+    printf 'offer ' && bytes 4194 x && printf '\n'
+    printf 'offer ' && bytes 4195 x && printf '\n'
+    printf 'run\n'
+} >"$work/in"
+{
+    printf 'sub a\noffer 1\nrefused 6 line\nrefused 6 line\nrefused 6 line\na subscribed\na next '
+    bytes 4096 x && printf '\nidle\n'
+} >"$work/want"
+row 'texts of 4,096 and 4,097 bytes'
+
+# A script may have 16 MiB; one byte more is a fault of reading, and then nothing is played.
+bytes 16777216 '\n' >"$work/in"
+: >"$work/want"
+row '16 MiB of line feeds'
+{
+    printf 'run\n'
+    bytes 16777213 '\n'
+} >"$work/in"
+status=0
+"$program" script <"$work/in" >"$work/out" 2>"$work/err" || status=$?
+ended 'one byte more' 1 'lines_demo: read fault'
+[ ! -s "$work/out" ] || fault 'something was written'
+
+# Each byte may stand in a text. A line feed ends the line, and a carriage return at its end is dropped.
+printf 'sub a 300\nrun\n' >"$work/in"
+printf 'sub a\na subscribed\nidle\n' >"$work/want"
+byte=0
+while [ "$byte" -le 255 ]; do
+    octal=$(printf '%03o' "$byte")
+    case $byte in
+    10)
+        printf 'offer \\%s\nrun\n' "$octal"
+        printf 'refused 12 command\nidle\n' >>"$work/want"
+        ;;
+    13)
+        printf 'offer \\%s\nrun\n' "$octal"
+        printf 'refused 12 command\nidle\n' >>"$work/want"
+        ;;
+    *)
+        printf 'offer \\%s\nrun\n' "$octal"
+        printf "offer 1\na next \\$octal\nidle\n" >>"$work/want"
+        ;;
+    esac
+    byte=$((byte + 1))
+done >"$work/format"
+# shellcheck disable=SC2059
+printf "$(cat "$work/format")\n" >>"$work/in"
+row 'each byte as a text'
+printf 'sub a 9\noffer x\ry\noffer \rz\nrun\n' >"$work/in"
+printf 'sub a\noffer 1\noffer 2\na subscribed\na next x\ry\na next \rz\nidle\n' >"$work/want"
+row 'a carriage return in a text'
+
+# One carriage return before the line feed is dropped, and no other.
+printf 'sub a 9\r\noffer x\r\noffer y\r\r\nrun\r\n\r\n' >"$work/in"
+printf 'sub a\noffer 1\noffer 2\na subscribed\na next x\na next y\r\nidle\n' >"$work/want"
+row 'a carriage return before the line feed'
+
+# The last line may lack its line feed, with or without a carriage return.
+printf 'sub a 9\noffer x\nrun' >"$work/in"
+printf 'sub a\noffer 1\na subscribed\na next x\nidle\n' >"$work/want"
+row 'no line feed at the end'
+printf 'sub a 9\noffer x\nrun\r' >"$work/in"
+row 'a carriage return at the end'
+
+# Faults of writing and of reading. An empty output can be written anywhere.
+printf 'run\n' >"$work/in"
+status=0
+"$program" script <"$work/in" >&- 2>"$work/err" || status=$?
+ended 'a closed standard output' 1 'lines_demo: write fault'
+if [ -c /dev/full ]; then
+    status=0
+    "$program" script <"$work/in" >/dev/full 2>"$work/err" || status=$?
+    ended 'a full standard output' 1 'lines_demo: write fault'
+fi
+status=0
+"$program" script </ >"$work/out" 2>"$work/err" || status=$?
+ended 'a folder as standard input' 1 'lines_demo: read fault'
+[ ! -s "$work/out" ] || fault 'something was written'
+
+# line NAME STATUS STREAM WORD..: with these words it ends with this status, writes on this stream alone, and plays nothing.
+line() {
+    row=$1 wanted=$2 stream=$3
+    shift 3
+    status=0
+    "$program" "$@" <"$work/in" >"$work/out" 2>"$work/err" || status=$?
+    [ "$status" -eq "$wanted" ] || fault "status $status"
+    [ -s "$work/$stream" ] || fault 'no word of what is wrong'
+    case $stream in
+    err) [ ! -s "$work/out" ] || fault 'something on standard output' ;;
+    out) [ ! -s "$work/err" ] || fault 'something on standard error' ;;
+    esac
+}
+
+line 'no subcommand' 2 err
+line 'an unknown subcommand' 2 err scripts
+line 'one word too many' 2 err script more
+line 'an unknown option' 2 err script --more
+line '--help' 0 out --help
+line 'script --help' 0 out script --help
+
+[ "$failures" -eq 0 ] || exit 1
+echo 'all rows are as they should be'
