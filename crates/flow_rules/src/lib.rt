@@ -11,6 +11,8 @@ mod puts;
 mod refusals;
 mod signals;
 mod subscribers;
+#[cfg(test)]
+mod tests;
 mod texts;
 
 pub use audits::audit;

@@ -1,4 +1,4 @@
-ghost use Rattle.std.specs.Prelude.{◌≡◌, Some};
+ghost use Rattle.std.specs.Prelude.{◌≡◌, Some, codes};
 ghost use Rattle.std.specs.declared.string.String.{String};
 ghost use Rattle.flow_rules.specs.Refusal.{number_of, word_of, refusal_line};
 
@@ -103,6 +103,8 @@ impl fmt::Display for Refusal {
 impl Error for Refusal {}
 
 impl fmt::Display for NoMemory {
+    ghost output = { λ _. Some (codes "memory") };
+
     fn fmt<W: fmt::Write>(&self, f: &mut fmt::Formatter<W>) -> fmt::Result {
         f.write_str("memory")
     }
