@@ -1,6 +1,9 @@
 pub mod Answering
 pub mod Cutting
 pub mod Digits
+pub mod Greeted
+pub mod Kept
+pub mod Lawful
 pub mod Offering
 pub mod Places
 pub mod Reading

@@ -1,6 +1,7 @@
 pub mod Command
 pub mod Faults
 pub mod Lane
+pub mod Law
 pub mod Lines
 pub mod Number
 pub mod Playing

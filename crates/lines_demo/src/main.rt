@@ -18,6 +18,7 @@ use std::{env, io};
 mod commands;
 mod entries;
 mod faults;
+mod laws;
 mod lines;
 mod numbers;
 mod outputs;

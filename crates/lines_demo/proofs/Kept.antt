@@ -1,0 +1,156 @@
+-- What a script's subscription keeps, and that its calls keep it.
+use Rattle.std.proofs.Common.{◌≡◌, ℕ, ◌+◌, ◌≤◌, Bool, true, false, List, [], ◌∷◌, ◌++◌, length, drop, refl, ap, subst, ◌∙◌, append_assoc, length-append, arith, Some, None}
+use Rattle.std.proofs.Math.Seq.{drop-append_seam}
+use Rattle.flow_rules.specs.declared.demands.TheConstants.{UNBOUNDED}
+use Rattle.flow_rules.specs.declared.texts.Item.{Item}
+use Rattle.flow_rules.specs.declared.signals.Ending.TheVariants.{Normal}
+use Rattle.flow_rules.specs.declared.signals.Fault.TheVariants.{IllegalArgument, IllegalState}
+use Rattle.flow_rules.specs.declared.signals.How.TheVariants.{Cancelled, Errored}
+use Rattle.flow_rules.specs.Signals.{items_of}
+use Rattle.feed_core.specs.declared.causes.Causes.{Causes}
+use Rattle.feed_core.specs.Cause.{stops, end_where, closing_error}
+use Rattle.feed_core.specs.Desk.{accepting, closed_by, lag_of, empty_lane, requested as asking}
+use Rattle.feed_core.specs.Lane.{LaneState}
+use Rattle.feed_core.specs.Sound.{IsSound, HasCause, lost_by}
+
+-- what a subscription of a script keeps
+pub record Kept (lane : LaneState) (capacity : ℕ) (is_woken : Bool) : Type 0 where
+  pub held : List Item
+  pub sound : IsSound lane held capacity true
+  pub bounded : lane.asked ≤ UNBOUNDED
+  pub calm : stops lane.causes ≡ None
+  pub lives : is_woken ≡ true → lane.how ≡ None
+
+-- a lane that has not ended needs no cause
+pub no-cause : (lane : LaneState) → lane.how ≡ None → HasCause lane
+no-cause lane unended = record {
+  completed = λ e. cc;
+  whole = λ e. cc;
+  published = λ code e. cc;
+  argument = λ e. cc;
+  state = λ e. cc;
+  cancelled = λ e. cc;
+  failed = λ code e. cc;
+  refused = λ e. cc;
+}
+
+-- as many items were told as were given
+pub told-given : (lane : LaneState) (held : List Item) (capacity : ℕ) → IsSound lane held capacity true → lane.how ≡ None → lane.given ≡ length (items_of lane.told)
+told-given lane held capacity sound unended =
+    let most : lane.given ≤ length (items_of lane.told) + 0 = subst (λ h. lane.given ≤ length (items_of lane.told) + lost_by h) unended sound.counts.loses in
+    let least = sound.counts.tells in
+    omega arith
+
+-- the held items wait
+pub waiting : (lane : LaneState) (held : List Item) (capacity : ℕ) → IsSound lane held capacity true → lane.how ≡ None → drop lane.given lane.accepted ≡ held
+waiting lane held capacity sound unended =
+    ap (λ k. drop k lane.accepted) (told-given lane held capacity sound unended) ∙ ap (drop (length (items_of lane.told))) sound.holds ∙ drop-append_seam (items_of lane.told) held
+
+-- ---- calls
+
+-- whether a turn is due may change as long as the lane has not ended
+pub kept-woken : (lane : LaneState) (capacity : ℕ) (woken woken' : Bool) → Kept lane capacity woken → (woken' ≡ true → lane.how ≡ None) → Kept lane capacity woken'
+kept-woken lane capacity woken woken' kept lives = record { held = kept.held; sound = kept.sound; bounded = kept.bounded; calm = kept.calm; lives = lives }
+
+-- one more item is accepted
+pub kept-accepting : (lane : LaneState) (capacity : ℕ) (woken : Bool) (item : Item) → Kept lane capacity woken → lane.how ≡ None → (lag_of lane ≡ capacity → ⊥) → Kept (accepting item lane) capacity true
+kept-accepting lane capacity woken item kept unended room = record {
+  held = kept.held ++ item ∷ [];
+  sound = record {
+    holds = ap (λ items. items ++ item ∷ []) kept.sound.holds ∙ append_assoc (items_of lane.told) kept.held (item ∷ []);
+    text = kept.sound.text;
+    counts = (let counts = kept.sound.counts in let grown = length-append lane.accepted (item ∷ []) in
+        let taken = counts.taken in let fits = counts.fits in
+        record { tells = counts.tells; loses = counts.loses; taken = omega (arith, grown); fits = grind (arith, grown); requested = counts.requested });
+    cause = no-cause (accepting item lane) unended;
+    unfailed = kept.sound.unfailed;
+    remembered = kept.sound.remembered;
+    rests = λ e. cc;
+  };
+  bounded = kept.bounded;
+  calm = kept.calm;
+  lives = λ e. unended;
+}
+
+-- more is requested
+pub kept-asking : (lane : LaneState) (capacity : ℕ) (woken woken' : Bool) (n : ℕ) → Kept lane capacity woken → (woken' ≡ true → lane.how ≡ None) → Kept (asking n lane) capacity woken'
+kept-asking lane capacity woken woken' n kept lives = record {
+  held = kept.held;
+  sound = record {
+    holds = kept.sound.holds;
+    text = kept.sound.text;
+    counts = (let counts = kept.sound.counts in let asked = counts.requested in let bounded = kept.bounded in
+        record { tells = counts.tells; loses = counts.loses; taken = counts.taken; fits = counts.fits; requested = omega arith });
+    cause = (let cause = kept.sound.cause in record {
+      completed = cause.completed;
+      whole = cause.whole;
+      published = cause.published;
+      argument = cause.argument;
+      state = cause.state;
+      cancelled = cause.cancelled;
+      failed = cause.failed;
+      refused = cause.refused;
+    });
+    unfailed = kept.sound.unfailed;
+    remembered = kept.sound.remembered;
+    rests = λ e. cc;
+  };
+  bounded = omega arith;
+  calm = kept.calm;
+  lives = lives;
+}
+
+-- nothing ends a closed lane at once
+calm-closed : (causes : Causes) → stops causes ≡ None → stops (record causes { closing = Some Normal }) ≡ None
+calm-closed causes calm = by causes.cancel causes.argument causes.state calm where
+  by : (cancel argument state : Bool) → end_where cancel Cancelled (end_where argument (Errored IllegalArgument) (end_where state (Errored IllegalState) (closing_error causes.closing))) ≡ None
+      → end_where cancel Cancelled (end_where argument (Errored IllegalArgument) (end_where state (Errored IllegalState) None)) ≡ None
+  by true argument state e = e
+  by false true state e = e
+  by false false true e = e
+  by false false false e = refl
+
+-- the lane is closed
+pub kept-closed : (lane : LaneState) (capacity : ℕ) (woken woken' : Bool) → Kept lane capacity woken → lane.causes.closing ≡ None → (woken' ≡ true → lane.how ≡ None) → Kept (closed_by Normal lane) capacity woken'
+kept-closed lane capacity woken woken' kept unclosed lives = record {
+  held = kept.held;
+  sound = record {
+    holds = kept.sound.holds;
+    text = kept.sound.text;
+    counts = (let counts = kept.sound.counts in record { tells = counts.tells; loses = counts.loses; taken = counts.taken; fits = counts.fits; requested = counts.requested });
+    cause = (let cause = kept.sound.cause in record {
+      completed = λ e. refl;
+      whole = cause.whole;
+      published = λ code e. (let never = cause.published code e in cc);
+      argument = cause.argument;
+      state = cause.state;
+      cancelled = cause.cancelled;
+      failed = cause.failed;
+      refused = cause.refused;
+    });
+    unfailed = kept.sound.unfailed;
+    remembered = kept.sound.remembered;
+    rests = λ e. cc;
+  };
+  bounded = kept.bounded;
+  calm = calm-closed lane.causes kept.calm;
+  lives = lives;
+}
+
+-- a new lane
+pub kept-empty : (capacity : ℕ) → Kept empty_lane capacity true
+kept-empty capacity = record {
+  held = [];
+  sound = record {
+    holds = refl;
+    text = refl;
+    counts = record { tells = omega arith; loses = omega arith; taken = omega arith; fits = omega arith; requested = omega arith };
+    cause = no-cause empty_lane refl;
+    unfailed = λ e. refl;
+    remembered = λ e. refl;
+    rests = λ e. cc;
+  };
+  bounded = omega arith;
+  calm = refl;
+  lives = λ e. refl;
+}
