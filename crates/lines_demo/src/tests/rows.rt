@@ -20,6 +20,18 @@ fn items_are_told_below_the_demand(rt: HostRuntime) -> Result<(), Fail> {
 }
 
 #[test]
+fn the_stock_may_be_of_two_kinds(rt: HostRuntime) -> Result<(), Fail> {
+    let alloc = rt.alloc();
+    let mut reader = b"sub a 2\nrun\noffer x\noffer y\noffer z\nrun\nrequest a 1\nrun\n".as_slice();
+    let mut output = Vec::new(alloc);
+    run_script(alloc, &mut reader, &mut output, stock(alloc, Some(9))?)?;
+    let want =
+        b"sub a\na subscribed\nidle\noffer 1\noffer 2\noffer 3\na next x\na next y\nidle\nok\na next z\nidle\n";
+    assert_eq!(&rt; output.as_slice(), want.as_slice());
+    Ok(())
+}
+
+#[test]
 fn an_empty_script_has_no_answer(rt: HostRuntime) -> Result<(), Fail> {
     plays(&rt, rt.alloc(), b"", b"")?;
     plays(&rt, rt.alloc(), b"\n\r\n\n", b"")
