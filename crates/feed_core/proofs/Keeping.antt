@@ -88,7 +88,7 @@ has_cause lane how told accepted long may = record {
 }
 
 -- a lane that has not ended needs no cause
-no_cause : (lane : LaneState) → lane.how ≡ None → HasCause lane
+pub no_cause : (lane : LaneState) → lane.how ≡ None → HasCause lane
 no_cause lane unended = record {
   completed = λ e. cc;
   whole = λ e. cc;
@@ -100,19 +100,20 @@ no_cause lane unended = record {
   refused = λ e. cc;
 }
 
+-- in a lane that has not ended as many items were told as were given
+pub all_counted : {lane : LaneState} {held : List Item} {capacity : ℕ} {running : Bool} → IsSound lane held capacity running → lane.how ≡ None → lane.given ≡ length (items_of lane.told)
+all_counted {lane} sound unended =
+    let most : lane.given ≤ length (items_of lane.told) + 0 = subst (λ h. lane.given ≤ length (items_of lane.told) + lost_by h) unended sound.counts.loses in
+    let least = sound.counts.tells in
+    omega arith
+
+-- and the held items are those that were accepted and not given
+pub waiting_held : {lane : LaneState} {held : List Item} {capacity : ℕ} {running : Bool} → IsSound lane held capacity running → lane.how ≡ None → drop lane.given lane.accepted ≡ held
+waiting_held {lane} {held} sound unended =
+    ap (λ k. drop k lane.accepted) (all_counted sound unended) ∙ ap (drop (length (items_of lane.told))) sound.holds ∙ drop-append_seam (items_of lane.told) held
+
 module _ {told : List Signal} {held : List Item} {given asked capacity : ℕ} {causes : Causes} {how : Option How} {running : Bool}
     (sound : IsSound (lane_of told held given asked causes how) held capacity running) (unended : how ≡ None) where
-  -- as many items were told as were given
-  pub all_counted : given ≡ length (items_of told)
-  all_counted =
-      let most : given ≤ length (items_of told) + 0 = subst (λ h. given ≤ length (items_of told) + lost_by h) unended sound.counts.loses in
-      let least = sound.counts.tells in
-      omega arith
-
-  -- the held items are those that were accepted and not given
-  pub waiting_held : drop given (items_of told ++ held) ≡ held
-  waiting_held = ap (λ k. drop k (items_of told ++ held)) all_counted ∙ drop-append_seam (items_of told) held
-
   module _ (runs : running ≡ true) (begun : is_begun told ≡ true) where
     -- what was told so far
     text_so_far : told ≡ Subscribed ∷ map Next (items_of told)
@@ -133,7 +134,7 @@ module _ {told : List Signal} {held : List Item} {given asked capacity : ℕ} {c
     sound_ended {told'} end may grows =
         let same : items_of told' ≡ items_of told = ended_items told told' end grows in
         let accepted_same : items_of told' ++ held ≡ items_of told ++ held = ap (λ items. items ++ held) same in
-        let as_many = all_counted in
+        let as_many = all_counted sound unended in
         let told_same : length (items_of told') ≡ length (items_of told) = ap length same in
         let long : length (items_of told' ++ held) ≡ length (items_of told ++ held) = ap length accepted_same in
         record {
@@ -159,7 +160,7 @@ module _ {told : List Signal} {held : List Item} {given asked capacity : ℕ} {c
     sound_lost {told'} {held'} same_told same_held waits requested =
         subst (λ text. IsSound (lane_of text held' (given + 1) asked (with_cause_of OutOfMemory causes) (Some OutOfMemory)) held' capacity running) (sym same_told)
         (subst (λ rest. IsSound (lane_of told rest (given + 1) asked (with_cause_of OutOfMemory causes) (Some OutOfMemory)) rest capacity running) (sym same_held)
-        (let as_many = all_counted in
+        (let as_many = all_counted sound unended in
         record {
           holds = refl;
           text = (sound_ended OutOfMemory tt (sym (append-nil told))).text;
@@ -181,7 +182,7 @@ module _ {told : List Signal} {held : List Item} {given asked capacity : ℕ} {c
 
       -- and counted
       pub one_more : length (items_of told') ≡ given + 1
-      one_more = let before = all_counted in omega (arith, ap length items_after, length-append (items_of told) (moves.item ∷ []))
+      one_more = let before = all_counted sound unended in omega (arith, ap length items_after, length-append (items_of told) (moves.item ∷ []))
 
       -- an item that is told keeps what a Desk keeps
       pub sound_given : given < asked → IsSound (lane_of told' held' (given + 1) asked causes how) held' capacity running

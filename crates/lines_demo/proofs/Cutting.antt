@@ -7,11 +7,10 @@ use Rattle.std.specs.Io.KnownBytes.{Appends}
 use Rattle.std.proofs.KnownBytes.{Appends-nil, Appends-trans}
 use Rattle.flow_rules.specs.declared.refusals.Refusal.TheVariants.{LineTooLong, BadCommand}
 use Rattle.lines_demo.specs.declared.commands.Command.{Command}
-use Rattle.lines_demo.specs.declared.commands.Command.TheVariants.{Cap, Sub, Offer, Submit, Request, Close, Run}
 use Rattle.lines_demo.specs.Command.{command_of}
 use Rattle.lines_demo.specs.Lines.{is_line_feed, at_front, lines_of, without_return}
 use Rattle.lines_demo.specs.Report.{refused}
-use Rattle.lines_demo.specs.Script.{Stage, Played, played, begun, begun_played, command_played, output_of, script_output, start, LONGEST_LINE}
+use Rattle.lines_demo.specs.Script.{Stage, Played, played, command_played, output_of, script_output, start, LONGEST_LINE}
 use Rattle.lines_demo.specs.Writing.{Writes}
 use Rattle.lines_demo.specs.Playing.{Answers, AnswersScript}
 use Rattle.lines_demo.proofs.Answering.{said, plays-now}
@@ -102,17 +101,6 @@ pub record Progress (stock : ℕ) (bytes rest : List ℕ) (stage : Stage) (old n
 -- no line was played yet
 pub progress-start : (stock : ℕ) (bytes : List ℕ) (a : Option (List ℕ)) → Progress stock bytes bytes (start stock) a a
 progress-start stock bytes a = record { used = []; written = []; appended = Appends-nil a; so_far = λ more. refl }
-
--- a command other than `cap`
-pub command-begun : (is_done : Bool) (stage later : Stage) (command : Command) (old new : Option (List ℕ)) → ((size : ℕ) → command ≡ Cap size → ⊥)
-    → Answers is_done (λ refusals. begun_played (begun stage) refusals command) old new later → Answers is_done (λ refusals. command_played stage refusals (Some command)) old new later
-command-begun is_done stage later (Cap size) old new other answers = absurd (other size refl)
-command-begun is_done stage later (Sub name number) old new other answers = answers
-command-begun is_done stage later (Offer text) old new other answers = answers
-command-begun is_done stage later (Submit text) old new other answers = answers
-command-begun is_done stage later (Request name number) old new other answers = answers
-command-begun is_done stage later Close old new other answers = answers
-command-begun is_done stage later Run old new other answers = answers
 
 -- memory was refused before the first line: nothing was written
 pub nothing-written : (stock : ℕ) (bytes : List ℕ) (a : Option (List ℕ)) → AnswersScript false stock bytes a a

@@ -1,27 +1,27 @@
 -- What a turn of a script's subscription tells, and that the turn keeps what a subscription keeps.
-use Rattle.std.proofs.Common.{◌≡◌, ◌==◌, ℕ, suc, ◌+◌, ◌-◌, ◌≤◌, Bool, true, false, if◌then◌else◌, List, [], ◌∷◌, ◌++◌, length, map, take, drop, refl, sym, ap, subst, ◌∙◌, append_assoc, length-append, arith, Option, Some, None, inl, inr, ◌⊎◌}
+use Rattle.std.proofs.Common.{◌≡◌, ◌==◌, ℕ, ◌+◌, ◌-◌, ◌≤◌, Bool, true, false, if◌then◌else◌, List, [], ◌∷◌, ◌++◌, length, map, take, drop, refl, sym, ap, subst, ◌∙◌, append_assoc, length-append, arith, Option, Some, None, inl, inr, ◌⊎◌}
 use Rattle.std.proofs.lemmas.List.{append-nil, length-take, take_all, take-append-drop, map-append}
 use Rattle.flow_rules.specs.declared.texts.Item.{Item}
 use Rattle.flow_rules.specs.declared.signals.Ending.{Ending}
 use Rattle.flow_rules.specs.declared.signals.Ending.TheVariants.{Normal, Failed as ClosedWith}
 use Rattle.flow_rules.specs.declared.signals.Signal.{Signal}
-use Rattle.flow_rules.specs.declared.signals.Signal.TheVariants.{Subscribed, Next, Complete, Error}
+use Rattle.flow_rules.specs.declared.signals.Signal.TheVariants.{Subscribed, Next, Complete}
 use Rattle.flow_rules.specs.declared.signals.How.{How}
-use Rattle.flow_rules.specs.declared.signals.How.TheVariants.{Completed, OutOfMemory}
+use Rattle.flow_rules.specs.declared.signals.How.TheVariants.{Completed}
 use Rattle.flow_rules.specs.Signals.{items_of}
 use Rattle.feed_core.specs.declared.causes.Causes.{Causes}
 use Rattle.feed_core.specs.declared.outlooks.Outlook.{Outlook}
 use Rattle.feed_core.specs.declared.outlooks.Outlook.TheVariants.{Again, Resting, Ended}
-use Rattle.feed_core.specs.Cause.{stops, closes, completion, with_cause_of}
+use Rattle.feed_core.specs.Cause.{stops, closes, completion}
 use Rattle.feed_core.specs.Desk.{taken_in}
 use Rattle.feed_core.specs.Lane.{LaneState}
 use Rattle.feed_core.specs.PlainTurn.{Turn, again, greeting, telling, unless_stopped, giving, closing_or_resting, number_to_give, plain_turn_of}
 use Rattle.feed_core.specs.Sound.{IsSound, HasCause, is_begun, ending_of, text_of, lost_by}
 use Rattle.feed_core.proofs.Texts.{items_of-append, items_of-nexts}
-use Rattle.feed_core.proofs.Keeping.{items_of-last}
+use Rattle.feed_core.proofs.Keeping.{all_counted, items_of-last, no_cause, waiting_held}
 use Rattle.feed_core.proofs.Flow.{open_text}
 use Rattle.lines_demo.specs.Lane.{lane_after, is_again}
-use Rattle.lines_demo.proofs.Kept.{Kept, no-cause, told-given, waiting}
+use Rattle.lines_demo.proofs.Kept.{Kept}
 
 -- ---- texts
 
@@ -45,14 +45,14 @@ canonical items how text e =
 abbrev pub IsOpenText : List Signal → Type 0
 IsOpenText told = (told ≡ []) ⊎ (told ≡ Subscribed ∷ map Next (items_of told))
 
-open-text : (lane : LaneState) (held : List Item) (capacity : ℕ) → IsSound lane held capacity true → lane.how ≡ None → IsOpenText lane.told
+pub open-text : (lane : LaneState) (held : List Item) (capacity : ℕ) → IsSound lane held capacity true → lane.how ≡ None → IsOpenText lane.told
 open-text lane held capacity sound unended = by lane.told refl where
   by : (told : List Signal) → lane.told ≡ told → IsOpenText lane.told
   by [] e = inl e
   by (s ∷ told) e = inr (open_text sound unended (ap is_begun e))
 
 -- such a text, a greeting where it has none, more onNexts and an ending
-grown-text : (told : List Signal) (items : List Item) (how : Option How) → IsOpenText told
+pub grown-text : (told : List Signal) (items : List Item) (how : Option How) → IsOpenText told
     → told ++ (greeting told ++ (map Next items ++ ending_of how)) ≡ text_of (is_begun (told ++ (greeting told ++ (map Next items ++ ending_of how)))) (items_of (told ++ (greeting told ++ (map Next items ++ ending_of how)))) how
 grown-text told items how (inl e) =
     canonical items how _ (ap (λ t. t ++ (greeting t ++ (map Next items ++ ending_of how))) e)
@@ -65,13 +65,13 @@ grown-text told items how (inr e) =
     (ap (λ g. told ++ (g ++ (map Next items ++ ending_of how))) greeted ∙ ap (λ t. t ++ (map Next items ++ ending_of how)) e ∙ ap (λ t. Subscribed ∷ t) joined)
 
 -- the items of a greeting, onNexts and an ending
-items_of-greeted : (told : List Signal) (items : List Item) (ending : List Signal) → items_of ending ≡ [] → items_of (greeting told ++ (map Next items ++ ending)) ≡ items
+pub items_of-greeted : (told : List Signal) (items : List Item) (ending : List Signal) → items_of ending ≡ [] → items_of (greeting told ++ (map Next items ++ ending)) ≡ items
 items_of-greeted [] items ending quiet = items_of-text items ending quiet
 items_of-greeted (_ ∷ _) items ending quiet = items_of-text items ending quiet
 
 -- ---- what a lane keeps once some of the held items were told
 
-sound-after : (lane : LaneState) (held told_items left : List Item) (capacity : ℕ) (told : List Signal) (given : ℕ) (causes : Causes) (how : Option How)
+pub sound-after : (lane : LaneState) (held told_items left : List Item) (capacity : ℕ) (told : List Signal) (given : ℕ) (causes : Causes) (how : Option How)
     → IsSound lane held capacity true → lane.how ≡ None → held ≡ told_items ++ left → items_of told ≡ told_items
     → lane.told ++ told ≡ text_of (is_begun (lane.told ++ told)) (items_of (lane.told ++ told)) how
     → lane.given + length told_items ≤ given → given ≤ lane.given + length told_items + lost_by how → given ≤ lane.given + length held → given ≤ lane.asked
@@ -80,7 +80,7 @@ sound-after : (lane : LaneState) (held told_items left : List Item) (capacity : 
     → IsSound (record { accepted = lane.accepted; given = given; asked = lane.asked; causes = causes; how = how; told = lane.told ++ told }) left capacity true
 sound-after lane held told_items left capacity told given causes how sound unended parts is text at_least at_most waited asked cause unfailed remembered =
     let items : items_of (lane.told ++ told) ≡ items_of lane.told ++ told_items = items_of-append lane.told told ∙ ap (λ t. items_of lane.told ++ t) is in
-    let as_many = told-given lane held capacity sound unended in
+    let as_many = all_counted sound unended in
     let long : length (items_of (lane.told ++ told)) ≡ length (items_of lane.told) + length told_items = ap length items ∙ length-append (items_of lane.told) told_items in
     let whole : length lane.accepted ≡ length (items_of lane.told) + length held = ap length sound.holds ∙ length-append (items_of lane.told) held in
     let fits = sound.counts.fits in
@@ -97,7 +97,7 @@ sound-after lane held told_items left capacity told given causes how sound unend
 -- ---- the plain turn of a lane
 
 -- how a turn ends after its items: it says nothing more, or it completes where no item is left
-abbrev EndsSo : Causes → List Item → Turn → Type 0
+abbrev pub EndsSo : Causes → List Item → Turn → Type 0
 EndsSo causes left turn =
     ((turn.told ≡ []) × ((turn.outlook ≡ Again) ⊎ (turn.outlook ≡ Resting)))
     ⊎ ((turn.told ≡ Complete ∷ []) × (turn.outlook ≡ Ended Completed) × (causes.closing ≡ Some Normal) × (left ≡ []))
@@ -112,7 +112,7 @@ ends-so causes left false = by causes.closing refl left where
   by (Some Normal) e (_ ∷ _) = inl (refl, inr refl)
 
 -- a turn of a calm lane: the greeting, items, and how it ends
-record Told (lane : LaneState) (held : List Item) : Type 0 where
+pub record Told (lane : LaneState) (held : List Item) : Type 0 where
   pub items : List Item
   pub left : List Item
   pub end : Turn
@@ -121,9 +121,9 @@ record Told (lane : LaneState) (held : List Item) : Type 0 where
   pub plain : plain_turn_of lane ≡ telling (greeting lane.told) (telling (map Next items) end)
   pub ends : EndsSo lane.causes left end
 
-turn-told : (lane : LaneState) (held : List Item) (capacity : ℕ) → IsSound lane held capacity true → lane.how ≡ None → stops lane.causes ≡ None → Told lane held
+pub turn-told : (lane : LaneState) (held : List Item) (capacity : ℕ) → IsSound lane held capacity true → lane.how ≡ None → stops lane.causes ≡ None → Told lane held
 turn-told lane held capacity sound unended calm =
-    let waits = waiting lane held capacity sound unended in
+    let waits = waiting_held sound unended in
     let most = number_to_give held (lane.asked - lane.given) in
     let requested = sound.counts.requested in
     record {
@@ -159,7 +159,7 @@ kept-going lane capacity woken kept t quiet =
       held = t.left;
       sound = sound-after lane kept.held t.items t.left capacity plain (lane.given + taken_in (plain_turn_of lane) plain) lane.causes None kept.sound unended t.parts items text
           (omega (arith, taken)) (omega (arith, taken)) (omega (arith, taken, long)) (omega (arith, taken))
-          (no-cause _ refl) (λ e. kept.sound.unfailed unended) (λ e. kept.sound.remembered unended);
+          (no_cause _ refl) (λ e. kept.sound.unfailed unended) (λ e. kept.sound.remembered unended);
       bounded = kept.bounded;
       calm = kept.calm;
       lives = λ e. refl;
@@ -177,7 +177,7 @@ kept-completed lane capacity kept t last closing none_left =
     let text = subst (λ p. lane.told ++ p ≡ text_of (is_begun (lane.told ++ p)) (items_of (lane.told ++ p)) (Some Completed)) (sym said) (grown-text lane.told t.items (Some Completed) (open-text lane kept.held capacity kept.sound unended)) in
     let long : length kept.held ≡ length t.items + length t.left = ap length t.parts ∙ length-append t.items t.left in
     let nothing : length t.left ≡ 0 = ap length none_left in
-    let as_many = told-given lane kept.held capacity kept.sound unended in
+    let as_many = all_counted kept.sound unended in
     let whole : length lane.accepted ≡ length (items_of lane.told) + length kept.held = ap length kept.sound.holds ∙ length-append (items_of lane.told) kept.held in
     let requested = t.requested in
     let all : lane.given + taken_in (plain_turn_of lane) plain ≡ length lane.accepted = omega (arith, taken, long, nothing, as_many, whole) in
@@ -205,133 +205,3 @@ kept-whole lane capacity kept =
       ])
       | inr done ↦ subst P (sym (outlook ∙ done.1)) (kept-completed lane capacity kept t done.0 done.2 done.3)
     ]
-
--- ---- a callback was refused memory
-
--- the signal that was not told has an item, or none
-next-few : (next : Signal) → length (items_of (next ∷ [])) ≤ 1
-next-few Subscribed = omega arith
-next-few (Next item) = omega arith
-next-few Complete = omega arith
-next-few (Error fault) = omega arith
-
-next-none : (next : Signal) (rest : List Signal) → items_of (next ∷ rest) ≡ [] → length (items_of (next ∷ [])) ≡ 0
-next-none Subscribed rest quiet = refl
-next-none (Next item) rest quiet = cc
-next-none Complete rest quiet = refl
-next-none (Error fault) rest quiet = refl
-
--- what was told of some onNexts and an ending, before the signal that was not
-record Fronted (items : List Item) (told : List Signal) (next : Signal) : Type 0 where
-  pub told_items : List Item
-  pub left : List Item
-  pub parts : items ≡ told_items ++ left
-  pub is : told ≡ map Next told_items
-  pub fits : length told_items + length (items_of (next ∷ [])) ≤ length items
-
-front-of-nexts : (items : List Item) (last told : List Signal) (next : Signal) (rest : List Signal) → told ++ (next ∷ rest) ≡ map Next items ++ last → length last ≤ 1 → items_of last ≡ [] → Fronted items told next
-front-of-nexts [] last [] next rest e short quiet = record {
-  told_items = [];
-  left = [];
-  parts = refl;
-  is = refl;
-  fits = (let none = next-none next rest (ap items_of e ∙ quiet) in omega (arith, none));
-}
-front-of-nexts (item ∷ items) last [] next rest e short quiet = record {
-  told_items = [];
-  left = item ∷ items;
-  parts = refl;
-  is = refl;
-  fits = (let few = next-few next in omega arith);
-}
-front-of-nexts [] last (signal ∷ told) next rest e short quiet =
-    let long = ap length e in absurd (omega (arith, long, length-append told (next ∷ rest)))
-front-of-nexts (item ∷ items) last (signal ∷ told) next rest e short quiet =
-    let head : signal ≡ Next item = cc in
-    let tail : told ++ (next ∷ rest) ≡ map Next items ++ last = cc in
-    let front = front-of-nexts items last told next rest tail short quiet in
-    record {
-      told_items = item ∷ front.told_items;
-      left = front.left;
-      parts = ap (λ t. item ∷ t) front.parts;
-      is = (λ k. head k ∷ front.is k);
-      fits = (let fits = front.fits in omega arith);
-    }
-
--- the same after a greeting
-record Missed (before : List Signal) (items : List Item) (told : List Signal) (next : Signal) : Type 0 where
-  pub told_items : List Item
-  pub left : List Item
-  pub parts : items ≡ told_items ++ left
-  pub is : (told ≡ greeting before ++ map Next told_items) ⊎ ((before ≡ []) × (told ≡ []) × (told_items ≡ []))
-  pub fits : length told_items + length (items_of (next ∷ [])) ≤ length items
-
-missed-shape : (before : List Signal) (items : List Item) (last told : List Signal) (next : Signal) (rest : List Signal) → told ++ (next ∷ rest) ≡ greeting before ++ (map Next items ++ last) → length last ≤ 1 → items_of last ≡ [] → Missed before items told next
-missed-shape (s ∷ before) items last told next rest e short quiet =
-    let front = front-of-nexts items last told next rest e short quiet in
-    record { told_items = front.told_items; left = front.left; parts = front.parts; is = inl front.is; fits = front.fits }
-missed-shape [] items last [] next rest e short quiet =
-    let first : next ≡ Subscribed = cc in
-    let none : length (items_of (next ∷ [])) ≡ 0 = ap (λ s. length (items_of (s ∷ []))) first in
-    record { told_items = []; left = items; parts = refl; is = inr (refl, refl, refl); fits = omega (arith, none) }
-missed-shape [] items last (signal ∷ told) next rest e short quiet =
-    let head : signal ≡ Subscribed = cc in
-    let tail : told ++ (next ∷ rest) ≡ map Next items ++ last = cc in
-    let front = front-of-nexts items last told next rest tail short quiet in
-    record { told_items = front.told_items; left = front.left; parts = front.parts; is = inl (λ k. head k ∷ front.is k); fits = front.fits }
-
--- one signal more than was told
-take-next : (told : List Signal) (next : Signal) (rest : List Signal) → take (length told + 1) (told ++ (next ∷ rest)) ≡ told ++ (next ∷ [])
-take-next [] next rest = refl
-take-next (signal ∷ told) next rest =
-    let on : suc (length told) + 1 ≡ suc (length told + 1) = omega arith in
-    ap (λ n. take n (signal ∷ (told ++ (next ∷ rest)))) on ∙ ap (λ t. signal ∷ t) (take-next told next rest)
-
--- what was told before the refusal: its items, and that with what was told before it is the text of its own items
-missed-items : (before told : List Signal) (items : List Item) (next : Signal) (m : Missed before items told next) → items_of told ≡ m.told_items
-missed-items before told items next m = elim m.is [
-  | inl e ↦ ap items_of (e ∙ ap (λ t. greeting before ++ t) (sym (append-nil (map Next m.told_items)))) ∙ items_of-greeted before m.told_items [] refl
-  | inr e ↦ ap items_of e.1 ∙ sym e.2
-]
-
-missed-text : (before told : List Signal) (items : List Item) (next : Signal) (m : Missed before items told next) → IsOpenText before → before ++ told ≡ text_of (is_begun (before ++ told)) (items_of (before ++ told)) (Some OutOfMemory)
-missed-text before told items next m begins = elim m.is [
-  | inl e ↦ subst (λ t. before ++ t ≡ text_of (is_begun (before ++ t)) (items_of (before ++ t)) (Some OutOfMemory)) (sym (e ∙ ap (λ t. greeting before ++ t) (sym (append-nil (map Next m.told_items)))))
-      (grown-text before m.told_items (Some OutOfMemory) begins)
-  | inr e ↦ (let none : before ++ told ≡ [] = ap (λ b. b ++ told) e.0 ∙ e.1 in
-      subst (λ t. t ≡ text_of (is_begun t) (items_of t) (Some OutOfMemory)) (sym none) refl)
-]
-
--- an end of a turn has at most one signal, and no item
-ends-short : (causes : Causes) (left : List Item) (turn : Turn) → EndsSo causes left turn → (length turn.told ≤ 1) × (items_of turn.told ≡ [])
-ends-short causes left turn (inl going) = (let none = ap length going.0 in omega (arith, none), ap items_of going.0)
-ends-short causes left turn (inr done) = (let one = ap length done.0 in omega (arith, one), ap items_of done.0)
-
--- a front of a turn was told: the lane has ended for want of memory
-pub kept-part : (lane : LaneState) (capacity : ℕ) (told : List Signal) (next : Signal) (rest : List Signal) → Kept lane capacity true → (plain_turn_of lane).told ≡ told ++ (next ∷ rest)
-    → Kept (lane_after lane told (Ended OutOfMemory)) capacity false
-kept-part lane capacity told next rest kept plain =
-    let unended = kept.lives refl in
-    let t = turn-told lane kept.held capacity kept.sound unended kept.calm in
-    let short = ends-short lane.causes t.left t.end t.ends in
-    let m = missed-shape lane.told t.items t.end.told told next rest (sym plain ∙ ap (λ turn. turn.told) t.plain) short.0 short.1 in
-    let taken : taken_in (plain_turn_of lane) told ≡ length m.told_items + length (items_of (next ∷ [])) =
-    ap (λ p. length (items_of (take (length told + 1) p))) plain ∙ ap (λ p. length (items_of p)) (take-next told next rest)
-    ∙ ap length (items_of-append told (next ∷ [])) ∙ length-append (items_of told) (items_of (next ∷ []))
-    ∙ ap (λ i. length i + length (items_of (next ∷ []))) (missed-items lane.told told t.items next m) in
-    let parts : kept.held ≡ m.told_items ++ (m.left ++ t.left) = t.parts ∙ ap (λ i. i ++ t.left) m.parts ∙ append_assoc m.told_items m.left t.left in
-    let long : length kept.held ≡ length t.items + length t.left = ap length t.parts ∙ length-append t.items t.left in
-    let few = next-few next in
-    let fits = m.fits in
-    let requested = t.requested in
-    record {
-      held = m.left ++ t.left;
-      sound = sound-after lane kept.held m.told_items (m.left ++ t.left) capacity told (lane.given + taken_in (plain_turn_of lane) told) (with_cause_of OutOfMemory lane.causes) (Some OutOfMemory) kept.sound unended parts
-          (missed-items lane.told told t.items next m) (missed-text lane.told told t.items next m (open-text lane kept.held capacity kept.sound unended))
-          (omega (arith, taken)) (omega (arith, taken)) (omega (arith, taken, long)) (omega (arith, taken))
-          (record { completed = λ e. cc; whole = λ e. cc; published = λ code e. cc; argument = λ e. cc; state = λ e. cc; cancelled = λ e. cc; failed = λ code e. cc; refused = λ e. refl })
-          (λ e. cc) (λ e. cc);
-      bounded = kept.bounded;
-      calm = kept.calm;
-      lives = λ e. cc;
-    }

@@ -1,6 +1,5 @@
 -- What a script's subscription keeps, and that its calls keep it.
-use Rattle.std.proofs.Common.{◌≡◌, ℕ, ◌+◌, ◌≤◌, Bool, true, false, List, [], ◌∷◌, ◌++◌, length, drop, refl, ap, subst, ◌∙◌, append_assoc, length-append, arith, Some, None}
-use Rattle.std.proofs.Math.Seq.{drop-append_seam}
+use Rattle.std.proofs.Common.{◌≡◌, ℕ, ◌≤◌, Bool, true, false, List, [], ◌∷◌, ◌++◌, refl, ap, ◌∙◌, append_assoc, length-append, arith, Some, None}
 use Rattle.flow_rules.specs.declared.demands.TheConstants.{UNBOUNDED}
 use Rattle.flow_rules.specs.declared.texts.Item.{Item}
 use Rattle.flow_rules.specs.declared.signals.Ending.TheVariants.{Normal}
@@ -11,7 +10,8 @@ use Rattle.feed_core.specs.declared.causes.Causes.{Causes}
 use Rattle.feed_core.specs.Cause.{stops, end_where, closing_error}
 use Rattle.feed_core.specs.Desk.{accepting, closed_by, lag_of, empty_lane, requested as asking}
 use Rattle.feed_core.specs.Lane.{LaneState}
-use Rattle.feed_core.specs.Sound.{IsSound, HasCause, lost_by}
+use Rattle.feed_core.specs.Sound.{IsSound}
+use Rattle.feed_core.proofs.Keeping.{no_cause}
 
 -- what a subscription of a script keeps
 pub record Kept (lane : LaneState) (capacity : ℕ) (is_woken : Bool) : Type 0 where
@@ -20,31 +20,6 @@ pub record Kept (lane : LaneState) (capacity : ℕ) (is_woken : Bool) : Type 0 w
   pub bounded : lane.asked ≤ UNBOUNDED
   pub calm : stops lane.causes ≡ None
   pub lives : is_woken ≡ true → lane.how ≡ None
-
--- a lane that has not ended needs no cause
-pub no-cause : (lane : LaneState) → lane.how ≡ None → HasCause lane
-no-cause lane unended = record {
-  completed = λ e. cc;
-  whole = λ e. cc;
-  published = λ code e. cc;
-  argument = λ e. cc;
-  state = λ e. cc;
-  cancelled = λ e. cc;
-  failed = λ code e. cc;
-  refused = λ e. cc;
-}
-
--- as many items were told as were given
-pub told-given : (lane : LaneState) (held : List Item) (capacity : ℕ) → IsSound lane held capacity true → lane.how ≡ None → lane.given ≡ length (items_of lane.told)
-told-given lane held capacity sound unended =
-    let most : lane.given ≤ length (items_of lane.told) + 0 = subst (λ h. lane.given ≤ length (items_of lane.told) + lost_by h) unended sound.counts.loses in
-    let least = sound.counts.tells in
-    omega arith
-
--- the held items wait
-pub waiting : (lane : LaneState) (held : List Item) (capacity : ℕ) → IsSound lane held capacity true → lane.how ≡ None → drop lane.given lane.accepted ≡ held
-waiting lane held capacity sound unended =
-    ap (λ k. drop k lane.accepted) (told-given lane held capacity sound unended) ∙ ap (drop (length (items_of lane.told))) sound.holds ∙ drop-append_seam (items_of lane.told) held
 
 -- ---- calls
 
@@ -62,7 +37,7 @@ kept-accepting lane capacity woken item kept unended room = record {
     counts = (let counts = kept.sound.counts in let grown = length-append lane.accepted (item ∷ []) in
         let taken = counts.taken in let fits = counts.fits in
         record { tells = counts.tells; loses = counts.loses; taken = omega (arith, grown); fits = grind (arith, grown); requested = counts.requested });
-    cause = no-cause (accepting item lane) unended;
+    cause = no_cause (accepting item lane) unended;
     unfailed = kept.sound.unfailed;
     remembered = kept.sound.remembered;
     rests = λ e. cc;
@@ -145,7 +120,7 @@ kept-empty capacity = record {
     holds = refl;
     text = refl;
     counts = record { tells = omega arith; loses = omega arith; taken = omega arith; fits = omega arith; requested = omega arith };
-    cause = no-cause empty_lane refl;
+    cause = no_cause empty_lane refl;
     unfailed = λ e. refl;
     remembered = λ e. refl;
     rests = λ e. cc;

@@ -1,5 +1,5 @@
 -- Each command of a script keeps what its subscription keeps.
-use Rattle.std.proofs.Common.{◌≡◌, ◌==◌, ℕ, zero, suc, ◌+◌, Bool, true, false, not, ◌&&◌, ◌||◌, if◌then◌else◌, nat_lt, List, [], ◌∷◌, ◌++◌, length, refl, ap, subst, ◌∙◌, arith, Option, Some, None}
+use Rattle.std.proofs.Common.{◌≡◌, ◌==◌, ℕ, zero, suc, ◌+◌, Bool, true, false, not, ◌&&◌, ◌||◌, if◌then◌else◌, nat_lt, List, [], ◌∷◌, ◌++◌, length, refl, ap, sym, subst, ◌∙◌, arith, Option, Some, None}
 use Rattle.std.specs.Prelude.{is_some, option_map, ⊤}
 use Rattle.std.proofs.lemmas.Bool.Decides.{nat_tests}
 use Rattle.std.proofs.lemmas.List.{append-nil}
@@ -17,9 +17,10 @@ use Rattle.lines_demo.specs.Command.{command_of, is_word}
 use Rattle.lines_demo.specs.Lane.{is_gone}
 use Rattle.lines_demo.specs.Law.{stage_of, script_stage, KeepsFlow}
 use Rattle.lines_demo.specs.Lines.{lines_of, without_return}
-use Rattle.lines_demo.specs.Script.{Stage, EntryState, Played, Heard, Turned, hear, turn, turned, turns, run_entry, new_lane, new_entry, subscribe, entry_offered, next_item, published, publish_unless, publish, unpublished, unsubmitted, entry_closed, close, set_size, request_of, begun, command_played, played, unless_refused, start}
+use Rattle.lines_demo.specs.Script.{Stage, EntryState, Played, Heard, Turned, hear, turn, turned, turns, run_entry, new_lane, new_entry, subscribe, entry_offered, next_item, published, publish_unless, publish, unpublished, unsubmitted, entry_closed, close, set_size, request_of, begun_by, obeyed, command_played, played, unless_refused, start}
 use Rattle.lines_demo.proofs.Kept.{Kept, kept-woken, kept-accepting, kept-asking, kept-closed, kept-empty}
-use Rattle.lines_demo.proofs.Greeted.{kept-whole, kept-part}
+use Rattle.lines_demo.proofs.Greeted.{kept-whole}
+use Rattle.lines_demo.proofs.Missed.{kept-part}
 
 -- the subscription of a stage, if there is one, keeps what it has to
 abbrev pub IsKept : Option EntryState → Type 0
@@ -166,15 +167,28 @@ set_size-kept stage refusals size kept =
 
 -- ---- lines
 
+obeyed-kept : (command : Command) (stage : Stage) (refusals : List Bool) → IsKept stage.entry → IsKept (obeyed command stage refusals).stage.entry
+obeyed-kept (Cap size) stage refusals kept = set_size-kept stage refusals size kept
+obeyed-kept (Sub name number) stage refusals kept = subscribe-kept stage refusals name number kept
+obeyed-kept (Offer text) stage refusals kept = publish-kept unpublished stage refusals text _ kept
+obeyed-kept (Submit text) stage refusals kept = publish-kept unsubmitted stage refusals text _ kept
+obeyed-kept (Request name number) stage refusals kept = request-kept stage stage.entry refusals name number kept kept
+obeyed-kept Close stage refusals kept = close-kept stage refusals kept
+obeyed-kept Run stage refusals kept = run-kept stage stage.entry refusals kept kept
+
+-- the end of the time of `cap` changes no subscription
+begun-same : (command : Command) (stage : Stage) → (begun_by command stage).entry ≡ stage.entry
+begun-same (Cap size) stage = refl
+begun-same (Sub name number) stage = refl
+begun-same (Offer text) stage = refl
+begun-same (Submit text) stage = refl
+begun-same (Request name number) stage = refl
+begun-same Close stage = refl
+begun-same Run stage = refl
+
 command-kept : (stage : Stage) (refusals : List Bool) (command : Option Command) → IsKept stage.entry → IsKept (command_played stage refusals command).stage.entry
 command-kept stage refusals None kept = kept
-command-kept stage refusals (Some (Cap size)) kept = set_size-kept stage refusals size kept
-command-kept stage refusals (Some (Sub name number)) kept = subscribe-kept (begun stage) refusals name number kept
-command-kept stage refusals (Some (Offer text)) kept = publish-kept unpublished (begun stage) refusals text _ kept
-command-kept stage refusals (Some (Submit text)) kept = publish-kept unsubmitted (begun stage) refusals text _ kept
-command-kept stage refusals (Some (Request name number)) kept = request-kept (begun stage) stage.entry refusals name number kept kept
-command-kept stage refusals (Some Close) kept = close-kept (begun stage) refusals kept
-command-kept stage refusals (Some Run) kept = run-kept (begun stage) stage.entry refusals kept kept
+command-kept stage refusals (Some command) kept = obeyed-kept command (begun_by command stage) refusals (subst IsKept (sym (begun-same command stage)) kept)
 
 played-kept : (stage : Stage) (refusals : List Bool) (line : List ℕ) → IsKept stage.entry → IsKept (played stage refusals line).stage.entry
 unfolding played

@@ -4,6 +4,7 @@ pub mod Digits
 pub mod Greeted
 pub mod Kept
 pub mod Lawful
+pub mod Missed
 pub mod Offering
 pub mod Places
 pub mod Reading

@@ -295,26 +295,30 @@ request_of stage (Some entry) refusals name number =
 abbrev pub begun : Stage → Stage
 begun stage = record stage { has_begun = true }
 
--- what a command is answered once a command other than `cap` was read
-abbrev pub begun_played : Stage → List Bool → Command → Played
-begun_played stage refusals (Cap size) = answered stage refusals (refused BadCommand)
-begun_played stage refusals (Sub name number) = subscribe stage refusals name number
-begun_played stage refusals (Offer text) = offer stage refusals text
-begun_played stage refusals (Submit text) = submit stage refusals text
-begun_played stage refusals (Request name number) = request_of stage stage.entry refusals name number
-begun_played stage refusals Close = close stage refusals
-begun_played stage refusals Run = run_entry stage stage.entry refusals
+-- any command but `cap` ends the time of `cap`
+abbrev pub begun_by : Command → Stage → Stage
+begun_by (Cap size) stage = stage
+begun_by (Sub name number) stage = begun stage
+begun_by (Offer text) stage = begun stage
+begun_by (Submit text) stage = begun stage
+begun_by (Request name number) stage = begun stage
+begun_by Close stage = begun stage
+begun_by Run stage = begun stage
 
--- what a command is answered
+-- what each command is answered
+abbrev pub obeyed : Command → Stage → List Bool → Played
+obeyed (Cap size) stage refusals = set_size stage refusals size
+obeyed (Sub name number) stage refusals = subscribe stage refusals name number
+obeyed (Offer text) stage refusals = offer stage refusals text
+obeyed (Submit text) stage refusals = submit stage refusals text
+obeyed (Request name number) stage refusals = request_of stage stage.entry refusals name number
+obeyed Close stage refusals = close stage refusals
+obeyed Run stage refusals = run_entry stage stage.entry refusals
+
+-- what is answered to a command, or to a line that spells none
 abbrev pub command_played : Stage → List Bool → Option Command → Played
 command_played stage refusals None = answered stage refusals (refused BadCommand)
-command_played stage refusals (Some (Cap size)) = set_size stage refusals size
-command_played stage refusals (Some (Sub name number)) = begun_played (begun stage) refusals (Sub name number)
-command_played stage refusals (Some (Offer text)) = begun_played (begun stage) refusals (Offer text)
-command_played stage refusals (Some (Submit text)) = begun_played (begun stage) refusals (Submit text)
-command_played stage refusals (Some (Request name number)) = begun_played (begun stage) refusals (Request name number)
-command_played stage refusals (Some Close) = begun_played (begun stage) refusals Close
-command_played stage refusals (Some Run) = begun_played (begun stage) refusals Run
+command_played stage refusals (Some command) = obeyed command (begun_by command stage) refusals
 
 -- what a line is answered: nothing where it is empty, and a refusal where it is too long
 unfoldable pub played : Stage → List Bool → List ℕ → Played

@@ -4,7 +4,7 @@ ghost use Rattle.lines_demo.specs.Lines.{without_return};
 ghost use Rattle.lines_demo.specs.Playing.{Answers, AnswersScript};
 ghost use Rattle.lines_demo.specs.RunScript.{PlaysScript, StopsReading, LONGEST_SCRIPT};
 ghost use Rattle.lines_demo.specs.Command.{IsInRange};
-ghost use Rattle.lines_demo.specs.Script.{played, command_played, begun_played, output_of};
+ghost use Rattle.lines_demo.specs.Script.{played, command_played, output_of};
 
 use crate::commands::Command;
 use crate::faults::ScriptFault;
@@ -142,32 +142,12 @@ fn play_command<W: Write, B: Subscriber>(
     ensures { Answers (is_ok result) (λ refusals. command_played session.old refusals (Some command.entry))
         (W.contents writer.old) (W.contents writer.new) session.new }
 {
+    session.begin(&command);
     match command {
         Command::Cap(size) => match session.set_size(size as usize) {
             Ok(capacity) => say(writer, buffer, format_args!("cap {capacity}")),
             Err(refusal) => say(writer, buffer, refusal),
         },
-        command => {
-            session.begin();
-            play_begun(session, alloc, writer, buffer, command)
-        }
-    }
-}
-
-/// Does what a command other than `cap` says, and answers it.
-fn play_begun<W: Write, B: Subscriber>(
-    session: &mut Session<B>,
-    alloc: Global,
-    writer: &mut W,
-    buffer: &mut Vec<u8>,
-    command: Command<'_>,
-) -> Result<(), OutputFault>
-    requires { IsInRange command }
-    ensures { Answers (is_ok result) (λ refusals. begun_played session.old refusals command.entry)
-        (W.contents writer.old) (W.contents writer.new) session.new }
-{
-    match command {
-        Command::Cap(_) => say(writer, buffer, Refusal::BadCommand),
         Command::Sub(name, number) => match session.subscribe(alloc, name, number) {
             Ok(()) => say(writer, buffer, format_args!("sub {name}")),
             Err(refusal) => say(writer, buffer, refusal),

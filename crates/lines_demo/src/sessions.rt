@@ -3,8 +3,9 @@ ghost use Rattle.std.specs.Option.{ForSome};
 ghost use Rattle.flow_rules.specs.declared.demands.TheConstants.{UNBOUNDED};
 ghost use Rattle.feed_core.specs.Desk.{IsCapacity, requested as asking};
 ghost use Rattle.lines_demo.specs.Playing.{Plays, Answers, IsItemOf};
-ghost use Rattle.lines_demo.specs.Script.{start, begun, set_size, cap_line, subscribe, sub_line, new_lane, offer, offer_line, submit, submit_line, answer_of, entry_offered, request_of, ok_line, close, run_entry};
+ghost use Rattle.lines_demo.specs.Script.{start, begun_by, set_size, cap_line, subscribe, sub_line, new_lane, offer, offer_line, submit, submit_line, answer_of, entry_offered, request_of, ok_line, close, run_entry};
 
+use crate::commands::Command;
 use crate::entries::Entry;
 use crate::outputs::{OutputFault, say};
 use feed_core::{Desk, Seen};
@@ -72,11 +73,13 @@ impl<B: Subscriber> Session<B> {
         })
     }
 
-    /// A command other than `cap` was read.
-    pub fn begin(&mut self)
-        ensures { self.new ≡ begun self.old }
+    /// This command was read. Any but `cap` ends the time of `cap`.
+    pub fn begin(&mut self, command: &Command<'_>)
+        ensures { self.new ≡ begun_by command.now self.old }
     {
-        self.has_begun = true;
+        if !matches!(command, Command::Cap(_)) {
+            self.has_begun = true;
+        }
     }
 
     /// Asks for a capacity. Refused once another command was read, and where the capacity is 0.
