@@ -12,7 +12,9 @@ use Rattle.flow_rules.specs.Capacity.{capacity_of}
 use Rattle.feed_core.specs.Desk.{accepting, lag_of, requested as asking}
 use Rattle.lines_demo.specs.Lane.{is_gone}
 use Rattle.lines_demo.specs.Report.{line_of}
-use Rattle.lines_demo.specs.Script.{Stage, EntryState, Played, Turned, subscribe, sub_line, new_lane, new_entry, requested, answer_of, answer_line, entry_offered, next_item, publish, published, unpublished, unsubmitted, or_waiting, would_wait, set_size, cap_line, run_entry, LONGEST_TEXT}
+use Rattle.lines_demo.specs.Stage.{Stage, EntryState, Played}
+use Rattle.lines_demo.specs.Turns.{Turned, run_entry}
+use Rattle.lines_demo.specs.Calls.{subscribe, sub_line, new_lane, new_entry, requested, answer_of, answer_line, entry_offered, next_item, publish, published, unpublished, unsubmitted, or_waiting, would_wait, set_size, cap_line, LONGEST_TEXT}
 use Rattle.lines_demo.specs.Writing.{Writes}
 use Rattle.lines_demo.specs.Playing.{Plays, Answers, TurnsOut, IsItemOf}
 

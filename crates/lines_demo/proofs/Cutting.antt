@@ -10,7 +10,8 @@ use Rattle.lines_demo.specs.declared.commands.Command.{Command}
 use Rattle.lines_demo.specs.Command.{command_of}
 use Rattle.lines_demo.specs.Lines.{is_line_feed, at_front, lines_of, without_return}
 use Rattle.lines_demo.specs.Report.{refused}
-use Rattle.lines_demo.specs.Script.{Stage, Played, played, command_played, output_of, script_output, start, LONGEST_LINE}
+use Rattle.lines_demo.specs.Stage.{Stage, Played, start}
+use Rattle.lines_demo.specs.Script.{played, command_played, output_of, script_output, LONGEST_LINE}
 use Rattle.lines_demo.specs.Writing.{Writes}
 use Rattle.lines_demo.specs.Playing.{Answers, AnswersScript}
 use Rattle.lines_demo.proofs.Answering.{said, plays-now}

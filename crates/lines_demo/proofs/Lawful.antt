@@ -17,7 +17,10 @@ use Rattle.lines_demo.specs.Command.{command_of, is_word}
 use Rattle.lines_demo.specs.Lane.{is_gone}
 use Rattle.lines_demo.specs.Law.{stage_of, script_stage, KeepsFlow}
 use Rattle.lines_demo.specs.Lines.{lines_of, without_return}
-use Rattle.lines_demo.specs.Script.{Stage, EntryState, Played, Heard, Turned, hear, turn, turned, turns, run_entry, new_lane, new_entry, subscribe, entry_offered, next_item, published, publish_unless, publish, unpublished, unsubmitted, entry_closed, close, set_size, request_of, begun_by, obeyed, command_played, played, unless_refused, start}
+use Rattle.lines_demo.specs.Stage.{Stage, EntryState, Played, unless_refused, start}
+use Rattle.lines_demo.specs.Turns.{Heard, Turned, hear, turn, turned, turns, run_entry}
+use Rattle.lines_demo.specs.Calls.{new_lane, new_entry, subscribe, entry_offered, next_item, published, publish_unless, publish, unpublished, unsubmitted, entry_closed, close, set_size, request_of}
+use Rattle.lines_demo.specs.Script.{begun_by, obeyed, command_played, played}
 use Rattle.lines_demo.proofs.Kept.{Kept, kept-woken, kept-accepting, kept-asking, kept-closed, kept-empty}
 use Rattle.lines_demo.proofs.Greeted.{kept-whole}
 use Rattle.lines_demo.proofs.Missed.{kept-part}

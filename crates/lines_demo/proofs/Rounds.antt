@@ -18,7 +18,8 @@ use Rattle.feed_core.specs.Lane.{LaneState, IsFrontOf as IsFrontOfItems}
 use Rattle.feed_core.specs.PlainTurn.{Turn, again, plain_turn_of, unless_stopped, closing_or_resting, number_to_give}
 use Rattle.lines_demo.specs.Lane.{TakesTurn, lane_after, is_again, IsOutlookOf}
 use Rattle.lines_demo.specs.Report.{signal_lines}
-use Rattle.lines_demo.specs.Script.{EntryState, Heard, Turned, hear, heard_first, turn, turned, turns, then_turned}
+use Rattle.lines_demo.specs.Stage.{EntryState}
+use Rattle.lines_demo.specs.Turns.{Heard, Turned, hear, heard_first, turn, turned, turns, then_turned}
 use Rattle.lines_demo.specs.Writing.{Writes, IsFrontOf}
 use Rattle.lines_demo.specs.Playing.{TurnsOnce, TurnsOut, turns_due, turn_lines, outlook_lines}
 use Rattle.lines_demo.proofs.Writers.{writes-done}

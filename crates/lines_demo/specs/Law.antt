@@ -3,7 +3,8 @@ use Rattle.std.specs.Prelude.{ℕ, Bool, List, [], ◌∷◌}
 use Rattle.std.specs.Option.{ForSome}
 use Rattle.feed_core.specs.Lane.{IsFlow}
 use Rattle.lines_demo.specs.Lines.{lines_of, without_return}
-use Rattle.lines_demo.specs.Script.{Stage, played, start}
+use Rattle.lines_demo.specs.Stage.{Stage, start}
+use Rattle.lines_demo.specs.Script.{played}
 
 -- where a script stands after these lines
 abbrev pub stage_of : List (List ℕ) → List Bool → Stage → Stage

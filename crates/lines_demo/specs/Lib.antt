@@ -1,3 +1,4 @@
+pub mod Calls
 pub mod Command
 pub mod Faults
 pub mod Lane
@@ -8,4 +9,6 @@ pub mod Playing
 pub mod Report
 pub mod RunScript
 pub mod Script
+pub mod Stage
+pub mod Turns
 pub mod Writing

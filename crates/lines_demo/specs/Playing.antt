@@ -11,7 +11,10 @@ use Rattle.feed_core.specs.declared.outlooks.Outlook.{Outlook}
 use Rattle.feed_core.specs.declared.outlooks.Outlook.TheVariants.{Again, Resting, Ended}
 use Rattle.feed_core.specs.Desk.{lag_of}
 use Rattle.lines_demo.specs.Report.{signal_lines, memory_line}
-use Rattle.lines_demo.specs.Script.{Stage, EntryState, Played, Turned, turn, turns, script_output, unpublished, next_item, LONGEST_TEXT}
+use Rattle.lines_demo.specs.Stage.{Stage, EntryState, Played}
+use Rattle.lines_demo.specs.Turns.{Turned, turn, turns}
+use Rattle.lines_demo.specs.Calls.{unpublished, next_item, LONGEST_TEXT}
+use Rattle.lines_demo.specs.Script.{script_output}
 use Rattle.lines_demo.specs.Writing.{IsFrontOf, Writes}
 
 -- under some refusals this is what is answered, and the script goes on from this stage

@@ -2,7 +2,7 @@ ghost use Rattle.std.specs.Prelude.{◌≡◌, ◌<◌, ◌^◌, ◌<ℤ◌, pos
 ghost use Rattle.feed_core.specs.Desk.{lag_of};
 ghost use Rattle.lines_demo.specs.Lane.{is_again, offer_answer};
 ghost use Rattle.lines_demo.specs.Playing.{TurnsOnce, TurnsOut};
-ghost use Rattle.lines_demo.specs.Script.{entry_offered, entry_closed, requested};
+ghost use Rattle.lines_demo.specs.Calls.{entry_offered, entry_closed, requested};
 
 use crate::outputs::{OutputFault, say_turn};
 use feed_core::{Desk, Outlook, Seen};
@@ -20,7 +20,7 @@ pub struct Entry<B: Subscriber> {
 
 impl<B: Subscriber> Model for Entry<B> {
     ghost use Rattle.std.specs.Prelude.{◌≡◌, ◌&&◌, true, is_none};
-    ghost use Rattle.lines_demo.specs.Script.{EntryState};
+    ghost use Rattle.lines_demo.specs.Stage.{EntryState};
 
     ghost Value = { EntryState };
 

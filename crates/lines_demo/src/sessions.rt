@@ -3,7 +3,10 @@ ghost use Rattle.std.specs.Option.{ForSome};
 ghost use Rattle.flow_rules.specs.declared.demands.TheConstants.{UNBOUNDED};
 ghost use Rattle.feed_core.specs.Desk.{IsCapacity, requested as asking};
 ghost use Rattle.lines_demo.specs.Playing.{Plays, Answers, IsItemOf};
-ghost use Rattle.lines_demo.specs.Script.{start, begun_by, set_size, cap_line, subscribe, sub_line, new_lane, offer, offer_line, submit, submit_line, answer_of, entry_offered, request_of, ok_line, close, run_entry};
+ghost use Rattle.lines_demo.specs.Stage.{start};
+ghost use Rattle.lines_demo.specs.Turns.{run_entry};
+ghost use Rattle.lines_demo.specs.Calls.{set_size, cap_line, subscribe, sub_line, new_lane, offer, offer_line, submit, submit_line, answer_of, entry_offered, request_of, ok_line, close};
+ghost use Rattle.lines_demo.specs.Script.{begun_by};
 
 use crate::commands::Command;
 use crate::entries::Entry;
@@ -36,7 +39,7 @@ pub struct Session<B: Subscriber> {
 impl<B: Subscriber> Model for Session<B> {
     ghost use Rattle.std.specs.Prelude.{◌≡◌, ◌<◌, ◌≤◌, [], true, length, All};
     ghost use Rattle.std.specs.Option.{ForSome};
-    ghost use Rattle.lines_demo.specs.Script.{Stage};
+    ghost use Rattle.lines_demo.specs.Stage.{Stage};
 
     ghost Value = { Stage };
 

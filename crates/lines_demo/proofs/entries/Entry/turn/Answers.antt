@@ -1,5 +1,5 @@
 use Rattle.std.proofs.Common.{sym, ◌∙◌}
-use Rattle.lines_demo.specs.Script.{EntryState}
+use Rattle.lines_demo.specs.Stage.{EntryState}
 use Rattle.lines_demo.proofs.Rounds.{turns-once, takes-turn, fewer-wait}
 use Rattle.lines_demo.proofs.entries.Entry.turn.Goals as goal
 

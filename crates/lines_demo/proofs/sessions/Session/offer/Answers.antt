@@ -3,7 +3,8 @@ use Rattle.std.specs.Prelude.{Option, option_map, codes}
 use Rattle.std.proofs.lemmas.Int.{to_z-of_z}
 use Rattle.std.proofs.lemmas.Result.{err_from_is_err_and}
 use Rattle.flow_rules.specs.declared.texts.Item.{Item}
-use Rattle.lines_demo.specs.Script.{Stage, EntryState, offer, offer_line, entry_offered, unpublished}
+use Rattle.lines_demo.specs.Stage.{Stage, EntryState}
+use Rattle.lines_demo.specs.Calls.{offer, offer_line, entry_offered, unpublished}
 use Rattle.lines_demo.specs.Playing.{Plays, IsItemOf}
 use Rattle.lines_demo.proofs.Answering.{publish-refused, publish-done}
 use Rattle.lines_demo.proofs.sessions.Session.offer.Goals as goal

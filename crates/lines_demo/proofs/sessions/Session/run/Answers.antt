@@ -1,6 +1,7 @@
 use Rattle.std.proofs.Common.{length, is_ok, Some, false, subst}
 use Rattle.std.proofs.lemmas.Result.{err_from_is_err_and}
-use Rattle.lines_demo.specs.Script.{Stage, run_entry}
+use Rattle.lines_demo.specs.Stage.{Stage}
+use Rattle.lines_demo.specs.Turns.{run_entry}
 use Rattle.lines_demo.specs.Playing.{Answers}
 use Rattle.lines_demo.proofs.Answering.{none-unless, run-nobody, run-done, run-fault}
 use Rattle.lines_demo.proofs.sessions.Session.run.Goals as goal

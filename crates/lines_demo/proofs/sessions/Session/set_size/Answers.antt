@@ -1,5 +1,6 @@
 use Rattle.std.proofs.Common.{◌<◌, length, Ok, subst}
-use Rattle.lines_demo.specs.Script.{Stage, set_size, cap_line}
+use Rattle.lines_demo.specs.Stage.{Stage}
+use Rattle.lines_demo.specs.Calls.{set_size, cap_line}
 use Rattle.lines_demo.specs.Playing.{Plays}
 use Rattle.lines_demo.proofs.Answering.{above-0, set_size-done}
 use Rattle.lines_demo.proofs.sessions.Session.set_size.Goals as goal

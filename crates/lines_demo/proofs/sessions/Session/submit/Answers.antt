@@ -4,7 +4,8 @@ use Rattle.std.proofs.lemmas.Int.{to_z-of_z}
 use Rattle.std.proofs.lemmas.Result.{err_from_is_err_and}
 use Rattle.flow_rules.specs.declared.texts.Item.{Item}
 use Rattle.flow_rules.specs.declared.refusals.Refusal.TheVariants.{WouldWait}
-use Rattle.lines_demo.specs.Script.{Stage, EntryState, submit, submit_line, entry_offered, unsubmitted, or_waiting, would_wait}
+use Rattle.lines_demo.specs.Stage.{Stage, EntryState}
+use Rattle.lines_demo.specs.Calls.{submit, submit_line, entry_offered, unsubmitted, or_waiting, would_wait}
 use Rattle.lines_demo.specs.Playing.{Plays, IsItemOf}
 use Rattle.lines_demo.proofs.Answering.{publish-refused, publish-done, publish-against, unsubmitted-too, waits-below-0, waits-unchanged}
 use Rattle.lines_demo.proofs.sessions.Session.submit.Goals as goal

@@ -1,7 +1,8 @@
 use Rattle.std.proofs.Common.{◌≡◌, ◌<◌, ◌≤◌, ◌-◌, ◌∷◌, ◌++◌, [], length, length-append, true, None, ap, sym, ◌∙◌, arith, unsigned_abs, to_z, w64}
 use Rattle.std.proofs.lemmas.List.Elements.{All-rest, All-push, All-head, All-same}
 use Rattle.flow_rules.specs.Capacity.{capacity_of}
-use Rattle.lines_demo.specs.Script.{Stage, EntryState, new_entry, requested}
+use Rattle.lines_demo.specs.Stage.{Stage, EntryState}
+use Rattle.lines_demo.specs.Calls.{new_entry, requested}
 use Rattle.lines_demo.proofs.Offering.{small-signed}
 use Rattle.lines_demo.proofs.Answering.{none-of, some-only, new-requested, new-unrequested, new-empty, subscribe-refused, subscribe-done}
 use Rattle.lines_demo.proofs.sessions.Session.subscribe.Given.{Over}
