@@ -56,13 +56,6 @@ impl<B: Subscriber> Entry<B> {
         &self.name
     }
 
-    /// Whether a turn is due.
-    pub fn is_woken(&self) -> bool
-        ensures { result ≡ self.now.is_woken }
-    {
-        self.is_woken
-    }
-
     /// Adds to the demand, and wakes the subscription unless it has ended.
     pub fn request(&mut self, number: i64)
         requires { pos 0 <ℤ number }
@@ -127,7 +120,7 @@ impl<B: Subscriber> Entry<B> {
         ensures turns { TurnsOut (is_ok result) self.old self.new (W.contents writer.old) (W.contents writer.new) }
         ensures kept { self.new.lane.accepted ≡ self.old.lane.accepted }
     {
-        while self.is_woken() {
+        while self.is_woken {
             self.turn(seen, writer, line)?;
         }
         Ok(())
