@@ -1,5 +1,5 @@
 -- What was read is all that the reader had.
-use Rattle.std.proofs.Common.{◌≡◌, ℕ, ◌<◌, ◌≤◌, List, length, take, refl, sym, ap, ◌∙◌, arith, [], Option, Some, None, Err}
+use Rattle.std.proofs.Common.{◌≡◌, ℕ, ◌<◌, ◌≤◌, List, length, take, refl, sym, ap, ◌∙◌, arith, [], inr, Option, Some, None, Err}
 use Rattle.std.specs.Prelude.{IfSome, option_map}
 use Rattle.std.proofs.lemmas.List.{length-take, take_all}
 use Rattle.std.proofs.KnownBytes.{Appends-nil}
@@ -27,11 +27,11 @@ reading-stopped fault stock known a no_write = record {
   appended = Appends-nil a;
   as_much = nothing fault;
 } where
-  by_fault : (fault : ScriptFault) → (fault ≡ Write → ⊥) → (known : Option (List ℕ)) → IfSome known (λ all. IsScriptOf (Err fault) all [])
+  by_fault : (fault : ScriptFault) → (fault ≡ Write → ⊥) → (known : Option (List ℕ)) → IfSome known (λ all. IsScriptOf (Err fault) all [] [])
   by_fault fault no_write None = tt
-  by_fault Read no_write (Some all) = (all, refl)
+  by_fault Read no_write (Some all) = refl
   by_fault Write no_write (Some all) = absurd (no_write refl)
-  by_fault Memory no_write (Some all) = (all, refl)
+  by_fault Memory no_write (Some all) = inr refl
 
   nothing : (fault : ScriptFault) → IsAsMuch (Err fault) [] (script_output stock [] [])
   nothing Read = refl

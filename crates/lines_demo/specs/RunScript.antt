@@ -1,5 +1,5 @@
 -- What playing a script does to its reader and its writer.
-use Rattle.std.specs.Prelude.{◌≡◌, ℕ, ◌≤◌, Bool, Option, Result, Ok, Err, IfSome, List, [], length, ⊤}
+use Rattle.std.specs.Prelude.{◌≡◌, ◌⊎◌, ℕ, ◌≤◌, Bool, Option, Result, Ok, Err, IfSome, List, [], length, ⊤}
 use Rattle.std.specs.Io.KnownBytes.{Appends}
 use Rattle.lines_demo.specs.declared.faults.ScriptFault.{ScriptFault}
 use Rattle.lines_demo.specs.declared.faults.ScriptFault.TheVariants.{Read, Write, Memory}
@@ -10,12 +10,12 @@ use Rattle.lines_demo.specs.Writing.{IsFrontOf}
 abbrev pub LONGEST_SCRIPT : ℕ
 LONGEST_SCRIPT = 16777216
 
--- the bytes that the script was played on: all that the reader had, or a front of it where the reading stopped
-abbrev pub IsScriptOf : Result (Unit {0}) ScriptFault → List ℕ → List ℕ → Type 0
-IsScriptOf (Ok _) known bytes = known ≡ bytes
-IsScriptOf (Err Read) known bytes = IsFrontOf bytes known
-IsScriptOf (Err Write) known bytes = known ≡ bytes
-IsScriptOf (Err Memory) known bytes = IsFrontOf bytes known
+-- the bytes that the script was played on: all that the reader had, unless the reading stopped, and then nothing was written
+abbrev pub IsScriptOf : Result (Unit {0}) ScriptFault → List ℕ → List ℕ → List ℕ → Type 0
+IsScriptOf (Ok _) known bytes written = known ≡ bytes
+IsScriptOf (Err Read) known bytes written = written ≡ []
+IsScriptOf (Err Write) known bytes written = known ≡ bytes
+IsScriptOf (Err Memory) known bytes written = (known ≡ bytes) ⊎ (written ≡ [])
 
 -- the reading stopped
 abbrev pub StopsReading : Result (Unit {0}) ScriptFault → Type 0
@@ -36,7 +36,7 @@ pub record PlaysScript (result : Result (Unit {0}) ScriptFault) (stock : ℕ) (k
   pub bytes : List ℕ
   pub refusals : List Bool
   pub written : List ℕ
-  pub given : IfSome known (λ all. IsScriptOf result all bytes)
+  pub given : IfSome known (λ all. IsScriptOf result all bytes written)
   pub bounded : length bytes ≤ LONGEST_SCRIPT
   pub appended : Appends old new written
   pub as_much : IsAsMuch result written (script_output stock refusals bytes)
