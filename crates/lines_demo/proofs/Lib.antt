@@ -2,6 +2,7 @@ pub mod Answering
 pub mod Cutting
 pub mod Digits
 pub mod Greeted
+pub mod Inside
 pub mod Kept
 pub mod Lawful
 pub mod Missed

@@ -1,4 +1,4 @@
-use Rattle.std.proofs.Common.{◌≡◌, ◌+◌, length, Ok, ℤ, w64, subst, ap, sym, ◌∙◌, rules}
+use Rattle.std.proofs.Common.{◌≡◌, ◌+◌, Ok, ℤ, w64, subst, ap, sym, ◌∙◌, rules}
 use Rattle.std.specs.Prelude.{Option, option_map, codes}
 use Rattle.std.proofs.lemmas.Int.{to_z-of_z}
 use Rattle.std.proofs.lemmas.Result.{err_from_is_err_and}
@@ -7,6 +7,7 @@ use Rattle.lines_demo.specs.Stage.{Stage, EntryState}
 use Rattle.lines_demo.specs.Calls.{offer, offer_line, entry_offered, unpublished}
 use Rattle.lines_demo.specs.Playing.{Plays, IsItemOf}
 use Rattle.lines_demo.proofs.Answering.{publish-refused, publish-done}
+use Rattle.lines_demo.proofs.Inside.{stage_inside}
 use Rattle.lines_demo.proofs.sessions.Session.offer.Goals as goal
 
 pub returns-in_err-item : goal.returns-in_err-item
@@ -16,7 +17,7 @@ returns-in_err-item g c =
 
 pub returns : goal.returns
 returns g c =
-    let stage : Stage = record { size = c.self.inside.size; has_begun = c.self.inside.has_begun; is_closed = c.self.inside.is_closed; serial = c.self.inside.serial; stock = length c.self.inside.stock.items; entry = c.self.inside.entry } in
+    let stage : Stage = stage_inside c.self.inside in
     let made : IsItemOf stage c.args.text.now (Ok c.in_ok-item.item) = subst (λ s. IsItemOf s c.args.text.now (Ok c.in_ok-item.item)) (sym c.self.view_is) c.in_ok-item.ensures.made in
     let offered : Item → Option EntryState = λ item. option_map (λ entry. entry_offered entry item) stage.entry in
     let after : c.offer_to-answer.new.entry ≡ offered _ = c.offer_to-answer.ensures.offered ∙ ap offered made.2 in

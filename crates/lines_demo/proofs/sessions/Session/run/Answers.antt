@@ -1,15 +1,16 @@
-use Rattle.std.proofs.Common.{length, is_ok, Some, false, subst}
+use Rattle.std.proofs.Common.{is_ok, Some, false, subst}
 use Rattle.std.proofs.lemmas.Result.{err_from_is_err_and}
 use Rattle.lines_demo.specs.Stage.{Stage}
 use Rattle.lines_demo.specs.Turns.{run_entry}
 use Rattle.lines_demo.specs.Playing.{Answers}
 use Rattle.lines_demo.proofs.Answering.{none-unless, run-nobody, run-done, run-fault}
+use Rattle.lines_demo.proofs.Inside.{stage_inside}
 use Rattle.lines_demo.proofs.sessions.Session.run.Goals as goal
 use Rattle.lines_demo.proofs.sessions.Session.run.Goals.{in-Some+in_ok-run, in_default}
 
 pub returns-in_err-run : goal.returns-in_err-run
 returns-in_err-run g c =
-    let stage : Stage = record { size = c.self.inside.size; has_begun = c.self.inside.has_begun; is_closed = c.self.inside.is_closed; serial = c.self.inside.serial; stock = length c.self.inside.stock.items; entry = c.self.inside.entry } in
+    let stage : Stage = stage_inside c.self.inside in
     let final : Stage = record stage { entry = Some c.run.new.self } in
     let P : Stage → Type 0 = λ s. Answers false (λ refusals. run_entry s s.entry refusals) (g.W.Write.contents c.args.writer.now) (g.W.Write.contents c.run.new.writer) final in
     let failed = err_from_is_err_and c.from_residual.result c.from_residual.ensures.1 in
@@ -17,7 +18,7 @@ returns-in_err-run g c =
 
 pub returns : goal.returns
 returns g c =
-    let stage : Stage = record { size = c.self.inside.size; has_begun = c.self.inside.has_begun; is_closed = c.self.inside.is_closed; serial = c.self.inside.serial; stock = length c.self.inside.stock.items; entry = c.self.inside.entry } in
+    let stage : Stage = stage_inside c.self.inside in
     let final : Stage = c.match-self.self in
     let P : Stage → Type 0 = λ s. Answers (is_ok c.say.result) (λ refusals. run_entry s s.entry refusals) (g.W.Write.contents c.args.writer.now) (g.W.Write.contents c.say.new.writer) final in
     subst P c.self.view_is (elim c.match-self.branch [

@@ -1,4 +1,4 @@
-use Rattle.std.proofs.Common.{◌≡◌, ◌+◌, length, Ok, Some, None, true, false, ℤ, pos, int_lt, w64, subst, ap, sym, ◌∙◌, rules}
+use Rattle.std.proofs.Common.{◌≡◌, ◌+◌, Ok, Some, None, true, false, ℤ, pos, int_lt, w64, subst, ap, sym, ◌∙◌, rules}
 use Rattle.std.specs.Prelude.{Option, option_map, codes}
 use Rattle.std.proofs.lemmas.Int.{to_z-of_z}
 use Rattle.std.proofs.lemmas.Result.{err_from_is_err_and}
@@ -8,6 +8,7 @@ use Rattle.lines_demo.specs.Stage.{Stage, EntryState}
 use Rattle.lines_demo.specs.Calls.{submit, submit_line, entry_offered, unsubmitted, or_waiting, would_wait}
 use Rattle.lines_demo.specs.Playing.{Plays, IsItemOf}
 use Rattle.lines_demo.proofs.Answering.{publish-refused, publish-done, publish-against, unsubmitted-too, waits-below-0, waits-unchanged}
+use Rattle.lines_demo.proofs.Inside.{stage_inside}
 use Rattle.lines_demo.proofs.sessions.Session.submit.Goals as goal
 
 pub returns-in_err-item : goal.returns-in_err-item
@@ -17,7 +18,7 @@ returns-in_err-item g c =
 
 pub returns-then-answer-lt0 : goal.returns-then-answer-lt0
 returns-then-answer-lt0 g c =
-    let stage : Stage = record { size = c.self.inside.size; has_begun = c.self.inside.has_begun; is_closed = c.self.inside.is_closed; serial = c.self.inside.serial; stock = length c.self.inside.stock.items; entry = c.self.inside.entry } in
+    let stage : Stage = stage_inside c.self.inside in
     let made : IsItemOf stage c.args.text.now (Ok c.in_ok-item.item) = subst (λ s. IsItemOf s c.args.text.now (Ok c.in_ok-item.item)) (sym c.self.view_is) c.in_ok-item.ensures.made in
     let answer = sym c.offer_to-answer.ensures.answer ∙ sym (to_z-of_z w64 c.offer_to-answer.result (search rules)) in
     let waits : would_wait stage.entry ≡ true = sym (waits-below-0 stage.entry c.in_ok-item.item) ∙ ap (λ z. int_lt z (pos 0)) answer ∙ c.if-answer-lt0.true in
@@ -27,7 +28,7 @@ returns-then-answer-lt0 g c =
 
 pub returns : goal.returns
 returns g c =
-    let stage : Stage = record { size = c.self.inside.size; has_begun = c.self.inside.has_begun; is_closed = c.self.inside.is_closed; serial = c.self.inside.serial; stock = length c.self.inside.stock.items; entry = c.self.inside.entry } in
+    let stage : Stage = stage_inside c.self.inside in
     let made : IsItemOf stage c.args.text.now (Ok c.in_ok-item.item) = subst (λ s. IsItemOf s c.args.text.now (Ok c.in_ok-item.item)) (sym c.self.view_is) c.in_ok-item.ensures.made in
     let answer = sym c.offer_to-answer.ensures.answer ∙ sym (to_z-of_z w64 c.offer_to-answer.result (search rules)) in
     let goes : would_wait stage.entry ≡ false = sym (waits-below-0 stage.entry c.in_ok-item.item) ∙ ap (λ z. int_lt z (pos 0)) answer ∙ c.if-answer-lt0.false in

@@ -5,14 +5,15 @@ use Rattle.lines_demo.specs.Stage.{Stage, EntryState}
 use Rattle.lines_demo.specs.Calls.{new_entry, requested}
 use Rattle.lines_demo.proofs.Offering.{small-signed}
 use Rattle.lines_demo.proofs.Answering.{none-of, some-only, new-requested, new-unrequested, new-empty, subscribe-refused, subscribe-done}
+use Rattle.lines_demo.proofs.Inside.{stage_inside}
 use Rattle.lines_demo.proofs.sessions.Session.subscribe.Given.{Over}
 use Rattle.lines_demo.proofs.sessions.Session.subscribe.Goals as goal
 use Rattle.lines_demo.proofs.sessions.Session.subscribe.Goals.{then-number-gt0, else-number-gt0}
 
 -- the entry that the session keeps
-entry-made : (g : Over) (c : goal.Joined-self g) → c.if-number-gt0.entry ≡ new_entry (record { size = c.self.inside.size; has_begun = c.self.inside.has_begun; is_closed = c.self.inside.is_closed; serial = c.self.inside.serial; stock = length c.self.inside.stock.items; entry = c.self.inside.entry }) c.args.name c.args.number
+entry-made : (g : Over) (c : goal.Joined-self g) → c.if-number-gt0.entry ≡ new_entry (stage_inside c.self.inside) c.args.name c.args.number
 entry-made g c =
-    let stage : Stage = record { size = c.self.inside.size; has_begun = c.self.inside.has_begun; is_closed = c.self.inside.is_closed; serial = c.self.inside.serial; stock = length c.self.inside.stock.items; entry = c.self.inside.entry } in
+    let stage : Stage = stage_inside c.self.inside in
     let size : c.in_ok-capacity.capacity ≡ capacity_of stage.size = c.in_ok-capacity.ensures.value in
     elim c.if-number-gt0.branch [
       | then-number-gt0 w ↦
@@ -26,7 +27,7 @@ entry-made g c =
 
 pub invariant_of-self-in-Ok : goal.invariant_of-self-in-Ok
 invariant_of-self-in-Ok g c =
-    let stage : Stage = record { size = c.self.inside.size; has_begun = c.self.inside.has_begun; is_closed = c.self.inside.is_closed; serial = c.self.inside.serial; stock = length c.self.inside.stock.items; entry = c.self.inside.entry } in
+    let stage : Stage = stage_inside c.self.inside in
     let none : length c.if-number-gt0.entry.lane.accepted ≡ 0 = ap (λ (e : EntryState). length e.lane.accepted) (entry-made g c) ∙ new-empty stage c.args.name c.args.number in (
       All-rest (λ b. g.B.Subscriber.told b ≡ []) _ _ _ c.in-Some.ensures.items c.self.invariant.0,
       All-rest (λ b. g.B.Subscriber.is_steady b ≡ true) _ _ _ c.in-Some.ensures.items c.self.invariant.1,
@@ -50,7 +51,7 @@ invariant_of-self-in-Err g c =
 
 pub returns-after-number-gt0 : goal.returns-after-number-gt0
 returns-after-number-gt0 g c =
-    let stage : Stage = record { size = c.self.inside.size; has_begun = c.self.inside.has_begun; is_closed = c.self.inside.is_closed; serial = c.self.inside.serial; stock = length c.self.inside.stock.items; entry = c.self.inside.entry } in
+    let stage : Stage = stage_inside c.self.inside in
     let free : stage.entry ≡ None = none-of _ (sym c.is_some.ensures ∙ c.if-is_some.false) in
     let cut : stage.stock ≡ length (c.in-Some.subscriber ∷ c.pop_front.new.self.items) = ap length c.in-Some.ensures.items in
     let some : 0 < stage.stock = omega (arith, cut) in
@@ -60,7 +61,7 @@ returns-after-number-gt0 g c =
 
 pub returns-in-Err : goal.returns-in-Err
 returns-in-Err g c =
-    let stage : Stage = record { size = c.self.inside.size; has_begun = c.self.inside.has_begun; is_closed = c.self.inside.is_closed; serial = c.self.inside.serial; stock = length c.self.inside.stock.items; entry = c.self.inside.entry } in
+    let stage : Stage = stage_inside c.self.inside in
     let free : stage.entry ≡ None = none-of _ (sym c.is_some.ensures ∙ c.if-is_some.false) in
     let cut : stage.stock ≡ length (c.in-Some.subscriber ∷ c.pop_front.new.self.items) = ap length c.in-Some.ensures.items in
     let some : 0 < stage.stock = omega (arith, cut) in
