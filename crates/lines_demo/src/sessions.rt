@@ -131,9 +131,8 @@ impl<B: Subscriber> Session<B> {
         ensures { Plays (λ refusals. offer self.old refusals text.now) (offer_line result) self.new }
     {
         let item = self.next_item(alloc, text)?;
-        let answer = offer_to(&mut self.entry, item);
         self.serial += 1;
-        Ok(answer)
+        Ok(offer_to(&mut self.entry, item))
     }
 
     /// Publishes a text to the subscription, and is refused where that would wait for room. The answer is the lag, or 0 where

@@ -20,8 +20,8 @@ returns g c =
     let stage : Stage = stage_inside c.self.inside in
     let made : IsItemOf stage c.args.text.now (Ok c.in_ok-item.item) = subst (λ s. IsItemOf s c.args.text.now (Ok c.in_ok-item.item)) (sym c.self.view_is) c.in_ok-item.ensures.made in
     let offered : Item → Option EntryState = λ item. option_map (λ entry. entry_offered entry item) stage.entry in
-    let after : c.offer_to-answer.new.entry ≡ offered _ = c.offer_to-answer.ensures.offered ∙ ap offered made.2 in
-    let final : Stage = record stage { serial = stage.serial + 1; entry = c.offer_to-answer.new.entry } in
+    let after : c.offer_to.new.entry ≡ offered _ = c.offer_to.ensures.offered ∙ ap offered made.2 in
+    let final : Stage = record stage { serial = stage.serial + 1; entry = c.offer_to.new.entry } in
     let P : ℤ → Stage → Type 0 = λ answer s. Plays (λ refusals. offer s refusals c.args.text.now) (offer_line (Ok answer)) final in
-    let done = subst (P c.offer_to-answer.result) c.self.view_is (rw (c.offer_to-answer.ensures.answer, after, made.2) (publish-done unpublished stage c.args.text.now (codes "offer ") made.0 made.1)) in
-    subst (λ (answer : ℤ). P answer c.args.self.now) (sym (to_z-of_z w64 c.offer_to-answer.result (search rules))) done
+    let done = subst (P c.offer_to.result) c.self.view_is (rw (c.offer_to.ensures.answer, after, made.2) (publish-done unpublished stage c.args.text.now (codes "offer ") made.0 made.1)) in
+    subst (λ (answer : ℤ). P answer c.args.self.now) (sym (to_z-of_z w64 c.offer_to.result (search rules))) done
