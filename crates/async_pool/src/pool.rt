@@ -1,6 +1,6 @@
 //! The pool: its threads take the lock, call what stands behind it, and let go.
 ghost use Rattle.std.specs.Prelude.{◌≡◌, ◌<◌, ◌↔◌, ◌⊎◌, IfOk, IfErr, Err};
-ghost use Rattle.flow_rules.specs.declared.refusals.Refusal.TheVariants as Refusal;
+ghost use Rattle.flow_rules.specs.declared.refusal.Refusal.TheVariants as Refusal;
 ghost use Rattle.async_pool.specs.Workers.{IsWorkerCount};
 
 use crate::crew::MOST_WORKERS;

@@ -1,7 +1,7 @@
 //! How a count is opened, and what its opening does.
 ghost use Rattle.std.specs.Prelude.{◌≡◌, ◌+◌, ◌⊎◌, ℕ, ◌↔◌, IsTrue, IfOk, OnOk, IfErr, OnErr, Err};
 ghost use Rattle.std.specs.Arc.{arc_value};
-ghost use Rattle.flow_rules.specs.declared.refusals.Refusal.TheVariants as Refusal;
+ghost use Rattle.flow_rules.specs.declared.refusal.Refusal.TheVariants as Refusal;
 ghost use Rattle.close_count.specs.Tickets.{most_tickets, CompletesAt};
 ghost use Rattle.close_count.specs.Holders.{count_of_opening, count_of_ticket, count_of_spent, tickets_made, was_last};
 

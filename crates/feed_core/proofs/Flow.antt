@@ -3,50 +3,43 @@ use Rattle.std.proofs.Common.{◌≡◌, ℕ, ◌+◌, ◌≤◌, ◌⊎◌, min
 use Rattle.std.proofs.lemmas.Bool.{cases_eq}
 use Rattle.std.proofs.lemmas.List.{append-nil, length-append, nil_from_length}
 use Rattle.std.proofs.Math.Seq.{take-append_seam}
-use Rattle.flow_rules.specs.declared.texts.Item.{Item}
-use Rattle.flow_rules.specs.declared.signals.Fault.{Fault}
-use Rattle.flow_rules.specs.declared.signals.Fault.TheVariants.{Published, IllegalArgument, IllegalState}
-use Rattle.flow_rules.specs.declared.signals.Signal.{Signal}
-use Rattle.flow_rules.specs.declared.signals.Signal.TheVariants.{Subscribed, Next, Complete, Error}
-use Rattle.flow_rules.specs.declared.signals.How.{How}
-use Rattle.flow_rules.specs.declared.signals.How.TheVariants.{Completed, Errored, Cancelled, Failed, OutOfMemory}
-use Rattle.flow_rules.specs.Signals.{IsFlowText, items_of}
+use Rattle.feed_core.specs.Prelude.{Item, Signal, Subscribed, Next, Complete, Error, Fault, Published, IllegalArgument, IllegalState, How, IsFlowText, items_of}
 use Rattle.feed_core.specs.Cause.{IsFaultOf}
-use Rattle.feed_core.specs.Lane.{LaneState, IsFlow, IsIdle, IsSettled, IsSettledAs, HasNoLastSignal}
-use Rattle.feed_core.specs.PlainTurn.{last_signal}
-use Rattle.feed_core.specs.Sound.{is_begun, ending_of, text_of, lost_by, IsSound}
-use Rattle.feed_core.proofs.Texts.{terminal-last, complete-ending, error-ending, is_ending}
+use Rattle.feed_core.specs.Lane.{LaneState, IsFlow, IsIdle, IsSettled, IsSettledAs, HasNoTerminal}
+use Rattle.feed_core.specs.PlainTurn.{terminal_of}
+use Rattle.feed_core.specs.Sound.{is_begun, terminal_part, signals_of, loss_of, IsSound}
+use Rattle.feed_core.proofs.Texts.{terminal-last, complete-ending, error-ending, is_terminal_part}
 
 -- a text of items and an end is one that the rules allow
-allowed : (told : List Signal) (items : List Item) (how : Option How) → told ≡ text_of (is_begun told) items how → IsFlowText told
+allowed : (told : List Signal) (items : List Item) (how : Option How) → told ≡ signals_of (is_begun told) items how → IsFlowText told
 allowed [] items how e = inl refl
-allowed (s ∷ told) items how e = inr (items, ending_of how, e, is_ending how)
+allowed (s ∷ told) items how e = inr (items, terminal_part how, e, is_terminal_part how)
 
 -- every taken item was told, or the last one was lost
-tells_given : (how : Option How) (told given : ℕ) → told ≤ given → given ≤ told + lost_by how
-    → (told ≡ given) ⊎ ((how ≡ Some OutOfMemory) × (told + 1 ≡ given))
+tells_given : (how : Option How) (told given : ℕ) → told ≤ given → given ≤ told + loss_of how
+    → (told ≡ given) ⊎ ((how ≡ Some How.OutOfMemory) × (told + 1 ≡ given))
 tells_given None told given low high = inl (omega arith)
-tells_given (Some Completed) told given low high = inl (omega arith)
-tells_given (Some (Errored _)) told given low high = inl (omega arith)
-tells_given (Some Cancelled) told given low high = inl (omega arith)
-tells_given (Some (Failed _)) told given low high = inl (omega arith)
-tells_given (Some OutOfMemory) told given low high = elim (cases_eq told given) [
+tells_given (Some How.Completed) told given low high = inl (omega arith)
+tells_given (Some (How.Errored _)) told given low high = inl (omega arith)
+tells_given (Some How.Cancelled) told given low high = inl (omega arith)
+tells_given (Some (How.Failed _)) told given low high = inl (omega arith)
+tells_given (Some How.OutOfMemory) told given low high = elim (cases_eq told given) [
   | inl e ↦ inl e
   | inr other ↦ inr (refl, omega arith)
 ]
 
 module _ {lane : LaneState} {held : List Item} {capacity : ℕ} {running : Bool} (sound : IsSound lane held capacity running) where
   -- onComplete was told only where the subscription completed
-  complete_told : Contains lane.told Complete → lane.how ≡ Some Completed
+  complete_told : Contains lane.told Complete → lane.how ≡ Some How.Completed
   complete_told h =
       let inside = subst (λ told. Contains told Complete) sound.text h in
-      complete-ending lane.how (terminal-last (is_begun lane.told) (items_of lane.told) (ending_of lane.how) Complete tt inside)
+      complete-ending lane.how (terminal-last (is_begun lane.told) (items_of lane.told) (terminal_part lane.how) Complete tt inside)
 
   -- onError was told only where it ended with that error
-  error_told : (fault : Fault) → Contains lane.told (Error fault) → lane.how ≡ Some (Errored fault)
+  error_told : (fault : Fault) → Contains lane.told (Error fault) → lane.how ≡ Some (How.Errored fault)
   error_told fault h =
       let inside = subst (λ told. Contains told (Error fault)) sound.text h in
-      error-ending lane.how fault (terminal-last (is_begun lane.told) (items_of lane.told) (ending_of lane.how) (Error fault) tt inside)
+      error-ending lane.how fault (terminal-last (is_begun lane.told) (items_of lane.told) (terminal_part lane.how) (Error fault) tt inside)
 
   -- where as many items were told as accepted, they are the accepted ones
   whole : length (items_of lane.told) ≡ length lane.accepted → items_of lane.told ≡ lane.accepted
@@ -56,15 +49,15 @@ module _ {lane : LaneState} {held : List Item} {capacity : ℕ} {running : Bool}
       sym (sound.holds ∙ ap (λ rest. items_of lane.told ++ rest) empty ∙ append-nil (items_of lane.told))
 
   -- a completed subscription was told every accepted item
-  completed_whole : lane.how ≡ Some Completed → items_of lane.told ≡ lane.accepted
+  completed_whole : lane.how ≡ Some How.Completed → items_of lane.told ≡ lane.accepted
   completed_whole e =
-      let kept : lane.given ≤ length (items_of lane.told) + 0 = subst (λ how. lane.given ≤ length (items_of lane.told) + lost_by how) e sound.counts.loses in
+      let kept : lane.given ≤ length (items_of lane.told) + 0 = subst (λ how. lane.given ≤ length (items_of lane.told) + loss_of how) e sound.counts.loses in
       let all : lane.given ≡ length lane.accepted = sound.cause.whole e in
       let long : length lane.accepted ≡ length (items_of lane.told) + length held = ap length sound.holds ∙ length-append (items_of lane.told) held in
       whole (omega arith)
 
   -- and that error has its cause
-  fault_of : (fault : Fault) → lane.how ≡ Some (Errored fault) → IsFaultOf lane.causes fault
+  fault_of : (fault : Fault) → lane.how ≡ Some (How.Errored fault) → IsFaultOf lane.causes fault
   fault_of (Published code) e = sound.cause.published code e
   fault_of IllegalArgument e = sound.cause.argument e
   fault_of IllegalState e = sound.cause.state e
@@ -81,31 +74,31 @@ module _ {lane : LaneState} {held : List Item} {capacity : ℕ} {running : Bool}
   }
 
   -- an end of another kind told no terminal signal
-  no_last_signal : (how : How) → lane.how ≡ Some how → (how ≡ Completed → ⊥) → ((fault : Fault) → how ≡ Errored fault → ⊥) → HasNoLastSignal lane.told
-  no_last_signal how e other others = (
-    λ h. let same : Some how ≡ Some Completed = sym e ∙ complete_told h in other (cc),
-    λ fault h. let same : Some how ≡ Some (Errored fault) = sym e ∙ error_told fault h in others fault (cc),
+  no_terminal : (how : How) → lane.how ≡ Some how → (how ≡ How.Completed → ⊥) → ((fault : Fault) → how ≡ How.Errored fault → ⊥) → HasNoTerminal lane.told
+  no_terminal how e other others = (
+    λ h. let same : Some how ≡ Some How.Completed = sym e ∙ complete_told h in other (cc),
+    λ fault h. let same : Some how ≡ Some (How.Errored fault) = sym e ∙ error_told fault h in others fault (cc),
   )
 
   -- an end with a terminal signal was told after onSubscribe
-  ended_text : (how : How) (s : Signal) → lane.how ≡ Some how → last_signal how ≡ s ∷ []
+  ended_text : (how : How) (s : Signal) → lane.how ≡ Some how → terminal_of how ≡ s ∷ []
       → lane.told ≡ Subscribed ∷ (map Next (items_of lane.told) ++ s ∷ [])
-  ended_text how s e last = by lane.told refl (subst (λ h. lane.told ≡ text_of (is_begun lane.told) (items_of lane.told) h) e sound.text) where
-    by : (told : List Signal) → told ≡ lane.told → lane.told ≡ text_of (is_begun told) (items_of lane.told) (Some how)
+  ended_text how s e last = by lane.told refl (subst (λ h. lane.told ≡ signals_of (is_begun lane.told) (items_of lane.told) h) e sound.text) where
+    by : (told : List Signal) → told ≡ lane.told → lane.told ≡ signals_of (is_begun told) (items_of lane.told) (Some how)
         → lane.told ≡ Subscribed ∷ (map Next (items_of lane.told) ++ s ∷ [])
     by [] is text =
         let nothing : items_of lane.told ≡ [] = ap items_of (sym is) in
-        let ending : lane.told ≡ last_signal how = text ∙ ap (λ items. map Next items ++ last_signal how) nothing in
+        let ending : lane.told ≡ terminal_of how = text ∙ ap (λ items. map Next items ++ terminal_of how) nothing in
         cc
     by (x ∷ told) is text = text ∙ ap (λ ending. Subscribed ∷ (map Next (items_of lane.told) ++ ending)) last
 
   -- what was told fits the end
   settled_as : (how : How) → lane.how ≡ Some how → IsSettledAs lane (Some how)
-  settled_as Completed e = rw (completed_whole e) at (ended_text Completed Complete e refl)
-  settled_as (Errored fault) e = (Subscribed ∷ map Next (items_of lane.told), ended_text (Errored fault) (Error fault) e refl)
-  settled_as Cancelled e = (no_last_signal Cancelled e (λ h. cc) (λ fault h. cc), sound.cause.cancelled e)
-  settled_as (Failed code) e = (no_last_signal (Failed code) e (λ h. cc) (λ fault h. cc), sound.cause.failed code e)
-  settled_as OutOfMemory e = (no_last_signal OutOfMemory e (λ h. cc) (λ fault h. cc), sound.cause.refused e)
+  settled_as How.Completed e = rw (completed_whole e) at (ended_text How.Completed Complete e refl)
+  settled_as (How.Errored fault) e = (Subscribed ∷ map Next (items_of lane.told), ended_text (How.Errored fault) (Error fault) e refl)
+  settled_as How.Cancelled e = (no_terminal How.Cancelled e (λ h. cc) (λ fault h. cc), sound.cause.cancelled e)
+  settled_as (How.Failed code) e = (no_terminal (How.Failed code) e (λ h. cc) (λ fault h. cc), sound.cause.failed code e)
+  settled_as How.OutOfMemory e = (no_terminal How.OutOfMemory e (λ h. cc) (λ fault h. cc), sound.cause.refused e)
 
   -- an ended lane is settled
   pub settled_ended : (how : How) → lane.how ≡ Some how → IsSettled lane
@@ -121,15 +114,15 @@ module _ {lane : LaneState} {held : List Item} {capacity : ℕ} {running : Bool}
   -- a lane that has not ended was told its items alone
   pub open_text : lane.how ≡ None → is_begun lane.told ≡ true → lane.told ≡ Subscribed ∷ map Next (items_of lane.told)
   open_text unended begun =
-      let so_far : lane.told ≡ text_of (is_begun lane.told) (items_of lane.told) None = subst (λ how. lane.told ≡ text_of (is_begun lane.told) (items_of lane.told) how) unended sound.text in
-      let opened : lane.told ≡ text_of true (items_of lane.told) None = subst (λ b. lane.told ≡ text_of b (items_of lane.told) None) begun so_far in
+      let so_far : lane.told ≡ signals_of (is_begun lane.told) (items_of lane.told) None = subst (λ how. lane.told ≡ signals_of (is_begun lane.told) (items_of lane.told) how) unended sound.text in
+      let opened : lane.told ≡ signals_of true (items_of lane.told) None = subst (λ b. lane.told ≡ signals_of b (items_of lane.told) None) begun so_far in
       opened ∙ ap (λ nexts. Subscribed ∷ nexts) (append-nil (map Next (items_of lane.told)))
 
   -- a lane at rest was told all that its demand allows
   idle : running ≡ false → IsIdle lane
   idle e =
       let rest = sound.rests e in
-      let kept : lane.given ≤ length (items_of lane.told) + 0 = subst (λ how. lane.given ≤ length (items_of lane.told) + lost_by how) rest.unended sound.counts.loses in
+      let kept : lane.given ≤ length (items_of lane.told) + 0 = subst (λ how. lane.given ≤ length (items_of lane.told) + loss_of how) rest.unended sound.counts.loses in
       let tells = sound.counts.tells in
       let n : min (length lane.accepted) lane.asked ≡ length (items_of lane.told) = omega (arith, rest.all_given) in
       let front : take (min (length lane.accepted) lane.asked) lane.accepted ≡ items_of lane.told =

@@ -3,19 +3,13 @@ use Rattle.std.proofs.Common.{◌≡◌, ℕ, suc, ◌+◌, ◌-◌, ◌<◌, �
 use Rattle.std.proofs.lemmas.List.{append-nil, length-append, length-map, map-append}
 use Rattle.std.proofs.lemmas.List.Elements.{Contains-append_cases, Contains-push}
 use Rattle.std.proofs.Math.Seq.{take-append-add}
-use Rattle.flow_rules.specs.declared.texts.Item.{Item}
-use Rattle.flow_rules.specs.declared.signals.Fault.{Fault}
-use Rattle.flow_rules.specs.declared.signals.Signal.{Signal}
-use Rattle.flow_rules.specs.declared.signals.Signal.TheVariants.{Subscribed, Next, Complete, Error}
-use Rattle.flow_rules.specs.declared.signals.How.{How}
-use Rattle.flow_rules.specs.declared.signals.How.TheVariants.{Completed, Errored, Cancelled, Failed, OutOfMemory}
-use Rattle.flow_rules.specs.Signals.{items_of}
-use Rattle.feed_core.specs.declared.outlooks.Outlook.{Outlook}
-use Rattle.feed_core.specs.declared.outlooks.Outlook.TheVariants.{Again, Resting, Ended}
+use Rattle.feed_core.specs.Prelude.{Item, Signal, Subscribed, Next, Complete, Error, Fault, How, items_of}
+use Rattle.feed_core.specs.declared.turn.outlook.Outlook.{Outlook}
+use Rattle.feed_core.specs.declared.turn.outlook.Outlook.TheVariants.{Again, Resting, Ended}
 use Rattle.feed_core.specs.Cause.{stops}
-use Rattle.feed_core.specs.Desk.{DeskState, AfterTurn, causes_after, EndsIn, IsProperFrontOf, MeetsPlainTurn, Owes, taken_in}
+use Rattle.feed_core.specs.Desk.{DeskState, AfterTurn, causes_after, EndsIn, IsProperPrefix, MeetsPlainTurn, Owes, taken_in}
 use Rattle.feed_core.specs.Lane.{LaneState, IsFlow, IsFrontOf}
-use Rattle.feed_core.specs.PlainTurn.{Turn, again, greeting, last_signal, plain_turn_of, telling}
+use Rattle.feed_core.specs.PlainTurn.{Turn, again, greeting, terminal_of, plain_turn_of, signals_then}
 use Rattle.feed_core.specs.Sound.{is_begun}
 use Rattle.feed_core.specs.Steps.{Greets, IsToldBy, Looks, rest_of_turn, turn_within}
 use Rattle.feed_core.proofs.Keeping.{is_begun-append, items_of-last}
@@ -31,7 +25,7 @@ pub record Gave (count : ℕ) (old new : DeskState) (seen : List Signal) : Type 
   pub counted : length items ≡ count
   pub given : new.lane.given ≡ old.lane.given + count
   pub waited : drop old.lane.given old.lane.accepted ≡ items ++ drop new.lane.given new.lane.accepted
-  pub left : plain_turn_of old.lane ≡ telling seen (rest_of_turn (64 - count) new.lane)
+  pub left : plain_turn_of old.lane ≡ signals_then seen (rest_of_turn (64 - count) new.lane)
   pub unstopped : 0 < count → stops new.lane.causes ≡ None
   pub flow : 0 < count → IsFlow new.lane
 
@@ -41,7 +35,7 @@ begun_by_greeting [] = refl
 begun_by_greeting (_ ∷ _) = refl
 
 -- a plain turn of a subscriber that was told nothing begins with onSubscribe
-pub greets_first : (lane : LaneState) → lane.told ≡ [] → IsProperFrontOf [] (plain_turn_of lane).told
+pub greets_first : (lane : LaneState) → lane.told ≡ [] → IsProperPrefix [] (plain_turn_of lane).told
 greets_first lane nothing = (Subscribed, (rest_of_turn 64 lane).told, ap (λ told. greeting told ++ (rest_of_turn 64 lane).told) nothing)
 
 -- once the subscriber was greeted, no item was given yet
@@ -65,7 +59,7 @@ gave_none old new seen seen' owed nothing greets =
       counted = refl;
       given = omega arith;
       waited = refl;
-      left = ap (λ told. telling told (rest_of_turn 64 old.lane)) (sym seen_is);
+      left = ap (λ told. signals_then told (rest_of_turn 64 old.lane)) (sym seen_is);
       unstopped = λ some. absurd (omega (arith, some));
       flow = λ some. absurd (omega (arith, some));
     })
@@ -85,7 +79,7 @@ after_then old mid new seen more outlook first second = record {
 }
 
 -- signals told in two parts
-telling-telling : (seen more : List Signal) (turn : Turn) → telling seen (telling more turn) ≡ telling (seen ++ more) turn
+telling-telling : (seen more : List Signal) (turn : Turn) → signals_then seen (signals_then more turn) ≡ signals_then (seen ++ more) turn
 telling-telling seen more turn = ap (λ told. record { told = told; outlook = turn.outlook }) (sym (append_assoc seen more turn.told))
 
 module _ {count : ℕ} {old mid new : DeskState} {seen seen' : List Signal} (gave : Gave count old mid seen) where
@@ -102,12 +96,12 @@ module _ {count : ℕ} {old mid new : DeskState} {seen seen' : List Signal} (gav
       let m : ℕ = 64 - (count + 1) in
       let more : 64 - count ≡ suc m = omega arith in
       let unmet : mid.lane.asked - mid.lane.given - 1 ≡ new.lane.asked - new.lane.given = omega (arith, looks.turned.asked, goes.counted) in
-      let step : rest_of_turn (64 - count) mid.lane ≡ telling (Next item ∷ []) (rest_of_turn m new.lane) =
+      let step : rest_of_turn (64 - count) mid.lane ≡ signals_then (Next item ∷ []) (rest_of_turn m new.lane) =
       ap (λ most. rest_of_turn most mid.lane) more
       ∙ ap (λ waiting. turn_within (suc m) mid.lane.causes waiting (mid.lane.asked - mid.lane.given)) goes.waited
       ∙ gives m mid.lane.causes item (drop new.lane.given new.lane.accepted) (mid.lane.asked - mid.lane.given) goes.unstopped (omega (arith, goes.requested))
-      ∙ ap (λ n. telling (Next item ∷ []) (turn_within m mid.lane.causes (drop new.lane.given new.lane.accepted) n)) unmet
-      ∙ ap (λ causes. telling (Next item ∷ []) (turn_within m causes (drop new.lane.given new.lane.accepted) (new.lane.asked - new.lane.given))) (sym looks.turned.causes) in
+      ∙ ap (λ n. signals_then (Next item ∷ []) (turn_within m mid.lane.causes (drop new.lane.given new.lane.accepted) n)) unmet
+      ∙ ap (λ causes. signals_then (Next item ∷ []) (turn_within m causes (drop new.lane.given new.lane.accepted) (new.lane.asked - new.lane.given))) (sym looks.turned.causes) in
       record {
         turned = after_look looks;
         begun = ap is_begun looks.turned.recorded ∙ is_begun-append mid.lane.told looks.last gave.begun;
@@ -117,7 +111,7 @@ module _ {count : ℕ} {old mid new : DeskState} {seen seen' : List Signal} (gav
         counted = length-append gave.items (item ∷ []) ∙ ap (λ n. n + 1) gave.counted;
         given = omega (arith, gave.given, goes.counted);
         waited = gave.waited ∙ ap (λ rest. gave.items ++ rest) goes.waited ∙ sym (append_assoc gave.items (item ∷ []) (drop new.lane.given new.lane.accepted));
-        left = gave.left ∙ ap (telling seen) step ∙ telling-telling seen (Next item ∷ []) (rest_of_turn m new.lane) ∙ ap (λ text. telling text (rest_of_turn m new.lane)) (sym seen_after);
+        left = gave.left ∙ ap (signals_then seen) step ∙ telling-telling seen (Next item ∷ []) (rest_of_turn m new.lane) ∙ ap (λ text. signals_then text (rest_of_turn m new.lane)) (sym seen_after);
         unstopped = λ some. ap stops looks.turned.causes ∙ goes.unstopped;
         flow = λ some. looks.flow;
       }
@@ -138,12 +132,12 @@ length-greeting [] = omega arith
 length-greeting (_ ∷ _) = omega arith
 
 -- an ending is one signal at most
-length-last : (how : How) → length (last_signal how) ≤ 1
-length-last Completed = omega arith
-length-last (Errored _) = omega arith
-length-last Cancelled = omega arith
-length-last (Failed _) = omega arith
-length-last OutOfMemory = omega arith
+length-last : (how : How) → length (terminal_of how) ≤ 1
+length-last How.Completed = omega arith
+length-last (How.Errored _) = omega arith
+length-last How.Cancelled = omega arith
+length-last (How.Failed _) = omega arith
+length-last How.OutOfMemory = omega arith
 
 -- one look tells one signal at most
 length-told : (outlook : Outlook) (last : List Signal) → IsToldBy outlook last → length last ≤ 1
@@ -158,14 +152,14 @@ items_of-told Resting last other shape = ap items_of shape
 items_of-told (Ended how) last other shape = ap items_of shape ∙ items_of-last how
 
 -- the last look tells onComplete only where it completed the subscription
-complete_told : (outlook : Outlook) (last : List Signal) → IsToldBy outlook last → Contains last Complete → outlook ≡ Ended Completed
+complete_told : (outlook : Outlook) (last : List Signal) → IsToldBy outlook last → Contains last Complete → outlook ≡ Ended How.Completed
 complete_told Again last shape h = let e = Contains-one (Next shape.0) Complete (subst (λ text. Contains text Complete) shape.1 h) in cc
 complete_told Resting last shape h = absurd (Contains-none Complete (subst (λ text. Contains text Complete) shape h))
 complete_told (Ended how) last shape h = ap Ended (complete-last how (subst (λ text. Contains text Complete) shape h))
 
 -- and an onError only where it ended with that error
 error_told : (outlook : Outlook) (last : List Signal) (fault : Fault) → IsToldBy outlook last
-    → Contains last (Error fault) → outlook ≡ Ended (Errored fault)
+    → Contains last (Error fault) → outlook ≡ Ended (How.Errored fault)
 error_told Again last fault shape h = let e = Contains-one (Next shape.0) (Error fault) (subst (λ text. Contains text (Error fault)) shape.1 h) in cc
 error_told Resting last fault shape h = absurd (Contains-none (Error fault) (subst (λ text. Contains text (Error fault)) shape h))
 error_told (Ended how) last fault shape h = ap Ended (error-last how fault (subst (λ text. Contains text (Error fault)) shape h))
@@ -202,11 +196,11 @@ module _ {count : ℕ} {old mid : DeskState} {seen : List Signal} (gave : Gave c
   open_so_far s last ends = gave-open s last (last_contained seen s ends)
 
   -- after 64 items nothing is left of the plain turn but that another one is owed
-  whole_full : count ≡ 64 → plain_turn_of old.lane ≡ telling seen again
+  whole_full : count ≡ 64 → plain_turn_of old.lane ≡ signals_then seen again
   whole_full all =
       let none : 64 - count ≡ 0 = omega arith in
-      gave.left ∙ ap (λ most. telling seen (rest_of_turn most mid.lane)) none
-      ∙ ap (telling seen) (full mid.lane.causes (drop mid.lane.given mid.lane.accepted) (mid.lane.asked - mid.lane.given) (gave.unstopped (omega arith)))
+      gave.left ∙ ap (λ most. signals_then seen (rest_of_turn most mid.lane)) none
+      ∙ ap (signals_then seen) (full mid.lane.causes (drop mid.lane.given mid.lane.accepted) (mid.lane.asked - mid.lane.given) (gave.unstopped (omega arith)))
 
   -- so the turn is the plain one
   pub plain_full : count ≡ 64 → MeetsPlainTurn (plain_turn_of old.lane) seen Again
@@ -215,7 +209,7 @@ module _ {count : ℕ} {old mid : DeskState} {seen : List Signal} (gave : Gave c
       inl (sym (ap (λ t. t.told) whole ∙ append-nil seen), sym (ap (λ t. t.outlook) whole))
 
   -- what is taken in the rest of a turn is taken in the whole, after the items so far
-  taken_then : (turn : Turn) (last : List Signal) → plain_turn_of old.lane ≡ telling seen turn
+  taken_then : (turn : Turn) (last : List Signal) → plain_turn_of old.lane ≡ signals_then seen turn
       → taken_in (plain_turn_of old.lane) (seen ++ last) ≡ count + taken_in turn last
   taken_then turn last whole =
       let long : length (seen ++ last) + 1 ≡ length seen + (length last + 1) = omega (arith, length-append seen last) in
@@ -252,7 +246,7 @@ module _ {count : ℕ} {old mid : DeskState} {seen : List Signal} (gave : Gave c
         omega arith
 
     -- the turn ends in onComplete exactly where it completed the subscription
-    pub completes : EndsIn seen' Complete ↔ (outlook ≡ Ended Completed)
+    pub completes : EndsIn seen' Complete ↔ (outlook ≡ Ended How.Completed)
     completes = (
       λ ends. elim (Contains-append_cases seen looks.last Complete (subst (λ text. Contains text Complete) looks.seen_after (last_contained seen' Complete ends))) [
         | inl first ↦ absurd (gave-open Complete tt first)
@@ -262,7 +256,7 @@ module _ {count : ℕ} {old mid : DeskState} {seen : List Signal} (gave : Gave c
     )
 
     -- and in onError exactly where it ended with that error
-    pub errs : (fault : Fault) → EndsIn seen' (Error fault) ↔ (outlook ≡ Ended (Errored fault))
+    pub errs : (fault : Fault) → EndsIn seen' (Error fault) ↔ (outlook ≡ Ended (How.Errored fault))
     errs fault = (
       λ ends. elim (Contains-append_cases seen looks.last (Error fault) (subst (λ text. Contains text (Error fault)) looks.seen_after (last_contained seen' (Error fault) ends))) [
         | inl first ↦ absurd (gave-open (Error fault) tt first)
@@ -276,7 +270,7 @@ module _ {count : ℕ} {old mid : DeskState} {seen : List Signal} (gave : Gave c
     taken_end room =
         let m : ℕ = 63 - count in
         let more : 64 - count ≡ suc m = omega arith in
-        let whole : plain_turn_of old.lane ≡ telling seen (rest_of_turn (suc m) mid.lane) = gave.left ∙ ap (λ most. telling seen (rest_of_turn most mid.lane)) more in
+        let whole : plain_turn_of old.lane ≡ signals_then seen (rest_of_turn (suc m) mid.lane) = gave.left ∙ ap (λ most. signals_then seen (rest_of_turn most mid.lane)) more in
         let before : mid.lane.given ≡ old.lane.given + count = gave.given in
         let after : new.lane.given ≡ mid.lane.given + taken_in (rest_of_turn (suc m) mid.lane) looks.last = looks.taken other m in
         let both : taken_in (plain_turn_of old.lane) seen' ≡ count + taken_in (rest_of_turn (suc m) mid.lane) looks.last =
@@ -288,7 +282,7 @@ module _ {count : ℕ} {old mid : DeskState} {seen : List Signal} (gave : Gave c
     plain_end room =
         let m : ℕ = 63 - count in
         let more : 64 - count ≡ suc m = omega arith in
-        let whole : plain_turn_of old.lane ≡ telling seen (rest_of_turn (suc m) mid.lane) = gave.left ∙ ap (λ most. telling seen (rest_of_turn most mid.lane)) more in
+        let whole : plain_turn_of old.lane ≡ signals_then seen (rest_of_turn (suc m) mid.lane) = gave.left ∙ ap (λ most. signals_then seen (rest_of_turn most mid.lane)) more in
         elim (looks.ends other m) [
           | inl same ↦ inl (looks.seen_after ∙ ap (λ last. seen ++ last) same.0 ∙ sym (ap (λ t. t.told) whole), same.1 ∙ sym (ap (λ t. t.outlook) whole))
           | inr missed ↦

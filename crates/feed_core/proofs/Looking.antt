@@ -2,54 +2,47 @@
 use Rattle.std.proofs.Common.{◌≡◌, ℕ, suc, ◌+◌, ◌-◌, ◌<◌, min, Bool, true, false, List, [], ◌∷◌, ◌++◌, length, drop, Option, None, Some, refl, ap, sym, ◌∙◌, inl, inr, arith}
 use Rattle.std.proofs.lemmas.List.{append-nil, length-drop}
 use Rattle.std.proofs.Math.Seq.{drop-append_seam, drop-length}
-use Rattle.flow_rules.specs.declared.texts.Item.{Item}
-use Rattle.flow_rules.specs.declared.signals.Ending.{Ending}
-use Rattle.flow_rules.specs.declared.signals.Ending.TheVariants.{Normal, Failed as ClosedWith}
-use Rattle.flow_rules.specs.declared.signals.Signal.{Signal}
-use Rattle.flow_rules.specs.declared.signals.Signal.TheVariants.{Next}
-use Rattle.flow_rules.specs.declared.signals.How.{How}
-use Rattle.flow_rules.specs.declared.signals.How.TheVariants.{Completed, Errored, Cancelled, Failed, OutOfMemory}
-use Rattle.flow_rules.specs.Signals.{items_of}
-use Rattle.feed_core.specs.declared.causes.Causes.{Causes}
-use Rattle.feed_core.specs.declared.outlooks.Outlook.TheVariants.{Again, Resting, Ended}
+use Rattle.feed_core.specs.Prelude.{Item, Signal, Next, Ending, How, items_of}
+use Rattle.feed_core.specs.declared.cause.Causes.{Causes}
+use Rattle.feed_core.specs.declared.turn.outlook.Outlook.TheVariants.{Again, Resting, Ended}
 use Rattle.feed_core.specs.Cause.{stops, closes, completion, with_cause_of}
-use Rattle.feed_core.specs.Desk.{DeskState, IsProperFrontOf, taken_in}
+use Rattle.feed_core.specs.Desk.{DeskState, IsProperPrefix, taken_in}
 use Rattle.feed_core.specs.Lane.{LaneState, IsFlow}
-use Rattle.feed_core.specs.PlainTurn.{Turn, last_signal, ended, resting, closing_or_resting, telling}
+use Rattle.feed_core.specs.PlainTurn.{Turn, terminal_of, ended, resting, close_or_rest, signals_then}
 use Rattle.feed_core.specs.Sound.{is_begun, lane_of, IsSound}
-use Rattle.feed_core.specs.Steps.{IsDue, Looks, MovesNext, rest_of_turn, turn_within}
+use Rattle.feed_core.specs.Steps.{OwesEnd, Looks, MovesNext, rest_of_turn, turn_within}
 use Rattle.feed_core.proofs.Flow.{flow_kept}
 use Rattle.feed_core.proofs.Keeping.{accepted_kept, all_counted, ended_items, one_more, sound_due, sound_ended, sound_given, sound_lost, waiting_held}
 use Rattle.feed_core.proofs.Turning.{gives, pauses, stopped}
 
 -- an end that is due is what is left of the turn
-due_turn : (lane : LaneState) (end : How) (most : ℕ) → IsDue lane end → rest_of_turn (suc most) lane ≡ ended end
+due_turn : (lane : LaneState) (end : How) (most : ℕ) → OwesEnd lane end → rest_of_turn (suc most) lane ≡ ended end
 due_turn lane end most (inl e) = stopped (suc most) lane.causes (drop lane.given lane.accepted) (lane.asked - lane.given) end e
 due_turn lane end most (inr e) =
     let nothing : drop lane.given lane.accepted ≡ [] = ap (λ k. drop k lane.accepted) e.2 ∙ drop-length lane.accepted in
-    ap (λ waiting. turn_within (suc most) lane.causes waiting (lane.asked - lane.given)) nothing ∙ pauses most lane.causes [] (lane.asked - lane.given) e.0 (omega arith) ∙ ap (λ close. closing_or_resting close []) e.1
+    ap (λ waiting. turn_within (suc most) lane.causes waiting (lane.asked - lane.given)) nothing ∙ pauses most lane.causes [] (lane.asked - lane.given) e.0 (omega arith) ∙ ap (λ close. close_or_rest close []) e.1
 
 -- a subscription of these parts
 abbrev pub desk_of : LaneState → ℕ → Bool → Bool → DeskState
 desk_of lane capacity running steady = record { lane = lane; capacity = capacity; running = running; is_steady = steady }
 
 -- where completion is due, items are left
-still_resting : (closing : Option Ending) (waiting : List Item) → (closing ≡ Some Normal → 0 < length waiting)
-    → closing_or_resting (completion closing) waiting ≡ resting
+still_resting : (closing : Option Ending) (waiting : List Item) → (closing ≡ Some Ending.Normal → 0 < length waiting)
+    → close_or_rest (completion closing) waiting ≡ resting
 still_resting None waiting some = refl
-still_resting (Some Normal) [] some = let above : 0 < 0 = some refl in absurd (omega arith)
-still_resting (Some Normal) (_ ∷ _) some = refl
-still_resting (Some (ClosedWith _)) waiting some = refl
+still_resting (Some Ending.Normal) [] some = let above : 0 < 0 = some refl in absurd (omega arith)
+still_resting (Some Ending.Normal) (_ ∷ _) some = refl
+still_resting (Some (Ending.Failed _)) waiting some = refl
 
 -- nothing was left to do
 pub looks_rested : (old : DeskState) (seen : List Signal) → IsFlow old.lane → old.lane.how ≡ None
     → stops old.lane.causes ≡ None → old.lane.given ≡ min (length old.lane.accepted) old.lane.asked
-    → (old.lane.causes.closing ≡ Some Normal → old.lane.given < length old.lane.accepted)
+    → (old.lane.causes.closing ≡ Some Ending.Normal → old.lane.given < length old.lane.accepted)
     → Looks old (record old { running = false }) seen seen Resting
 looks_rested old seen flow unended unstopped all waits =
     let lane = old.lane in
     let left = length-drop lane.given lane.accepted in
-    let rested : closing_or_resting (closes lane.causes) (drop lane.given lane.accepted) ≡ resting =
+    let rested : close_or_rest (closes lane.causes) (drop lane.given lane.accepted) ≡ resting =
     still_resting lane.causes.closing (drop lane.given lane.accepted) (λ e. let some = waits e in omega arith) in
     record {
       last = [];
@@ -78,20 +71,20 @@ looks_rested old seen flow unended unstopped all waits =
     }
 
 -- an ending that was told has no items
-no_item : (end : How) → taken_in (ended end) (last_signal end) ≡ 0
-no_item Completed = refl
-no_item (Errored _) = refl
-no_item Cancelled = refl
-no_item (Failed _) = refl
-no_item OutOfMemory = refl
+no_item : (end : How) → taken_in (ended end) (terminal_of end) ≡ 0
+no_item How.Completed = refl
+no_item (How.Errored _) = refl
+no_item How.Cancelled = refl
+no_item (How.Failed _) = refl
+no_item How.OutOfMemory = refl
 
 -- the first signal of an ending is no item either
 no_item_missed : (end : How) → taken_in (ended end) [] ≡ 0
-no_item_missed Completed = refl
-no_item_missed (Errored _) = refl
-no_item_missed Cancelled = refl
-no_item_missed (Failed _) = refl
-no_item_missed OutOfMemory = refl
+no_item_missed How.Completed = refl
+no_item_missed (How.Errored _) = refl
+no_item_missed How.Cancelled = refl
+no_item_missed (How.Failed _) = refl
+no_item_missed How.OutOfMemory = refl
 
 module _ {told : List Signal} {held : List Item} {given asked capacity : ℕ} {causes : Causes} {how : Option How} {running : Bool}
     (sound : IsSound (lane_of told held given asked causes how) held capacity running) (unended : how ≡ None) (runs : running ≡ true) (begun : is_begun told ≡ true) where
@@ -137,7 +130,7 @@ module _ {told : List Signal} {held : List Item} {given asked capacity : ℕ} {c
       → told' ≡ told → held' ≡ held → seen' ≡ seen → stops causes ≡ None → given < length (items_of told ++ held)
       → given < asked → (steady ≡ true → steady' ≡ true)
       → Looks (desk_of (lane_of told held given asked causes how) capacity running steady)
-      (desk_of (lane_of told' held' (given + 1) asked (with_cause_of OutOfMemory causes) (Some OutOfMemory)) capacity running steady') seen seen' (Ended OutOfMemory)
+      (desk_of (lane_of told' held' (given + 1) asked (with_cause_of How.OutOfMemory causes) (Some How.OutOfMemory)) capacity running steady') seen seen' (Ended How.OutOfMemory)
   looks_lost {told'} {held'} {seen} same_told same_held same_seen unstopped waits requested stays = record {
     last = [];
     shape = refl;
@@ -165,7 +158,7 @@ module _ {told : List Signal} {held : List Item} {given asked capacity : ℕ} {c
   } where
     -- the plain turn would have given an item
     gives_next : (most : ℕ) (items : List Item) → held ≡ items
-        → (item : Item) × (rest : Turn) × (rest_of_turn (suc most) (lane_of told held given asked causes how) ≡ telling (Next item ∷ []) rest)
+        → (item : Item) × (rest : Turn) × (rest_of_turn (suc most) (lane_of told held given asked causes how) ≡ signals_then (Next item ∷ []) rest)
     gives_next most [] e =
         let counted = all_counted sound unended in
         let none : length (items_of told ++ held) ≡ length (items_of told) = ap (λ rest. length (items_of told ++ rest)) e ∙ ap length (append-nil (items_of told)) in
@@ -174,15 +167,15 @@ module _ {told : List Signal} {held : List Item} {given asked capacity : ℕ} {c
         let waiting : drop given (items_of told ++ held) ≡ item ∷ items = waiting_held sound unended ∙ e in
         (item, turn_within most causes items (asked - given - 1), ap (λ rest. turn_within (suc most) causes rest (asked - given)) waiting ∙ gives most causes item items (asked - given) unstopped (omega arith))
 
-  module _ {told' : List Signal} {seen seen' : List Signal} {steady steady' : Bool} (end : How) (due : IsDue (lane_of told held given asked causes how) end) (stays : steady ≡ true → steady' ≡ true) where
+  module _ {told' : List Signal} {seen seen' : List Signal} {steady steady' : Bool} (end : How) (due : OwesEnd (lane_of told held given asked causes how) end) (stays : steady ≡ true → steady' ≡ true) where
     -- the ending that was due was told
-    pub looks_ended : told' ≡ told ++ last_signal end → seen' ≡ seen ++ last_signal end
+    pub looks_ended : told' ≡ told ++ terminal_of end → seen' ≡ seen ++ terminal_of end
         → Looks (desk_of (lane_of told held given asked causes how) capacity running steady)
         (desk_of (lane_of told' held given asked (with_cause_of end causes) (Some end)) capacity running steady') seen seen' (Ended end)
     looks_ended grows seen_grows =
         let same : items_of told' ≡ items_of told = ended_items told told' end grows in
         record {
-          last = last_signal end;
+          last = terminal_of end;
           shape = refl;
           seen_after = seen_grows;
           turned = record {
@@ -203,14 +196,14 @@ module _ {told : List Signal} {held : List Item} {given asked capacity : ℕ} {c
               inl (sym (ap (λ t. t.told) turn), sym (ap (λ t. t.outlook) turn));
           taken = λ _ most.
               let turn = due_turn (lane_of told held given asked causes how) end most due in
-              let none : taken_in (rest_of_turn (suc most) (lane_of told held given asked causes how)) (last_signal end) ≡ 0 = ap (λ t. taken_in t (last_signal end)) turn ∙ no_item end in
+              let none : taken_in (rest_of_turn (suc most) (lane_of told held given asked causes how)) (terminal_of end) ≡ 0 = ap (λ t. taken_in t (terminal_of end)) turn ∙ no_item end in
               omega arith;
         }
 
     -- the callback of the ending that was due met want of memory
-    pub looks_missed : told' ≡ told → seen' ≡ seen → IsProperFrontOf [] (last_signal end)
+    pub looks_missed : told' ≡ told → seen' ≡ seen → IsProperPrefix [] (terminal_of end)
         → Looks (desk_of (lane_of told held given asked causes how) capacity running steady)
-        (desk_of (lane_of told' held given asked (with_cause_of OutOfMemory causes) (Some OutOfMemory)) capacity running steady') seen seen' (Ended OutOfMemory)
+        (desk_of (lane_of told' held given asked (with_cause_of How.OutOfMemory causes) (Some How.OutOfMemory)) capacity running steady') seen seen' (Ended How.OutOfMemory)
     looks_missed same_told same_seen missed = record {
       last = [];
       shape = refl;
@@ -226,7 +219,7 @@ module _ {told : List Signal} {held : List Item} {given asked capacity : ℕ} {c
         steady = stays;
       };
       few = omega arith;
-      flow = flow_kept (sound_ended sound unended runs begun OutOfMemory tt (same_told ∙ sym (append-nil told)));
+      flow = flow_kept (sound_ended sound unended runs begun How.OutOfMemory tt (same_told ∙ sym (append-nil told)));
       again = λ e. cc;
       ends = λ _ most.
           let turn = due_turn (lane_of told held given asked causes how) end most due in

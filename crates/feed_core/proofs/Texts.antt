@@ -1,15 +1,9 @@
 -- Texts of signals: their items, and what they contain.
 use Rattle.std.proofs.Common.{◌≡◌, ℕ, zero, suc, ◌<◌, Bool, true, false, List, [], ◌∷◌, ◌++◌, map, length, slice_index_or, Contains, Option, None, Some, refl, ap, inl, inr, arith}
 use Rattle.std.proofs.lemmas.List.Elements.{Contains-append_cases}
-use Rattle.flow_rules.specs.declared.texts.Item.{Item}
-use Rattle.flow_rules.specs.declared.signals.Fault.{Fault}
-use Rattle.flow_rules.specs.declared.signals.Signal.{Signal}
-use Rattle.flow_rules.specs.declared.signals.Signal.TheVariants.{Subscribed, Next, Complete, Error}
-use Rattle.flow_rules.specs.declared.signals.How.{How}
-use Rattle.flow_rules.specs.declared.signals.How.TheVariants.{Completed, Errored, Cancelled, Failed, OutOfMemory}
-use Rattle.flow_rules.specs.Signals.{IsEnding, items_of}
-use Rattle.feed_core.specs.PlainTurn.{last_signal}
-use Rattle.feed_core.specs.Sound.{ending_of, opening}
+use Rattle.feed_core.specs.Prelude.{Item, Signal, Subscribed, Next, Complete, Error, Fault, How, IsTerminalPart, items_of}
+use Rattle.feed_core.specs.PlainTurn.{terminal_of}
+use Rattle.feed_core.specs.Sound.{terminal_part, opening}
 
 -- the items of two texts, one after the other
 pub items_of-append : (s t : List Signal) → items_of (s ++ t) ≡ items_of s ++ items_of t
@@ -76,35 +70,35 @@ terminal-last begun items ending s last h =
     ]
 
 -- onComplete ends the text of a completed subscription alone
-pub complete-last : (how : How) → Contains (last_signal how) Complete → how ≡ Completed
-complete-last Completed h = refl
-complete-last (Errored f) h = let e = Contains-one (Error f) Complete h in cc
-complete-last Cancelled h = absurd (Contains-none Complete h)
-complete-last (Failed _) h = absurd (Contains-none Complete h)
-complete-last OutOfMemory h = absurd (Contains-none Complete h)
+pub complete-last : (how : How) → Contains (terminal_of how) Complete → how ≡ How.Completed
+complete-last How.Completed h = refl
+complete-last (How.Errored f) h = let e = Contains-one (Error f) Complete h in cc
+complete-last How.Cancelled h = absurd (Contains-none Complete h)
+complete-last (How.Failed _) h = absurd (Contains-none Complete h)
+complete-last How.OutOfMemory h = absurd (Contains-none Complete h)
 
 -- onError ends the text of a subscription that ended with that error alone
-pub error-last : (how : How) (fault : Fault) → Contains (last_signal how) (Error fault) → how ≡ Errored fault
-error-last Completed fault h = let e = Contains-one Complete (Error fault) h in cc
-error-last (Errored f) fault h = let e = Contains-one (Error f) (Error fault) h in cc
-error-last Cancelled fault h = absurd (Contains-none (Error fault) h)
-error-last (Failed _) fault h = absurd (Contains-none (Error fault) h)
-error-last OutOfMemory fault h = absurd (Contains-none (Error fault) h)
+pub error-last : (how : How) (fault : Fault) → Contains (terminal_of how) (Error fault) → how ≡ How.Errored fault
+error-last How.Completed fault h = let e = Contains-one Complete (Error fault) h in cc
+error-last (How.Errored f) fault h = let e = Contains-one (Error f) (Error fault) h in cc
+error-last How.Cancelled fault h = absurd (Contains-none (Error fault) h)
+error-last (How.Failed _) fault h = absurd (Contains-none (Error fault) h)
+error-last How.OutOfMemory fault h = absurd (Contains-none (Error fault) h)
 
 -- the same of the ending of a lane
-pub complete-ending : (how : Option How) → Contains (ending_of how) Complete → how ≡ Some Completed
+pub complete-ending : (how : Option How) → Contains (terminal_part how) Complete → how ≡ Some How.Completed
 complete-ending None h = absurd (Contains-none Complete h)
 complete-ending (Some how) h = ap Some (complete-last how h)
 
-pub error-ending : (how : Option How) (fault : Fault) → Contains (ending_of how) (Error fault) → how ≡ Some (Errored fault)
+pub error-ending : (how : Option How) (fault : Fault) → Contains (terminal_part how) (Error fault) → how ≡ Some (How.Errored fault)
 error-ending None fault h = absurd (Contains-none (Error fault) h)
 error-ending (Some how) fault h = ap Some (error-last how fault h)
 
 -- an ending is none, one onComplete or one onError
-pub is_ending : (how : Option How) → IsEnding (ending_of how)
-is_ending None = inl refl
-is_ending (Some Completed) = inr (inl refl)
-is_ending (Some (Errored fault)) = inr (inr (fault, refl))
-is_ending (Some Cancelled) = inl refl
-is_ending (Some (Failed _)) = inl refl
-is_ending (Some OutOfMemory) = inl refl
+pub is_terminal_part : (how : Option How) → IsTerminalPart (terminal_part how)
+is_terminal_part None = inl refl
+is_terminal_part (Some How.Completed) = inr (inl refl)
+is_terminal_part (Some (How.Errored fault)) = inr (inr (fault, refl))
+is_terminal_part (Some How.Cancelled) = inl refl
+is_terminal_part (Some (How.Failed _)) = inl refl
+is_terminal_part (Some How.OutOfMemory) = inl refl

@@ -1,12 +1,10 @@
 -- The plain turn, one look at a time.
 use Rattle.std.proofs.Common.{◌≡◌, ℕ, suc, ◌-◌, ◌<◌, ◌==◌, min, false, List, [], ◌∷◌, length, None, Some, refl, ap, sym, ◌∙◌, inl, inr, arith}
 use Rattle.std.proofs.lemmas.Bool.Decides.{nat_tests, eqb_tells}
-use Rattle.flow_rules.specs.declared.texts.Item.{Item}
-use Rattle.flow_rules.specs.declared.signals.Signal.TheVariants.{Next}
-use Rattle.flow_rules.specs.declared.signals.How.{How}
-use Rattle.feed_core.specs.declared.causes.Causes.{Causes}
+use Rattle.feed_core.specs.Prelude.{Item, Next, How}
+use Rattle.feed_core.specs.declared.cause.Causes.{Causes}
 use Rattle.feed_core.specs.Cause.{stops, closes}
-use Rattle.feed_core.specs.PlainTurn.{again, ended, telling, closing_or_resting}
+use Rattle.feed_core.specs.PlainTurn.{again, ended, signals_then, close_or_rest}
 use Rattle.feed_core.specs.Steps.{turn_within}
 
 -- the next numbers are equal where these are
@@ -30,7 +28,7 @@ stopped most causes waiting unmet how e = rw e refl
 -- an item that waits and was requested comes first, and then what is left of the turn
 pub gives : (most : ℕ) (causes : Causes) (item : Item) (waiting : List Item) (unmet : ℕ) → stops causes ≡ None
     → 0 < unmet
-    → turn_within (suc most) causes (item ∷ waiting) unmet ≡ telling (Next item ∷ []) (turn_within most causes waiting (unmet - 1))
+    → turn_within (suc most) causes (item ∷ waiting) unmet ≡ signals_then (Next item ∷ []) (turn_within most causes waiting (unmet - 1))
 gives most causes item waiting unmet e some =
     let m : ℕ = min (min (length waiting) (unmet - 1)) most in
     let n : min (min (suc (length waiting)) unmet) (suc most) ≡ suc m = omega arith in
@@ -39,7 +37,7 @@ gives most causes item waiting unmet e some =
 -- where no item waits or none was requested, completion is due, or rest
 pub pauses : (most : ℕ) (causes : Causes) (waiting : List Item) (unmet : ℕ) → stops causes ≡ None
     → min (length waiting) unmet ≡ 0
-    → turn_within (suc most) causes waiting unmet ≡ closing_or_resting (closes causes) waiting
+    → turn_within (suc most) causes waiting unmet ≡ close_or_rest (closes causes) waiting
 pauses most causes waiting unmet e none =
     let n : min (min (length waiting) unmet) (suc most) ≡ 0 = omega arith in
     let some : (0 == suc most) ≡ false = grind (arith, nat_tests) in

@@ -1,16 +1,9 @@
 -- One subscription as plain state: what its calls change, and what they answer.
 use Rattle.std.specs.Prelude.{◌≡◌, ◌⊎◌, ◌↔◌, ℕ, ◌+◌, ◌-◌, ◌<◌, Bool, true, false, Option, None, Some, IsSome, List, [], ◌∷◌, ◌++◌, length, take}
-use Rattle.flow_rules.specs.Capacity.{IsCapacityOf}
-use Rattle.flow_rules.specs.Demand.{total_after}
-use Rattle.flow_rules.specs.declared.signals.Ending.{Ending}
-use Rattle.flow_rules.specs.declared.texts.Item.{Item}
-use Rattle.flow_rules.specs.declared.signals.Signal.{Signal}
-use Rattle.flow_rules.specs.Signals.{items_of}
-use Rattle.flow_rules.specs.declared.signals.How.{How}
-use Rattle.flow_rules.specs.declared.signals.How.TheVariants.{OutOfMemory}
-use Rattle.feed_core.specs.declared.causes.Causes.{Causes}
-use Rattle.feed_core.specs.declared.outlooks.Outlook.{Outlook}
-use Rattle.feed_core.specs.declared.outlooks.Outlook.TheVariants.{Again, Resting, Ended}
+use Rattle.feed_core.specs.Prelude.{Item, Signal, Ending, How, IsCapacityOf, total_after, items_of}
+use Rattle.feed_core.specs.declared.cause.Causes.{Causes}
+use Rattle.feed_core.specs.declared.turn.outlook.Outlook.{Outlook}
+use Rattle.feed_core.specs.declared.turn.outlook.Outlook.TheVariants.{Again, Resting, Ended}
 use Rattle.feed_core.specs.Cause.{no_causes, with_cause_of}
 use Rattle.feed_core.specs.Lane.{LaneState}
 use Rattle.feed_core.specs.PlainTurn.{Turn}
@@ -64,27 +57,27 @@ IsFull desk = IsOpen desk.lane × (lag_of desk.lane ≡ desk.capacity)
 abbrev pub GivesBack : DeskState → DeskState → Item → Item → Type 0
 GivesBack old new item back = (back ≡ item) × (new ≡ old)
 
--- a change of the lane was signalled: the lane is the new one, and the task was started
-abbrev pub signalled : DeskState → LaneState → DeskState
-signalled desk lane = record desk { lane = lane; running = true }
+-- a change of the lane was desk_after_signal: the lane is the new one, and the task was started
+abbrev pub desk_after_signal : DeskState → LaneState → DeskState
+desk_after_signal desk lane = record desk { lane = lane; running = true }
 
 -- the lane with one more item
-abbrev pub accepting : Item → LaneState → LaneState
-accepting item lane = record lane { accepted = lane.accepted ++ item ∷ [] }
+abbrev pub lane_with_item : Item → LaneState → LaneState
+lane_with_item item lane = record lane { accepted = lane.accepted ++ item ∷ [] }
 
 -- the lane with this ending as a cause
-abbrev pub closed_by : Ending → LaneState → LaneState
-closed_by ending lane = record lane { causes = record lane.causes { closing = Some ending } }
+abbrev pub lane_with_closing : Ending → LaneState → LaneState
+lane_with_closing ending lane = record lane { causes = record lane.causes { closing = Some ending } }
 
 -- the lane with this many more items requested
-abbrev pub requested : ℕ → LaneState → LaneState
-requested n lane = record lane { asked = total_after lane.asked n }
+abbrev pub lane_with_demand : ℕ → LaneState → LaneState
+lane_with_demand n lane = record lane { asked = total_after lane.asked n }
 
 -- an open subscription whose buffer had room took the item, answered its new lag, and was started if it was at rest
 pub record AcceptsItem (old new : DeskState) (item : Item) (lag : ℕ) (start : Option Unit) : Type 0 where
   pub open_before : IsOpen old.lane
   pub room_before : lag_of old.lane < old.capacity
-  pub taken : new ≡ signalled old (accepting item old.lane)
+  pub taken : new ≡ desk_after_signal old (lane_with_item item old.lane)
   pub lag_after : lag ≡ lag_of new.lane
   pub starts : IsSome start ↔ Rests old
 
@@ -122,14 +115,14 @@ abbrev pub EndsIn : List Signal → Signal → Type 0
 EndsIn text signal = (before : List Signal) × (text ≡ before ++ signal ∷ [])
 
 -- one text is the beginning of another, which goes on
-abbrev pub IsProperFrontOf : List Signal → List Signal → Type 0
-IsProperFrontOf front whole = (next : Signal) × (rest : List Signal) × (whole ≡ front ++ next ∷ rest)
+abbrev pub IsProperPrefix : List Signal → List Signal → Type 0
+IsProperPrefix front whole = (next : Signal) × (rest : List Signal) × (whole ≡ front ++ next ∷ rest)
 
 -- what was told, and the outlook, are those of the plain turn, or a callback met want of memory before its end
 abbrev pub MeetsPlainTurn : Turn → List Signal → Outlook → Type 0
 MeetsPlainTurn plain seen outlook =
     ((seen ≡ plain.told) × (outlook ≡ plain.outlook))
-    ⊎ ((outlook ≡ Ended OutOfMemory) × IsProperFrontOf seen plain.told)
+    ⊎ ((outlook ≡ Ended How.OutOfMemory) × IsProperPrefix seen plain.told)
 
 -- how many items were taken for onNext where this was told of the plain turn: those that were told, and the one whose
 -- onNext came next, which met want of memory

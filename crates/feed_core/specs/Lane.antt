@@ -1,15 +1,8 @@
 -- A subscription's lane: what it was given to hand on, what it has handed on, and why and how it ended.
 -- (Reactive Streams 1.0, 1.1, 1.3, 1.5, 1.7, 1.9 and 3.8; `Flow` and `SubmissionPublisher`, Java SE 17)
 use Rattle.std.specs.Prelude.{◌≡◌, ℕ, ◌+◌, ◌<◌, ◌≤◌, ◌⊎◌, min, true, false, Option, None, Some, List, [], ◌∷◌, ◌++◌, length, map, take, Contains}
-use Rattle.flow_rules.specs.declared.texts.Item.{Item}
-use Rattle.flow_rules.specs.declared.signals.Ending.TheVariants.{Normal}
-use Rattle.flow_rules.specs.declared.signals.Fault.{Fault}
-use Rattle.flow_rules.specs.declared.signals.Signal.{Signal}
-use Rattle.flow_rules.specs.declared.signals.Signal.TheVariants.{Subscribed, Next, Complete, Error}
-use Rattle.flow_rules.specs.declared.signals.How.{How}
-use Rattle.flow_rules.specs.declared.signals.How.TheVariants.{Completed, Errored, Cancelled, Failed, OutOfMemory}
-use Rattle.flow_rules.specs.Signals.{IsFlowText, items_of}
-use Rattle.feed_core.specs.declared.causes.Causes.{Causes}
+use Rattle.feed_core.specs.Prelude.{Item, Signal, Subscribed, Next, Complete, Error, Fault, Ending, How, IsFlowText, items_of}
+use Rattle.feed_core.specs.declared.cause.Causes.{Causes}
 use Rattle.feed_core.specs.Cause.{stops, IsFaultOf}
 
 -- accepted: the items that its buffer accepted, in order · given: how many of them were taken for onNext
@@ -30,7 +23,7 @@ IsFrontOf front whole = (rest : List Item) × (whole ≡ front ++ rest)
 abbrev pub TellsGiven : LaneState → Type 0
 TellsGiven lane =
     (length (items_of lane.told) ≡ lane.given)
-    ⊎ ((lane.how ≡ Some OutOfMemory) × (length (items_of lane.told) + 1 ≡ lane.given))
+    ⊎ ((lane.how ≡ Some How.OutOfMemory) × (length (items_of lane.told) + 1 ≡ lane.given))
 
 -- the Flow rules on a lane
 pub record IsFlow (lane : LaneState) : Type 0 where
@@ -38,12 +31,12 @@ pub record IsFlow (lane : LaneState) : Type 0 where
   pub in_order : IsFrontOf (items_of lane.told) lane.accepted
   pub counted : TellsGiven lane
   pub requested : lane.given ≤ lane.asked
-  pub completed : Contains lane.told Complete → (lane.causes.closing ≡ Some Normal) × (items_of lane.told ≡ lane.accepted)
+  pub completed : Contains lane.told Complete → (lane.causes.closing ≡ Some Ending.Normal) × (items_of lane.told ≡ lane.accepted)
   pub errored : (fault : Fault) → Contains lane.told (Error fault) → IsFaultOf lane.causes fault
 
 -- no onComplete and no onError was told
-abbrev pub HasNoLastSignal : List Signal → Type 0
-HasNoLastSignal told = (Contains told Complete → ⊥) × ((fault : Fault) → Contains told (Error fault) → ⊥)
+abbrev pub HasNoTerminal : List Signal → Type 0
+HasNoTerminal told = (Contains told Complete → ⊥) × ((fault : Fault) → Contains told (Error fault) → ⊥)
 
 -- a lane that has not ended has been told all that its demand allows, and nothing is there that would end it
 pub record IsIdle (lane : LaneState) : Type 0 where
@@ -51,16 +44,16 @@ pub record IsIdle (lane : LaneState) : Type 0 where
   pub unfailed : lane.causes.failed ≡ None
   pub remembered : lane.causes.memory ≡ false
   pub all_told : lane.told ≡ Subscribed ∷ map Next (take (min (length lane.accepted) lane.asked) lane.accepted)
-  pub open_or_short : lane.causes.closing ≡ Some Normal → lane.asked < length lane.accepted
+  pub open_or_short : lane.causes.closing ≡ Some Ending.Normal → lane.asked < length lane.accepted
 
 -- a lane that needs no turn, by how it ended
 abbrev pub IsSettledAs : LaneState → Option How → Type 0
 IsSettledAs lane None = IsIdle lane
-IsSettledAs lane (Some Completed) = lane.told ≡ Subscribed ∷ (map Next lane.accepted ++ Complete ∷ [])
-IsSettledAs lane (Some (Errored fault)) = (before : List Signal) × (lane.told ≡ before ++ Error fault ∷ [])
-IsSettledAs lane (Some Cancelled) = HasNoLastSignal lane.told × (lane.causes.cancel ≡ true)
-IsSettledAs lane (Some (Failed code)) = HasNoLastSignal lane.told × (lane.causes.failed ≡ Some code)
-IsSettledAs lane (Some OutOfMemory) = HasNoLastSignal lane.told × (lane.causes.memory ≡ true)
+IsSettledAs lane (Some How.Completed) = lane.told ≡ Subscribed ∷ (map Next lane.accepted ++ Complete ∷ [])
+IsSettledAs lane (Some (How.Errored fault)) = (before : List Signal) × (lane.told ≡ before ++ Error fault ∷ [])
+IsSettledAs lane (Some How.Cancelled) = HasNoTerminal lane.told × (lane.causes.cancel ≡ true)
+IsSettledAs lane (Some (How.Failed code)) = HasNoTerminal lane.told × (lane.causes.failed ≡ Some code)
+IsSettledAs lane (Some How.OutOfMemory) = HasNoTerminal lane.told × (lane.causes.memory ≡ true)
 
 -- nothing is forgotten: a lane at rest was told all that its demand and its ending allow
 pub record IsSettled (lane : LaneState) : Type 0 where

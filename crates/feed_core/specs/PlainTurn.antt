@@ -1,13 +1,9 @@
 -- What a turn tells a subscriber that only goes on and meets no want of memory, and what is to be done after it.
 use Rattle.std.specs.Prelude.{ℕ, ◌-◌, ◌==◌, if◌then◌else◌, min, Option, None, Some, List, [], ◌∷◌, ◌++◌, length, map, take, drop}
-use Rattle.flow_rules.specs.declared.texts.Item.{Item}
-use Rattle.flow_rules.specs.declared.signals.Signal.{Signal}
-use Rattle.flow_rules.specs.declared.signals.Signal.TheVariants.{Subscribed, Next, Complete, Error}
-use Rattle.flow_rules.specs.declared.signals.How.{How}
-use Rattle.flow_rules.specs.declared.signals.How.TheVariants.{Completed, Errored, Cancelled, Failed, OutOfMemory}
-use Rattle.feed_core.specs.declared.causes.Causes.{Causes}
-use Rattle.feed_core.specs.declared.outlooks.Outlook.{Outlook}
-use Rattle.feed_core.specs.declared.outlooks.Outlook.TheVariants.{Again, Resting, Ended}
+use Rattle.feed_core.specs.Prelude.{Item, Signal, Subscribed, Next, Complete, Error, How}
+use Rattle.feed_core.specs.declared.cause.Causes.{Causes}
+use Rattle.feed_core.specs.declared.turn.outlook.Outlook.{Outlook}
+use Rattle.feed_core.specs.declared.turn.outlook.Outlook.TheVariants.{Again, Resting, Ended}
 use Rattle.feed_core.specs.Cause.{stops, closes}
 use Rattle.feed_core.specs.Lane.{LaneState}
 
@@ -25,20 +21,20 @@ abbrev pub resting : Turn
 resting = record { told = []; outlook = Resting }
 
 -- the terminal signal of an end, if it has one
-abbrev pub last_signal : How → List Signal
-last_signal Completed = Complete ∷ []
-last_signal (Errored fault) = Error fault ∷ []
-last_signal Cancelled = []
-last_signal (Failed _) = []
-last_signal OutOfMemory = []
+abbrev pub terminal_of : How → List Signal
+terminal_of How.Completed = Complete ∷ []
+terminal_of (How.Errored fault) = Error fault ∷ []
+terminal_of How.Cancelled = []
+terminal_of (How.Failed _) = []
+terminal_of How.OutOfMemory = []
 
 -- the end: its terminal signal, and no more turns
 abbrev pub ended : How → Turn
-ended how = record { told = last_signal how; outlook = Ended how }
+ended how = record { told = terminal_of how; outlook = Ended how }
 
 -- these signals, and then a turn
-abbrev pub telling : List Signal → Turn → Turn
-telling signals turn = record { told = signals ++ turn.told; outlook = turn.outlook }
+abbrev pub signals_then : List Signal → Turn → Turn
+signals_then signals turn = record { told = signals ++ turn.told; outlook = turn.outlook }
 
 -- onSubscribe, where nothing was told yet
 abbrev pub greeting : List Signal → List Signal
@@ -46,30 +42,30 @@ greeting [] = Subscribed ∷ []
 greeting (_ ∷ _) = []
 
 -- the end at once, if there is one, or else the turn
-abbrev pub unless_stopped : Option How → Turn → Turn
-unless_stopped (Some how) turn = ended how
-unless_stopped None turn = turn
+abbrev pub stop_or_turn : Option How → Turn → Turn
+stop_or_turn (Some how) turn = ended how
+stop_or_turn None turn = turn
 
 -- the end that waits for the items, if there is one and no item is left, or else rest
-abbrev pub closing_or_resting : Option How → List Item → Turn
-closing_or_resting None left = resting
-closing_or_resting (Some how) [] = ended how
-closing_or_resting (Some how) (_ ∷ _) = resting
+abbrev pub close_or_rest : Option How → List Item → Turn
+close_or_rest None left = resting
+close_or_rest (Some how) [] = ended how
+close_or_rest (Some how) (_ ∷ _) = resting
 
 -- how many items a turn gives: those that wait and were requested, at most 64
 abbrev pub number_to_give : List Item → ℕ → ℕ
 number_to_give waiting unmet = min (min (length waiting) unmet) 64
 
 -- the items of a turn; the 64th leaves the rest to another turn
-abbrev pub giving : Causes → List Item → ℕ → Turn
-giving causes waiting unmet =
+abbrev pub items_turn : Causes → List Item → ℕ → Turn
+items_turn causes waiting unmet =
     let n = number_to_give waiting unmet in
-    telling (map Next (take n waiting)) (if n == 64 then again else closing_or_resting (closes causes) (drop n waiting))
+    signals_then (map Next (take n waiting)) (if n == 64 then again else close_or_rest (closes causes) (drop n waiting))
 
 -- a turn over the causes, the items that wait, the demand that is not met yet and what was told before
 abbrev pub plain_turn : Causes → List Item → ℕ → List Signal → Turn
 plain_turn causes waiting unmet told =
-    telling (greeting told) (unless_stopped (stops causes) (giving causes waiting unmet))
+    signals_then (greeting told) (stop_or_turn (stops causes) (items_turn causes waiting unmet))
 
 -- the turn of a lane
 abbrev pub plain_turn_of : LaneState → Turn

@@ -1,17 +1,10 @@
 -- What a Desk keeps between any two calls, from which the Flow rules of its lane follow.
 use Rattle.std.specs.Prelude.{◌≡◌, ℕ, ◌+◌, ◌<◌, ◌≤◌, min, Bool, true, false, Option, None, Some, List, [], ◌∷◌, ◌++◌, length, map}
-use Rattle.flow_rules.specs.declared.texts.Item.{Item}
-use Rattle.flow_rules.specs.declared.signals.Ending.TheVariants.{Normal, Failed as ClosedWith}
-use Rattle.flow_rules.specs.declared.signals.Fault.TheVariants.{Published, IllegalArgument, IllegalState}
-use Rattle.flow_rules.specs.declared.signals.Signal.{Signal}
-use Rattle.flow_rules.specs.declared.signals.Signal.TheVariants.{Subscribed, Next}
-use Rattle.flow_rules.specs.declared.signals.How.{How}
-use Rattle.flow_rules.specs.declared.signals.How.TheVariants.{Completed, Errored, Cancelled, Failed, OutOfMemory}
-use Rattle.flow_rules.specs.Signals.{items_of}
-use Rattle.feed_core.specs.declared.causes.Causes.{Causes}
+use Rattle.feed_core.specs.Prelude.{Item, Signal, Subscribed, Next, Published, IllegalArgument, IllegalState, Ending, How, items_of}
+use Rattle.feed_core.specs.declared.cause.Causes.{Causes}
 use Rattle.feed_core.specs.Cause.{stops}
 use Rattle.feed_core.specs.Lane.{LaneState}
-use Rattle.feed_core.specs.PlainTurn.{last_signal}
+use Rattle.feed_core.specs.PlainTurn.{terminal_of}
 
 -- whether anything was told
 abbrev pub is_begun : List Signal → Bool
@@ -19,9 +12,9 @@ is_begun [] = false
 is_begun (_ ∷ _) = true
 
 -- the terminal signal of an end, if there is one
-abbrev pub ending_of : Option How → List Signal
-ending_of None = []
-ending_of (Some how) = last_signal how
+abbrev pub terminal_part : Option How → List Signal
+terminal_part None = []
+terminal_part (Some how) = terminal_of how
 
 -- onSubscribe, where anything was told
 abbrev pub opening : Bool → List Signal
@@ -29,28 +22,28 @@ opening false = []
 opening true = Subscribed ∷ []
 
 -- the text of these items and this end
-abbrev pub text_of : Bool → List Item → Option How → List Signal
-text_of begun items how = opening begun ++ (map Next items ++ ending_of how)
+abbrev pub signals_of : Bool → List Item → Option How → List Signal
+signals_of begun items how = opening begun ++ (map Next items ++ terminal_part how)
 
 -- how many taken items may be missing in what was told: one, at an end for want of memory
-abbrev pub lost_by : Option How → ℕ
-lost_by None = 0
-lost_by (Some Completed) = 0
-lost_by (Some (Errored _)) = 0
-lost_by (Some Cancelled) = 0
-lost_by (Some (Failed _)) = 0
-lost_by (Some OutOfMemory) = 1
+abbrev pub loss_of : Option How → ℕ
+loss_of None = 0
+loss_of (Some How.Completed) = 0
+loss_of (Some (How.Errored _)) = 0
+loss_of (Some How.Cancelled) = 0
+loss_of (Some (How.Failed _)) = 0
+loss_of (Some How.OutOfMemory) = 1
 
 -- a lane ends by a cause of its own, and completes once every item was given
 pub record HasCause (lane : LaneState) : Type 0 where
-  pub completed : lane.how ≡ Some Completed → lane.causes.closing ≡ Some Normal
-  pub whole : lane.how ≡ Some Completed → lane.given ≡ length lane.accepted
-  pub published : (code : ℕ) → lane.how ≡ Some (Errored (Published code)) → lane.causes.closing ≡ Some (ClosedWith code)
-  pub argument : lane.how ≡ Some (Errored IllegalArgument) → lane.causes.argument ≡ true
-  pub state : lane.how ≡ Some (Errored IllegalState) → lane.causes.state ≡ true
-  pub cancelled : lane.how ≡ Some Cancelled → lane.causes.cancel ≡ true
-  pub failed : (code : ℕ) → lane.how ≡ Some (Failed code) → lane.causes.failed ≡ Some code
-  pub refused : lane.how ≡ Some OutOfMemory → lane.causes.memory ≡ true
+  pub completed : lane.how ≡ Some How.Completed → lane.causes.closing ≡ Some Ending.Normal
+  pub whole : lane.how ≡ Some How.Completed → lane.given ≡ length lane.accepted
+  pub published : (code : ℕ) → lane.how ≡ Some (How.Errored (Published code)) → lane.causes.closing ≡ Some (Ending.Failed code)
+  pub argument : lane.how ≡ Some (How.Errored IllegalArgument) → lane.causes.argument ≡ true
+  pub state : lane.how ≡ Some (How.Errored IllegalState) → lane.causes.state ≡ true
+  pub cancelled : lane.how ≡ Some How.Cancelled → lane.causes.cancel ≡ true
+  pub failed : (code : ℕ) → lane.how ≡ Some (How.Failed code) → lane.causes.failed ≡ Some code
+  pub refused : lane.how ≡ Some How.OutOfMemory → lane.causes.memory ≡ true
 
 -- a lane at rest has not ended, and there is nothing that it could be told or ended by
 pub record IsAtRest (lane : LaneState) : Type 0 where
@@ -58,12 +51,12 @@ pub record IsAtRest (lane : LaneState) : Type 0 where
   pub begun : is_begun lane.told ≡ true
   pub runs_on : stops lane.causes ≡ None
   pub all_given : lane.given ≡ min (length lane.accepted) lane.asked
-  pub waits : lane.causes.closing ≡ Some Normal → lane.asked < length lane.accepted
+  pub waits : lane.causes.closing ≡ Some Ending.Normal → lane.asked < length lane.accepted
 
 -- the numbers of a lane: what was told, given, accepted and requested
 pub record IsCounted (lane : LaneState) (capacity : ℕ) : Type 0 where
   pub tells : length (items_of lane.told) ≤ lane.given
-  pub loses : lane.given ≤ length (items_of lane.told) + lost_by lane.how
+  pub loses : lane.given ≤ length (items_of lane.told) + loss_of lane.how
   pub taken : lane.given ≤ length lane.accepted
   pub fits : length lane.accepted ≤ lane.given + capacity
   pub requested : lane.given ≤ lane.asked
@@ -71,7 +64,7 @@ pub record IsCounted (lane : LaneState) (capacity : ℕ) : Type 0 where
 -- the items that a Desk holds are the accepted ones that were not told, and its lane is in order
 pub record IsSound (lane : LaneState) (held : List Item) (capacity : ℕ) (running : Bool) : Type 0 where
   pub holds : lane.accepted ≡ items_of lane.told ++ held
-  pub text : lane.told ≡ text_of (is_begun lane.told) (items_of lane.told) lane.how
+  pub text : lane.told ≡ signals_of (is_begun lane.told) (items_of lane.told) lane.how
   pub counts : IsCounted lane capacity
   pub cause : HasCause lane
   pub unfailed : lane.how ≡ None → lane.causes.failed ≡ None

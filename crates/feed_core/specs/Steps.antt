@@ -1,16 +1,13 @@
 -- The steps that a turn is made of.
 use Rattle.std.specs.Prelude.{◌≡◌, ℕ, suc, ◌+◌, ◌-◌, ◌<◌, ◌≤◌, ◌==◌, if◌then◌else◌, min, ◌⊎◌, None, Some, List, [], ◌∷◌, ◌++◌, length, map, take, drop}
-use Rattle.flow_rules.specs.declared.texts.Item.{Item}
-use Rattle.flow_rules.specs.declared.signals.Signal.{Signal}
-use Rattle.flow_rules.specs.declared.signals.Signal.TheVariants.{Next}
-use Rattle.flow_rules.specs.declared.signals.How.{How}
-use Rattle.feed_core.specs.declared.causes.Causes.{Causes}
-use Rattle.feed_core.specs.declared.outlooks.Outlook.{Outlook}
-use Rattle.feed_core.specs.declared.outlooks.Outlook.TheVariants.{Again, Resting, Ended}
+use Rattle.feed_core.specs.Prelude.{Item, Signal, Next, How}
+use Rattle.feed_core.specs.declared.cause.Causes.{Causes}
+use Rattle.feed_core.specs.declared.turn.outlook.Outlook.{Outlook}
+use Rattle.feed_core.specs.declared.turn.outlook.Outlook.TheVariants.{Again, Resting, Ended}
 use Rattle.feed_core.specs.Cause.{stops, closes, with_cause_of}
 use Rattle.feed_core.specs.Desk.{DeskState, AfterTurn, MeetsPlainTurn, taken_in}
 use Rattle.feed_core.specs.Lane.{LaneState, IsFlow}
-use Rattle.feed_core.specs.PlainTurn.{Turn, again, greeting, telling, last_signal, unless_stopped, closing_or_resting}
+use Rattle.feed_core.specs.PlainTurn.{Turn, again, greeting, signals_then, terminal_of, stop_or_turn, close_or_rest}
 
 -- the first of the held items was told, and moved to what was seen
 pub record MovesNext (told told' : List Signal) (held held' : List Item) (seen seen' : List Signal) : Type 0 where
@@ -23,28 +20,28 @@ pub record MovesNext (told told' : List Signal) (held held' : List Item) (seen s
 abbrev pub turn_within : ℕ → Causes → List Item → ℕ → Turn
 turn_within most causes waiting unmet =
     let n = min (min (length waiting) unmet) most in
-    unless_stopped (stops causes)
-    (telling (map Next (take n waiting)) (if n == most then again else closing_or_resting (closes causes) (drop n waiting)))
+    stop_or_turn (stops causes)
+    (signals_then (map Next (take n waiting)) (if n == most then again else close_or_rest (closes causes) (drop n waiting)))
 
 -- the same of a lane
 abbrev pub rest_of_turn : ℕ → LaneState → Turn
 rest_of_turn most lane = turn_within most lane.causes (drop lane.given lane.accepted) (lane.asked - lane.given)
 
 -- an end is due: one at once, or completion where every item was given
-abbrev pub IsDue : LaneState → How → Type 0
-IsDue lane how =
+abbrev pub OwesEnd : LaneState → How → Type 0
+OwesEnd lane how =
     (stops lane.causes ≡ Some how)
     ⊎ ((stops lane.causes ≡ None) × (closes lane.causes ≡ Some how) × (lane.given ≡ length lane.accepted))
 
 -- the lane, ended in this way
-abbrev pub ended_by : How → LaneState → LaneState
-ended_by how lane = record lane { causes = with_cause_of how lane.causes; how = Some how }
+abbrev pub lane_after_end : How → LaneState → LaneState
+lane_after_end how lane = record lane { causes = with_cause_of how lane.causes; how = Some how }
 
 -- what one look tells, by its outlook: an item, nothing, or the ending
 abbrev pub IsToldBy : Outlook → List Signal → Type 0
 IsToldBy Again last = (item : Item) × (last ≡ Next item ∷ [])
 IsToldBy Resting last = last ≡ []
-IsToldBy (Ended how) last = last ≡ last_signal how
+IsToldBy (Ended how) last = last ≡ terminal_of how
 
 -- an item was given, which was waiting and requested, and nothing stopped it
 pub record GoesOn (old new : LaneState) (last : List Signal) : Type 0 where

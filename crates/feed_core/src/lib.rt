@@ -1,13 +1,10 @@
 //! One subscription as plain state: its lane, what a turn tells of it, and why it ends.
 #![tactic(auto)]
 
-mod causes;
-mod desks;
-mod outlooks;
-mod seens;
-mod telling;
+mod cause;
+mod desk;
+mod turn;
 
-pub use causes::Causes;
-pub use desks::Desk;
-pub use outlooks::Outlook;
-pub use seens::Seen;
+pub use cause::Causes;
+pub use desk::Desk;
+pub use turn::{Outlook, Seen};

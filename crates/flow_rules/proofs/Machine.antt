@@ -1,11 +1,11 @@
 -- The machine of `audit` decides whether a text of signals is one that the rules allow.
 use Rattle.std.proofs.Common.{◌≡◌, ℕ, ◌<◌, drop, length, get_or, drop-cons, ◌↔◌, Bool, true, false, IsTrue, List, [], ◌∷◌, ◌++◌, map, refl, ap, inl, inr, sym, suc, ◌∙◌}
-use Rattle.flow_rules.specs.declared.texts.Item.{Item}
-use Rattle.flow_rules.specs.declared.signals.Signal.{Signal}
-use Rattle.flow_rules.specs.declared.signals.Signal.TheVariants.{Subscribed, Next, Complete, Error}
+use Rattle.flow_rules.specs.declared.item.Item.{Item}
+use Rattle.flow_rules.specs.declared.signal.Signal.{Signal}
+use Rattle.flow_rules.specs.declared.signal.Signal.TheVariants.{Subscribed, Next, Complete, Error}
 use Rattle.flow_rules.specs.declared.audits.Stage.{Stage}
 use Rattle.flow_rules.specs.declared.audits.Stage.TheVariants.{Fresh, Opened, Ended}
-use Rattle.flow_rules.specs.Signals.{IsEnding, IsFlowText}
+use Rattle.flow_rules.specs.Signals.{IsTerminalPart, IsFlowText}
 
 -- whether the machine, at a stage, goes through these signals
 abbrev pub passes : Stage → List Signal → Bool
@@ -22,7 +22,7 @@ passes Ended (_ ∷ text) = false
 
 -- what may follow once a text is open
 abbrev Follows : List Signal → Type 0
-Follows text = (items : List Item) × (ending : List Signal) × (text ≡ map Next items ++ ending) × IsEnding ending
+Follows text = (items : List Item) × (ending : List Signal) × (text ≡ map Next items ++ ending) × IsTerminalPart ending
 
 -- nothing follows an ending
 ended-passes : (text : List Signal) → IsTrue (passes Ended text) → text ≡ []
@@ -40,7 +40,7 @@ opened-passes (Complete ∷ text) h =
 opened-passes (Error fault ∷ text) h =
     ([], Error fault ∷ text, refl, inr (inr (fault, ap (λ t. Error fault ∷ t) (ended-passes text h))))
 
-opened-follows : (items : List Item) (ending : List Signal) → IsEnding ending → IsTrue (passes Opened (map Next items ++ ending))
+opened-follows : (items : List Item) (ending : List Signal) → IsTerminalPart ending → IsTrue (passes Opened (map Next items ++ ending))
 opened-follows [] ending (inl e) = rw e refl
 opened-follows [] ending (inr (inl e)) = rw e refl
 opened-follows [] ending (inr (inr f)) = rw f.1 refl

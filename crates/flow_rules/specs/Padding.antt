@@ -3,7 +3,7 @@ use Rattle.std.specs.Prelude.{◌≡◌, ◌-◌, ◌++◌, ℕ, List, length, t
 use Rattle.std.proofs.Common.{ap, arith}
 use Rattle.std.proofs.lemmas.List.{take-append-drop, length-take-le}
 use Rattle.flow_rules.specs.Name.{IsPadded, padded}
-use Rattle.flow_rules.specs.declared.names.Name.TheInside.{Inside}
+use Rattle.flow_rules.specs.declared.name.Name.TheInside.{Inside}
 
 -- the bytes of a name, padded again, are its fields
 pub padded-take : (n : Inside) → IsPadded n.bytes n.len → (record { bytes = padded (take n.len n.bytes); len = length (take n.len n.bytes) }) ≡ n

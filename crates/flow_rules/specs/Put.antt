@@ -1,8 +1,8 @@
 -- What became of an item that was offered to one subscription.
 use Rattle.std.specs.Prelude.{ℕ, Option}
-use Rattle.flow_rules.specs.declared.puts.Put.{Put}
-use Rattle.flow_rules.specs.declared.puts.Put.TheVariants.{Accepted, Full, Gone}
-use Rattle.flow_rules.specs.declared.texts.Item.{Item}
+use Rattle.flow_rules.specs.declared.feed.put.Put.{Put}
+use Rattle.flow_rules.specs.declared.feed.put.Put.TheVariants.{Accepted, Full, Gone}
+use Rattle.flow_rules.specs.declared.item.Item.{Item}
 
 -- P holds of the lag and the start, if the item was accepted
 abbrev pub IfAccepted : {T : Type 0} → Put T → (ℕ → Option T → Type 0) → Type 0

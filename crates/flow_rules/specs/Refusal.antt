@@ -1,40 +1,40 @@
 -- The number and the word of each refusal.
 use Rattle.std.specs.Prelude.{ℕ, List, ◌++◌, codes, decimal}
-use Rattle.flow_rules.specs.declared.refusals.Refusal.{Refusal}
-use Rattle.flow_rules.specs.declared.refusals.Refusal.TheVariants.{BadCapacity, Closed, Duplicate, TooMany, NoMemory, LineTooLong, BadWorkers, StillHeld, Unsettled, Unknown, WouldWait, BadCommand, Exhausted}
+use Rattle.flow_rules.specs.declared.refusal.Refusal.{Refusal}
+use Rattle.flow_rules.specs.declared.refusal.Refusal.TheVariants.{BadCapacity, Closed, Duplicate, TooMany, NoMemory, LineTooLong, BadWorkers, StillHeld, Unsettled, Unknown, WouldWait, BadCommand, Exhausted}
 
 -- the number of a refusal
-abbrev pub number_of : Refusal → ℕ
-number_of BadCapacity = 1
-number_of (Closed _) = 2
-number_of Duplicate = 3
-number_of TooMany = 4
-number_of NoMemory = 5
-number_of LineTooLong = 6
-number_of BadWorkers = 7
-number_of (StillHeld _) = 8
-number_of (Unsettled _) = 9
-number_of Unknown = 10
-number_of WouldWait = 11
-number_of BadCommand = 12
-number_of Exhausted = 13
+abbrev pub refusal_number : Refusal → ℕ
+refusal_number BadCapacity = 1
+refusal_number (Closed _) = 2
+refusal_number Duplicate = 3
+refusal_number TooMany = 4
+refusal_number NoMemory = 5
+refusal_number LineTooLong = 6
+refusal_number BadWorkers = 7
+refusal_number (StillHeld _) = 8
+refusal_number (Unsettled _) = 9
+refusal_number Unknown = 10
+refusal_number WouldWait = 11
+refusal_number BadCommand = 12
+refusal_number Exhausted = 13
 
 -- the printed word of a refusal
-abbrev pub word_of : Refusal → List ℕ
-word_of BadCapacity = codes "capacity"
-word_of (Closed _) = codes "closed"
-word_of Duplicate = codes "duplicate"
-word_of TooMany = codes "many"
-word_of NoMemory = codes "memory"
-word_of LineTooLong = codes "line"
-word_of BadWorkers = codes "workers"
-word_of (StillHeld _) = codes "held"
-word_of (Unsettled _) = codes "unsettled"
-word_of Unknown = codes "unknown"
-word_of WouldWait = codes "wait"
-word_of BadCommand = codes "command"
-word_of Exhausted = codes "exhausted"
+abbrev pub refusal_word : Refusal → List ℕ
+refusal_word BadCapacity = codes "capacity"
+refusal_word (Closed _) = codes "closed"
+refusal_word Duplicate = codes "duplicate"
+refusal_word TooMany = codes "many"
+refusal_word NoMemory = codes "memory"
+refusal_word LineTooLong = codes "line"
+refusal_word BadWorkers = codes "workers"
+refusal_word (StillHeld _) = codes "held"
+refusal_word (Unsettled _) = codes "unsettled"
+refusal_word Unknown = codes "unknown"
+refusal_word WouldWait = codes "wait"
+refusal_word BadCommand = codes "command"
+refusal_word Exhausted = codes "exhausted"
 
 -- `refused N WORD`
 abbrev pub refusal_line : Refusal → List ℕ
-refusal_line refusal = codes "refused " ++ decimal (number_of refusal) ++ codes " " ++ word_of refusal
+refusal_line refusal = codes "refused " ++ decimal (refusal_number refusal) ++ codes " " ++ refusal_word refusal

@@ -1,17 +1,17 @@
 -- What a subscriber is told: a text of signals (Reactive Streams 1.0, 1.3, 1.7 and 1.9; `Flow.Subscriber`, Java SE 17).
 use Rattle.std.specs.Prelude.{◌≡◌, ◌⊎◌, List, [], ◌∷◌, ◌++◌, map}
-use Rattle.flow_rules.specs.declared.signals.Fault.{Fault}
-use Rattle.flow_rules.specs.declared.signals.Signal.{Signal}
-use Rattle.flow_rules.specs.declared.signals.Signal.TheVariants.{Subscribed, Next, Complete, Error}
-use Rattle.flow_rules.specs.declared.texts.Item.{Item}
+use Rattle.flow_rules.specs.declared.signal.Fault.{Fault}
+use Rattle.flow_rules.specs.declared.signal.Signal.{Signal}
+use Rattle.flow_rules.specs.declared.signal.Signal.TheVariants.{Subscribed, Next, Complete, Error}
+use Rattle.flow_rules.specs.declared.item.Item.{Item}
 
 -- nothing, one onComplete or one onError
-abbrev pub IsEnding : List Signal → Type 0
-IsEnding ending = (ending ≡ []) ⊎ ((ending ≡ Complete ∷ []) ⊎ ((fault : Fault) × (ending ≡ Error fault ∷ [])))
+abbrev pub IsTerminalPart : List Signal → Type 0
+IsTerminalPart ending = (ending ≡ []) ⊎ ((ending ≡ Complete ∷ []) ⊎ ((fault : Fault) × (ending ≡ Error fault ∷ [])))
 
 -- onSubscribe, then onNext any number of times, then an ending
 abbrev pub IsOpened : List Signal → Type 0
-IsOpened text = (items : List Item) × (ending : List Signal) × (text ≡ Subscribed ∷ (map Next items ++ ending)) × IsEnding ending
+IsOpened text = (items : List Item) × (ending : List Signal) × (text ≡ Subscribed ∷ (map Next items ++ ending)) × IsTerminalPart ending
 
 -- a text that the Flow rules allow: nothing yet, or an opened one
 abbrev pub IsFlowText : List Signal → Type 0

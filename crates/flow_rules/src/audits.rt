@@ -1,7 +1,7 @@
 ghost use Rattle.std.specs.Prelude.{◌↔◌, IsTrue};
 ghost use Rattle.flow_rules.specs.Signals.{IsFlowText};
 
-use crate::signals::Signal;
+use crate::signal::Signal;
 
 /// How far a text of signals has come.
 #[derive(Clone, Copy)]

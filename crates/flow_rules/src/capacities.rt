@@ -1,7 +1,7 @@
 ghost use Rattle.std.specs.Prelude.{◌≡◌, ◌↔◌, IfOk, IsErr};
 ghost use Rattle.flow_rules.specs.Capacity.{capacity_of, IsCapacityOf};
 
-use crate::refusals::BadCapacity;
+use crate::refusal::BadCapacity;
 
 /// The largest enforced capacity.
 pub const LARGEST_CAPACITY: usize = 65_536;

@@ -2,26 +2,34 @@
 //! capacity, demand, and the check that a text of signals is one that the rules allow.
 #![tactic(auto)]
 
+mod answer;
 mod audits;
 mod capacities;
-mod collectors;
-mod demands;
-mod names;
-mod puts;
-mod refusals;
-mod signals;
-mod subscribers;
+mod collector;
+mod demand;
+mod ending;
+mod feed;
+mod how;
+mod item;
+mod name;
+mod refusal;
+mod signal;
+mod subscriber;
 #[cfg(test)]
 mod tests;
-mod texts;
+mod text;
 
+pub use answer::Answer;
 pub use audits::audit;
 pub use capacities::{LARGEST_CAPACITY, capacity};
-pub use collectors::Collector;
-pub use demands::{Demand, UNBOUNDED};
-pub use names::Name;
-pub use puts::Put;
-pub use refusals::{BadCapacity, NoMemory, Refusal};
-pub use signals::{Answer, Ending, Fault, How, IllegalArgument, Signal};
-pub use subscribers::Subscriber;
-pub use texts::{Item, Text};
+pub use collector::Collector;
+pub use demand::{Demand, IllegalArgument, UNBOUNDED};
+pub use ending::Ending;
+pub use feed::Put;
+pub use how::How;
+pub use item::Item;
+pub use name::Name;
+pub use refusal::{BadCapacity, NoMemory, Refusal};
+pub use signal::{Fault, Signal};
+pub use subscriber::Subscriber;
+pub use text::Text;

@@ -5,11 +5,9 @@ use Rattle.std.specs.Option.{ForSome}
 use Rattle.std.proofs.lemmas.List.{append-nil}
 use Rattle.std.proofs.lemmas.Bool.Decides.{nat_tests}
 use Rattle.std.proofs.KnownBytes.{Appends-trans}
-use Rattle.flow_rules.specs.declared.texts.Item.{Item}
-use Rattle.flow_rules.specs.declared.refusals.Refusal.{Refusal}
-use Rattle.flow_rules.specs.declared.refusals.Refusal.TheVariants.{BadCapacity, Closed, Duplicate, TooMany, NoMemory, LineTooLong, BadWorkers, StillHeld, Unsettled, Unknown, WouldWait, BadCommand, Exhausted}
-use Rattle.flow_rules.specs.Capacity.{capacity_of}
-use Rattle.feed_core.specs.Desk.{accepting, lag_of, requested as asking}
+use Rattle.lines_demo.specs.Prelude.{Item, Refusal, capacity_of}
+use Rattle.flow_rules.specs.declared.refusal.Refusal.TheVariants.{BadCapacity, Closed, Duplicate, TooMany, NoMemory, LineTooLong, BadWorkers, StillHeld, Unsettled, Unknown, WouldWait, BadCommand, Exhausted}
+use Rattle.feed_core.specs.Desk.{lane_with_item, lag_of, lane_with_demand}
 use Rattle.lines_demo.specs.Lane.{is_gone}
 use Rattle.lines_demo.specs.Report.{line_of}
 use Rattle.lines_demo.specs.Stage.{Stage, EntryState, Played}
@@ -54,18 +52,18 @@ subscribe-done stage name number free some =
 pub new-unrequested : (stage : Stage) (name : List ℕ) (capacity : ℕ) → capacity ≡ capacity_of stage.size
     → record { name = name; capacity = capacity; lane = new_lane stage.is_closed; is_woken = true } ≡ new_entry stage name 0
 new-unrequested stage name capacity size = λ k. record { name = name; capacity = size k; lane = lane stage.is_closed k; is_woken = true } where
-  lane : (closed : Bool) → new_lane closed ≡ asking 0 (new_lane closed)
+  lane : (closed : Bool) → new_lane closed ≡ lane_with_demand 0 (new_lane closed)
   lane true = refl
   lane false = refl
 
 pub new-requested : (stage : Stage) (name : List ℕ) (number capacity : ℕ) → capacity ≡ capacity_of stage.size
     → requested (record { name = name; capacity = capacity; lane = new_lane stage.is_closed; is_woken = true }) number ≡ new_entry stage name number
-new-requested stage name number capacity size = λ k. record { name = name; capacity = size k; lane = asking number (new_lane stage.is_closed); is_woken = true }
+new-requested stage name number capacity size = λ k. record { name = name; capacity = size k; lane = lane_with_demand number (new_lane stage.is_closed); is_woken = true }
 
 -- a new subscription has accepted nothing
 pub new-empty : (stage : Stage) (name : List ℕ) (number : ℕ) → length (new_entry stage name number).lane.accepted ≡ 0
 new-empty stage name number = lane stage.is_closed where
-  lane : (closed : Bool) → length (asking number (new_lane closed)).accepted ≡ 0
+  lane : (closed : Bool) → length (lane_with_demand number (new_lane closed)).accepted ≡ 0
   lane true = refl
   lane false = refl
 
@@ -123,7 +121,7 @@ unsubmitted-too stage other why = ap (λ o. or_waiting o (would_wait stage.entry
 pub waits-below-0 : (entry : Option EntryState) (item : Item) → int_lt (answer_of entry item) (pos 0) ≡ would_wait entry
 waits-below-0 None item = refl
 waits-below-0 (Some entry) item = by_gone (is_gone entry.lane) (lag_of entry.lane == entry.capacity) where
-  by_gone : (gone full : Bool) → int_lt (if gone then pos 0 else (if full then negsuc 0 else pos (lag_of (accepting item entry.lane)))) (pos 0) ≡ (not gone && full)
+  by_gone : (gone full : Bool) → int_lt (if gone then pos 0 else (if full then negsuc 0 else pos (lag_of (lane_with_item item entry.lane)))) (pos 0) ≡ (not gone && full)
   by_gone true full = refl
   by_gone false true = refl
   by_gone false false = grind (arith, nat_tests)
@@ -137,7 +135,7 @@ or-false false = refl
 pub waits-unchanged : (entry : Option EntryState) (item : Item) → would_wait entry ≡ true → option_map (λ e. entry_offered e item) entry ≡ entry
 waits-unchanged None item waits = refl
 waits-unchanged (Some entry) item waits = ap Some (by_gone (is_gone entry.lane) (lag_of entry.lane == entry.capacity) waits) where
-  by_gone : (gone full : Bool) → (not gone && full) ≡ true → (record entry { lane = (if not gone && not full then accepting item entry.lane else entry.lane); is_woken = entry.is_woken || (not gone && not full) }) ≡ entry
+  by_gone : (gone full : Bool) → (not gone && full) ≡ true → (record entry { lane = (if not gone && not full then lane_with_item item entry.lane else entry.lane); is_woken = entry.is_woken || (not gone && not full) }) ≡ entry
   by_gone true full waits = cc
   by_gone false false waits = cc
   by_gone false true waits = ap (λ woken. record entry { is_woken = woken }) (or-false entry.is_woken)

@@ -5,7 +5,7 @@ use Rattle.std.proofs.lemmas.List.{append-nil}
 use Rattle.std.proofs.lemmas.Bool.Decides.{nat_tests}
 use Rattle.std.specs.Io.KnownBytes.{Appends}
 use Rattle.std.proofs.KnownBytes.{Appends-nil, Appends-trans}
-use Rattle.flow_rules.specs.declared.refusals.Refusal.TheVariants.{LineTooLong, BadCommand}
+use Rattle.flow_rules.specs.declared.refusal.Refusal.TheVariants.{LineTooLong, BadCommand}
 use Rattle.lines_demo.specs.declared.commands.Command.{Command}
 use Rattle.lines_demo.specs.Command.{command_of}
 use Rattle.lines_demo.specs.Lines.{is_line_feed, at_front, lines_of, without_return}

@@ -1,14 +1,9 @@
 -- What a script's subscription keeps, and that its calls keep it.
 use Rattle.std.proofs.Common.{◌≡◌, ℕ, ◌≤◌, Bool, true, false, List, [], ◌∷◌, ◌++◌, refl, ap, ◌∙◌, append_assoc, length-append, arith, Some, None}
-use Rattle.flow_rules.specs.declared.demands.TheConstants.{UNBOUNDED}
-use Rattle.flow_rules.specs.declared.texts.Item.{Item}
-use Rattle.flow_rules.specs.declared.signals.Ending.TheVariants.{Normal}
-use Rattle.flow_rules.specs.declared.signals.Fault.TheVariants.{IllegalArgument, IllegalState}
-use Rattle.flow_rules.specs.declared.signals.How.TheVariants.{Cancelled, Errored}
-use Rattle.flow_rules.specs.Signals.{items_of}
-use Rattle.feed_core.specs.declared.causes.Causes.{Causes}
+use Rattle.lines_demo.specs.Prelude.{Item, IllegalArgument, IllegalState, Ending, How, UNBOUNDED, items_of}
+use Rattle.feed_core.specs.declared.cause.Causes.{Causes}
 use Rattle.feed_core.specs.Cause.{stops, end_where, closing_error}
-use Rattle.feed_core.specs.Desk.{accepting, closed_by, lag_of, empty_lane, requested as asking}
+use Rattle.feed_core.specs.Desk.{lane_with_item, lane_with_closing, lag_of, empty_lane, lane_with_demand}
 use Rattle.feed_core.specs.Lane.{LaneState}
 use Rattle.feed_core.specs.Sound.{IsSound}
 use Rattle.feed_core.proofs.Keeping.{no_cause}
@@ -28,7 +23,7 @@ pub kept-woken : (lane : LaneState) (capacity : ℕ) (woken woken' : Bool) → K
 kept-woken lane capacity woken woken' kept lives = record { held = kept.held; sound = kept.sound; bounded = kept.bounded; calm = kept.calm; lives = lives }
 
 -- one more item is accepted
-pub kept-accepting : (lane : LaneState) (capacity : ℕ) (woken : Bool) (item : Item) → Kept lane capacity woken → lane.how ≡ None → (lag_of lane ≡ capacity → ⊥) → Kept (accepting item lane) capacity true
+pub kept-accepting : (lane : LaneState) (capacity : ℕ) (woken : Bool) (item : Item) → Kept lane capacity woken → lane.how ≡ None → (lag_of lane ≡ capacity → ⊥) → Kept (lane_with_item item lane) capacity true
 kept-accepting lane capacity woken item kept unended room = record {
   held = kept.held ++ item ∷ [];
   sound = record {
@@ -37,7 +32,7 @@ kept-accepting lane capacity woken item kept unended room = record {
     counts = (let counts = kept.sound.counts in let grown = length-append lane.accepted (item ∷ []) in
         let taken = counts.taken in let fits = counts.fits in
         record { tells = counts.tells; loses = counts.loses; taken = omega (arith, grown); fits = grind (arith, grown); requested = counts.requested });
-    cause = no_cause (accepting item lane) unended;
+    cause = no_cause (lane_with_item item lane) unended;
     unfailed = kept.sound.unfailed;
     remembered = kept.sound.remembered;
     rests = λ e. cc;
@@ -48,7 +43,7 @@ kept-accepting lane capacity woken item kept unended room = record {
 }
 
 -- more is requested
-pub kept-asking : (lane : LaneState) (capacity : ℕ) (woken woken' : Bool) (n : ℕ) → Kept lane capacity woken → (woken' ≡ true → lane.how ≡ None) → Kept (asking n lane) capacity woken'
+pub kept-asking : (lane : LaneState) (capacity : ℕ) (woken woken' : Bool) (n : ℕ) → Kept lane capacity woken → (woken' ≡ true → lane.how ≡ None) → Kept (lane_with_demand n lane) capacity woken'
 kept-asking lane capacity woken woken' n kept lives = record {
   held = kept.held;
   sound = record {
@@ -76,17 +71,17 @@ kept-asking lane capacity woken woken' n kept lives = record {
 }
 
 -- nothing ends a closed lane at once
-calm-closed : (causes : Causes) → stops causes ≡ None → stops (record causes { closing = Some Normal }) ≡ None
+calm-closed : (causes : Causes) → stops causes ≡ None → stops (record causes { closing = Some Ending.Normal }) ≡ None
 calm-closed causes calm = by causes.cancel causes.argument causes.state calm where
-  by : (cancel argument state : Bool) → end_where cancel Cancelled (end_where argument (Errored IllegalArgument) (end_where state (Errored IllegalState) (closing_error causes.closing))) ≡ None
-      → end_where cancel Cancelled (end_where argument (Errored IllegalArgument) (end_where state (Errored IllegalState) None)) ≡ None
+  by : (cancel argument state : Bool) → end_where cancel How.Cancelled (end_where argument (How.Errored IllegalArgument) (end_where state (How.Errored IllegalState) (closing_error causes.closing))) ≡ None
+      → end_where cancel How.Cancelled (end_where argument (How.Errored IllegalArgument) (end_where state (How.Errored IllegalState) None)) ≡ None
   by true argument state e = e
   by false true state e = e
   by false false true e = e
   by false false false e = refl
 
 -- the lane is closed
-pub kept-closed : (lane : LaneState) (capacity : ℕ) (woken woken' : Bool) → Kept lane capacity woken → lane.causes.closing ≡ None → (woken' ≡ true → lane.how ≡ None) → Kept (closed_by Normal lane) capacity woken'
+pub kept-closed : (lane : LaneState) (capacity : ℕ) (woken woken' : Bool) → Kept lane capacity woken → lane.causes.closing ≡ None → (woken' ≡ true → lane.how ≡ None) → Kept (lane_with_closing Ending.Normal lane) capacity woken'
 kept-closed lane capacity woken woken' kept unclosed lives = record {
   held = kept.held;
   sound = record {

@@ -3,11 +3,8 @@ use Rattle.std.proofs.Common.{◌≡◌, ◌==◌, ℕ, zero, suc, ◌+◌, Bool
 use Rattle.std.specs.Prelude.{is_some, option_map, ⊤}
 use Rattle.std.proofs.lemmas.Bool.Decides.{nat_tests}
 use Rattle.std.proofs.lemmas.List.{append-nil}
-use Rattle.flow_rules.specs.declared.texts.Item.{Item}
-use Rattle.flow_rules.specs.declared.refusals.Refusal.{Refusal}
-use Rattle.flow_rules.specs.declared.signals.Ending.TheVariants.{Normal}
-use Rattle.flow_rules.specs.declared.signals.Signal.{Signal}
-use Rattle.feed_core.specs.Desk.{closed_by, empty_lane, lag_of}
+use Rattle.lines_demo.specs.Prelude.{Item, Signal, Ending, Refusal}
+use Rattle.feed_core.specs.Desk.{lane_with_closing, empty_lane, lag_of}
 use Rattle.feed_core.specs.Lane.{LaneState, IsFlow}
 use Rattle.feed_core.specs.PlainTurn.{plain_turn_of}
 use Rattle.feed_core.proofs.Flow.{flow_kept}
@@ -156,7 +153,7 @@ request-kept stage (Some entry) refusals name number kept kept_entry =
 close-kept : (stage : Stage) (refusals : List Bool) → IsKept stage.entry → IsKept (close stage refusals).stage.entry
 close-kept stage refusals kept = either stage.is_closed _ _ kept (by stage.entry kept) where
   one : (entry : EntryState) (closing : Option _) → entry.lane.causes.closing ≡ closing → IsKept (Some entry)
-      → IsKept (Some (if is_some closing then entry else (record entry { lane = closed_by Normal entry.lane; is_woken = entry.is_woken || not (is_some entry.lane.how) })))
+      → IsKept (Some (if is_some closing then entry else (record entry { lane = lane_with_closing Ending.Normal entry.lane; is_woken = entry.is_woken || not (is_some entry.lane.how) })))
   one entry (Some ending) e kept = kept
   one entry None e kept = kept-closed entry.lane entry.capacity entry.is_woken _ kept e (signalled-lives entry kept)
 

@@ -1,18 +1,14 @@
 -- A turn that is cut short by want of memory keeps what a script's subscription keeps.
 use Rattle.std.proofs.Common.{◌≡◌, ℕ, suc, ◌+◌, ◌≤◌, true, false, List, [], ◌∷◌, ◌++◌, length, map, take, refl, sym, ap, subst, ◌∙◌, append_assoc, length-append, arith, Some, inl, inr, ◌⊎◌}
 use Rattle.std.proofs.lemmas.List.{append-nil}
-use Rattle.flow_rules.specs.declared.texts.Item.{Item}
-use Rattle.flow_rules.specs.declared.signals.Signal.{Signal}
-use Rattle.flow_rules.specs.declared.signals.Signal.TheVariants.{Subscribed, Next, Complete, Error}
-use Rattle.flow_rules.specs.declared.signals.How.TheVariants.{OutOfMemory}
-use Rattle.flow_rules.specs.Signals.{items_of}
-use Rattle.feed_core.specs.declared.causes.Causes.{Causes}
-use Rattle.feed_core.specs.declared.outlooks.Outlook.TheVariants.{Ended}
+use Rattle.lines_demo.specs.Prelude.{Item, Signal, Subscribed, Next, Complete, Error, How, items_of}
+use Rattle.feed_core.specs.declared.cause.Causes.{Causes}
+use Rattle.feed_core.specs.declared.turn.outlook.Outlook.TheVariants.{Ended}
 use Rattle.feed_core.specs.Cause.{with_cause_of}
 use Rattle.feed_core.specs.Desk.{taken_in}
 use Rattle.feed_core.specs.Lane.{LaneState}
 use Rattle.feed_core.specs.PlainTurn.{Turn, greeting, plain_turn_of}
-use Rattle.feed_core.specs.Sound.{is_begun, text_of}
+use Rattle.feed_core.specs.Sound.{is_begun, signals_of}
 use Rattle.feed_core.proofs.Texts.{items_of-append}
 use Rattle.lines_demo.specs.Lane.{lane_after}
 use Rattle.lines_demo.proofs.Kept.{Kept}
@@ -104,12 +100,12 @@ missed-items before told items next m = elim m.is [
   | inr e ↦ ap items_of e.1 ∙ sym e.2
 ]
 
-missed-text : (before told : List Signal) (items : List Item) (next : Signal) (m : Missed before items told next) → IsOpenText before → before ++ told ≡ text_of (is_begun (before ++ told)) (items_of (before ++ told)) (Some OutOfMemory)
+missed-text : (before told : List Signal) (items : List Item) (next : Signal) (m : Missed before items told next) → IsOpenText before → before ++ told ≡ signals_of (is_begun (before ++ told)) (items_of (before ++ told)) (Some How.OutOfMemory)
 missed-text before told items next m begins = elim m.is [
-  | inl e ↦ subst (λ t. before ++ t ≡ text_of (is_begun (before ++ t)) (items_of (before ++ t)) (Some OutOfMemory)) (sym (e ∙ ap (λ t. greeting before ++ t) (sym (append-nil (map Next m.told_items)))))
-      (grown-text before m.told_items (Some OutOfMemory) begins)
+  | inl e ↦ subst (λ t. before ++ t ≡ signals_of (is_begun (before ++ t)) (items_of (before ++ t)) (Some How.OutOfMemory)) (sym (e ∙ ap (λ t. greeting before ++ t) (sym (append-nil (map Next m.told_items)))))
+      (grown-text before m.told_items (Some How.OutOfMemory) begins)
   | inr e ↦ (let none : before ++ told ≡ [] = ap (λ b. b ++ told) e.0 ∙ e.1 in
-      subst (λ t. t ≡ text_of (is_begun t) (items_of t) (Some OutOfMemory)) (sym none) refl)
+      subst (λ t. t ≡ signals_of (is_begun t) (items_of t) (Some How.OutOfMemory)) (sym none) refl)
 ]
 
 -- an end of a turn has at most one signal, and no item
@@ -119,7 +115,7 @@ ends-short causes left turn (inr done) = (let one = ap length done.0 in omega (a
 
 -- a front of a turn was told: the lane has ended for want of memory
 pub kept-part : (lane : LaneState) (capacity : ℕ) (told : List Signal) (next : Signal) (rest : List Signal) → Kept lane capacity true → (plain_turn_of lane).told ≡ told ++ (next ∷ rest)
-    → Kept (lane_after lane told (Ended OutOfMemory)) capacity false
+    → Kept (lane_after lane told (Ended How.OutOfMemory)) capacity false
 kept-part lane capacity told next rest kept plain =
     let unended = kept.lives refl in
     let t = turn-told lane kept.held capacity kept.sound unended kept.calm in
@@ -136,7 +132,7 @@ kept-part lane capacity told next rest kept plain =
     let requested = t.requested in
     record {
       held = m.left ++ t.left;
-      sound = sound-after lane kept.held m.told_items (m.left ++ t.left) capacity told (lane.given + taken_in (plain_turn_of lane) told) (with_cause_of OutOfMemory lane.causes) (Some OutOfMemory) kept.sound unended parts
+      sound = sound-after lane kept.held m.told_items (m.left ++ t.left) capacity told (lane.given + taken_in (plain_turn_of lane) told) (with_cause_of How.OutOfMemory lane.causes) (Some How.OutOfMemory) kept.sound unended parts
           (missed-items lane.told told t.items next m) (missed-text lane.told told t.items next m (open-text lane kept.held capacity kept.sound unended))
           (omega (arith, taken)) (omega (arith, taken)) (omega (arith, taken, long)) (omega (arith, taken))
           (record { completed = λ e. cc; whole = λ e. cc; published = λ code e. cc; argument = λ e. cc; state = λ e. cc; cancelled = λ e. cc; failed = λ code e. cc; refused = λ e. refl })

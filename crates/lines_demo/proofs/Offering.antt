@@ -2,8 +2,8 @@
 use Rattle.std.proofs.Common.{◌≡◌, ◌==◌, ℕ, ◌+◌, ◌<◌, ◌^◌, false, ◌∷◌, ◌++◌, [], length, length-append, pos, w64, to_z, ap, refl, ◌∙◌, arith, rules}
 use Rattle.std.specs.Prelude.{Option}
 use Rattle.std.proofs.lemmas.Bool.Decides.{nat_tests}
-use Rattle.flow_rules.specs.declared.texts.Item.{Item}
-use Rattle.feed_core.specs.Desk.{DeskState, AcceptsItem, accepting, lag_of}
+use Rattle.lines_demo.specs.Prelude.{Item}
+use Rattle.feed_core.specs.Desk.{DeskState, AcceptsItem, lane_with_item, lag_of}
 use Rattle.lines_demo.specs.Lane.{offer_answer}
 
 -- a small number is itself, signed
@@ -14,7 +14,7 @@ small-signed n few = search rules
 pub offer-accepted : (old new : DeskState) (item : Item) (lag : ℕ) (start : Option (Unit {0})) → AcceptsItem old new item lag start → length old.lane.accepted < 2 ^ 62
     → to_z w64 lag ≡ offer_answer old.capacity old.lane item
 offer-accepted old new item lag start took few =
-    let now : lag ≡ lag_of (accepting item old.lane) = took.lag_after ∙ ap (λ desk. lag_of desk.lane) took.taken in
+    let now : lag ≡ lag_of (lane_with_item item old.lane) = took.lag_after ∙ ap (λ desk. lag_of desk.lane) took.taken in
     let grown : length (old.lane.accepted ++ (item ∷ [])) ≡ length old.lane.accepted + 1 = length-append old.lane.accepted (item ∷ []) in
     let small : lag < 2 ^ 63 = omega (arith, now, grown) in
     let room : (lag_of old.lane == old.capacity) ≡ false = (let r = took.room_before in grind (arith, nat_tests)) in

@@ -3,19 +3,13 @@ use Rattle.std.proofs.Common.{◌≡◌, ◌==◌, ℕ, zero, suc, ◌+◌, ◌-
 use Rattle.std.proofs.lemmas.List.{append-nil, length-drop, take_all}
 use Rattle.std.specs.Io.KnownBytes.{Appends}
 use Rattle.std.proofs.KnownBytes.{Appends-nil, Appends-trans}
-use Rattle.flow_rules.specs.declared.texts.Item.{Item}
-use Rattle.flow_rules.specs.declared.signals.Ending.{Ending}
-use Rattle.flow_rules.specs.declared.signals.Ending.TheVariants.{Normal, Failed as ClosedWith}
-use Rattle.flow_rules.specs.declared.signals.Fault.TheVariants.{IllegalArgument, IllegalState}
-use Rattle.flow_rules.specs.declared.signals.Signal.{Signal}
-use Rattle.flow_rules.specs.declared.signals.How.TheVariants.{Cancelled, Errored, OutOfMemory}
-use Rattle.flow_rules.specs.Signals.{items_of}
-use Rattle.feed_core.specs.declared.outlooks.Outlook.{Outlook}
-use Rattle.feed_core.specs.declared.outlooks.Outlook.TheVariants.{Again, Resting, Ended}
+use Rattle.lines_demo.specs.Prelude.{Item, Signal, IllegalArgument, IllegalState, Ending, How, items_of}
+use Rattle.feed_core.specs.declared.turn.outlook.Outlook.{Outlook}
+use Rattle.feed_core.specs.declared.turn.outlook.Outlook.TheVariants.{Again, Resting, Ended}
 use Rattle.feed_core.specs.Cause.{end_where, closing_error, completion}
 use Rattle.feed_core.specs.Desk.{DeskState, AfterTurn, MeetsPlainTurn, lag_of, taken_in}
 use Rattle.feed_core.specs.Lane.{LaneState, IsFrontOf as IsFrontOfItems}
-use Rattle.feed_core.specs.PlainTurn.{Turn, again, plain_turn_of, unless_stopped, closing_or_resting, number_to_give}
+use Rattle.feed_core.specs.PlainTurn.{Turn, again, plain_turn_of, stop_or_turn, close_or_rest, number_to_give}
 use Rattle.lines_demo.specs.Lane.{TakesTurn, lane_after, is_again, IsOutlookOf}
 use Rattle.lines_demo.specs.Report.{signal_lines}
 use Rattle.lines_demo.specs.Stage.{EntryState}
@@ -49,26 +43,26 @@ turn-heard entry refusals heard e =
     ap after e
 
 -- a completion, and rest, have no line of their own
-closed-quiet : (name : List ℕ) (closing : Option Ending) (left : List Item) → outlook_lines name (closing_or_resting (completion closing) left).outlook ≡ []
+closed-quiet : (name : List ℕ) (closing : Option Ending) (left : List Item) → outlook_lines name (close_or_rest (completion closing) left).outlook ≡ []
 closed-quiet name None left = refl
-closed-quiet name (Some (ClosedWith code)) left = refl
-closed-quiet name (Some Normal) [] = refl
-closed-quiet name (Some Normal) (_ ∷ _) = refl
+closed-quiet name (Some (Ending.Failed code)) left = refl
+closed-quiet name (Some Ending.Normal) [] = refl
+closed-quiet name (Some Ending.Normal) (_ ∷ _) = refl
 
 -- nor has a turn that gives items
-giving-quiet : (name : List ℕ) (closing : Option Ending) (left : List Item) (full : Bool) → outlook_lines name (if full then again else closing_or_resting (completion closing) left).outlook ≡ []
+giving-quiet : (name : List ℕ) (closing : Option Ending) (left : List Item) (full : Bool) → outlook_lines name (if full then again else close_or_rest (completion closing) left).outlook ≡ []
 giving-quiet name closing left true = refl
 giving-quiet name closing left false = closed-quiet name closing left
 
 -- nor has an end at once
 stopping-quiet : (name : List ℕ) (cancel argument state : Bool) (closing : Option Ending) (turn : Turn) → outlook_lines name turn.outlook ≡ []
-    → outlook_lines name (unless_stopped (end_where cancel Cancelled (end_where argument (Errored IllegalArgument) (end_where state (Errored IllegalState) (closing_error closing)))) turn).outlook ≡ []
+    → outlook_lines name (stop_or_turn (end_where cancel How.Cancelled (end_where argument (How.Errored IllegalArgument) (end_where state (How.Errored IllegalState) (closing_error closing)))) turn).outlook ≡ []
 stopping-quiet name true argument state closing turn quiet = refl
 stopping-quiet name false true state closing turn quiet = refl
 stopping-quiet name false false true closing turn quiet = refl
 stopping-quiet name false false false None turn quiet = quiet
-stopping-quiet name false false false (Some Normal) turn quiet = quiet
-stopping-quiet name false false false (Some (ClosedWith code)) turn quiet = refl
+stopping-quiet name false false false (Some Ending.Normal) turn quiet = quiet
+stopping-quiet name false false false (Some (Ending.Failed code)) turn quiet = refl
 
 -- so a turn in which all was told has no line of its own
 plain-outlook-lines : (name : List ℕ) (lane : LaneState) → outlook_lines name (plain_turn_of lane).outlook ≡ []
@@ -100,7 +94,7 @@ turns-once-all done a b entry lane' outlook told plain after seen writes = recor
 
 -- a callback was refused memory
 turns-once-part : (done : Bool) (a b : Option (List ℕ)) (entry : EntryState) (lane' : LaneState) (outlook : Outlook) (told missed : List Signal) (next : Signal)
-    → (plain_turn_of entry.lane).told ≡ told ++ (next ∷ missed) → lane' ≡ lane_after entry.lane told outlook → outlook ≡ Ended OutOfMemory
+    → (plain_turn_of entry.lane).told ≡ told ++ (next ∷ missed) → lane' ≡ lane_after entry.lane told outlook → outlook ≡ Ended How.OutOfMemory
     → Writes done a b (turn_lines entry.name told outlook) → TurnsOnce done entry (after_turn entry lane' outlook) a b
 turns-once-part done a b entry lane' outlook told missed next plain after seen writes = record {
   used = no_refusals told ++ (true ∷ []);
@@ -150,7 +144,7 @@ fewer-wait old new told outlook after plain taken front full more =
     let kept : length new.lane.accepted ≡ length old.lane.accepted = ap length after.accepted in
     let whole : take (length told + 1) (plain_turn_of old.lane).told ≡ told = elim plain [
       | inl all ↦ ap (take (length told + 1)) (sym all.0) ∙ take_all (length told + 1) told (omega arith)
-      | inr part ↦ (let never : Again ≡ Ended OutOfMemory = sym owed ∙ part.0 in cc)
+      | inr part ↦ (let never : Again ≡ Ended How.OutOfMemory = sym owed ∙ part.0 in cc)
     ] in
     let gave : taken_in (plain_turn_of old.lane) told ≡ 64 = ap (λ t. length (items_of t)) whole ∙ many in
     omega (arith, waiting, kept, gave, taken)

@@ -4,7 +4,7 @@ use Rattle.std.proofs.lemmas.List.{append-nil, take-append-drop, take_more}
 use Rattle.std.proofs.lemmas.Bool.Decides.{nat_tests}
 use Rattle.std.specs.Io.KnownBytes.{Appends, Keeps}
 use Rattle.std.proofs.KnownBytes.{Appends-nil, Appends-trans}
-use Rattle.flow_rules.specs.declared.signals.Signal.{Signal}
+use Rattle.lines_demo.specs.Prelude.{Signal}
 use Rattle.lines_demo.specs.Report.{signal_line, signal_lines}
 use Rattle.lines_demo.specs.Writing.{Writes}
 

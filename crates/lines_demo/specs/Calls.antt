@@ -1,12 +1,9 @@
 -- What each command but `run` does, and what it is answered.
 use Rattle.std.specs.Prelude.{ℕ, ◌+◌, ◌-◌, ◌^◌, ◌==◌, ℤ, pos, Bool, true, false, ◌&&◌, ◌||◌, not, if◌then◌else◌, nat_le, nat_lt, Option, Some, None, is_some, option_map, Result, Ok, Err, List, ◌++◌, length, codes, decimal}
 use Rattle.std.specs.Fmt.{signed_decimal}
-use Rattle.flow_rules.specs.declared.texts.Item.{Item}
-use Rattle.flow_rules.specs.declared.signals.Ending.TheVariants.{Normal}
-use Rattle.flow_rules.specs.declared.refusals.Refusal.{Refusal}
-use Rattle.flow_rules.specs.declared.refusals.Refusal.TheVariants.{BadCapacity, Closed, TooMany, LineTooLong, Unknown, WouldWait, BadCommand, Exhausted}
-use Rattle.flow_rules.specs.Capacity.{capacity_of}
-use Rattle.feed_core.specs.Desk.{lag_of, empty_lane, closed_by, requested as asking}
+use Rattle.lines_demo.specs.Prelude.{Item, Ending, Refusal, capacity_of}
+use Rattle.flow_rules.specs.declared.refusal.Refusal.TheVariants.{BadCapacity, Closed, TooMany, LineTooLong, Unknown, WouldWait, BadCommand, Exhausted}
+use Rattle.feed_core.specs.Desk.{lag_of, empty_lane, lane_with_closing, lane_with_demand}
 use Rattle.feed_core.specs.Lane.{LaneState}
 use Rattle.lines_demo.specs.Command.{is_word}
 use Rattle.lines_demo.specs.Lane.{is_gone, accepts, offer_answer, lane_offered}
@@ -33,7 +30,7 @@ ok_line (Err refusal) = refused refusal
 
 -- the lane of a new subscription: closed at once where the publisher was
 abbrev pub new_lane : Bool → LaneState
-new_lane true = closed_by Normal empty_lane
+new_lane true = lane_with_closing Ending.Normal empty_lane
 new_lane false = empty_lane
 
 -- a subscription that was made now: its first turn is due
@@ -41,7 +38,7 @@ abbrev pub new_entry : Stage → List ℕ → ℕ → EntryState
 new_entry stage name number = record {
   name = name;
   capacity = capacity_of stage.size;
-  lane = asking number (new_lane stage.is_closed);
+  lane = lane_with_demand number (new_lane stage.is_closed);
   is_woken = true;
 }
 
@@ -91,7 +88,7 @@ submit_line = answer_line (codes "submit ")
 -- why a text is not published, if it is not: the publisher was closed, or there are no more serial numbers
 abbrev pub unpublished : Stage → Option Refusal
 unpublished stage =
-    if stage.is_closed then Some (Closed Normal) else (if nat_le PUBLICATIONS stage.serial then Some Exhausted else None)
+    if stage.is_closed then Some (Closed Ending.Normal) else (if nat_le PUBLICATIONS stage.serial then Some Exhausted else None)
 
 -- a publication, unless it is refused; both calls judge the text first, and then take memory for it
 abbrev pub publish_unless : Option Refusal → Stage → List Bool → List ℕ → List ℕ → Played
@@ -129,7 +126,7 @@ submit stage refusals text = publish unsubmitted stage refusals text (codes "sub
 abbrev pub entry_closed : EntryState → EntryState
 entry_closed entry =
     if is_some entry.lane.causes.closing then entry
-    else record entry { lane = closed_by Normal entry.lane; is_woken = entry.is_woken || not (is_some entry.lane.how) }
+    else record entry { lane = lane_with_closing Ending.Normal entry.lane; is_woken = entry.is_woken || not (is_some entry.lane.how) }
 
 -- only the first close does anything
 abbrev pub close : Stage → List Bool → Played
@@ -160,7 +157,7 @@ set_size stage refusals size =
 -- an entry with more demand: a turn is due, unless it has ended
 abbrev pub requested : EntryState → ℕ → EntryState
 requested entry number = record entry {
-  lane = asking number entry.lane;
+  lane = lane_with_demand number entry.lane;
   is_woken = entry.is_woken || not (is_some entry.lane.how);
 }
 

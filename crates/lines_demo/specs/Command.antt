@@ -3,7 +3,7 @@ use Rattle.std.specs.Prelude.{ℕ, ◌≤◌, ⊤, ◌==◌, Bool, if◌then◌e
 use Rattle.std.specs.List.{before_first, after_first}
 use Rattle.std.specs.Cmp.Lexicographic.{pointwise}
 use Rattle.flow_rules.specs.Name.{is_name}
-use Rattle.flow_rules.specs.declared.demands.TheConstants.{UNBOUNDED}
+use Rattle.lines_demo.specs.Prelude.{UNBOUNDED}
 use Rattle.lines_demo.specs.Number.{number_of}
 use Rattle.lines_demo.specs.declared.commands.Command.{Command}
 use Rattle.lines_demo.specs.declared.commands.Command.TheVariants.{Cap, Sub, Offer, Submit, Request, Close, Run}

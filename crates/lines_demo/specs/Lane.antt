@@ -1,11 +1,9 @@
 -- What a turn and an offer do to the lane of a script's subscription.
 use Rattle.std.specs.Prelude.{◌≡◌, ℕ, ◌+◌, ◌==◌, ℤ, pos, negsuc, Bool, true, false, not, ◌&&◌, ◌||◌, if◌then◌else◌, is_some, List, [], ◌∷◌, ◌++◌}
-use Rattle.flow_rules.specs.declared.texts.Item.{Item}
-use Rattle.flow_rules.specs.declared.signals.Signal.{Signal}
-use Rattle.flow_rules.specs.declared.signals.How.TheVariants.{OutOfMemory}
-use Rattle.feed_core.specs.declared.outlooks.Outlook.{Outlook}
-use Rattle.feed_core.specs.declared.outlooks.Outlook.TheVariants.{Again, Resting, Ended}
-use Rattle.feed_core.specs.Desk.{how_after, causes_after, taken_in, lag_of, accepting}
+use Rattle.lines_demo.specs.Prelude.{Item, Signal, How}
+use Rattle.feed_core.specs.declared.turn.outlook.Outlook.{Outlook}
+use Rattle.feed_core.specs.declared.turn.outlook.Outlook.TheVariants.{Again, Resting, Ended}
+use Rattle.feed_core.specs.Desk.{how_after, causes_after, taken_in, lag_of, lane_with_item}
 use Rattle.feed_core.specs.Lane.{LaneState}
 use Rattle.feed_core.specs.PlainTurn.{Turn, plain_turn_of}
 
@@ -29,7 +27,7 @@ lane_after lane told outlook = record {
 -- all of the turn was told, or a callback was refused memory, which ends the subscription
 abbrev pub IsOutlookOf : Turn → List Signal → Outlook → Type 0
 IsOutlookOf plain [] outlook = outlook ≡ plain.outlook
-IsOutlookOf plain (_ ∷ _) outlook = outlook ≡ Ended OutOfMemory
+IsOutlookOf plain (_ ∷ _) outlook = outlook ≡ Ended How.OutOfMemory
 
 -- a turn: a front of what the plain turn tells, and all of it where no callback was refused memory
 pub record TakesTurn (old new : LaneState) (told : List Signal) (outlook : Outlook) : Type 0 where
@@ -48,10 +46,10 @@ accepts capacity lane = not (is_gone lane) && not (lag_of lane == capacity)
 
 -- the lane after an offer
 abbrev pub lane_offered : ℕ → LaneState → Item → LaneState
-lane_offered capacity lane item = if accepts capacity lane then accepting item lane else lane
+lane_offered capacity lane item = if accepts capacity lane then lane_with_item item lane else lane
 
 -- what an offer answers: 0 where there is nobody to take the item, -1 where there is no room, and else the lag after it
 -- (`SubmissionPublisher.offer`, Java SE 17)
 abbrev pub offer_answer : ℕ → LaneState → Item → ℤ
 offer_answer capacity lane item =
-    if is_gone lane then pos 0 else (if lag_of lane == capacity then negsuc 0 else pos (lag_of (accepting item lane)))
+    if is_gone lane then pos 0 else (if lag_of lane == capacity then negsuc 0 else pos (lag_of (lane_with_item item lane)))

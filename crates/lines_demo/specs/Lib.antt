@@ -6,6 +6,7 @@ pub mod Law
 pub mod Lines
 pub mod Number
 pub mod Playing
+pub mod Prelude
 pub mod Report
 pub mod RunScript
 pub mod Script

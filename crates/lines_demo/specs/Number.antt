@@ -1,7 +1,7 @@
 -- The numbers of a script: 1 to 19 digits, up to 2^63-1.
 use Rattle.std.specs.Prelude.{ℕ, ◌+◌, ◌-◌, ◌*◌, ◌≤◌, Bool, ◌&&◌, if◌then◌else◌, nat_le, Option, Some, None, List, length, fold}
 use Rattle.std.specs.List.{list_all}
-use Rattle.flow_rules.specs.declared.demands.TheConstants.{UNBOUNDED}
+use Rattle.lines_demo.specs.Prelude.{UNBOUNDED}
 
 abbrev pub is_digit : ℕ → Bool
 is_digit byte = nat_le 48 byte && nat_le byte 57

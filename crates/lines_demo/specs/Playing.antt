@@ -1,14 +1,10 @@
 -- What the code has to do with a definition that may choose: there are refusals under which the definition says just that.
 use Rattle.std.specs.Prelude.{◌≡◌, ℕ, ◌+◌, ◌<◌, ◌≤◌, Bool, true, Option, Some, None, Result, Ok, Err, List, [], ◌++◌, length}
-use Rattle.flow_rules.specs.declared.texts.Item.{Item}
-use Rattle.flow_rules.specs.declared.refusals.Refusal.{Refusal}
-use Rattle.flow_rules.specs.declared.refusals.Refusal.TheVariants.{NoMemory, LineTooLong}
+use Rattle.lines_demo.specs.Prelude.{Item, Signal, How, Refusal}
+use Rattle.flow_rules.specs.declared.refusal.Refusal.TheVariants.{NoMemory, LineTooLong}
 use Rattle.std.specs.Io.KnownBytes.{Appends}
-use Rattle.flow_rules.specs.declared.signals.Signal.{Signal}
-use Rattle.flow_rules.specs.declared.signals.How.{How}
-use Rattle.flow_rules.specs.declared.signals.How.TheVariants.{Completed, Errored, Cancelled, Failed, OutOfMemory}
-use Rattle.feed_core.specs.declared.outlooks.Outlook.{Outlook}
-use Rattle.feed_core.specs.declared.outlooks.Outlook.TheVariants.{Again, Resting, Ended}
+use Rattle.feed_core.specs.declared.turn.outlook.Outlook.{Outlook}
+use Rattle.feed_core.specs.declared.turn.outlook.Outlook.TheVariants.{Again, Resting, Ended}
 use Rattle.feed_core.specs.Desk.{lag_of}
 use Rattle.lines_demo.specs.Report.{signal_lines, memory_line}
 use Rattle.lines_demo.specs.Stage.{Stage, EntryState, Played}
@@ -32,11 +28,11 @@ pub record Answers (is_done : Bool) (play : List Bool → Played) (old new : Opt
 
 -- the line of an end that a subscriber was not told of
 abbrev pub end_lines : List ℕ → How → List ℕ
-end_lines name OutOfMemory = memory_line name
-end_lines name Completed = []
-end_lines name (Errored _) = []
-end_lines name Cancelled = []
-end_lines name (Failed _) = []
+end_lines name How.OutOfMemory = memory_line name
+end_lines name How.Completed = []
+end_lines name (How.Errored _) = []
+end_lines name How.Cancelled = []
+end_lines name (How.Failed _) = []
 
 -- the lines of a turn: what was told, and then want of memory
 abbrev pub outlook_lines : List ℕ → Outlook → List ℕ

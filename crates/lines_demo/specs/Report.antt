@@ -1,10 +1,6 @@
 -- The lines that a script is answered with.
 use Rattle.std.specs.Prelude.{ℕ, List, [], ◌∷◌, ◌++◌, codes, decimal}
-use Rattle.flow_rules.specs.declared.signals.Fault.{Fault}
-use Rattle.flow_rules.specs.declared.signals.Fault.TheVariants.{Published, IllegalArgument, IllegalState}
-use Rattle.flow_rules.specs.declared.signals.Signal.{Signal}
-use Rattle.flow_rules.specs.declared.signals.Signal.TheVariants.{Subscribed, Next, Complete, Error}
-use Rattle.flow_rules.specs.declared.refusals.Refusal.{Refusal}
+use Rattle.lines_demo.specs.Prelude.{Signal, Subscribed, Next, Complete, Error, Fault, Published, IllegalArgument, IllegalState, Refusal}
 use Rattle.flow_rules.specs.Refusal.{refusal_line}
 
 -- a line of this text

@@ -1,6 +1,6 @@
 -- What a script is answered: a function of its bytes, of the size of the stock, and of the points at which memory is refused.
 use Rattle.std.specs.Prelude.{ℕ, ◌==◌, Bool, true, if◌then◌else◌, nat_lt, Option, Some, None, List, [], ◌∷◌, ◌++◌, length}
-use Rattle.flow_rules.specs.declared.refusals.Refusal.TheVariants.{LineTooLong, BadCommand}
+use Rattle.flow_rules.specs.declared.refusal.Refusal.TheVariants.{LineTooLong, BadCommand}
 use Rattle.lines_demo.specs.declared.commands.Command.{Command}
 use Rattle.lines_demo.specs.declared.commands.Command.TheVariants.{Cap, Sub, Offer, Submit, Request, Close, Run}
 use Rattle.lines_demo.specs.Command.{command_of}

@@ -1,6 +1,6 @@
 -- Where a script stands, and what a command answers there.
 use Rattle.std.specs.Prelude.{ℕ, Bool, true, false, Option, None, List, [], ◌∷◌}
-use Rattle.flow_rules.specs.declared.refusals.Refusal.TheVariants.{NoMemory}
+use Rattle.flow_rules.specs.declared.refusal.Refusal.TheVariants.{NoMemory}
 use Rattle.feed_core.specs.Lane.{LaneState}
 use Rattle.lines_demo.specs.Report.{refused}
 

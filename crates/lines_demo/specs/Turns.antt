@@ -1,9 +1,8 @@
 -- The turns that a `run` makes, and their lines.
 use Rattle.std.specs.Prelude.{ℕ, zero, suc, ◌+◌, Bool, true, false, if◌then◌else◌, Option, Some, None, List, [], ◌∷◌, ◌++◌, codes}
-use Rattle.flow_rules.specs.declared.signals.Signal.{Signal}
-use Rattle.flow_rules.specs.declared.signals.How.TheVariants.{OutOfMemory}
-use Rattle.feed_core.specs.declared.outlooks.Outlook.{Outlook}
-use Rattle.feed_core.specs.declared.outlooks.Outlook.TheVariants.{Ended}
+use Rattle.lines_demo.specs.Prelude.{Signal, How}
+use Rattle.feed_core.specs.declared.turn.outlook.Outlook.{Outlook}
+use Rattle.feed_core.specs.declared.turn.outlook.Outlook.TheVariants.{Ended}
 use Rattle.feed_core.specs.Desk.{lag_of}
 use Rattle.feed_core.specs.PlainTurn.{plain_turn_of}
 use Rattle.lines_demo.specs.Lane.{is_again, lane_after}
@@ -41,7 +40,7 @@ turned entry outlook heard [] = record {
 }
 turned entry outlook heard (_ ∷ _) = record {
   output = signal_lines entry.name heard.told ++ memory_line entry.name;
-  entry = record entry { lane = lane_after entry.lane heard.told (Ended OutOfMemory); is_woken = false };
+  entry = record entry { lane = lane_after entry.lane heard.told (Ended How.OutOfMemory); is_woken = false };
   refusals = heard.refusals;
 }
 

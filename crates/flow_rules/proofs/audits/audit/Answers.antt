@@ -1,7 +1,7 @@
 -- Where the machine stops, the text is not allowed; at the end it has gone through all of it.
 use Rattle.std.proofs.Common.{◌≡◌, ◌∷◌, [], List, IsTrue, refl, arith, drop, false, ◌∙◌}
 use Rattle.std.proofs.lemmas.List.{drop_all}
-use Rattle.flow_rules.specs.declared.signals.Signal.{Signal}
+use Rattle.flow_rules.specs.declared.signal.Signal.{Signal}
 use Rattle.flow_rules.specs.declared.audits.Stage.TheVariants.{Fresh}
 use Rattle.flow_rules.proofs.Machine.{passes, passes-iff, passes-end, stopped, only-subscribed}
 use Rattle.flow_rules.proofs.audits.audit.Goals as goal

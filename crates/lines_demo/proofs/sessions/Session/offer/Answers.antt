@@ -2,7 +2,7 @@ use Rattle.std.proofs.Common.{◌≡◌, ◌+◌, Ok, ℤ, w64, subst, ap, sym, 
 use Rattle.std.specs.Prelude.{Option, option_map, codes}
 use Rattle.std.proofs.lemmas.Int.{to_z-of_z}
 use Rattle.std.proofs.lemmas.Result.{err_from_is_err_and}
-use Rattle.flow_rules.specs.declared.texts.Item.{Item}
+use Rattle.lines_demo.specs.Prelude.{Item}
 use Rattle.lines_demo.specs.Stage.{Stage, EntryState}
 use Rattle.lines_demo.specs.Calls.{offer, offer_line, entry_offered, unpublished}
 use Rattle.lines_demo.specs.Playing.{Plays, IsItemOf}

@@ -2,8 +2,8 @@ use Rattle.std.proofs.Common.{◌≡◌, ◌+◌, Ok, Some, None, true, false, �
 use Rattle.std.specs.Prelude.{Option, option_map, codes}
 use Rattle.std.proofs.lemmas.Int.{to_z-of_z}
 use Rattle.std.proofs.lemmas.Result.{err_from_is_err_and}
-use Rattle.flow_rules.specs.declared.texts.Item.{Item}
-use Rattle.flow_rules.specs.declared.refusals.Refusal.TheVariants.{WouldWait}
+use Rattle.lines_demo.specs.Prelude.{Item}
+use Rattle.flow_rules.specs.declared.refusal.Refusal.TheVariants.{WouldWait}
 use Rattle.lines_demo.specs.Stage.{Stage, EntryState}
 use Rattle.lines_demo.specs.Calls.{submit, submit_line, entry_offered, unsubmitted, or_waiting, would_wait}
 use Rattle.lines_demo.specs.Playing.{Plays, IsItemOf}

@@ -1,6 +1,6 @@
 use Rattle.std.proofs.Common.{◌≡◌, ◌<◌, ◌≤◌, ◌-◌, ◌∷◌, ◌++◌, [], length, length-append, true, None, ap, sym, ◌∙◌, arith, unsigned_abs, to_z, w64}
 use Rattle.std.proofs.lemmas.List.Elements.{All-rest, All-push, All-head, All-same}
-use Rattle.flow_rules.specs.Capacity.{capacity_of}
+use Rattle.lines_demo.specs.Prelude.{capacity_of}
 use Rattle.lines_demo.specs.Stage.{Stage, EntryState}
 use Rattle.lines_demo.specs.Calls.{new_entry, requested}
 use Rattle.lines_demo.proofs.Offering.{small-signed}

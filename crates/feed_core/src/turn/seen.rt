@@ -1,0 +1,73 @@
+ghost use Rattle.std.specs.Prelude.{◌≡◌, ◌<◌, ◌≤◌, ◌↔◌, ◌∷◌, ◌++◌, [], length, IsTrue, IfOk};
+
+use flow_rules::{NoMemory, Signal};
+use std::alloc::Global;
+use std::marker::Model;
+
+/// The signals of one turn, in order. Its room is made when it is made: it never grows.
+#[derive(Debug, Drop)]
+pub struct Seen {
+    signals: Vec<Signal>,
+}
+
+impl Model for Seen {
+    ghost use Rattle.std.specs.Prelude.{List, ◌≤◌, length, vec_capacity};
+    ghost use Rattle.feed_core.specs.Prelude.{Signal};
+
+    ghost Value = { List Signal };
+
+    ghost view = { λ s. s.signals.items };
+
+    ghost invariant = { λ s. (66 ≤ vec_capacity s.signals) × (length s.signals.items ≤ 66) };
+}
+
+impl Seen {
+    /// The number of signals that it has room for: those of one turn are `Subscribed`, 64 items and one ending at most.
+    pub const ROOM: usize = 66;
+
+    /// An empty one. Its room may be refused, as any growth.
+    pub fn new(alloc: Global) -> Result<Seen, NoMemory>
+        ensures { IfOk result (λ seen. seen ≡ []) }
+    {
+        Ok(Seen {
+            signals: Vec::with_capacity(alloc, Seen::ROOM)?,
+        })
+    }
+
+    /// Forgets all signals, and keeps the room.
+    pub fn clear(&mut self)
+        ensures { self.new ≡ [] }
+    {
+        self.signals.clear();
+    }
+
+    /// Adds a signal, where there is room.
+    pub fn push(&mut self, signal: Signal)
+        requires { length self.old < Seen.ROOM }
+        ensures { self.new ≡ self.old ++ signal ∷ [] }
+    {
+        self.signals.push_reserved(signal);
+    }
+
+    /// The signals, in order.
+    pub fn as_slice(&self) -> &[Signal]
+        ensures { result.now ≡ self.now }
+    {
+        self.signals.as_slice()
+    }
+
+    /// The number of signals.
+    pub fn len(&self) -> usize
+        ensures value { result ≡ length self.now }
+        ensures within { length self.now ≤ Seen.ROOM }
+    {
+        self.signals.len()
+    }
+
+    /// Whether it holds no signal.
+    pub fn is_empty(&self) -> bool
+        ensures { IsTrue result ↔ (self.now ≡ []) }
+    {
+        self.signals.is_empty()
+    }
+}

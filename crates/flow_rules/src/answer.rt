@@ -1,0 +1,13 @@
+//! What a callback answers.
+/// What a callback asks for by its return, where Java's would call its `Subscription` or throw.
+#[derive(Clone, Copy, Debug, PartialEq, Eq)]
+pub enum Answer {
+    /// Nothing is asked for.
+    Go,
+    /// `Subscription.request` of this number.
+    Request(i64),
+    /// `Subscription.cancel`.
+    Cancel,
+    /// The callback failed with this code.
+    Fail(u32),
+}

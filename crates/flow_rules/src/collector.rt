@@ -1,0 +1,97 @@
+ghost use Rattle.std.specs.Prelude.{◌≡◌, ◌∷◌, ◌++◌, [], IfOk, OnOk, OnErr, Some, None};
+ghost use Rattle.flow_rules.specs.declared.signal.Signal.TheVariants.{Subscribed};
+
+use crate::refusal::NoMemory;
+use crate::answer::Answer;
+use crate::signal::{Fault, Signal};
+use crate::subscriber::Subscriber;
+use crate::item::Item;
+use std::alloc::Global;
+use std::marker::Model;
+
+/// A subscriber that keeps what it is told. It grows with each signal, and a growth may be refused.
+#[derive(Debug, Drop)]
+pub struct Collector {
+    told: Vec<Signal>,
+    requests: Option<i64>,
+}
+
+impl Model for Collector {
+    ghost use Rattle.flow_rules.specs.Collected.{Collected};
+
+    ghost Value = { Collected };
+
+    ghost view = { λ c. record { told = c.told.items; requests = c.requests } };
+}
+
+impl Collector {
+    /// A collector that was told nothing, and that asks for nothing. It takes no memory until it is told something.
+    pub fn new(alloc: Global) -> Collector
+        ensures untold { result.told ≡ [] }
+        ensures steady { result.requests ≡ None }
+    {
+        Collector {
+            told: Vec::new(alloc),
+            requests: None,
+        }
+    }
+
+    /// A collector that was told nothing, and that requests n items when it is subscribed.
+    pub fn asking(alloc: Global, n: i64) -> Collector
+        ensures untold { result.told ≡ [] }
+        ensures asks { result.requests ≡ Some n }
+    {
+        Collector {
+            told: Vec::new(alloc),
+            requests: Some(n),
+        }
+    }
+
+    /// Keeps one more signal, or nothing where the growth is refused.
+    fn keep(&mut self, signal: Signal) -> Result<(), NoMemory>
+        ensures ok { OnOk result (self.new ≡ record self.old { told = self.old.told ++ signal ∷ [] }) }
+        ensures err { OnErr result (self.new ≡ self.old) }
+    {
+        self.told.push(signal)?;
+        Ok(())
+    }
+}
+
+impl Subscriber for Collector {
+    ghost use Rattle.std.specs.Prelude.{is_none};
+
+    ghost told = { λ c. c.told };
+
+    ghost is_steady = { λ c. is_none c.requests };
+
+    fn told(&self) -> &[Signal] {
+        self.told.as_slice()
+    }
+
+    fn steady(&self) -> bool {
+        self.requests.is_none()
+    }
+
+    fn on_subscribe(&mut self) -> Result<Answer, NoMemory> {
+        self.keep(Signal::Subscribed)?;
+        Ok(match self.requests {
+            Some(n) => Answer::Request(n),
+            None => Answer::Go,
+        })
+    }
+
+    fn on_next(&mut self, item: &Item) -> Result<Answer, NoMemory> {
+        self.keep(Signal::Next(item.share()?))?;
+        Ok(Answer::Go)
+    }
+
+    fn on_error(&mut self, fault: Fault) -> Result<Answer, NoMemory> {
+        self.keep(Signal::Error(fault))?;
+        Ok(Answer::Go)
+    }
+
+    fn on_complete(&mut self) -> Result<Answer, NoMemory> {
+        self.keep(Signal::Complete)?;
+        Ok(Answer::Go)
+    }
+}

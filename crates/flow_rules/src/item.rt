@@ -1,0 +1,29 @@
+//! An item: what a publisher hands on.
+ghost use Rattle.std.specs.Prelude.{◌≡◌, IfOk};
+
+use crate::refusal::NoMemory;
+use crate::text::Text;
+
+/// What a publisher hands on: a text, the source that sent it, its number among the source's items (from 0 on),
+/// and its number among all publications (from 0 on). Items are equal where all four parts are.
+#[derive(Debug, Drop, PartialEq, Eq)]
+pub struct Item {
+    pub source: u32,
+    pub seq: u64,
+    pub serial: u64,
+    pub text: Text,
+}
+
+impl Item {
+    /// An equal item, which shares the text. It may be refused, as any growth.
+    pub fn share(&self) -> Result<Item, NoMemory>
+        ensures { IfOk result (λ item. item ≡ self.now) }
+    {
+        Ok(Item {
+            source: self.source,
+            seq: self.seq,
+            serial: self.serial,
+            text: self.text.share()?,
+        })
+    }
+}

@@ -1,0 +1,147 @@
+ghost use Rattle.std.specs.Prelude.{◌≡◌, Some, codes};
+ghost use Rattle.std.specs.declared.string.String.{String};
+ghost use Rattle.flow_rules.specs.Refusal.{refusal_number, refusal_word, refusal_line};
+
+use crate::name::Name;
+use crate::ending::Ending;
+use std::alloc::{AllocError, AllocFailed};
+use std::error::Error;
+use std::fmt;
+
+/// A growth was refused; nothing has changed.
+#[derive(Clone, Copy, Debug, PartialEq, Eq)]
+pub struct NoMemory;
+
+/// A capacity of 0 (`IllegalArgumentException` of `SubmissionPublisher`'s constructor).
+#[derive(Clone, Copy, Debug, PartialEq, Eq)]
+pub struct BadCapacity;
+
+/// Why a call was refused. After a refusal nothing has changed, but where the call says so.
+#[derive(Debug, Drop, PartialEq, Eq)]
+pub enum Refusal {
+    /// The capacity was 0.
+    BadCapacity,
+    /// The publisher was closed in this way.
+    Closed(Ending),
+    /// A live subscription has the name.
+    Duplicate,
+    /// There are as many live subscriptions, submitters or subscribers as there may be.
+    TooMany,
+    /// A growth was refused.
+    NoMemory,
+    /// The text has more than 4,096 bytes.
+    LineTooLong,
+    /// The number of workers was not 1 to 8.
+    BadWorkers,
+    /// A subscription, submitter or task of this name was not handed in.
+    StillHeld(Name),
+    /// These subscriptions were running, or closed and not ended.
+    Unsettled(Vec<Name>),
+    /// No subscription had that name.
+    Unknown,
+    /// The call would have to wait.
+    WouldWait,
+    /// The form of a command, a line or an argument is wrong.
+    BadCommand,
+    /// As many publications, subscriptions or tickets were made as there may be.
+    Exhausted,
+}
+
+impl Refusal {
+    /// The number of the refusal, 1 to 13.
+    pub fn number(&self) -> u32
+        ensures { result ≡ refusal_number self.now }
+    {
+        match self {
+            Refusal::BadCapacity => 1,
+            Refusal::Closed(_) => 2,
+            Refusal::Duplicate => 3,
+            Refusal::TooMany => 4,
+            Refusal::NoMemory => 5,
+            Refusal::LineTooLong => 6,
+            Refusal::BadWorkers => 7,
+            Refusal::StillHeld(_) => 8,
+            Refusal::Unsettled(_) => 9,
+            Refusal::Unknown => 10,
+            Refusal::WouldWait => 11,
+            Refusal::BadCommand => 12,
+            Refusal::Exhausted => 13,
+        }
+    }
+
+    /// The word that is printed beside the number.
+    pub fn word(&self) -> &'static str
+        ensures { result.now ≡ refusal_word self.now }
+    {
+        match self {
+            Refusal::BadCapacity => "capacity",
+            Refusal::Closed(_) => "closed",
+            Refusal::Duplicate => "duplicate",
+            Refusal::TooMany => "many",
+            Refusal::NoMemory => "memory",
+            Refusal::LineTooLong => "line",
+            Refusal::BadWorkers => "workers",
+            Refusal::StillHeld(_) => "held",
+            Refusal::Unsettled(_) => "unsettled",
+            Refusal::Unknown => "unknown",
+            Refusal::WouldWait => "wait",
+            Refusal::BadCommand => "command",
+            Refusal::Exhausted => "exhausted",
+        }
+    }
+}
+
+/// `refused N WORD`
+impl fmt::Display for Refusal {
+    ghost output = { λ refusal. Some (refusal_line refusal) };
+
+    fn fmt<W: fmt::Write>(&self, f: &mut fmt::Formatter<W>) -> fmt::Result {
+        write!(f, "refused {} {}", self.number(), self.word())
+    }
+}
+
+impl Error for Refusal {}
+
+impl fmt::Display for NoMemory {
+    ghost output = { λ _. Some (codes "memory") };
+
+    fn fmt<W: fmt::Write>(&self, f: &mut fmt::Formatter<W>) -> fmt::Result {
+        f.write_str("memory")
+    }
+}
+
+impl Error for NoMemory {}
+
+impl From<AllocError> for NoMemory {
+    fn from(_refused: AllocError) -> NoMemory {
+        NoMemory
+    }
+}
+
+impl<T: Drop> From<AllocFailed<T>> for NoMemory {
+    fn from(_refused: AllocFailed<T>) -> NoMemory {
+        NoMemory
+    }
+}
+
+impl From<NoMemory> for Refusal {
+    ghost use Rattle.std.specs.Prelude.{◌≡◌};
+    ghost use Rattle.flow_rules.specs.declared.refusal.Refusal.TheVariants.{NoMemory};
+
+    ghost from_gives = { λ _ refusal. refusal ≡ NoMemory };
+
+    fn from(_refused: NoMemory) -> Refusal {
+        Refusal::NoMemory
+    }
+}
+
+impl From<BadCapacity> for Refusal {
+    ghost use Rattle.std.specs.Prelude.{◌≡◌};
+    ghost use Rattle.flow_rules.specs.declared.refusal.Refusal.TheVariants.{BadCapacity};
+
+    ghost from_gives = { λ _ refusal. refusal ≡ BadCapacity };
+
+    fn from(_refused: BadCapacity) -> Refusal {
+        Refusal::BadCapacity
+    }
+}

@@ -1,0 +1,73 @@
+//! A text: the bytes of an item, which its owners share.
+ghost use Rattle.std.specs.Prelude.{◌≡◌, ◌≤◌, ◌==◌, length, IfOk};
+ghost use Rattle.std.specs.Cmp.Lexicographic.{pointwise};
+ghost use Rattle.std.specs.Cmp.Rules.{comparing};
+ghost use Rattle.std.proofs.Common.{rules};
+
+use crate::refusal::NoMemory;
+use std::alloc::Global;
+use std::marker::Model;
+use std::sync::Arc;
+
+/// A text of up to 4,096 bytes that its owners share: to share it copies no byte.
+#[derive(Debug, Drop)]
+pub struct Text {
+    bytes: Arc<Vec<u8>>,
+}
+
+impl Model for Text {
+    ghost use Rattle.std.specs.Prelude.{List, ℕ, ◌≤◌, length};
+
+    ghost Value = { List ℕ };
+
+    ghost view = { λ t. t.bytes.value.items };
+
+    ghost invariant = { λ t. length t.bytes.value.items ≤ 4096 };
+}
+
+impl Text {
+    /// The number of bytes of the longest text.
+    pub const LONGEST: usize = 4096;
+
+    /// A text of these bytes, which need be no text in any encoding.
+    pub fn new(alloc: Global, bytes: &[u8]) -> Result<Text, NoMemory>
+        requires { length bytes.now ≤ Text.LONGEST }
+        ensures { IfOk result (λ text. text ≡ bytes.now) }
+    {
+        let copy = Vec::from_slice(alloc, bytes)?;
+        Ok(Text {
+            bytes: Arc::new(alloc, copy)?,
+        })
+    }
+
+    /// One more owner of the same bytes. It may be refused, as any growth.
+    pub fn share(&self) -> Result<Text, NoMemory>
+        ensures { IfOk result (λ text. text ≡ self.now) }
+    {
+        Ok(Text {
+            bytes: Arc::try_clone(&self.bytes)?,
+        })
+    }
+
+    /// The bytes of the text.
+    pub fn as_bytes(&self) -> &[u8]
+        ensures value { result.now ≡ self.now }
+        ensures short { length self.now ≤ Text.LONGEST }
+    {
+        self.bytes.as_slice()
+    }
+}
+
+impl PartialEq for Text {
+    ghost eq = { pointwise ◌==◌ };
+
+    ghost laws = { Prim.search (comparing, rules) };
+
+    fn eq(&self, other: &Text) -> bool {
+        self.as_bytes() == other.as_bytes()
+    }
+}
+
+impl Eq for Text {
+    ghost laws = { Prim.search (comparing, rules) };
+}
