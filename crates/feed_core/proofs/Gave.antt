@@ -7,7 +7,8 @@ use Rattle.feed_core.specs.Prelude.{Item, Signal, Subscribed, Next, Complete, Er
 use Rattle.feed_core.specs.declared.turn.outlook.Outlook.{Outlook}
 use Rattle.feed_core.specs.declared.turn.outlook.Outlook.TheVariants.{Again, Resting, Ended}
 use Rattle.feed_core.specs.Cause.{stops}
-use Rattle.feed_core.specs.Desk.{DeskState, AfterTurn, causes_after, EndsIn, IsProperPrefix, MeetsPlainTurn, Owes, taken_in}
+use Rattle.feed_core.specs.Desk.{DeskState, AfterTurn, Owes}
+use Rattle.feed_core.specs.Turn.{causes_after, EndsIn, IsProperPrefix, MeetsPlainTurn, taken_in}
 use Rattle.feed_core.specs.Lane.{LaneState, IsFlow, IsFrontOf}
 use Rattle.feed_core.specs.PlainTurn.{Turn, again, greeting, terminal_of, plain_turn_of, signals_then}
 use Rattle.feed_core.specs.Sound.{is_begun}

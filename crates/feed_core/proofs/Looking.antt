@@ -6,7 +6,8 @@ use Rattle.feed_core.specs.Prelude.{Item, Signal, Next, Ending, How, items_of}
 use Rattle.feed_core.specs.declared.cause.Causes.{Causes}
 use Rattle.feed_core.specs.declared.turn.outlook.Outlook.TheVariants.{Again, Resting, Ended}
 use Rattle.feed_core.specs.Cause.{stops, closes, completion, with_cause_of}
-use Rattle.feed_core.specs.Desk.{DeskState, IsProperPrefix, taken_in}
+use Rattle.feed_core.specs.Desk.{DeskState}
+use Rattle.feed_core.specs.Turn.{IsProperPrefix, taken_in}
 use Rattle.feed_core.specs.Lane.{LaneState, IsFlow}
 use Rattle.feed_core.specs.PlainTurn.{Turn, terminal_of, ended, resting, close_or_rest, signals_then}
 use Rattle.feed_core.specs.Sound.{is_begun, lane_of, IsSound}

@@ -1,7 +1,9 @@
 pub mod Cause
 pub mod Desk
 pub mod Lane
+pub mod LaneCalls
 pub mod PlainTurn
 pub mod Prelude
 pub mod Sound
 pub mod Steps
+pub mod Turn

@@ -5,7 +5,8 @@ use Rattle.feed_core.specs.declared.cause.Causes.{Causes}
 use Rattle.feed_core.specs.declared.turn.outlook.Outlook.{Outlook}
 use Rattle.feed_core.specs.declared.turn.outlook.Outlook.TheVariants.{Again, Resting, Ended}
 use Rattle.feed_core.specs.Cause.{stops, closes, with_cause_of}
-use Rattle.feed_core.specs.Desk.{DeskState, AfterTurn, MeetsPlainTurn, taken_in}
+use Rattle.feed_core.specs.Desk.{DeskState, AfterTurn}
+use Rattle.feed_core.specs.Turn.{MeetsPlainTurn, taken_in}
 use Rattle.feed_core.specs.Lane.{LaneState, IsFlow}
 use Rattle.feed_core.specs.PlainTurn.{Turn, again, greeting, signals_then, terminal_of, stop_or_turn, close_or_rest}
 

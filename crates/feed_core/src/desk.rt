@@ -48,7 +48,8 @@ impl<B: Subscriber> Model for Desk<B> {
 
 impl<B: Subscriber> Desk<B> {
     ghost use Rattle.std.specs.Prelude.{◌≡◌, ◌↔◌, [], true, length, IsTrue, IsFalse, IfOk, IfErr};
-    ghost use Rattle.feed_core.specs.Desk.{IsCapacity, IsNew, Owes};
+    ghost use Rattle.feed_core.specs.Desk.{IsNew, Owes};
+    ghost use Rattle.feed_core.specs.LaneCalls.{IsCapacity};
     ghost use Rattle.feed_core.specs.Lane.{IsFlow, IsSettled};
 
     /// An empty subscription of this subscriber, with a buffer of this capacity. It owes its first turn, which tells

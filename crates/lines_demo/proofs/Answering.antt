@@ -7,8 +7,8 @@ use Rattle.std.proofs.lemmas.Bool.Decides.{nat_tests}
 use Rattle.std.proofs.KnownBytes.{Appends-trans}
 use Rattle.lines_demo.specs.Prelude.{Item, Refusal, capacity_of}
 use Rattle.flow_rules.specs.declared.refusal.Refusal.TheVariants.{BadCapacity, Closed, Duplicate, TooMany, NoMemory, LineTooLong, BadWorkers, StillHeld, Unsettled, Unknown, WouldWait, BadCommand, Exhausted}
-use Rattle.feed_core.specs.Desk.{lane_with_item, lag_of, lane_with_demand}
-use Rattle.lines_demo.specs.Lane.{is_gone}
+use Rattle.feed_core.specs.LaneCalls.{lane_with_item, lag_of, lane_with_demand}
+use Rattle.feed_core.specs.LaneCalls.{is_gone}
 use Rattle.lines_demo.specs.Report.{line_of}
 use Rattle.lines_demo.specs.Stage.{Stage, EntryState, Played}
 use Rattle.lines_demo.specs.Turns.{Turned, run_entry}

@@ -6,14 +6,14 @@ use Rattle.feed_core.specs.declared.cause.Causes.{Causes}
 use Rattle.feed_core.specs.declared.turn.outlook.Outlook.{Outlook}
 use Rattle.feed_core.specs.declared.turn.outlook.Outlook.TheVariants.{Again, Resting, Ended}
 use Rattle.feed_core.specs.Cause.{stops, closes, completion}
-use Rattle.feed_core.specs.Desk.{taken_in}
+use Rattle.feed_core.specs.Turn.{taken_in}
 use Rattle.feed_core.specs.Lane.{LaneState}
 use Rattle.feed_core.specs.PlainTurn.{Turn, again, greeting, signals_then, stop_or_turn, items_turn, close_or_rest, number_to_give, plain_turn_of}
 use Rattle.feed_core.specs.Sound.{IsSound, HasCause, is_begun, terminal_part, signals_of, loss_of}
 use Rattle.feed_core.proofs.Texts.{items_of-append, items_of-nexts}
 use Rattle.feed_core.proofs.Keeping.{all_counted, items_of-last, no_cause, waiting_held}
 use Rattle.feed_core.proofs.Flow.{open_text}
-use Rattle.lines_demo.specs.Lane.{lane_after, is_again}
+use Rattle.feed_core.specs.Turn.{lane_after_turn, is_again}
 use Rattle.lines_demo.proofs.Kept.{Kept}
 
 -- ---- texts
@@ -186,11 +186,11 @@ kept-completed lane capacity kept t last closing none_left =
     }
 
 -- all of a turn was told
-pub kept-whole : (lane : LaneState) (capacity : ℕ) → Kept lane capacity true → Kept (lane_after lane (plain_turn_of lane).told (plain_turn_of lane).outlook) capacity (is_again (plain_turn_of lane).outlook)
+pub kept-whole : (lane : LaneState) (capacity : ℕ) → Kept lane capacity true → Kept (lane_after_turn lane (plain_turn_of lane).told (plain_turn_of lane).outlook) capacity (is_again (plain_turn_of lane).outlook)
 kept-whole lane capacity kept =
     let t = turn-told lane kept.held capacity kept.sound (kept.lives refl) kept.calm in
     let outlook : (plain_turn_of lane).outlook ≡ t.end.outlook = ap (λ turn. turn.outlook) t.plain in
-    let P : Outlook → Type 0 = λ o. Kept (lane_after lane (plain_turn_of lane).told o) capacity (is_again o) in
+    let P : Outlook → Type 0 = λ o. Kept (lane_after_turn lane (plain_turn_of lane).told o) capacity (is_again o) in
     elim t.ends [
       | inl going ↦ (elim going.1 [
         | inl e ↦ subst P (sym (outlook ∙ e)) (kept-going lane capacity true kept t going.0)

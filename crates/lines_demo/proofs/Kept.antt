@@ -3,7 +3,7 @@ use Rattle.std.proofs.Common.{◌≡◌, ℕ, ◌≤◌, Bool, true, false, List
 use Rattle.lines_demo.specs.Prelude.{Item, IllegalArgument, IllegalState, Ending, How, UNBOUNDED, items_of}
 use Rattle.feed_core.specs.declared.cause.Causes.{Causes}
 use Rattle.feed_core.specs.Cause.{stops, end_where, closing_error}
-use Rattle.feed_core.specs.Desk.{lane_with_item, lane_with_closing, lag_of, empty_lane, lane_with_demand}
+use Rattle.feed_core.specs.LaneCalls.{lane_with_item, lane_with_closing, lag_of, empty_lane, lane_with_demand}
 use Rattle.feed_core.specs.Lane.{LaneState}
 use Rattle.feed_core.specs.Sound.{IsSound}
 use Rattle.feed_core.proofs.Keeping.{no_cause}

@@ -4,14 +4,14 @@ use Rattle.std.specs.Prelude.{is_some, option_map, ⊤}
 use Rattle.std.proofs.lemmas.Bool.Decides.{nat_tests}
 use Rattle.std.proofs.lemmas.List.{append-nil}
 use Rattle.lines_demo.specs.Prelude.{Item, Signal, Ending, Refusal}
-use Rattle.feed_core.specs.Desk.{lane_with_closing, empty_lane, lag_of}
+use Rattle.feed_core.specs.LaneCalls.{lane_with_closing, empty_lane, lag_of}
 use Rattle.feed_core.specs.Lane.{LaneState, IsFlow}
 use Rattle.feed_core.specs.PlainTurn.{plain_turn_of}
 use Rattle.feed_core.proofs.Flow.{flow_kept}
 use Rattle.lines_demo.specs.declared.commands.Command.{Command}
 use Rattle.lines_demo.specs.declared.commands.Command.TheVariants.{Cap, Sub, Offer, Submit, Request, Close, Run}
 use Rattle.lines_demo.specs.Command.{command_of, is_word}
-use Rattle.lines_demo.specs.Lane.{is_gone}
+use Rattle.feed_core.specs.LaneCalls.{is_gone}
 use Rattle.lines_demo.specs.Law.{stage_of, script_stage, KeepsFlow}
 use Rattle.lines_demo.specs.Lines.{lines_of, without_return}
 use Rattle.lines_demo.specs.Stage.{Stage, EntryState, Played, unless_refused, start}

@@ -5,12 +5,12 @@ use Rattle.lines_demo.specs.Prelude.{Item, Signal, Subscribed, Next, Complete, E
 use Rattle.feed_core.specs.declared.cause.Causes.{Causes}
 use Rattle.feed_core.specs.declared.turn.outlook.Outlook.TheVariants.{Ended}
 use Rattle.feed_core.specs.Cause.{with_cause_of}
-use Rattle.feed_core.specs.Desk.{taken_in}
+use Rattle.feed_core.specs.Turn.{taken_in}
 use Rattle.feed_core.specs.Lane.{LaneState}
 use Rattle.feed_core.specs.PlainTurn.{Turn, greeting, plain_turn_of}
 use Rattle.feed_core.specs.Sound.{is_begun, signals_of}
 use Rattle.feed_core.proofs.Texts.{items_of-append}
-use Rattle.lines_demo.specs.Lane.{lane_after}
+use Rattle.feed_core.specs.Turn.{lane_after_turn}
 use Rattle.lines_demo.proofs.Kept.{Kept}
 use Rattle.lines_demo.proofs.Greeted.{IsOpenText, EndsSo, open-text, grown-text, items_of-greeted, sound-after, turn-told}
 
@@ -115,7 +115,7 @@ ends-short causes left turn (inr done) = (let one = ap length done.0 in omega (a
 
 -- a front of a turn was told: the lane has ended for want of memory
 pub kept-part : (lane : LaneState) (capacity : ℕ) (told : List Signal) (next : Signal) (rest : List Signal) → Kept lane capacity true → (plain_turn_of lane).told ≡ told ++ (next ∷ rest)
-    → Kept (lane_after lane told (Ended How.OutOfMemory)) capacity false
+    → Kept (lane_after_turn lane told (Ended How.OutOfMemory)) capacity false
 kept-part lane capacity told next rest kept plain =
     let unended = kept.lives refl in
     let t = turn-told lane kept.held capacity kept.sound unended kept.calm in

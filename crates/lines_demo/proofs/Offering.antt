@@ -3,7 +3,8 @@ use Rattle.std.proofs.Common.{◌≡◌, ◌==◌, ℕ, ◌+◌, ◌<◌, ◌^�
 use Rattle.std.specs.Prelude.{Option}
 use Rattle.std.proofs.lemmas.Bool.Decides.{nat_tests}
 use Rattle.lines_demo.specs.Prelude.{Item}
-use Rattle.feed_core.specs.Desk.{DeskState, AcceptsItem, lane_with_item, lag_of}
+use Rattle.feed_core.specs.Desk.{DeskState, AcceptsItem}
+use Rattle.feed_core.specs.LaneCalls.{lane_with_item, lag_of}
 use Rattle.lines_demo.specs.Lane.{offer_answer}
 
 -- a small number is itself, signed

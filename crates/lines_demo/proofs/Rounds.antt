@@ -7,10 +7,12 @@ use Rattle.lines_demo.specs.Prelude.{Item, Signal, IllegalArgument, IllegalState
 use Rattle.feed_core.specs.declared.turn.outlook.Outlook.{Outlook}
 use Rattle.feed_core.specs.declared.turn.outlook.Outlook.TheVariants.{Again, Resting, Ended}
 use Rattle.feed_core.specs.Cause.{end_where, closing_error, completion}
-use Rattle.feed_core.specs.Desk.{DeskState, AfterTurn, MeetsPlainTurn, lag_of, taken_in}
+use Rattle.feed_core.specs.Desk.{DeskState, AfterTurn}
+use Rattle.feed_core.specs.LaneCalls.{lag_of}
+use Rattle.feed_core.specs.Turn.{MeetsPlainTurn, taken_in}
 use Rattle.feed_core.specs.Lane.{LaneState, IsFrontOf as IsFrontOfItems}
 use Rattle.feed_core.specs.PlainTurn.{Turn, again, plain_turn_of, stop_or_turn, close_or_rest, number_to_give}
-use Rattle.lines_demo.specs.Lane.{TakesTurn, lane_after, is_again, IsOutlookOf}
+use Rattle.feed_core.specs.Turn.{TakesTurn, lane_after_turn, is_again, IsOutlookOf}
 use Rattle.lines_demo.specs.Report.{signal_lines}
 use Rattle.lines_demo.specs.Stage.{EntryState}
 use Rattle.lines_demo.specs.Turns.{Heard, Turned, hear, heard_first, turn, turned, turns, then_turned}
@@ -74,7 +76,7 @@ plain-outlook-lines name lane =
 
 -- all of the turn was told
 turns-once-all : (done : Bool) (a b : Option (List ℕ)) (entry : EntryState) (lane' : LaneState) (outlook : Outlook) (told : List Signal)
-    → (plain_turn_of entry.lane).told ≡ told → lane' ≡ lane_after entry.lane told outlook → outlook ≡ (plain_turn_of entry.lane).outlook
+    → (plain_turn_of entry.lane).told ≡ told → lane' ≡ lane_after_turn entry.lane told outlook → outlook ≡ (plain_turn_of entry.lane).outlook
     → Writes done a b (turn_lines entry.name told outlook) → TurnsOnce done entry (after_turn entry lane' outlook) a b
 turns-once-all done a b entry lane' outlook told plain after seen writes = record {
   used = no_refusals told;
@@ -87,14 +89,14 @@ turns-once-all done a b entry lane' outlook told plain after seen writes = recor
       ap (λ o. turn_lines entry.name told o) seen ∙ ap (λ t. signal_lines entry.name told ++ t) (plain-outlook-lines entry.name entry.lane) ∙ append-nil (signal_lines entry.name told) in
       let build : List ℕ → LaneState → Outlook → Turned = λ bytes lane o. record { output = bytes; entry = after_turn entry lane o; refusals = more } in
       turn-heard entry (no_refusals told ++ more) _ heard
-      ∙ ap (λ o. build (signal_lines entry.name told) (lane_after entry.lane told o) o) (sym seen)
-      ∙ ap (λ bytes. build bytes (lane_after entry.lane told outlook) outlook) (sym quiet)
+      ∙ ap (λ o. build (signal_lines entry.name told) (lane_after_turn entry.lane told o) o) (sym seen)
+      ∙ ap (λ bytes. build bytes (lane_after_turn entry.lane told outlook) outlook) (sym quiet)
       ∙ ap (λ lane. build (turn_lines entry.name told outlook) lane outlook) (sym after);
 }
 
 -- a callback was refused memory
 turns-once-part : (done : Bool) (a b : Option (List ℕ)) (entry : EntryState) (lane' : LaneState) (outlook : Outlook) (told missed : List Signal) (next : Signal)
-    → (plain_turn_of entry.lane).told ≡ told ++ (next ∷ missed) → lane' ≡ lane_after entry.lane told outlook → outlook ≡ Ended How.OutOfMemory
+    → (plain_turn_of entry.lane).told ≡ told ++ (next ∷ missed) → lane' ≡ lane_after_turn entry.lane told outlook → outlook ≡ Ended How.OutOfMemory
     → Writes done a b (turn_lines entry.name told outlook) → TurnsOnce done entry (after_turn entry lane' outlook) a b
 turns-once-part done a b entry lane' outlook told missed next plain after seen writes = record {
   used = no_refusals told ++ (true ∷ []);
@@ -106,7 +108,7 @@ turns-once-part done a b entry lane' outlook told missed next plain after seen w
       let build : LaneState → Outlook → Turned = λ lane o. record { output = turn_lines entry.name told o; entry = after_turn entry lane o; refusals = more } in
       ap (turn entry) (append_assoc (no_refusals told) (true ∷ []) more)
       ∙ turn-heard entry (no_refusals told ++ (true ∷ more)) _ heard
-      ∙ ap (λ o. build (lane_after entry.lane told o) o) (sym seen)
+      ∙ ap (λ o. build (lane_after_turn entry.lane told o) o) (sym seen)
       ∙ ap (λ lane. build lane outlook) (sym after);
 }
 
@@ -126,7 +128,7 @@ lane-same lane lane' a g q c h t = λ k. record { accepted = a k; given = g k; a
 pub takes-turn : (old new : DeskState) (told : List Signal) (outlook : Outlook) → AfterTurn old new told outlook → MeetsPlainTurn (plain_turn_of old.lane) told outlook
     → new.lane.given ≡ old.lane.given + taken_in (plain_turn_of old.lane) told → TakesTurn old.lane new.lane told outlook
 takes-turn old new told outlook after plain taken =
-    let same : new.lane ≡ lane_after old.lane told outlook = lane-same new.lane _ after.accepted taken after.asked after.causes after.how after.recorded in
+    let same : new.lane ≡ lane_after_turn old.lane told outlook = lane-same new.lane _ after.accepted taken after.asked after.causes after.how after.recorded in
     elim plain [
       | inl all ↦ record { missed = []; plain = sym all.0 ∙ sym (append-nil told); after = same; seen = all.1 }
       | inr part ↦ record { missed = part.1.0 ∷ part.1.1; plain = part.1.2; after = same; seen = part.0 }

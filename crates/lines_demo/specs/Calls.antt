@@ -3,10 +3,11 @@ use Rattle.std.specs.Prelude.{ℕ, ◌+◌, ◌-◌, ◌^◌, ◌==◌, ℤ, pos
 use Rattle.std.specs.Fmt.{signed_decimal}
 use Rattle.lines_demo.specs.Prelude.{Item, Ending, Refusal, capacity_of}
 use Rattle.flow_rules.specs.declared.refusal.Refusal.TheVariants.{BadCapacity, Closed, TooMany, LineTooLong, Unknown, WouldWait, BadCommand, Exhausted}
-use Rattle.feed_core.specs.Desk.{lag_of, empty_lane, lane_with_closing, lane_with_demand}
+use Rattle.feed_core.specs.LaneCalls.{lag_of, empty_lane, lane_with_closing, lane_with_demand}
 use Rattle.feed_core.specs.Lane.{LaneState}
 use Rattle.lines_demo.specs.Command.{is_word}
-use Rattle.lines_demo.specs.Lane.{is_gone, accepts, offer_answer, lane_offered}
+use Rattle.feed_core.specs.LaneCalls.{is_gone, accepts, lane_after_put}
+use Rattle.lines_demo.specs.Lane.{offer_answer}
 use Rattle.lines_demo.specs.Report.{line_of, refused}
 use Rattle.lines_demo.specs.Stage.{EntryState, Stage, Played, answered, unless_refused}
 
@@ -63,7 +64,7 @@ answer_of (Some entry) item = offer_answer entry.capacity entry.lane item
 -- the subscription after an offer: it is woken where the item waits now
 abbrev pub entry_offered : EntryState → Item → EntryState
 entry_offered entry item = record entry {
-  lane = lane_offered entry.capacity entry.lane item;
+  lane = lane_after_put entry.capacity entry.lane item;
   is_woken = entry.is_woken || accepts entry.capacity entry.lane;
 }
 

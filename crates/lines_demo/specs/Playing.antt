@@ -5,7 +5,7 @@ use Rattle.flow_rules.specs.declared.refusal.Refusal.TheVariants.{NoMemory, Line
 use Rattle.std.specs.Io.KnownBytes.{Appends}
 use Rattle.feed_core.specs.declared.turn.outlook.Outlook.{Outlook}
 use Rattle.feed_core.specs.declared.turn.outlook.Outlook.TheVariants.{Again, Resting, Ended}
-use Rattle.feed_core.specs.Desk.{lag_of}
+use Rattle.feed_core.specs.LaneCalls.{lag_of}
 use Rattle.lines_demo.specs.Report.{signal_lines, memory_line}
 use Rattle.lines_demo.specs.Stage.{Stage, EntryState, Played}
 use Rattle.lines_demo.specs.Turns.{Turned, turn, turns}

@@ -3,9 +3,9 @@ use Rattle.std.specs.Prelude.{ℕ, zero, suc, ◌+◌, Bool, true, false, if◌t
 use Rattle.lines_demo.specs.Prelude.{Signal, How}
 use Rattle.feed_core.specs.declared.turn.outlook.Outlook.{Outlook}
 use Rattle.feed_core.specs.declared.turn.outlook.Outlook.TheVariants.{Ended}
-use Rattle.feed_core.specs.Desk.{lag_of}
+use Rattle.feed_core.specs.LaneCalls.{lag_of}
 use Rattle.feed_core.specs.PlainTurn.{plain_turn_of}
-use Rattle.lines_demo.specs.Lane.{is_again, lane_after}
+use Rattle.feed_core.specs.Turn.{is_again, lane_after_turn}
 use Rattle.lines_demo.specs.Report.{line_of, signal_lines, memory_line}
 use Rattle.lines_demo.specs.Stage.{EntryState, Stage, Played, answered}
 
@@ -35,12 +35,12 @@ pub record Turned : Type 0 where
 abbrev pub turned : EntryState → Outlook → Heard → List Signal → Turned
 turned entry outlook heard [] = record {
   output = signal_lines entry.name heard.told;
-  entry = record entry { lane = lane_after entry.lane heard.told outlook; is_woken = is_again outlook };
+  entry = record entry { lane = lane_after_turn entry.lane heard.told outlook; is_woken = is_again outlook };
   refusals = heard.refusals;
 }
 turned entry outlook heard (_ ∷ _) = record {
   output = signal_lines entry.name heard.told ++ memory_line entry.name;
-  entry = record entry { lane = lane_after entry.lane heard.told (Ended How.OutOfMemory); is_woken = false };
+  entry = record entry { lane = lane_after_turn entry.lane heard.told (Ended How.OutOfMemory); is_woken = false };
   refusals = heard.refusals;
 }
 

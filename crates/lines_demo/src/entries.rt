@@ -1,6 +1,7 @@
 ghost use Rattle.std.specs.Prelude.{◌≡◌, ◌<◌, ◌^◌, ◌<ℤ◌, pos, unsigned_abs, true, None, is_ok, length};
-ghost use Rattle.feed_core.specs.Desk.{lag_of};
-ghost use Rattle.lines_demo.specs.Lane.{is_again, offer_answer};
+ghost use Rattle.feed_core.specs.LaneCalls.{lag_of};
+ghost use Rattle.feed_core.specs.Turn.{is_again};
+ghost use Rattle.lines_demo.specs.Lane.{offer_answer};
 ghost use Rattle.lines_demo.specs.Playing.{TurnsOnce, TurnsOut};
 ghost use Rattle.lines_demo.specs.Calls.{entry_offered, entry_closed, requested};
 

@@ -1,7 +1,7 @@
 ghost use Rattle.std.specs.Prelude.{◌≡◌, ◌<◌, ◌≤◌, ◌^◌, [], true, All, length, is_ok, IfOk, IfErr, option_map, Ok};
 ghost use Rattle.std.specs.Option.{ForSome};
 ghost use Rattle.lines_demo.specs.Prelude.{UNBOUNDED};
-ghost use Rattle.feed_core.specs.Desk.{IsCapacity, lane_with_demand};
+ghost use Rattle.feed_core.specs.LaneCalls.{IsCapacity, lane_with_demand};
 ghost use Rattle.lines_demo.specs.Playing.{Plays, Answers, IsItemOf};
 ghost use Rattle.lines_demo.specs.Stage.{start};
 ghost use Rattle.lines_demo.specs.Turns.{run_entry};

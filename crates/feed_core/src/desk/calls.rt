@@ -1,6 +1,7 @@
 ghost use Rattle.std.specs.Prelude.{◌≡◌, ◌↔◌, ◌⊎◌, ◌^◌, ◌<◌, ◌<ℤ◌, pos, length, unsigned_abs, None, Some, true, false, IsSome};
 ghost use Rattle.feed_core.specs.Prelude.{Ending, total_after, IfAccepted, IfFull, IfGone};
-ghost use Rattle.feed_core.specs.Desk.{AcceptsItem, GivesBack, IsFull, IsGone, Rests, lane_with_closing, lane_with_demand, desk_after_signal};
+ghost use Rattle.feed_core.specs.Desk.{AcceptsItem, GivesBack, IsFull, Rests, desk_after_signal};
+ghost use Rattle.feed_core.specs.LaneCalls.{IsGone, lane_with_closing, lane_with_demand};
 
 use super::Desk;
 use flow_rules::{Ending, Item, Put, Subscriber};

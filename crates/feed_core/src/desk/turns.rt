@@ -2,7 +2,8 @@ ghost use Rattle.std.specs.Prelude.{◌≡◌, List, ◌<◌, ◌≤◌, ◌+◌
 ghost use Rattle.feed_core.specs.Prelude.{Signal, Complete, Error, Fault, Ending, How, items_of};
 ghost use Rattle.feed_core.specs.declared.turn.outlook.Outlook.TheVariants.{Again, Resting, Ended};
 ghost use Rattle.feed_core.specs.Cause.{stops, with_cause_of};
-ghost use Rattle.feed_core.specs.Desk.{AfterTurn, EndsIn, MeetsPlainTurn, Owes, taken_in};
+ghost use Rattle.feed_core.specs.Desk.{AfterTurn, Owes};
+ghost use Rattle.feed_core.specs.Turn.{EndsIn, MeetsPlainTurn, taken_in};
 ghost use Rattle.feed_core.specs.Lane.{IsFlow, IsFrontOf};
 ghost use Rattle.feed_core.specs.PlainTurn.{plain_turn_of, greeting};
 ghost use Rattle.feed_core.specs.Sound.{is_begun};

@@ -6,7 +6,7 @@ use flow_rules::How;
 pub enum Outlook {
     /// Another turn is owed.
     Again,
-    /// No turn is owed until something is desk_after_signal.
+    /// No turn is owed until something is signalled.
     Resting,
     /// The subscription has ended, and no turn is ever owed again.
     Ended(How),

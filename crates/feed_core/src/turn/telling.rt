@@ -1,7 +1,7 @@
 ghost use Rattle.std.specs.Prelude.{◌≡◌, ◌<◌, ◌∷◌, ◌++◌, [], true, length, OnOk, OnErr};
 ghost use Rattle.std.specs.VecDeque.{deque_len, deque_capacity};
 ghost use Rattle.feed_core.specs.Prelude.{Subscribed};
-ghost use Rattle.feed_core.specs.Desk.{IsProperPrefix};
+ghost use Rattle.feed_core.specs.Turn.{IsProperPrefix};
 ghost use Rattle.feed_core.specs.PlainTurn.{terminal_of};
 ghost use Rattle.feed_core.specs.Steps.{MovesNext};
 

@@ -1,7 +1,7 @@
 -- Each look is one step of the plain turn, and the turn is over after 64 items at most.
 use Rattle.std.proofs.Common.{◌++◌, length, drop, ap, sym, ◌∙◌, subst, inr, arith}
 use Rattle.feed_core.specs.Prelude.{Complete, Error, items_of}
-use Rattle.feed_core.specs.Desk.{IsProperPrefix}
+use Rattle.feed_core.specs.Turn.{IsProperPrefix}
 use Rattle.feed_core.specs.PlainTurn.{plain_turn_of}
 use Rattle.feed_core.proofs.Gave.{after_look, completes, errs, few_signals, gave_more, greets_first, in_order, in_order_so_far, items_of-gave, length-gave, open_so_far, plain_end, plain_full, taken_end, taken_full}
 use Rattle.feed_core.proofs.desk.Desk.turn.Goals as goal

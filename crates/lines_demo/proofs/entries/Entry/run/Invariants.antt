@@ -1,5 +1,5 @@
 use Rattle.std.proofs.Common.{◌≡◌, ◌+◌, if◌then◌else◌}
-use Rattle.feed_core.specs.Desk.{lag_of}
+use Rattle.feed_core.specs.LaneCalls.{lag_of}
 use Rattle.lines_demo.proofs.Rounds.{Running}
 use Rattle.lines_demo.proofs.entries.Entry.run.Given as goal
 

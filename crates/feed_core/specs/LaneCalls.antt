@@ -1,0 +1,49 @@
+-- What the calls of a subscription do to its lane (`SubmissionPublisher.offer` and `close`, `Flow.Subscription.request`, Java SE 17).
+use Rattle.std.specs.Prelude.{◌≡◌, ◌⊎◌, ℕ, ◌-◌, ◌<◌, ◌==◌, Bool, ◌||◌, ◌&&◌, not, if◌then◌else◌, is_some, Option, None, Some, IsSome, [], ◌∷◌, ◌++◌, length}
+use Rattle.feed_core.specs.Prelude.{Item, Ending, IsCapacityOf, total_after}
+use Rattle.feed_core.specs.Cause.{no_causes}
+use Rattle.feed_core.specs.Lane.{LaneState}
+
+-- a value of `capacity`
+abbrev pub IsCapacity : ℕ → Type 0
+IsCapacity c = (n : ℕ) × (0 < n) × IsCapacityOf n c
+
+-- nothing was accepted, requested or told yet
+abbrev pub empty_lane : LaneState
+empty_lane = record { accepted = []; given = 0; asked = 0; causes = no_causes; how = None; told = [] }
+
+-- how many accepted items were not taken for onNext yet
+abbrev pub lag_of : LaneState → ℕ
+lag_of lane = length lane.accepted - lane.given
+
+-- it takes items: it has neither ended nor been closed
+abbrev pub IsOpen : LaneState → Type 0
+IsOpen lane = (lane.how ≡ None) × (lane.causes.closing ≡ None)
+
+-- it takes no more items: it has ended or was closed
+abbrev pub IsGone : LaneState → Type 0
+IsGone lane = IsSome lane.how ⊎ IsSome lane.causes.closing
+
+-- the lane with one more item
+abbrev pub lane_with_item : Item → LaneState → LaneState
+lane_with_item item lane = record lane { accepted = lane.accepted ++ item ∷ [] }
+
+-- the lane with this ending as a cause
+abbrev pub lane_with_closing : Ending → LaneState → LaneState
+lane_with_closing ending lane = record lane { causes = record lane.causes { closing = Some ending } }
+
+-- the lane with this many more items requested
+abbrev pub lane_with_demand : ℕ → LaneState → LaneState
+lane_with_demand n lane = record lane { asked = total_after lane.asked n }
+
+-- whether it takes no more items: it has ended or was closed
+abbrev pub is_gone : LaneState → Bool
+is_gone lane = is_some lane.how || is_some lane.causes.closing
+
+-- whether a buffer of this capacity takes an item that is offered now
+abbrev pub accepts : ℕ → LaneState → Bool
+accepts capacity lane = not (is_gone lane) && not (lag_of lane == capacity)
+
+-- the lane after an item was offered to a buffer of this capacity
+abbrev pub lane_after_put : ℕ → LaneState → Item → LaneState
+lane_after_put capacity lane item = if accepts capacity lane then lane_with_item item lane else lane
