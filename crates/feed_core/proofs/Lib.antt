@@ -1,6 +1,9 @@
-pub mod Flow
-pub mod Gave
-pub mod Keeping
-pub mod Looking
-pub mod Texts
-pub mod Turning
+pub mod CalmLanes
+pub mod CutTurns
+pub mod DeskSteps
+pub mod FlowRules
+pub mod Looks
+pub mod PlainTurns
+pub mod SignalLists
+pub mod TurnLoop
+pub mod WholeTurns

@@ -12,25 +12,25 @@ use Rattle.feed_core.specs.Turn.{causes_after, how_after, lane_after_turn}
 pub record DeskState : Type 0 where
   pub lane : LaneState
   pub capacity : ℕ
-  pub running : Bool
+  pub started : Bool
   pub is_steady : Bool
 
 -- a new subscription: its lane is empty, and it owes its first turn
 abbrev pub IsNew : ℕ → Bool → DeskState → Type 0
 IsNew capacity steady desk =
-    desk ≡ record { lane = empty_lane; capacity = capacity; running = true; is_steady = steady }
+    desk ≡ record { lane = empty_lane; capacity = capacity; started = true; is_steady = steady }
 
 -- a turn is owed: the task was started, and has not ended
 abbrev pub Owes : DeskState → Type 0
-Owes desk = (desk.running ≡ true) × (desk.lane.how ≡ None)
+Owes desk = (desk.started ≡ true) × (desk.lane.how ≡ None)
 
 -- whether a turn is owed
 abbrev pub owes : DeskState → Bool
-owes desk = desk.running && is_none desk.lane.how
+owes desk = desk.started && is_none desk.lane.how
 
 -- no turn is owed, and it has not ended: a signal starts the task
 abbrev pub Rests : DeskState → Type 0
-Rests desk = (desk.running ≡ false) × (desk.lane.how ≡ None)
+Rests desk = (desk.started ≡ false) × (desk.lane.how ≡ None)
 
 -- it takes items, and its buffer is full
 abbrev pub IsFull : DeskState → Type 0
@@ -42,7 +42,7 @@ GivesBack old new item back = (back ≡ item) × (new ≡ old)
 
 -- a change of the lane was signalled: the lane is the new one, and the task was started
 abbrev pub desk_after_signal : DeskState → LaneState → DeskState
-desk_after_signal desk lane = record desk { lane = lane; running = true }
+desk_after_signal desk lane = record desk { lane = lane; started = true }
 
 -- an open subscription whose buffer had room took the item, answered its new lag, and was started if it was at rest
 pub record AcceptsItem (old new : DeskState) (item : Item) (lag : ℕ) (start : Option Unit) : Type 0 where
@@ -53,21 +53,10 @@ pub record AcceptsItem (old new : DeskState) (item : Item) (lag : ℕ) (start : 
   pub starts : IsSome start ↔ Rests old
 
 -- whether the task goes on holding the subscription after a turn
-abbrev pub runs_after : Outlook → Bool
-runs_after Again = true
-runs_after Resting = false
-runs_after (Ended _) = true
-
--- what a turn changes: the lane by what was seen, as the outlook says, and nothing else
-pub record AfterTurn (old new : DeskState) (seen : List Signal) (outlook : Outlook) : Type 0 where
-  pub recorded : new.lane.told ≡ old.lane.told ++ seen
-  pub accepted : new.lane.accepted ≡ old.lane.accepted
-  pub asked : new.lane.asked ≡ old.lane.asked
-  pub causes : new.lane.causes ≡ causes_after outlook old.lane.causes
-  pub how : new.lane.how ≡ how_after outlook
-  pub running : new.running ≡ runs_after outlook
-  pub capacity : new.capacity ≡ old.capacity
-  pub steady : old.is_steady ≡ true → new.is_steady ≡ true
+abbrev pub started_after : Outlook → Bool
+started_after Again = true
+started_after Resting = false
+started_after (Ended _) = true
 
 -- the subscription after an item was offered to it
 abbrev pub desk_after_put : Item → DeskState → DeskState
@@ -83,4 +72,4 @@ desk_after_request n desk = desk_after_signal desk (lane_with_demand n desk.lane
 
 -- the subscription after a turn that told these signals of the plain turn, and had this outlook
 abbrev pub desk_after_turn : DeskState → List Signal → Outlook → DeskState
-desk_after_turn desk told outlook = record desk { lane = lane_after_turn desk.lane told outlook; running = runs_after outlook }
+desk_after_turn desk told outlook = record desk { lane = lane_after_turn desk.lane told outlook; started = started_after outlook }

@@ -1,9 +1,10 @@
 -- A subscription's lane: what it was given to hand on, what it has handed on, and why and how it ended.
 -- (Reactive Streams 1.0, 1.1, 1.3, 1.5, 1.7, 1.9 and 3.8; `Flow` and `SubmissionPublisher`, Java SE 17)
-use Rattle.std.specs.Prelude.{◌≡◌, ℕ, ◌+◌, ◌<◌, ◌≤◌, ◌⊎◌, min, true, false, Option, None, Some, List, [], ◌∷◌, ◌++◌, length, map, take, Contains}
+use Rattle.std.specs.Prelude.{◌≡◌, ℕ, ◌+◌, ◌<◌, ◌≤◌, ◌⊎◌, min, true, false, Option, None, Some, IsSome, List, [], ◌∷◌, ◌++◌, length, map, take, Contains}
+use mathlib.Core.List.{IsPrefix}
 use Rattle.feed_core.specs.Prelude.{Item, Signal, Subscribed, Next, Complete, Error, Fault, Ending, How, IsFlowText, items_of}
 use Rattle.feed_core.specs.declared.cause.Causes.{Causes}
-use Rattle.feed_core.specs.Cause.{stops, IsFaultOf}
+use Rattle.feed_core.specs.Cause.{stops, closes, IsFaultOf}
 
 -- accepted: the items that its buffer accepted, in order · given: how many of them were taken for onNext
 -- asked: the total that was requested · causes: why it may end · how: how it ended, if it did · told: what its subscriber was told
@@ -15,10 +16,6 @@ pub record LaneState : Type 0 where
   pub how : Option How
   pub told : List Signal
 
--- one list is the beginning of another
-abbrev pub IsFrontOf : List Item → List Item → Type 0
-IsFrontOf front whole = (rest : List Item) × (whole ≡ front ++ rest)
-
 -- as many items were told as were given, or one fewer where the last one met want of memory
 abbrev pub TellsGiven : LaneState → Type 0
 TellsGiven lane =
@@ -27,8 +24,8 @@ TellsGiven lane =
 
 -- the Flow rules on a lane
 pub record IsFlow (lane : LaneState) : Type 0 where
-  pub text : IsFlowText lane.told
-  pub in_order : IsFrontOf (items_of lane.told) lane.accepted
+  pub allowed : IsFlowText lane.told
+  pub in_order : IsPrefix (items_of lane.told) lane.accepted
   pub counted : TellsGiven lane
   pub requested : lane.given ≤ lane.asked
   pub completed : Contains lane.told Complete → (lane.causes.closing ≡ Some Ending.Normal) × (items_of lane.told ≡ lane.accepted)
@@ -44,7 +41,7 @@ pub record IsIdle (lane : LaneState) : Type 0 where
   pub unfailed : lane.causes.failed ≡ None
   pub remembered : lane.causes.memory ≡ false
   pub all_told : lane.told ≡ Subscribed ∷ map Next (take (min (length lane.accepted) lane.asked) lane.accepted)
-  pub open_or_short : lane.causes.closing ≡ Some Ending.Normal → lane.asked < length lane.accepted
+  pub open_or_short : IsSome (closes lane.causes) → lane.asked < length lane.accepted
 
 -- a lane that needs no turn, by how it ended
 abbrev pub IsSettledAs : LaneState → Option How → Type 0

@@ -1,5 +1,5 @@
 -- What the calls of a subscription do to its lane (`SubmissionPublisher.offer` and `close`, `Flow.Subscription.request`, Java SE 17).
-use Rattle.std.specs.Prelude.{◌≡◌, ◌⊎◌, ℕ, ◌-◌, ◌<◌, ◌==◌, Bool, ◌||◌, ◌&&◌, not, if◌then◌else◌, is_some, Option, None, Some, IsSome, [], ◌∷◌, ◌++◌, length}
+use Rattle.std.specs.Prelude.{◌≡◌, ℕ, ◌-◌, ◌<◌, ◌==◌, Bool, ◌||◌, ◌&&◌, not, if◌then◌else◌, is_some, Option, None, Some, [], ◌∷◌, ◌++◌, length}
 use Rattle.feed_core.specs.Prelude.{Item, Ending, IsCapacityOf, total_after}
 use Rattle.feed_core.specs.Cause.{no_causes}
 use Rattle.feed_core.specs.Lane.{LaneState}
@@ -19,10 +19,6 @@ lag_of lane = length lane.accepted - lane.given
 -- it takes items: it has neither ended nor been closed
 abbrev pub IsOpen : LaneState → Type 0
 IsOpen lane = (lane.how ≡ None) × (lane.causes.closing ≡ None)
-
--- it takes no more items: it has ended or was closed
-abbrev pub IsGone : LaneState → Type 0
-IsGone lane = IsSome lane.how ⊎ IsSome lane.causes.closing
 
 -- the lane with one more item
 abbrev pub lane_with_item : Item → LaneState → LaneState

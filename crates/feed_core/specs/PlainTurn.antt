@@ -4,6 +4,7 @@ use Rattle.feed_core.specs.Prelude.{Item, Signal, Subscribed, Next, Complete, Er
 use Rattle.feed_core.specs.declared.cause.Causes.{Causes}
 use Rattle.feed_core.specs.declared.turn.outlook.Outlook.{Outlook}
 use Rattle.feed_core.specs.declared.turn.outlook.Outlook.TheVariants.{Again, Resting, Ended}
+use Rattle.feed_core.specs.declared.turn.TheConstants.{ITEMS_IN_A_TURN}
 use Rattle.feed_core.specs.Cause.{stops, closes}
 use Rattle.feed_core.specs.Lane.{LaneState}
 
@@ -13,12 +14,12 @@ pub record Turn : Type 0 where
   pub outlook : Outlook
 
 -- nothing more, and another turn
-abbrev pub again : Turn
-again = record { told = []; outlook = Again }
+abbrev pub another_turn : Turn
+another_turn = record { told = []; outlook = Again }
 
 -- nothing more, and rest
-abbrev pub resting : Turn
-resting = record { told = []; outlook = Resting }
+abbrev pub turn_at_rest : Turn
+turn_at_rest = record { told = []; outlook = Resting }
 
 -- the terminal signal of an end, if it has one
 abbrev pub terminal_of : How → List Signal
@@ -29,8 +30,8 @@ terminal_of (How.Failed _) = []
 terminal_of How.OutOfMemory = []
 
 -- the end: its terminal signal, and no more turns
-abbrev pub ended : How → Turn
-ended how = record { told = terminal_of how; outlook = Ended how }
+abbrev pub end_by : How → Turn
+end_by how = record { told = terminal_of how; outlook = Ended how }
 
 -- these signals, and then a turn
 abbrev pub signals_then : List Signal → Turn → Turn
@@ -43,24 +44,24 @@ greeting (_ ∷ _) = []
 
 -- the end at once, if there is one, or else the turn
 abbrev pub stop_or_turn : Option How → Turn → Turn
-stop_or_turn (Some how) turn = ended how
+stop_or_turn (Some how) turn = end_by how
 stop_or_turn None turn = turn
 
 -- the end that waits for the items, if there is one and no item is left, or else rest
 abbrev pub close_or_rest : Option How → List Item → Turn
-close_or_rest None left = resting
-close_or_rest (Some how) [] = ended how
-close_or_rest (Some how) (_ ∷ _) = resting
+close_or_rest None left = turn_at_rest
+close_or_rest (Some how) [] = end_by how
+close_or_rest (Some how) (_ ∷ _) = turn_at_rest
 
--- how many items a turn gives: those that wait and were requested, at most 64
+-- how many items a turn gives: those that wait and were requested, at most as many as a turn may give
 abbrev pub number_to_give : List Item → ℕ → ℕ
-number_to_give waiting unmet = min (min (length waiting) unmet) 64
+number_to_give waiting unmet = min (min (length waiting) unmet) ITEMS_IN_A_TURN
 
--- the items of a turn; the 64th leaves the rest to another turn
+-- the items of a turn; the last that it may give leaves the rest to another turn
 abbrev pub items_turn : Causes → List Item → ℕ → Turn
 items_turn causes waiting unmet =
     let n = number_to_give waiting unmet in
-    signals_then (map Next (take n waiting)) (if n == 64 then again else close_or_rest (closes causes) (drop n waiting))
+    signals_then (map Next (take n waiting)) (if n == ITEMS_IN_A_TURN then another_turn else close_or_rest (closes causes) (drop n waiting))
 
 -- a turn over the causes, the items that wait, the demand that is not met yet and what was told before
 abbrev pub plain_turn : Causes → List Item → ℕ → List Signal → Turn

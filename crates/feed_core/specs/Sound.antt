@@ -1,8 +1,9 @@
--- What a Desk keeps between any two calls, from which the Flow rules of its lane follow.
-use Rattle.std.specs.Prelude.{◌≡◌, ℕ, ◌+◌, ◌<◌, ◌≤◌, min, Bool, true, false, Option, None, Some, List, [], ◌∷◌, ◌++◌, length, map}
+-- What holds of a lane between any two calls, from which the Flow rules follow, and what a Desk keeps beside it.
+use Rattle.std.specs.Prelude.{◌≡◌, ℕ, ◌+◌, ◌<◌, ◌≤◌, min, Bool, true, false, Option, None, Some, IsSome, List, [], ◌∷◌, ◌++◌, length, map}
+use mathlib.Core.List.{IsPrefix}
 use Rattle.feed_core.specs.Prelude.{Item, Signal, Subscribed, Next, Published, IllegalArgument, IllegalState, Ending, How, items_of}
 use Rattle.feed_core.specs.declared.cause.Causes.{Causes}
-use Rattle.feed_core.specs.Cause.{stops}
+use Rattle.feed_core.specs.Cause.{stops, closes}
 use Rattle.feed_core.specs.Lane.{LaneState}
 use Rattle.feed_core.specs.PlainTurn.{terminal_of}
 
@@ -21,7 +22,7 @@ abbrev pub opening : Bool → List Signal
 opening false = []
 opening true = Subscribed ∷ []
 
--- the text of these items and this end
+-- the signals of these items and this end
 abbrev pub signals_of : Bool → List Item → Option How → List Signal
 signals_of begun items how = opening begun ++ (map Next items ++ terminal_part how)
 
@@ -51,33 +52,39 @@ pub record IsAtRest (lane : LaneState) : Type 0 where
   pub begun : is_begun lane.told ≡ true
   pub runs_on : stops lane.causes ≡ None
   pub all_given : lane.given ≡ min (length lane.accepted) lane.asked
-  pub waits : lane.causes.closing ≡ Some Ending.Normal → lane.asked < length lane.accepted
+  pub waits : IsSome (closes lane.causes) → lane.asked < length lane.accepted
 
 -- the numbers of a lane: what was told, given, accepted and requested
-pub record IsCounted (lane : LaneState) (capacity : ℕ) : Type 0 where
+pub record IsCounted (lane : LaneState) : Type 0 where
   pub tells : length (items_of lane.told) ≤ lane.given
   pub loses : lane.given ≤ length (items_of lane.told) + loss_of lane.how
   pub taken : lane.given ≤ length lane.accepted
-  pub fits : length lane.accepted ≤ lane.given + capacity
   pub requested : lane.given ≤ lane.asked
 
--- the items that a Desk holds are the accepted ones that were not told, and its lane is in order
-pub record IsSound (lane : LaneState) (held : List Item) (capacity : ℕ) (running : Bool) : Type 0 where
-  pub holds : lane.accepted ≡ items_of lane.told ++ held
-  pub text : lane.told ≡ signals_of (is_begun lane.told) (items_of lane.told) lane.how
-  pub counts : IsCounted lane capacity
+-- what was told is the list of its own items and its end, those are a prefix of what was accepted, the numbers fit, and an end has its cause
+pub record IsSound (lane : LaneState) : Type 0 where
+  pub told_is : lane.told ≡ signals_of (is_begun lane.told) (items_of lane.told) lane.how
+  pub in_order : IsPrefix (items_of lane.told) lane.accepted
+  pub counts : IsCounted lane
   pub cause : HasCause lane
   pub unfailed : lane.how ≡ None → lane.causes.failed ≡ None
   pub remembered : lane.how ≡ None → lane.causes.memory ≡ false
-  pub rests : running ≡ false → IsAtRest lane
 
--- the lane that a Desk's fields stand for
+-- the lane that a Desk's fields stand for: what it accepted is what was told and what it holds
 abbrev pub lane_of : List Signal → List Item → ℕ → ℕ → Causes → Option How → LaneState
 lane_of told held given asked causes how =
     record { accepted = items_of told ++ held; given = given; asked = asked; causes = causes; how = how; told = told }
 
--- the same, with the count of accepted items and the room that was made for the held ones
-pub record IsStored (lane : LaneState) (held : List Item) (accepted capacity room : ℕ) (running : Bool) : Type 0 where
-  pub sound : IsSound lane held capacity running
+-- a Desk's lane is sound, it holds the accepted items that were not told, no more than its buffer may hold, and a task that was not
+-- started is at rest
+pub record IsInOrder (lane : LaneState) (held : List Item) (capacity : ℕ) (started : Bool) : Type 0 where
+  pub sound : IsSound lane
+  pub holds : lane.accepted ≡ items_of lane.told ++ held
+  pub fits : length lane.accepted ≤ lane.given + capacity
+  pub rests : started ≡ false → IsAtRest lane
+
+-- a Desk is in order, it counts the accepted items, and there is room for all that its buffer may hold
+pub record IsStored (lane : LaneState) (held : List Item) (accepted capacity room : ℕ) (started : Bool) : Type 0 where
+  pub in_order : IsInOrder lane held capacity started
   pub counted : length lane.accepted ≡ accepted
   pub roomy : capacity ≤ room

@@ -1,5 +1,5 @@
 -- What a turn changes in a lane: what was told of the plain turn, and what follows from that.
-use Rattle.std.specs.Prelude.{◌≡◌, ◌⊎◌, ℕ, ◌+◌, Bool, true, false, Option, None, Some, List, [], ◌∷◌, ◌++◌, length, take}
+use Rattle.std.specs.Prelude.{◌≡◌, ℕ, ◌+◌, Bool, true, false, Option, None, Some, List, [], ◌∷◌, ◌++◌, length, take}
 use Rattle.feed_core.specs.Prelude.{Signal, How, items_of}
 use Rattle.feed_core.specs.declared.cause.Causes.{Causes}
 use Rattle.feed_core.specs.declared.turn.outlook.Outlook.{Outlook}
@@ -20,24 +20,14 @@ causes_after Again causes = causes
 causes_after Resting causes = causes
 causes_after (Ended how) causes = with_cause_of how causes
 
--- the text ends in this signal
+-- the list of signals ends in this one
 abbrev pub EndsIn : List Signal → Signal → Type 0
-EndsIn text signal = (before : List Signal) × (text ≡ before ++ signal ∷ [])
-
--- one text is the beginning of another, which goes on
-abbrev pub IsProperPrefix : List Signal → List Signal → Type 0
-IsProperPrefix front whole = (next : Signal) × (rest : List Signal) × (whole ≡ front ++ next ∷ rest)
+EndsIn signals signal = (before : List Signal) × (signals ≡ before ++ signal ∷ [])
 
 -- how many items were taken for onNext where this was told of the plain turn: those that were told, and the one whose
 -- onNext came next, which met want of memory
 abbrev pub taken_in : Turn → List Signal → ℕ
 taken_in plain seen = length (items_of (take (length seen + 1) plain.told))
-
--- what was told, and the outlook, are those of the plain turn, or a callback met want of memory before its end
-abbrev pub MeetsPlainTurn : Turn → List Signal → Outlook → Type 0
-MeetsPlainTurn plain seen outlook =
-    ((seen ≡ plain.told) × (outlook ≡ plain.outlook))
-    ⊎ ((outlook ≡ Ended How.OutOfMemory) × IsProperPrefix seen plain.told)
 
 -- whether another turn is owed
 abbrev pub is_again : Outlook → Bool
@@ -61,9 +51,8 @@ abbrev pub IsOutlookOf : Turn → List Signal → Outlook → Type 0
 IsOutlookOf plain [] outlook = outlook ≡ plain.outlook
 IsOutlookOf plain (_ ∷ _) outlook = outlook ≡ Ended How.OutOfMemory
 
--- a turn: a prefix of what the plain turn tells, and all of it where no callback was refused memory
-pub record TakesTurn (old new : LaneState) (told : List Signal) (outlook : Outlook) : Type 0 where
+-- a prefix of the plain turn was told, and all of it where no callback was refused memory
+pub record MeetsPlainTurn (plain : Turn) (told : List Signal) (outlook : Outlook) : Type 0 where
   pub missed : List Signal
-  pub plain : (plain_turn_of old).told ≡ told ++ missed
-  pub after : new ≡ lane_after_turn old told outlook
-  pub seen : IsOutlookOf (plain_turn_of old) missed outlook
+  pub whole : plain.told ≡ told ++ missed
+  pub seen : IsOutlookOf plain missed outlook

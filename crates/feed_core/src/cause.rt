@@ -1,3 +1,4 @@
+//! Why a subscription ends.
 ghost use Rattle.std.specs.Prelude.{◌≡◌, None, Some, true, false};
 
 use flow_rules::{Ending, Fault, How};

@@ -1,7 +1,21 @@
-mod calls;
+//! One subscription as plain state.
+//!
+//! **A turn.** Whoever runs a subscription's task calls [`Desk::turn`] until that answers `Resting` or `Ended`. A turn first tells
+//! `onSubscribe`, where nothing was told yet. Then it looks at the causes, again and again. A look obeys, in this order: an end at
+//! once (a cancel, a bad request, a second subscribing, a closing error: [`Causes::stops`]); the next item, where one waits and was
+//! requested; the end that waits for the items ([`Causes::closes`]), where none is left. Where a look finds nothing of these, the
+//! subscription rests. After 64 items the turn answers `Again`, so that the other subscriptions get theirs. A callback that is
+//! refused memory ends the subscription.
+//!
+//! **Waking.** `put`, `end` and `request` change what there is to tell, so each signals: it marks the task as started. Where the task
+//! was at rest, the call answers `Some(())`, and its caller has to see that the task is run; an answer that starts a task is
+//! `#[must_use]`. Where the task was started before, its next look finds the change. Only a look that finds nothing to do takes the
+//! mark away. So between two calls a turn is owed, or the subscriber was told all that its demand and its ending allow. The mark
+//! stays after the end, so that nothing starts the task of a subscription that has ended.
+mod call;
 #[cfg(test)]
 mod tests;
-mod turns;
+mod turn;
 
 use crate::cause::Causes;
 use flow_rules::{Demand, How, Item, NoMemory, Subscriber};
@@ -9,22 +23,28 @@ use std::alloc::Global;
 use std::collections::VecDeque;
 use std::marker::Model;
 
-/// One subscription as plain state: the buffer of its items, what was requested, why it may end, and its subscriber
-/// (`Flow.Subscription`, and the buffer that `SubmissionPublisher` keeps for it, Java SE 17).
-///
-/// A call that leaves something to be done for a subscription at rest answers `Some(())`: its task is to be started,
-/// which is to call [`Desk::turn`] until that no longer answers `Again`.
+/// One subscription: the buffer of its items, what was requested, why it may end, and its subscriber (`Flow.Subscription`, and the
+/// buffer that `SubmissionPublisher` keeps for it, Java SE 17).
 #[derive(Drop)]
 pub struct Desk<B: Subscriber> {
+    /// Who is told.
     subscriber: B,
+    /// The accepted items that were not told yet, in order.
     held: VecDeque<Item>,
+    /// How many items it holds at most, a value of [`capacity`](flow_rules::capacity).
     capacity: usize,
+    /// How many items it has accepted, at most 2^62.
     accepted: u64,
+    /// How many items were taken for `onNext`: those that were told, and one more where its callback was refused memory.
     given: u64,
+    /// How many items were requested.
     asked: Demand,
+    /// Why it may end.
     causes: Causes,
+    /// How it ended, if it did.
     how: Option<How>,
-    running: bool,
+    /// Whether its task was started and is not at rest since. It stays so once it has ended.
+    started: bool,
 }
 
 impl<B: Subscriber> Model for Desk<B> {
@@ -37,13 +57,13 @@ impl<B: Subscriber> Model for Desk<B> {
     ghost view = { λ d. record {
       lane = lane_of (B.told d.subscriber) d.held.items d.given d.asked d.causes d.how;
       capacity = d.capacity;
-      running = d.running;
+      started = d.started;
       is_steady = B.is_steady d.subscriber;
     } };
 
     ghost invariant = { λ d. IsStored
         (lane_of (B.told d.subscriber) d.held.items d.given d.asked d.causes d.how)
-        d.held.items d.accepted d.capacity (deque_capacity d.held) d.running };
+        d.held.items d.accepted d.capacity (deque_capacity d.held) d.started };
 }
 
 impl<B: Subscriber> Desk<B> {
@@ -72,7 +92,7 @@ impl<B: Subscriber> Desk<B> {
             asked: Demand::none(),
             causes: Causes::none(),
             how: None,
-            running: true,
+            started: true,
         })
     }
 
@@ -112,6 +132,13 @@ impl<B: Subscriber> Desk<B> {
         &self.subscriber
     }
 
+    /// Its subscriber, taken out with what it was told. Items that were not told are dropped.
+    pub fn into_subscriber(self) -> B
+        ensures { B.told result ≡ self.lane.told }
+    {
+        self.subscriber
+    }
+
     /// Whether a turn is owed. Where none is, nothing is forgotten: the subscriber was told all that its demand and its
     /// ending allow. The lane keeps the Flow rules in any case.
     pub fn owes(&self) -> bool
@@ -119,7 +146,7 @@ impl<B: Subscriber> Desk<B> {
         ensures flow { IsFlow self.now.lane }
         ensures settled { IsFalse result → IsSettled self.now.lane }
     {
-        self.running && self.how.is_none()
+        self.started && self.how.is_none()
     }
 
     /// How it ended, if it did.

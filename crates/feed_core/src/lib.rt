@@ -7,4 +7,4 @@ mod turn;
 
 pub use cause::Causes;
 pub use desk::Desk;
-pub use turn::{Outlook, Seen};
+pub use turn::{ITEMS_IN_A_TURN, Outlook, SIGNALS_IN_A_TURN, Seen};

@@ -1,8 +1,14 @@
-//! What a turn is made of, whoever runs it: the signals that it tells, and what is to be done after it.
+//! What a turn is made of, whoever runs it: what it tells, how it tells it, and what is to be done after it.
 mod outlook;
 mod seen;
 mod telling;
 
 pub use outlook::Outlook;
 pub use seen::Seen;
-pub(crate) use telling::{tell_ending, tell_next, tell_subscribed};
+pub(crate) use telling::{tell_next, tell_subscribed, tell_terminal};
+
+/// The number of items that one turn gives at most, so that one subscriber with many can't keep the others waiting.
+pub const ITEMS_IN_A_TURN: usize = 64;
+
+/// The number of signals that one turn tells at most: `Subscribed`, the items, and a terminal signal.
+pub const SIGNALS_IN_A_TURN: usize = 66;

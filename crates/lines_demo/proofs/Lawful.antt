@@ -7,7 +7,7 @@ use Rattle.lines_demo.specs.Prelude.{Item, Signal, Ending, Refusal}
 use Rattle.feed_core.specs.LaneCalls.{lane_with_closing, empty_lane, lag_of}
 use Rattle.feed_core.specs.Lane.{LaneState, IsFlow}
 use Rattle.feed_core.specs.PlainTurn.{plain_turn_of}
-use Rattle.feed_core.proofs.Flow.{flow_kept}
+use Rattle.feed_core.proofs.FlowRules.{flow_kept}
 use Rattle.lines_demo.specs.declared.commands.Command.{Command}
 use Rattle.lines_demo.specs.declared.commands.Command.TheVariants.{Cap, Sub, Offer, Submit, Request, Close, Run}
 use Rattle.lines_demo.specs.Command.{command_of, is_word}

@@ -1,8 +1,7 @@
 ghost use Rattle.std.specs.Prelude.{◌≡◌, [], IfOk};
 
 use super::Desk;
-use crate::turn::Outlook;
-use crate::turn::Seen;
+use crate::turn::{Outlook, Seen};
 use flow_rules::{
     Answer, Collector, Ending, Fault, How, Item, NoMemory, Put, Signal, Subscriber, Text,
     UNBOUNDED, capacity,

@@ -1,3 +1,4 @@
+//! What is to be done after a turn.
 use flow_rules::How;
 
 /// What is to be done for a subscription after a turn.

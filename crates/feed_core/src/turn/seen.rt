@@ -1,5 +1,7 @@
+//! The list of the signals of one turn.
 ghost use Rattle.std.specs.Prelude.{◌≡◌, ◌<◌, ◌≤◌, ◌↔◌, ◌∷◌, ◌++◌, [], length, IsTrue, IfOk};
 
+use crate::turn::SIGNALS_IN_A_TURN;
 use flow_rules::{NoMemory, Signal};
 use std::alloc::Global;
 use std::marker::Model;
@@ -12,25 +14,23 @@ pub struct Seen {
 
 impl Model for Seen {
     ghost use Rattle.std.specs.Prelude.{List, ◌≤◌, length, vec_capacity};
-    ghost use Rattle.feed_core.specs.Prelude.{Signal};
+    ghost use Rattle.flow_rules.specs.declared.signal.Signal.{Signal};
+    ghost use Rattle.feed_core.specs.declared.turn.TheConstants.{SIGNALS_IN_A_TURN};
 
     ghost Value = { List Signal };
 
     ghost view = { λ s. s.signals.items };
 
-    ghost invariant = { λ s. (66 ≤ vec_capacity s.signals) × (length s.signals.items ≤ 66) };
+    ghost invariant = { λ s. (SIGNALS_IN_A_TURN ≤ vec_capacity s.signals) × (length s.signals.items ≤ SIGNALS_IN_A_TURN) };
 }
 
 impl Seen {
-    /// The number of signals that it has room for: those of one turn are `Subscribed`, 64 items and one ending at most.
-    pub const ROOM: usize = 66;
-
     /// An empty one. Its room may be refused, as any growth.
     pub fn new(alloc: Global) -> Result<Seen, NoMemory>
         ensures { IfOk result (λ seen. seen ≡ []) }
     {
         Ok(Seen {
-            signals: Vec::with_capacity(alloc, Seen::ROOM)?,
+            signals: Vec::with_capacity(alloc, SIGNALS_IN_A_TURN)?,
         })
     }
 
@@ -43,7 +43,7 @@ impl Seen {
 
     /// Adds a signal, where there is room.
     pub fn push(&mut self, signal: Signal)
-        requires { length self.old < Seen.ROOM }
+        requires { length self.old < SIGNALS_IN_A_TURN }
         ensures { self.new ≡ self.old ++ signal ∷ [] }
     {
         self.signals.push_reserved(signal);
@@ -59,7 +59,7 @@ impl Seen {
     /// The number of signals.
     pub fn len(&self) -> usize
         ensures value { result ≡ length self.now }
-        ensures within { length self.now ≤ Seen.ROOM }
+        ensures within { length self.now ≤ SIGNALS_IN_A_TURN }
     {
         self.signals.len()
     }

@@ -1,61 +1,64 @@
-ghost use Rattle.std.specs.Prelude.{◌≡◌, ◌<◌, ◌∷◌, ◌++◌, [], true, length, OnOk, OnErr};
-ghost use Rattle.std.specs.VecDeque.{deque_len, deque_capacity};
-ghost use Rattle.feed_core.specs.Prelude.{Subscribed};
-ghost use Rattle.feed_core.specs.Turn.{IsProperPrefix};
+//! The calls of the subscriber, one function a signal. What was told goes into `seen`, and the callback's answer back to the caller.
+ghost use Rattle.std.specs.Prelude.{◌≡◌, ◌<◌, ◌∷◌, ◌++◌, [], true, length, IfOk, OnOk, IfErr, OnErr};
+ghost use Rattle.flow_rules.specs.declared.answer.Answer.TheVariants.{Go};
+ghost use Rattle.feed_core.specs.Prelude.{Subscribed, Next};
 ghost use Rattle.feed_core.specs.PlainTurn.{terminal_of};
-ghost use Rattle.feed_core.specs.Steps.{MovesNext};
+ghost use Rattle.feed_core.specs.Steps.{HasTerminal};
 
-use crate::turn::Seen;
-use flow_rules::{How, Item, NoMemory, Signal, Subscriber};
-use std::collections::VecDeque;
+use crate::turn::{SIGNALS_IN_A_TURN, Seen};
+use flow_rules::{Answer, How, Item, NoMemory, Signal, Subscriber};
 
 /// Tells `onSubscribe`.
 pub(crate) fn tell_subscribed<B: Subscriber>(
     subscriber: &mut B,
     seen: &mut Seen,
-) -> Result<(), NoMemory>
-    requires room { length seen.old < Seen.ROOM }
+) -> Result<Answer, NoMemory>
+    requires room { length seen.old < SIGNALS_IN_A_TURN }
     ensures told { OnOk result (B.told subscriber.new ≡ B.told subscriber.old ++ Subscribed ∷ []) }
     ensures seen { OnOk result (seen.new ≡ seen.old ++ Subscribed ∷ []) }
     ensures err { OnErr result ((B.told subscriber.new ≡ B.told subscriber.old) × (seen.new ≡ seen.old)) }
     ensures steady { B.is_steady subscriber.old ≡ true → B.is_steady subscriber.new ≡ true }
+    ensures goes_on { B.is_steady subscriber.old ≡ true → IfOk result (λ answer. answer ≡ Go) }
 {
-    let _ = subscriber.on_subscribe()?;
+    let answer = subscriber.on_subscribe()?;
     seen.push(Signal::Subscribed);
-    Ok(())
+    Ok(answer)
 }
 
-/// Tells the first of the held items, and moves it to what was seen. Where the callback is refused memory, it stays.
+/// Tells an item, and moves it to what was seen. Where the callback is refused memory, the item comes back.
 pub(crate) fn tell_next<B: Subscriber>(
     subscriber: &mut B,
-    held: &mut VecDeque<Item>,
+    item: Item,
     seen: &mut Seen,
-) -> Result<(), NoMemory>
-    requires some { 0 < deque_len held.old }
-    requires room { length seen.old < Seen.ROOM }
-    ensures ok { OnOk result (MovesNext
-        (B.told subscriber.old) (B.told subscriber.new) held.old.items held.new.items seen.old seen.new) }
-    ensures err { OnErr result ((B.told subscriber.new ≡ B.told subscriber.old)
-        × (held.new.items ≡ held.old.items) × (seen.new ≡ seen.old)) }
-    ensures kept { deque_capacity held.new ≡ deque_capacity held.old }
+) -> Result<Answer, Item>
+    requires room { length seen.old < SIGNALS_IN_A_TURN }
+    ensures told { OnOk result (B.told subscriber.new ≡ B.told subscriber.old ++ Next item ∷ []) }
+    ensures seen { OnOk result (seen.new ≡ seen.old ++ Next item ∷ []) }
+    ensures err { OnErr result ((B.told subscriber.new ≡ B.told subscriber.old) × (seen.new ≡ seen.old)) }
+    ensures back { IfErr result (λ back. back ≡ item) }
     ensures steady { B.is_steady subscriber.old ≡ true → B.is_steady subscriber.new ≡ true }
+    ensures goes_on { B.is_steady subscriber.old ≡ true → IfOk result (λ answer. answer ≡ Go) }
 {
-    let _ = subscriber.on_next(&held[0])?;
-    seen.push(Signal::Next(held.pop_front().unwrap()));
-    Ok(())
+    match subscriber.on_next(&item) {
+        Ok(answer) => {
+            seen.push(Signal::Next(item));
+            Ok(answer)
+        }
+        Err(NoMemory) => Err(item),
+    }
 }
 
-/// Tells the terminal signal of an end, if it has one.
-pub(crate) fn tell_ending<B: Subscriber>(
+/// Tells the terminal signal of an end, if it has one. What its callback answers is not obeyed.
+pub(crate) fn tell_terminal<B: Subscriber>(
     subscriber: &mut B,
     how: How,
     seen: &mut Seen,
 ) -> Result<(), NoMemory>
-    requires room { length seen.old < Seen.ROOM }
+    requires room { length seen.old < SIGNALS_IN_A_TURN }
     ensures told { OnOk result (B.told subscriber.new ≡ B.told subscriber.old ++ terminal_of how) }
     ensures seen { OnOk result (seen.new ≡ seen.old ++ terminal_of how) }
     ensures err { OnErr result ((B.told subscriber.new ≡ B.told subscriber.old) × (seen.new ≡ seen.old)) }
-    ensures missed { OnErr result (IsProperPrefix [] (terminal_of how)) }
+    ensures missed { OnErr result (HasTerminal how) }
     ensures steady { B.is_steady subscriber.old ≡ true → B.is_steady subscriber.new ≡ true }
 {
     match how {

@@ -1,40 +1,42 @@
--- The item that was taken moves from the held ones to the told ones, or is lost where its callback met want of memory.
-use Rattle.std.proofs.Common.{◌<◌, ◌≤◌, length, ap, sym, ◌∙◌, subst}
+-- The item that was taken moves from the held ones to the told ones, or goes back where its callback met want of memory.
+use Rattle.std.proofs.Common.{◌≡◌, ◌<◌, ◌≤◌, ◌∷◌, length, ap, sym, ◌∙◌, subst}
+use Rattle.feed_core.specs.Prelude.{Item}
 use Rattle.feed_core.specs.Cause.{stops}
 use Rattle.feed_core.specs.Desk.{DeskState}
-use Rattle.feed_core.specs.Sound.{is_begun}
-use Rattle.feed_core.proofs.Keeping.{accepted_kept, sound_given}
-use Rattle.feed_core.proofs.Looking.{looks_given, looks_lost}
+use Rattle.feed_core.specs.Steps.{IsMidTurn, MovesNext}
+use Rattle.feed_core.proofs.DeskSteps.{accepted_kept, in_order_given}
+use Rattle.feed_core.proofs.Looks.{looks_given, looks_lost}
 use Rattle.feed_core.proofs.desk.Desk.take.Goals as goal
 
 pub invariant_of-self : goal.invariant_of-self
 invariant_of-self g c =
-    let unended = ap (λ (desk : DeskState). desk.lane.how) c.self.view_is ∙ c.requires.owed.1 in
-    let runs = ap (λ (desk : DeskState). desk.running) c.self.view_is ∙ c.requires.owed.0 in
-    let begun = ap (λ (desk : DeskState). is_begun desk.lane.told) c.self.view_is ∙ c.requires.begun in
+    let mid = subst (λ (desk : DeskState). IsMidTurn desk) (sym c.self.view_is) c.requires.mid_turn in
     let requested = subst (λ (desk : DeskState). desk.lane.given < desk.lane.asked) (sym c.self.view_is) c.requires.requested in
+    let moves : MovesNext _ _ c.self.inside.held.items c.pop_front.new.self.items c.args.seen.now c.tell_next.new.seen =
+    record { item = c.unwrap-item.result; waited = rw c.unwrap-item.ensures at c.pop_front.ensures.items; told_after = c.in-Ok.ensures.told; seen_after = c.in-Ok.ensures.seen } in
     record {
-      sound = sound_given c.self.invariant.sound unended runs begun c.in-Ok.ensures.ok requested;
-      counted = ap length (accepted_kept c.self.invariant.sound unended runs begun c.in-Ok.ensures.ok) ∙ c.self.invariant.counted;
-      roomy = subst (λ room. c.self.inside.capacity ≤ room) (sym c.tell_next.ensures.kept) c.self.invariant.roomy;
+      in_order = in_order_given c.self.invariant.in_order mid.owed.1 mid.owed.0 mid.begun moves requested;
+      counted = ap length (accepted_kept c.self.invariant.in_order mid.owed.1 mid.owed.0 mid.begun moves) ∙ c.self.invariant.counted;
+      roomy = subst (λ room. c.self.inside.capacity ≤ room) (sym c.pop_front.ensures.capacity) c.self.invariant.roomy;
     }
 
 pub returns-in-Ok : goal.returns-in-Ok
 returns-in-Ok g c =
-    let unended = ap (λ (desk : DeskState). desk.lane.how) c.self.view_is ∙ c.requires.owed.1 in
-    let runs = ap (λ (desk : DeskState). desk.running) c.self.view_is ∙ c.requires.owed.0 in
-    let begun = ap (λ (desk : DeskState). is_begun desk.lane.told) c.self.view_is ∙ c.requires.begun in
+    let mid = subst (λ (desk : DeskState). IsMidTurn desk) (sym c.self.view_is) c.requires.mid_turn in
     let unstopped = ap (λ (desk : DeskState). stops desk.lane.causes) c.self.view_is ∙ c.requires.unstopped in
     let requested = subst (λ (desk : DeskState). desk.lane.given < desk.lane.asked) (sym c.self.view_is) c.requires.requested in
-    rw (← c.self.view_is) (looks_given c.self.invariant.sound unended runs begun c.in-Ok.ensures.ok unstopped requested c.tell_next.ensures.steady)
+    let moves : MovesNext _ _ c.self.inside.held.items c.pop_front.new.self.items c.args.seen.now c.tell_next.new.seen =
+    record { item = c.unwrap-item.result; waited = rw c.unwrap-item.ensures at c.pop_front.ensures.items; told_after = c.in-Ok.ensures.told; seen_after = c.in-Ok.ensures.seen } in
+    rw (← c.self.view_is) (looks_given c.self.invariant.in_order mid.owed.1 mid.owed.0 mid.begun moves unstopped requested c.tell_next.ensures.steady)
 
 pub returns-in-Err : goal.returns-in-Err
 returns-in-Err g c =
-    let unended = ap (λ (desk : DeskState). desk.lane.how) c.self.view_is ∙ c.requires.owed.1 in
-    let runs = ap (λ (desk : DeskState). desk.running) c.self.view_is ∙ c.requires.owed.0 in
-    let begun = ap (λ (desk : DeskState). is_begun desk.lane.told) c.self.view_is ∙ c.requires.begun in
+    let mid = subst (λ (desk : DeskState). IsMidTurn desk) (sym c.self.view_is) c.requires.mid_turn in
     let unstopped = ap (λ (desk : DeskState). stops desk.lane.causes) c.self.view_is ∙ c.requires.unstopped in
     let waits = subst (λ (desk : DeskState). desk.lane.given < length desk.lane.accepted) (sym c.self.view_is) c.requires.waits in
     let requested = subst (λ (desk : DeskState). desk.lane.given < desk.lane.asked) (sym c.self.view_is) c.requires.requested in
     let err = c.in-Err.ensures.err in
-    rw (← c.self.view_is, c.end_as.ensures.causes, c.end_as.ensures.ended, c.end_as.ensures.value) (looks_lost c.self.invariant.sound unended runs begun err.0 err.1 err.2 unstopped waits requested c.tell_next.ensures.steady)
+    let waited : c.self.inside.held.items ≡ c.unwrap-item.result ∷ c.pop_front.new.self.items = rw c.unwrap-item.ensures at c.pop_front.ensures.items in
+    let back : c.push_front_reserved.new.self.items ≡ c.self.inside.held.items =
+    c.push_front_reserved.ensures.items ∙ ap (λ (item : Item). item ∷ c.pop_front.new.self.items) c.in-Err.ensures.back ∙ sym waited in
+    rw (← c.self.view_is, c.end_as.ensures.causes, c.end_as.ensures.ended, c.end_as.ensures.value) (looks_lost c.self.invariant.in_order mid.owed.1 mid.owed.0 mid.begun err.0 back err.1 unstopped waits requested c.tell_next.ensures.steady)

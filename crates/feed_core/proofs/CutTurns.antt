@@ -1,18 +1,15 @@
--- A turn that is cut short by want of memory keeps what a script's subscription keeps.
-use Rattle.std.proofs.Common.{◌≡◌, ℕ, suc, ◌+◌, ◌≤◌, true, false, List, [], ◌∷◌, ◌++◌, length, map, take, refl, sym, ap, subst, ◌∙◌, append_assoc, length-append, arith, Some, inl, inr, ◌⊎◌}
-use Rattle.std.proofs.lemmas.List.{append-nil}
-use Rattle.lines_demo.specs.Prelude.{Item, Signal, Subscribed, Next, Complete, Error, How, items_of}
-use Rattle.feed_core.specs.declared.cause.Causes.{Causes}
-use Rattle.feed_core.specs.declared.turn.outlook.Outlook.TheVariants.{Ended}
+-- A turn that is cut short by want of memory keeps a lane calm.
+use Rattle.std.proofs.Common.{◌≡◌, ℕ, suc, ◌+◌, ◌≤◌, true, false, List, [], ◌∷◌, ◌++◌, length, map, take, drop, refl, sym, ap, subst, ◌∙◌, append_assoc, length-append, arith, Some, inl, inr, ◌⊎◌}
+use Rattle.std.proofs.lemmas.List.{append-nil, length-drop}
+use Rattle.feed_core.specs.Prelude.{Item, Signal, Subscribed, Next, Complete, Error, How, Causes, Ended, items_of}
 use Rattle.feed_core.specs.Cause.{with_cause_of}
-use Rattle.feed_core.specs.Turn.{taken_in}
 use Rattle.feed_core.specs.Lane.{LaneState}
 use Rattle.feed_core.specs.PlainTurn.{Turn, greeting, plain_turn_of}
 use Rattle.feed_core.specs.Sound.{is_begun, signals_of}
-use Rattle.feed_core.proofs.Texts.{items_of-append}
-use Rattle.feed_core.specs.Turn.{lane_after_turn}
-use Rattle.lines_demo.proofs.Kept.{Kept}
-use Rattle.lines_demo.proofs.Greeted.{IsOpenText, EndsSo, open-text, grown-text, items_of-greeted, sound-after, turn-told}
+use Rattle.feed_core.specs.Turn.{lane_after_turn, taken_in}
+use Rattle.feed_core.proofs.CalmLanes.{IsCalm}
+use Rattle.feed_core.proofs.SignalLists.{items_of-append}
+use Rattle.feed_core.proofs.WholeTurns.{IsOpenList, EndsSo, told-open, told-grown, items_of-greeted, sound-after, turn_parts}
 
 -- the signal that was not told has an item, or none
 next-few : (next : Signal) → length (items_of (next ∷ [])) ≤ 1
@@ -27,44 +24,44 @@ next-none (Next item) rest quiet = cc
 next-none Complete rest quiet = refl
 next-none (Error fault) rest quiet = refl
 
--- what was told of some onNexts and an ending, before the signal that was not
-record Fronted (items : List Item) (told : List Signal) (next : Signal) : Type 0 where
+-- what was told of some onNexts and a last signal, before the one that was not
+record TellsSome (items : List Item) (told : List Signal) (next : Signal) : Type 0 where
   pub told_items : List Item
   pub left : List Item
   pub parts : items ≡ told_items ++ left
   pub is : told ≡ map Next told_items
   pub fits : length told_items + length (items_of (next ∷ [])) ≤ length items
 
-front-of-nexts : (items : List Item) (last told : List Signal) (next : Signal) (rest : List Signal) → told ++ (next ∷ rest) ≡ map Next items ++ last → length last ≤ 1 → items_of last ≡ [] → Fronted items told next
-front-of-nexts [] last [] next rest e short quiet = record {
+some-of-nexts : (items : List Item) (last told : List Signal) (next : Signal) (rest : List Signal) → told ++ (next ∷ rest) ≡ map Next items ++ last → length last ≤ 1 → items_of last ≡ [] → TellsSome items told next
+some-of-nexts [] last [] next rest e short quiet = record {
   told_items = [];
   left = [];
   parts = refl;
   is = refl;
   fits = (let none = next-none next rest (ap items_of e ∙ quiet) in omega (arith, none));
 }
-front-of-nexts (item ∷ items) last [] next rest e short quiet = record {
+some-of-nexts (item ∷ items) last [] next rest e short quiet = record {
   told_items = [];
   left = item ∷ items;
   parts = refl;
   is = refl;
   fits = (let few = next-few next in omega arith);
 }
-front-of-nexts [] last (signal ∷ told) next rest e short quiet =
+some-of-nexts [] last (signal ∷ told) next rest e short quiet =
     let long = ap length e in absurd (omega (arith, long, length-append told (next ∷ rest)))
-front-of-nexts (item ∷ items) last (signal ∷ told) next rest e short quiet =
+some-of-nexts (item ∷ items) last (signal ∷ told) next rest e short quiet =
     let head : signal ≡ Next item = cc in
     let tail : told ++ (next ∷ rest) ≡ map Next items ++ last = cc in
-    let front = front-of-nexts items last told next rest tail short quiet in
+    let some = some-of-nexts items last told next rest tail short quiet in
     record {
-      told_items = item ∷ front.told_items;
-      left = front.left;
-      parts = ap (λ t. item ∷ t) front.parts;
-      is = (λ k. head k ∷ front.is k);
-      fits = (let fits = front.fits in omega arith);
+      told_items = item ∷ some.told_items;
+      left = some.left;
+      parts = ap (λ t. item ∷ t) some.parts;
+      is = (λ k. head k ∷ some.is k);
+      fits = (let fits = some.fits in omega arith);
     }
 
--- the same after a greeting
+-- what was told of a greeting, some onNexts and a last signal, before the one that was not
 record Missed (before : List Signal) (items : List Item) (told : List Signal) (next : Signal) : Type 0 where
   pub told_items : List Item
   pub left : List Item
@@ -74,8 +71,8 @@ record Missed (before : List Signal) (items : List Item) (told : List Signal) (n
 
 missed-shape : (before : List Signal) (items : List Item) (last told : List Signal) (next : Signal) (rest : List Signal) → told ++ (next ∷ rest) ≡ greeting before ++ (map Next items ++ last) → length last ≤ 1 → items_of last ≡ [] → Missed before items told next
 missed-shape (s ∷ before) items last told next rest e short quiet =
-    let front = front-of-nexts items last told next rest e short quiet in
-    record { told_items = front.told_items; left = front.left; parts = front.parts; is = inl front.is; fits = front.fits }
+    let some = some-of-nexts items last told next rest e short quiet in
+    record { told_items = some.told_items; left = some.left; parts = some.parts; is = inl some.is; fits = some.fits }
 missed-shape [] items last [] next rest e short quiet =
     let first : next ≡ Subscribed = cc in
     let none : length (items_of (next ∷ [])) ≡ 0 = ap (λ s. length (items_of (s ∷ []))) first in
@@ -83,8 +80,8 @@ missed-shape [] items last [] next rest e short quiet =
 missed-shape [] items last (signal ∷ told) next rest e short quiet =
     let head : signal ≡ Subscribed = cc in
     let tail : told ++ (next ∷ rest) ≡ map Next items ++ last = cc in
-    let front = front-of-nexts items last told next rest tail short quiet in
-    record { told_items = front.told_items; left = front.left; parts = front.parts; is = inl (λ k. head k ∷ front.is k); fits = front.fits }
+    let some = some-of-nexts items last told next rest tail short quiet in
+    record { told_items = some.told_items; left = some.left; parts = some.parts; is = inl (λ k. head k ∷ some.is k); fits = some.fits }
 
 -- one signal more than was told
 take-next : (told : List Signal) (next : Signal) (rest : List Signal) → take (length told + 1) (told ++ (next ∷ rest)) ≡ told ++ (next ∷ [])
@@ -100,10 +97,10 @@ missed-items before told items next m = elim m.is [
   | inr e ↦ ap items_of e.1 ∙ sym e.2
 ]
 
-missed-text : (before told : List Signal) (items : List Item) (next : Signal) (m : Missed before items told next) → IsOpenText before → before ++ told ≡ signals_of (is_begun (before ++ told)) (items_of (before ++ told)) (Some How.OutOfMemory)
-missed-text before told items next m begins = elim m.is [
+missed-told : (before told : List Signal) (items : List Item) (next : Signal) (m : Missed before items told next) → IsOpenList before → before ++ told ≡ signals_of (is_begun (before ++ told)) (items_of (before ++ told)) (Some How.OutOfMemory)
+missed-told before told items next m begins = elim m.is [
   | inl e ↦ subst (λ t. before ++ t ≡ signals_of (is_begun (before ++ t)) (items_of (before ++ t)) (Some How.OutOfMemory)) (sym (e ∙ ap (λ t. greeting before ++ t) (sym (append-nil (map Next m.told_items)))))
-      (grown-text before m.told_items (Some How.OutOfMemory) begins)
+      (told-grown before m.told_items (Some How.OutOfMemory) begins)
   | inr e ↦ (let none : before ++ told ≡ [] = ap (λ b. b ++ told) e.0 ∙ e.1 in
       subst (λ t. t ≡ signals_of (is_begun t) (items_of t) (Some How.OutOfMemory)) (sym none) refl)
 ]
@@ -113,31 +110,33 @@ ends-short : (causes : Causes) (left : List Item) (turn : Turn) → EndsSo cause
 ends-short causes left turn (inl going) = (let none = ap length going.0 in omega (arith, none), ap items_of going.0)
 ends-short causes left turn (inr done) = (let one = ap length done.0 in omega (arith, one), ap items_of done.0)
 
--- a front of a turn was told: the lane has ended for want of memory
-pub kept-part : (lane : LaneState) (capacity : ℕ) (told : List Signal) (next : Signal) (rest : List Signal) → Kept lane capacity true → (plain_turn_of lane).told ≡ told ++ (next ∷ rest)
-    → Kept (lane_after_turn lane told (Ended How.OutOfMemory)) capacity false
-kept-part lane capacity told next rest kept plain =
-    let unended = kept.lives refl in
-    let t = turn-told lane kept.held capacity kept.sound unended kept.calm in
+-- a lane stays calm after a turn that was cut at a callback that met want of memory, which ends it
+pub calm-cut_turn : (lane : LaneState) (capacity : ℕ) (told : List Signal) (next : Signal) (rest : List Signal) → IsCalm lane capacity true → (plain_turn_of lane).told ≡ told ++ (next ∷ rest)
+    → IsCalm (lane_after_turn lane told (Ended How.OutOfMemory)) capacity false
+calm-cut_turn lane capacity told next rest calm plain =
+    let unended = calm.lives refl in
+    let t = turn_parts lane calm.sound calm.calm in
     let short = ends-short lane.causes t.left t.end t.ends in
     let m = missed-shape lane.told t.items t.end.told told next rest (sym plain ∙ ap (λ turn. turn.told) t.plain) short.0 short.1 in
     let taken : taken_in (plain_turn_of lane) told ≡ length m.told_items + length (items_of (next ∷ [])) =
     ap (λ p. length (items_of (take (length told + 1) p))) plain ∙ ap (λ p. length (items_of p)) (take-next told next rest)
     ∙ ap length (items_of-append told (next ∷ [])) ∙ length-append (items_of told) (items_of (next ∷ []))
     ∙ ap (λ i. length i + length (items_of (next ∷ []))) (missed-items lane.told told t.items next m) in
-    let parts : kept.held ≡ m.told_items ++ (m.left ++ t.left) = t.parts ∙ ap (λ i. i ++ t.left) m.parts ∙ append_assoc m.told_items m.left t.left in
-    let long : length kept.held ≡ length t.items + length t.left = ap length t.parts ∙ length-append t.items t.left in
+    let parts : drop lane.given lane.accepted ≡ m.told_items ++ (m.left ++ t.left) = t.parts ∙ ap (λ i. i ++ t.left) m.parts ∙ append_assoc m.told_items m.left t.left in
+    let given_items : length t.items ≡ length m.told_items + length m.left = ap length m.parts ∙ length-append m.told_items m.left in
+    let left = length-append m.left t.left in
     let few = next-few next in
-    let fits = m.fits in
+    let room = m.fits in
     let requested = t.requested in
+    let fits = calm.fits in
     record {
-      held = m.left ++ t.left;
-      sound = sound-after lane kept.held m.told_items (m.left ++ t.left) capacity told (lane.given + taken_in (plain_turn_of lane) told) (with_cause_of How.OutOfMemory lane.causes) (Some How.OutOfMemory) kept.sound unended parts
-          (missed-items lane.told told t.items next m) (missed-text lane.told told t.items next m (open-text lane kept.held capacity kept.sound unended))
-          (omega (arith, taken)) (omega (arith, taken)) (omega (arith, taken, long)) (omega (arith, taken))
+      sound = sound-after lane m.told_items (m.left ++ t.left) told (lane.given + taken_in (plain_turn_of lane) told) (with_cause_of How.OutOfMemory lane.causes) (Some How.OutOfMemory) calm.sound unended parts
+          (missed-items lane.told told t.items next m) (missed-told lane.told told t.items next m (told-open lane calm.sound unended))
+          (omega (arith, taken)) (omega (arith, taken)) (omega (arith, taken)) (omega (arith, taken))
           (record { completed = λ e. cc; whole = λ e. cc; published = λ code e. cc; argument = λ e. cc; state = λ e. cc; cancelled = λ e. cc; failed = λ code e. cc; refused = λ e. refl })
           (λ e. cc) (λ e. cc);
-      bounded = kept.bounded;
-      calm = kept.calm;
+      fits = omega arith;
+      bounded = calm.bounded;
+      calm = calm.calm;
       lives = λ e. cc;
     }

@@ -1,7 +1,8 @@
-ghost use Rattle.std.specs.Prelude.{◌≡◌, ◌↔◌, ◌⊎◌, ◌^◌, ◌<◌, ◌<ℤ◌, pos, length, unsigned_abs, None, Some, true, false, IsSome};
+//! What a publisher and the owner of a subscription call.
+ghost use Rattle.std.specs.Prelude.{◌≡◌, ◌↔◌, ◌⊎◌, ◌^◌, ◌<◌, ◌<ℤ◌, pos, length, unsigned_abs, None, Some, true, false, IsSome, IsTrue};
 ghost use Rattle.feed_core.specs.Prelude.{Ending, total_after, IfAccepted, IfFull, IfGone};
 ghost use Rattle.feed_core.specs.Desk.{AcceptsItem, GivesBack, IsFull, Rests, desk_after_signal};
-ghost use Rattle.feed_core.specs.LaneCalls.{IsGone, lane_with_closing, lane_with_demand};
+ghost use Rattle.feed_core.specs.LaneCalls.{is_gone, lane_with_closing, lane_with_demand};
 
 use super::Desk;
 use flow_rules::{Ending, Item, Put, Subscriber};
@@ -15,7 +16,7 @@ impl<B: Subscriber> Desk<B> {
         requires few { length self.old.lane.accepted < 2 ^ 62 }
         ensures accepted { IfAccepted result (AcceptsItem self.old self.new item) }
         ensures full { IfFull result (λ back. IsFull self.old × GivesBack self.old self.new item back) }
-        ensures gone { IfGone result (λ back. IsGone self.old.lane × GivesBack self.old self.new item back) }
+        ensures gone { IfGone result (λ back. IsTrue (is_gone self.old.lane) × GivesBack self.old self.new item back) }
     {
         if self.how.is_some() || self.causes.closing.is_some() {
             return Put::Gone(item);
@@ -28,7 +29,7 @@ impl<B: Subscriber> Desk<B> {
         self.accepted += 1;
         Put::Accepted {
             lag: lag + 1,
-            start: signal(&mut self.running),
+            start: signal(&mut self.started),
         }
     }
 
@@ -46,7 +47,7 @@ impl<B: Subscriber> Desk<B> {
             return None;
         }
         self.causes.closing = Some(ending);
-        signal(&mut self.running)
+        signal(&mut self.started)
     }
 
     /// Adds to the demand (`Flow.Subscription.request`; Reactive Streams 1.0, rules 3.8 and 3.17). An ended
@@ -58,16 +59,16 @@ impl<B: Subscriber> Desk<B> {
         ensures starts { IsSome result ↔ Rests self.old }
     {
         let _ = self.asked.add(n);
-        signal(&mut self.running)
+        signal(&mut self.started)
     }
 }
 
 /// Starts the task of a subscription, where it is at rest.
-fn signal(running: &mut bool) -> Option<()>
-    ensures started { running.new ≡ true }
-    ensures rested { IsSome result ↔ (running.old ≡ false) }
+fn signal(started: &mut bool) -> Option<()>
+    ensures started { started.new ≡ true }
+    ensures rested { IsSome result ↔ (started.old ≡ false) }
 {
-    if mem::replace(running, true) {
+    if mem::replace(started, true) {
         None
     } else {
         Some(())

@@ -1,39 +1,43 @@
-ghost use Rattle.std.specs.Prelude.{◌≡◌, List, ◌<◌, ◌≤◌, ◌+◌, ◌↔◌, ◌++◌, [], true, false, None, Some, min, length, drop, OnOk, OnErr};
-ghost use Rattle.feed_core.specs.Prelude.{Signal, Complete, Error, Fault, Ending, How, items_of};
-ghost use Rattle.feed_core.specs.declared.turn.outlook.Outlook.TheVariants.{Again, Resting, Ended};
-ghost use Rattle.feed_core.specs.Cause.{stops, with_cause_of};
-ghost use Rattle.feed_core.specs.Desk.{AfterTurn, Owes};
-ghost use Rattle.feed_core.specs.Turn.{EndsIn, MeetsPlainTurn, taken_in};
-ghost use Rattle.feed_core.specs.Lane.{IsFlow, IsFrontOf};
-ghost use Rattle.feed_core.specs.PlainTurn.{plain_turn_of, greeting};
-ghost use Rattle.feed_core.specs.Sound.{is_begun};
-ghost use Rattle.feed_core.specs.Steps.{Looks, Greets, OwesEnd, lane_after_end};
+//! The turn of a subscription, and its steps in the order in which they are made.
+ghost use Rattle.std.specs.Prelude.{◌≡◌, List, ◌<◌, ◌≤◌, ◌+◌, ◌↔◌, ◌++◌, [], true, None, Some, IsSome, min, length, drop, OnOk, OnErr};
+ghost use mathlib.Core.List.{IsPrefix};
+ghost use Rattle.feed_core.specs.Prelude.{Signal, Complete, Error, Fault, How, Again, Resting, Ended, ITEMS_IN_A_TURN, SIGNALS_IN_A_TURN, items_of};
+ghost use Rattle.feed_core.specs.Cause.{stops, closes, with_cause_of};
+ghost use Rattle.feed_core.specs.Desk.{Owes, desk_after_turn};
+ghost use Rattle.feed_core.specs.Lane.{IsFlow};
+ghost use Rattle.feed_core.specs.PlainTurn.{plain_turn_of};
+ghost use Rattle.feed_core.specs.Steps.{Looks, Greets, OwesEnd, IsMidTurn, lane_after_end};
+ghost use Rattle.feed_core.specs.Turn.{EndsIn, MeetsPlainTurn};
 
 use super::Desk;
 use crate::cause::Causes;
-use crate::turn::{Outlook, Seen, tell_ending, tell_next, tell_subscribed};
+use crate::turn::{ITEMS_IN_A_TURN, Outlook, Seen, tell_next, tell_subscribed, tell_terminal};
 use flow_rules::{How, NoMemory, Subscriber};
 
-/// The number of items that one turn gives at most.
-const ITEMS_IN_A_TURN: usize = 64;
-
 impl<B: Subscriber> Desk<B> {
-    /// Tells the subscriber what is due: `onSubscribe` first of all, then items below the demand, 64 at most, then the
-    /// ending. What it was told is what `seen` then holds (`Flow.Subscriber`; Reactive Streams 1.0, rules 1.1, 1.3, 1.5,
-    /// 1.7 and 1.9). A callback that is refused memory ends the subscription.
+    /// Tells the subscriber what is owed: `onSubscribe` first of all, then items below the demand, 64 at most, then the
+    /// terminal signal. What it was told is what `seen` then holds (`Flow.Subscriber`; Reactive Streams 1.0, rules 1.1, 1.3,
+    /// 1.5, 1.7 and 1.9). A callback that is refused memory ends the subscription.
     pub fn turn(&mut self, seen: &mut Seen) -> Outlook
         requires owed { Owes self.old }
         requires steady { self.old.is_steady ≡ true }
-        ensures after { AfterTurn self.old self.new seen.new result }
-        ensures in_order { IsFrontOf (items_of seen.new) (drop self.old.lane.given self.old.lane.accepted) }
-        ensures at_most { self.new.lane.given ≤ self.old.lane.given + 64 }
-        ensures few { length seen.new ≤ 66 }
-        ensures again { result ≡ Again → length (items_of seen.new) ≡ 64 }
+
+        // What it tells, and what it changes: the lane by what it told, the mark of the task, and nothing else.
+        ensures plain { MeetsPlainTurn (plain_turn_of self.old.lane) seen.new result }
+        ensures after { self.new ≡ desk_after_turn self.old seen.new result }
+
+        // The Flow rules: the next items that were accepted, in order, and the lane as a whole.
+        ensures in_order { IsPrefix (items_of seen.new) (drop self.old.lane.given self.old.lane.accepted) }
+        ensures flow { IsFlow self.new.lane }
+
+        // Its bounds.
+        ensures at_most { self.new.lane.given ≤ self.old.lane.given + ITEMS_IN_A_TURN }
+        ensures few { length seen.new ≤ SIGNALS_IN_A_TURN }
+
+        // What it answers.
+        ensures again { result ≡ Again → length (items_of seen.new) ≡ ITEMS_IN_A_TURN }
         ensures completed { EndsIn seen.new Complete ↔ (result ≡ Ended How.Completed) }
         ensures errored { (fault : Fault) → EndsIn seen.new (Error fault) ↔ (result ≡ Ended (How.Errored fault)) }
-        ensures plain { MeetsPlainTurn (plain_turn_of self.old.lane) seen.new result }
-        ensures taken { self.new.lane.given ≡ self.old.lane.given + taken_in (plain_turn_of self.old.lane) seen.new }
-        ensures flow { IsFlow self.new.lane }
     {
         seen.clear();
         if let Err(NoMemory) = self.greet(seen) {
@@ -52,22 +56,20 @@ impl<B: Subscriber> Desk<B> {
     fn greet(&mut self, seen: &mut Seen) -> Result<(), NoMemory>
         requires owed { Owes self.old }
         requires steady { self.old.is_steady ≡ true }
-        requires room { length seen.old < Seen.ROOM }
+        requires room { length seen.old < SIGNALS_IN_A_TURN }
         ensures ok { OnOk result (Greets self.old self.new seen.old seen.new) }
         ensures err { OnErr result ((self.new ≡ self.old) × (seen.new ≡ seen.old) × (self.old.lane.told ≡ [])) }
     {
         if self.subscriber.told().is_empty() {
-            tell_subscribed(&mut self.subscriber, seen)?;
+            let _ = tell_subscribed(&mut self.subscriber, seen)?;
         }
         Ok(())
     }
 
     /// Looks at the causes, and does what they allow: the end, one item, or rest.
     fn look(&mut self, seen: &mut Seen) -> Outlook
-        requires owed { Owes self.old }
-        requires begun { is_begun self.old.lane.told ≡ true }
-        requires steady { self.old.is_steady ≡ true }
-        requires room { length seen.old < Seen.ROOM }
+        requires mid_turn { IsMidTurn self.old }
+        requires room { length seen.old < SIGNALS_IN_A_TURN }
         ensures { Looks self.old self.new seen.old seen.new result }
     {
         if let Some(how) = self.causes.stops() {
@@ -82,34 +84,34 @@ impl<B: Subscriber> Desk<B> {
         }
     }
 
-    /// Takes the next item, and tells it.
+    /// Takes the next item, and tells it. Where the callback is refused memory, the item goes back to the held ones.
     fn take(&mut self, seen: &mut Seen) -> Outlook
-        requires owed { Owes self.old }
-        requires begun { is_begun self.old.lane.told ≡ true }
-        requires steady { self.old.is_steady ≡ true }
+        requires mid_turn { IsMidTurn self.old }
         requires unstopped { stops self.old.lane.causes ≡ None }
         requires waits { self.old.lane.given < length self.old.lane.accepted }
         requires requested { self.old.lane.given < self.old.lane.asked }
-        requires room { length seen.old < Seen.ROOM }
+        requires room { length seen.old < SIGNALS_IN_A_TURN }
         ensures { Looks self.old self.new seen.old seen.new result }
     {
+        let item = self.held.pop_front().unwrap();
         self.given += 1;
-        match tell_next(&mut self.subscriber, &mut self.held, seen) {
-            Ok(()) => Outlook::Again,
-            Err(NoMemory) => end_as(How::OutOfMemory, &mut self.causes, &mut self.how),
+        match tell_next(&mut self.subscriber, item, seen) {
+            Ok(_) => Outlook::Again,
+            Err(item) => {
+                self.held.push_front_reserved(item);
+                end_as(How::OutOfMemory, &mut self.causes, &mut self.how)
+            }
         }
     }
 
-    /// Tells the ending that is due, and ends.
+    /// Tells the terminal signal of the end that is owed, and ends.
     fn finish(&mut self, how: How, seen: &mut Seen) -> Outlook
-        requires owed { Owes self.old }
-        requires begun { is_begun self.old.lane.told ≡ true }
-        requires steady { self.old.is_steady ≡ true }
-        requires due { OwesEnd self.old.lane how }
-        requires room { length seen.old < Seen.ROOM }
+        requires mid_turn { IsMidTurn self.old }
+        requires owed { OwesEnd self.old.lane how }
+        requires room { length seen.old < SIGNALS_IN_A_TURN }
         ensures { Looks self.old self.new seen.old seen.new result }
     {
-        let how = match tell_ending(&mut self.subscriber, how, seen) {
+        let how = match tell_terminal(&mut self.subscriber, how, seen) {
             Ok(()) => how,
             Err(NoMemory) => How::OutOfMemory,
         };
@@ -129,15 +131,13 @@ impl<B: Subscriber> Desk<B> {
 
     /// Waits for the next signal.
     fn rest(&mut self) -> Outlook
-        requires owed { Owes self.old }
-        requires begun { is_begun self.old.lane.told ≡ true }
+        requires mid_turn { IsMidTurn self.old }
         requires unstopped { stops self.old.lane.causes ≡ None }
         requires all_given { self.old.lane.given ≡ min (length self.old.lane.accepted) self.old.lane.asked }
-        requires waits { self.old.lane.causes.closing ≡ Some Ending.Normal
-            → self.old.lane.given < length self.old.lane.accepted }
+        requires waits { IsSome (closes self.old.lane.causes) → self.old.lane.given < length self.old.lane.accepted }
         ensures { (seen : List Signal) → Looks self.old self.new seen seen result }
     {
-        self.running = false;
+        self.started = false;
         Outlook::Resting
     }
 }

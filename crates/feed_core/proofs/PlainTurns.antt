@@ -4,7 +4,7 @@ use Rattle.std.proofs.lemmas.Bool.Decides.{nat_tests, eqb_tells}
 use Rattle.feed_core.specs.Prelude.{Item, Next, How}
 use Rattle.feed_core.specs.declared.cause.Causes.{Causes}
 use Rattle.feed_core.specs.Cause.{stops, closes}
-use Rattle.feed_core.specs.PlainTurn.{again, ended, signals_then, close_or_rest}
+use Rattle.feed_core.specs.PlainTurn.{another_turn, end_by, signals_then, close_or_rest}
 use Rattle.feed_core.specs.Steps.{turn_within}
 
 -- the next numbers are equal where these are
@@ -22,7 +22,7 @@ same_next m n = elim (eqb_tells (suc m) (suc n)) [
 
 -- an end that is due at once is the whole of what is left of a turn
 pub stopped : (most : ℕ) (causes : Causes) (waiting : List Item) (unmet : ℕ) (how : How) → stops causes ≡ Some how
-    → turn_within most causes waiting unmet ≡ ended how
+    → turn_within most causes waiting unmet ≡ end_by how
 stopped most causes waiting unmet how e = rw e refl
 
 -- an item that waits and was requested comes first, and then what is left of the turn
@@ -44,7 +44,7 @@ pauses most causes waiting unmet e none =
     rw (e, n, some) refl
 
 -- a turn that may give no more items is to be gone on with
-pub full : (causes : Causes) (waiting : List Item) (unmet : ℕ) → stops causes ≡ None → turn_within 0 causes waiting unmet ≡ again
+pub full : (causes : Causes) (waiting : List Item) (unmet : ℕ) → stops causes ≡ None → turn_within 0 causes waiting unmet ≡ another_turn
 full causes waiting unmet e =
     let n : min (min (length waiting) unmet) 0 ≡ 0 = omega arith in
     rw (e, n) refl

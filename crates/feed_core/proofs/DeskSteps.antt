@@ -1,4 +1,4 @@
--- One step of a turn keeps what a Desk keeps.
+-- One step of a turn keeps a Desk in order.
 use Rattle.std.proofs.Common.{◌≡◌, ℕ, ◌+◌, ◌<◌, ◌≤◌, Bool, true, false, List, [], ◌∷◌, ◌++◌, map, length, drop, Option, None, Some, refl, ap, sym, ◌∙◌, subst, inl, inr, arith, append_assoc}
 use Rattle.std.proofs.lemmas.List.{append-nil, length-append, map-append}
 use Rattle.std.proofs.Math.Seq.{drop-append_seam}
@@ -7,28 +7,28 @@ use Rattle.feed_core.specs.declared.cause.Causes.{Causes}
 use Rattle.feed_core.specs.Cause.{IsFaultOf, stops, closes, end_where, closing_error, completion, with_cause_of}
 use Rattle.feed_core.specs.Lane.{LaneState}
 use Rattle.feed_core.specs.PlainTurn.{terminal_of}
-use Rattle.feed_core.specs.Sound.{is_begun, opening, terminal_part, signals_of, lane_of, loss_of, HasCause, IsSound}
+use Rattle.feed_core.specs.Sound.{is_begun, opening, terminal_part, signals_of, lane_of, loss_of, HasCause, IsInOrder, IsSound}
 use Rattle.feed_core.specs.Steps.{OwesEnd, MovesNext}
-use Rattle.feed_core.proofs.Flow.{open_text}
-use Rattle.feed_core.proofs.Texts.{items_of-append}
+use Rattle.feed_core.proofs.FlowRules.{all_counted, told_open}
+use Rattle.feed_core.proofs.SignalLists.{items_of-append}
 
--- a text that was begun stays so
+-- a list that was begun stays so when it grows
 pub is_begun-append : (told more : List Signal) → is_begun told ≡ true → is_begun (told ++ more) ≡ true
 is_begun-append [] more h = cc
 is_begun-append (s ∷ told) more h = refl
 
--- an ending has no items
-pub items_of-last : (how : How) → items_of (terminal_of how) ≡ []
-items_of-last How.Completed = refl
-items_of-last (How.Errored _) = refl
-items_of-last How.Cancelled = refl
-items_of-last (How.Failed _) = refl
-items_of-last How.OutOfMemory = refl
+-- a terminal signal is no item
+pub items_of-terminal : (how : How) → items_of (terminal_of how) ≡ []
+items_of-terminal How.Completed = refl
+items_of-terminal (How.Errored _) = refl
+items_of-terminal How.Cancelled = refl
+items_of-terminal (How.Failed _) = refl
+items_of-terminal How.OutOfMemory = refl
 
--- an ending adds no items to a text
+-- a terminal signal adds no items to a list
 pub ended_items : (told told' : List Signal) (end : How) → told' ≡ told ++ terminal_of end → items_of told' ≡ items_of told
 ended_items told told' end grows =
-    ap items_of grows ∙ items_of-append told (terminal_of end) ∙ ap (λ items. items_of told ++ items) (items_of-last end) ∙ append-nil (items_of told)
+    ap items_of grows ∙ items_of-append told (terminal_of end) ∙ ap (λ items. items_of told ++ items) (items_of-terminal end) ∙ append-nil (items_of told)
 
 -- what has to hold before a lane may end so
 abbrev pub MayEnd : LaneState → How → Type 0
@@ -60,10 +60,10 @@ closes_may lane how e all = by lane.causes.closing refl e where
   by (Some Ending.Normal) l e = let is : How.Completed ≡ how = cc in subst (MayEnd lane) is (l, all)
   by (Some (Ending.Failed code)) l e = cc
 
--- a lane may end as is due
-due_may : (lane : LaneState) (how : How) → OwesEnd lane how → MayEnd lane how
-due_may lane how (inl e) = stops_may lane how e
-due_may lane how (inr e) = closes_may lane how e.1 e.2
+-- a lane may end as is owed
+owed_may : (lane : LaneState) (how : How) → OwesEnd lane how → MayEnd lane how
+owed_may lane how (inl e) = stops_may lane how e
+owed_may lane how (inr e) = closes_may lane how e.1 e.2
 
 -- a lane that ends as it may has a cause for it
 has_cause : (lane : LaneState) (how : How) (told : List Signal) (accepted : List Item) → length accepted ≡ length lane.accepted → MayEnd lane how
@@ -92,74 +92,74 @@ no_cause lane unended = record {
   refused = λ e. cc;
 }
 
--- in a lane that has not ended as many items were told as were given
-pub all_counted : {lane : LaneState} {held : List Item} {capacity : ℕ} {running : Bool} → IsSound lane held capacity running → lane.how ≡ None → lane.given ≡ length (items_of lane.told)
-all_counted {lane} sound unended =
-    let most : lane.given ≤ length (items_of lane.told) + 0 = subst (λ h. lane.given ≤ length (items_of lane.told) + loss_of h) unended sound.counts.loses in
-    let least = sound.counts.tells in
-    omega arith
+module _ {told : List Signal} {held : List Item} {given asked capacity : ℕ} {causes : Causes} {how : Option How} {started : Bool}
+    (kept : IsInOrder (lane_of told held given asked causes how) held capacity started) (unended : how ≡ None) where
+  -- the held items are those that were accepted and not given
+  pub waiting_held : drop given (items_of told ++ held) ≡ held
+  waiting_held = ap (λ k. drop k (items_of told ++ held)) (all_counted kept.sound unended) ∙ drop-append_seam (items_of told) held
 
--- and the held items are those that were accepted and not given
-pub waiting_held : {lane : LaneState} {held : List Item} {capacity : ℕ} {running : Bool} → IsSound lane held capacity running → lane.how ≡ None → drop lane.given lane.accepted ≡ held
-waiting_held {lane} {held} sound unended =
-    ap (λ k. drop k lane.accepted) (all_counted sound unended) ∙ ap (drop (length (items_of lane.told))) sound.holds ∙ drop-append_seam (items_of lane.told) held
-
-module _ {told : List Signal} {held : List Item} {given asked capacity : ℕ} {causes : Causes} {how : Option How} {running : Bool}
-    (sound : IsSound (lane_of told held given asked causes how) held capacity running) (unended : how ≡ None) where
-  module _ (runs : running ≡ true) (begun : is_begun told ≡ true) where
+  module _ (runs : started ≡ true) (begun : is_begun told ≡ true) where
     -- what was told so far
-    text_so_far : told ≡ Subscribed ∷ map Next (items_of told)
-    text_so_far = open_text sound unended begun
+    told_so_far : told ≡ Subscribed ∷ map Next (items_of told)
+    told_so_far = told_open kept.sound unended begun
 
-    -- what was told grows by more items or an ending
-    grown_text : {told' : List Signal} (more : List Signal) (how' : Option How) → told' ≡ told ++ more
+    -- what was told grows by more items or a terminal signal
+    told_grown : {told' : List Signal} (more : List Signal) (how' : Option How) → told' ≡ told ++ more
         → map Next (items_of told) ++ more ≡ map Next (items_of told') ++ terminal_part how'
         → told' ≡ signals_of (is_begun told') (items_of told') how'
-    grown_text {told'} more how' grows is =
-        let whole : told' ≡ Subscribed ∷ (map Next (items_of told) ++ more) = grows ∙ ap (λ text. text ++ more) text_so_far in
+    told_grown {told'} more how' grows is =
+        let whole : told' ≡ Subscribed ∷ (map Next (items_of told) ++ more) = grows ∙ ap (λ signals. signals ++ more) told_so_far in
         subst (λ b. told' ≡ opening b ++ (map Next (items_of told') ++ terminal_part how')) (sym (ap is_begun whole)) (whole ∙ ap (λ rest. Subscribed ∷ rest) is)
 
-    -- an end that is due, or comes of a callback, keeps what a Desk keeps
-    pub sound_ended : {told' : List Signal} (end : How) → MayEnd (lane_of told held given asked causes how) end
+    -- an end that is owed, or comes of a callback, keeps a Desk in order
+    pub in_order_ended : {told' : List Signal} (end : How) → MayEnd (lane_of told held given asked causes how) end
         → told' ≡ told ++ terminal_of end
-        → IsSound (lane_of told' held given asked (with_cause_of end causes) (Some end)) held capacity running
-    sound_ended {told'} end may grows =
+        → IsInOrder (lane_of told' held given asked (with_cause_of end causes) (Some end)) held capacity started
+    in_order_ended {told'} end may grows =
         let same : items_of told' ≡ items_of told = ended_items told told' end grows in
         let accepted_same : items_of told' ++ held ≡ items_of told ++ held = ap (λ items. items ++ held) same in
-        let as_many = all_counted sound unended in
+        let as_many = all_counted kept.sound unended in
         let told_same : length (items_of told') ≡ length (items_of told) = ap length same in
         let long : length (items_of told' ++ held) ≡ length (items_of told ++ held) = ap length accepted_same in
         record {
+          sound = record {
+            told_is = told_grown (terminal_of end) (Some end) grows (ap (λ items. map Next items ++ terminal_of end) (sym same));
+            in_order = (held, refl);
+            counts = record { tells = omega arith; loses = omega arith; taken = let taken = kept.sound.counts.taken in omega arith; requested = kept.sound.counts.requested };
+            cause = has_cause (lane_of told held given asked causes how) end told' (items_of told' ++ held) long may;
+            unfailed = λ e. cc;
+            remembered = λ e. cc;
+          };
           holds = refl;
-          text = grown_text (terminal_of end) (Some end) grows (ap (λ items. map Next items ++ terminal_of end) (sym same));
-          counts = record { tells = omega arith; loses = omega arith; taken = let taken = sound.counts.taken in omega arith; fits = let fits = sound.counts.fits in omega arith; requested = sound.counts.requested };
-          cause = has_cause (lane_of told held given asked causes how) end told' (items_of told' ++ held) long may;
-          unfailed = λ e. cc;
-          remembered = λ e. cc;
+          fits = let fits = kept.fits in omega arith;
           rests = λ e. cc;
         }
 
-    -- the same of an end that is due
-    pub sound_due : {told' : List Signal} (end : How) → OwesEnd (lane_of told held given asked causes how) end
+    -- an end that is owed keeps a Desk in order
+    pub in_order_owed : {told' : List Signal} (end : How) → OwesEnd (lane_of told held given asked causes how) end
         → told' ≡ told ++ terminal_of end
-        → IsSound (lane_of told' held given asked (with_cause_of end causes) (Some end)) held capacity running
-    sound_due end due grows = sound_ended end (due_may (lane_of told held given asked causes how) end due) grows
+        → IsInOrder (lane_of told' held given asked (with_cause_of end causes) (Some end)) held capacity started
+    in_order_owed end owed grows = in_order_ended end (owed_may (lane_of told held given asked causes how) end owed) grows
 
     -- an item whose callback met want of memory is taken and lost
-    pub sound_lost : {told' : List Signal} {held' : List Item} → told' ≡ told → held' ≡ held
+    pub in_order_lost : {told' : List Signal} {held' : List Item} → told' ≡ told → held' ≡ held
         → given < length (items_of told ++ held) → given < asked
-        → IsSound (lane_of told' held' (given + 1) asked (with_cause_of How.OutOfMemory causes) (Some How.OutOfMemory)) held' capacity running
-    sound_lost {told'} {held'} same_told same_held waits requested =
-        subst (λ text. IsSound (lane_of text held' (given + 1) asked (with_cause_of How.OutOfMemory causes) (Some How.OutOfMemory)) held' capacity running) (sym same_told)
-        (subst (λ rest. IsSound (lane_of told rest (given + 1) asked (with_cause_of How.OutOfMemory causes) (Some How.OutOfMemory)) rest capacity running) (sym same_held)
-        (let as_many = all_counted sound unended in
+        → IsInOrder (lane_of told' held' (given + 1) asked (with_cause_of How.OutOfMemory causes) (Some How.OutOfMemory)) held' capacity started
+    in_order_lost {told'} {held'} same_told same_held waits requested =
+        subst (λ signals. IsInOrder (lane_of signals held' (given + 1) asked (with_cause_of How.OutOfMemory causes) (Some How.OutOfMemory)) held' capacity started) (sym same_told)
+        (subst (λ rest. IsInOrder (lane_of told rest (given + 1) asked (with_cause_of How.OutOfMemory causes) (Some How.OutOfMemory)) rest capacity started) (sym same_held)
+        (let as_many = all_counted kept.sound unended in
         record {
+          sound = record {
+            told_is = (in_order_ended How.OutOfMemory tt (sym (append-nil told))).sound.told_is;
+            in_order = (held, refl);
+            counts = record { tells = omega arith; loses = omega arith; taken = omega arith; requested = omega arith };
+            cause = has_cause (lane_of told held (given + 1) asked causes how) How.OutOfMemory told (items_of told ++ held) refl tt;
+            unfailed = λ e. cc;
+            remembered = λ e. cc;
+          };
           holds = refl;
-          text = (sound_ended How.OutOfMemory tt (sym (append-nil told))).text;
-          counts = record { tells = omega arith; loses = omega arith; taken = omega arith; fits = let fits = sound.counts.fits in omega arith; requested = omega arith };
-          cause = has_cause (lane_of told held (given + 1) asked causes how) How.OutOfMemory told (items_of told ++ held) refl tt;
-          unfailed = λ e. cc;
-          remembered = λ e. cc;
+          fits = let fits = kept.fits in omega arith;
           rests = λ e. cc;
         }))
 
@@ -172,23 +172,27 @@ module _ {told : List Signal} {held : List Item} {given asked capacity : ℕ} {c
       pub accepted_kept : items_of told' ++ held' ≡ items_of told ++ held
       accepted_kept = ap (λ items. items ++ held') items_after ∙ append_assoc (items_of told) (moves.item ∷ []) held' ∙ ap (λ rest. items_of told ++ rest) (sym moves.waited)
 
-      -- and counted
+      -- one more item was told than was given before
       pub one_more : length (items_of told') ≡ given + 1
-      one_more = let before = all_counted sound unended in omega (arith, ap length items_after, length-append (items_of told) (moves.item ∷ []))
+      one_more = let before = all_counted kept.sound unended in omega (arith, ap length items_after, length-append (items_of told) (moves.item ∷ []))
 
-      -- an item that is told keeps what a Desk keeps
-      pub sound_given : given < asked → IsSound (lane_of told' held' (given + 1) asked causes how) held' capacity running
-      sound_given requested =
+      -- an item that is told keeps a Desk in order
+      pub in_order_given : given < asked → IsInOrder (lane_of told' held' (given + 1) asked causes how) held' capacity started
+      in_order_given requested =
           let told_one_more = one_more in
           let long : length (items_of told' ++ held') ≡ length (items_of told ++ held) = ap length accepted_kept in
           let parts = length-append (items_of told') held' in
           record {
+            sound = record {
+              told_is = told_grown (Next moves.item ∷ []) how moves.told_after
+                  (sym (map-append Next (items_of told) (moves.item ∷ [])) ∙ ap (map Next) (sym items_after) ∙ sym (append-nil (map Next (items_of told'))) ∙ ap (λ h. map Next (items_of told') ++ terminal_part h) (sym unended));
+              in_order = (held', refl);
+              counts = record { tells = omega arith; loses = omega arith; taken = omega arith; requested = omega arith };
+              cause = no_cause (lane_of told' held' (given + 1) asked causes how) unended;
+              unfailed = kept.sound.unfailed;
+              remembered = kept.sound.remembered;
+            };
             holds = refl;
-            text = grown_text (Next moves.item ∷ []) how moves.told_after
-                (sym (map-append Next (items_of told) (moves.item ∷ [])) ∙ ap (map Next) (sym items_after) ∙ sym (append-nil (map Next (items_of told'))) ∙ ap (λ h. map Next (items_of told') ++ terminal_part h) (sym unended));
-            counts = record { tells = omega arith; loses = omega arith; taken = omega arith; fits = let fits = sound.counts.fits in omega arith; requested = omega arith };
-            cause = no_cause (lane_of told' held' (given + 1) asked causes how) unended;
-            unfailed = sound.unfailed;
-            remembered = sound.remembered;
+            fits = let fits = kept.fits in omega arith;
             rests = λ e. cc;
           }

@@ -1,11 +1,11 @@
--- Texts of signals: their items, and what they contain.
+-- Lists of signals: their items, and what they contain.
 use Rattle.std.proofs.Common.{◌≡◌, ℕ, zero, suc, ◌<◌, Bool, true, false, List, [], ◌∷◌, ◌++◌, map, length, slice_index_or, Contains, Option, None, Some, refl, ap, inl, inr, arith}
 use Rattle.std.proofs.lemmas.List.Elements.{Contains-append_cases}
 use Rattle.feed_core.specs.Prelude.{Item, Signal, Subscribed, Next, Complete, Error, Fault, How, IsTerminalPart, items_of}
 use Rattle.feed_core.specs.PlainTurn.{terminal_of}
 use Rattle.feed_core.specs.Sound.{terminal_part, opening}
 
--- the items of two texts, one after the other
+-- the items of two lists, one after the other
 pub items_of-append : (s t : List Signal) → items_of (s ++ t) ≡ items_of s ++ items_of t
 items_of-append [] t = refl
 items_of-append (Subscribed ∷ s) t = items_of-append s t
@@ -18,7 +18,7 @@ pub items_of-nexts : (items : List Item) → items_of (map Next items) ≡ items
 items_of-nexts [] = refl
 items_of-nexts (item ∷ items) = ap (λ rest. item ∷ rest) (items_of-nexts items)
 
--- no text is one of onSubscribe and onNext
+-- onComplete and onError are terminal signals, the others are not
 abbrev pub IsTerminal : Signal → Type 0
 IsTerminal Subscribed = ⊥
 IsTerminal (Next _) = ⊥
@@ -57,7 +57,7 @@ opening-open true (Next _) last h = last
 opening-open true Complete last h = let e = Contains-one Subscribed Complete h in cc
 opening-open true (Error f) last h = let e = Contains-one Subscribed (Error f) h in cc
 
--- a terminal signal is in a text only as its ending
+-- a terminal signal is in a list only as its last one
 pub terminal-last : (begun : Bool) (items : List Item) (ending : List Signal) (s : Signal) → IsTerminal s
     → Contains (opening begun ++ (map Next items ++ ending)) s → Contains ending s
 terminal-last begun items ending s last h =
@@ -69,7 +69,7 @@ terminal-last begun items ending s last h =
       ]
     ]
 
--- onComplete ends the text of a completed subscription alone
+-- onComplete is the terminal signal of a completed subscription alone
 pub complete-last : (how : How) → Contains (terminal_of how) Complete → how ≡ How.Completed
 complete-last How.Completed h = refl
 complete-last (How.Errored f) h = let e = Contains-one (Error f) Complete h in cc
@@ -77,7 +77,7 @@ complete-last How.Cancelled h = absurd (Contains-none Complete h)
 complete-last (How.Failed _) h = absurd (Contains-none Complete h)
 complete-last How.OutOfMemory h = absurd (Contains-none Complete h)
 
--- onError ends the text of a subscription that ended with that error alone
+-- onError is the terminal signal of a subscription that ended with that error alone
 pub error-last : (how : How) (fault : Fault) → Contains (terminal_of how) (Error fault) → how ≡ How.Errored fault
 error-last How.Completed fault h = let e = Contains-one Complete (Error fault) h in cc
 error-last (How.Errored f) fault h = let e = Contains-one (Error f) (Error fault) h in cc
@@ -85,7 +85,7 @@ error-last How.Cancelled fault h = absurd (Contains-none (Error fault) h)
 error-last (How.Failed _) fault h = absurd (Contains-none (Error fault) h)
 error-last How.OutOfMemory fault h = absurd (Contains-none (Error fault) h)
 
--- the same of the ending of a lane
+-- onComplete is the terminal signal of a completed lane alone
 pub complete-ending : (how : Option How) → Contains (terminal_part how) Complete → how ≡ Some How.Completed
 complete-ending None h = absurd (Contains-none Complete h)
 complete-ending (Some how) h = ap Some (complete-last how h)
@@ -94,7 +94,7 @@ pub error-ending : (how : Option How) (fault : Fault) → Contains (terminal_par
 error-ending None fault h = absurd (Contains-none (Error fault) h)
 error-ending (Some how) fault h = ap Some (error-last how fault h)
 
--- an ending is none, one onComplete or one onError
+-- the terminal part of a lane is none, one onComplete or one onError
 pub is_terminal_part : (how : Option How) → IsTerminalPart (terminal_part how)
 is_terminal_part None = inl refl
 is_terminal_part (Some How.Completed) = inr (inl refl)
