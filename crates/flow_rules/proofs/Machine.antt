@@ -1,4 +1,4 @@
--- The machine of `audit` decides whether a text of signals is one that the rules allow.
+-- The machine of `audit` decides whether a list of signals is one that the rules allow.
 use Rattle.std.proofs.Common.{◌≡◌, ℕ, ◌<◌, drop, length, get_or, drop-cons, ◌↔◌, Bool, true, false, IsTrue, List, [], ◌∷◌, ◌++◌, map, refl, ap, inl, inr, sym, suc, ◌∙◌}
 use Rattle.flow_rules.specs.declared.item.Item.{Item}
 use Rattle.flow_rules.specs.declared.signal.Signal.{Signal}
@@ -10,70 +10,72 @@ use Rattle.flow_rules.specs.Signals.{IsTerminalPart, IsFlowText}
 -- whether the machine, at a stage, goes through these signals
 abbrev pub passes : Stage → List Signal → Bool
 passes stage [] = true
-passes Fresh (Subscribed ∷ text) = passes Opened text
-passes Fresh (Next _ ∷ text) = false
-passes Fresh (Complete ∷ text) = false
-passes Fresh (Error _ ∷ text) = false
-passes Opened (Subscribed ∷ text) = false
-passes Opened (Next _ ∷ text) = passes Opened text
-passes Opened (Complete ∷ text) = passes Ended text
-passes Opened (Error _ ∷ text) = passes Ended text
-passes Ended (_ ∷ text) = false
+passes Fresh (Subscribed ∷ signals) = passes Opened signals
+passes Fresh (Next _ ∷ signals) = false
+passes Fresh (Complete ∷ signals) = false
+passes Fresh (Error _ ∷ signals) = false
+passes Opened (Subscribed ∷ signals) = false
+passes Opened (Next _ ∷ signals) = passes Opened signals
+passes Opened (Complete ∷ signals) = passes Ended signals
+passes Opened (Error _ ∷ signals) = passes Ended signals
+passes Ended (_ ∷ signals) = false
 
--- what may follow once a text is open
+-- what may follow once a list is open
 abbrev Follows : List Signal → Type 0
-Follows text = (items : List Item) × (ending : List Signal) × (text ≡ map Next items ++ ending) × IsTerminalPart ending
+Follows signals = (items : List Item) × (last : List Signal) × (signals ≡ map Next items ++ last) × IsTerminalPart last
 
--- nothing follows an ending
-ended-passes : (text : List Signal) → IsTrue (passes Ended text) → text ≡ []
+-- nothing follows a terminal signal
+ended-passes : (signals : List Signal) → IsTrue (passes Ended signals) → signals ≡ []
 ended-passes [] h = refl
-ended-passes (s ∷ text) h = cc
+ended-passes (s ∷ signals) h = cc
 
-opened-passes : (text : List Signal) → IsTrue (passes Opened text) → Follows text
+-- what passes once a list is open may follow
+opened-passes : (signals : List Signal) → IsTrue (passes Opened signals) → Follows signals
 opened-passes [] h = ([], [], refl, inl refl)
-opened-passes (Subscribed ∷ text) h = cc
-opened-passes (Next item ∷ text) h =
-    let rest = opened-passes text h in
+opened-passes (Subscribed ∷ signals) h = cc
+opened-passes (Next item ∷ signals) h =
+    let rest = opened-passes signals h in
     (item ∷ rest.0, rest.1, ap (λ t. Next item ∷ t) rest.2, rest.3)
-opened-passes (Complete ∷ text) h =
-    ([], Complete ∷ text, refl, inr (inl (ap (λ t. Complete ∷ t) (ended-passes text h))))
-opened-passes (Error fault ∷ text) h =
-    ([], Error fault ∷ text, refl, inr (inr (fault, ap (λ t. Error fault ∷ t) (ended-passes text h))))
+opened-passes (Complete ∷ signals) h =
+    ([], Complete ∷ signals, refl, inr (inl (ap (λ t. Complete ∷ t) (ended-passes signals h))))
+opened-passes (Error fault ∷ signals) h =
+    ([], Error fault ∷ signals, refl, inr (inr (fault, ap (λ t. Error fault ∷ t) (ended-passes signals h))))
 
-opened-follows : (items : List Item) (ending : List Signal) → IsTerminalPart ending → IsTrue (passes Opened (map Next items ++ ending))
-opened-follows [] ending (inl e) = rw e refl
-opened-follows [] ending (inr (inl e)) = rw e refl
-opened-follows [] ending (inr (inr f)) = rw f.1 refl
-opened-follows (item ∷ items) ending h = opened-follows items ending h
+-- what may follow once a list is open passes
+opened-follows : (items : List Item) (last : List Signal) → IsTerminalPart last → IsTrue (passes Opened (map Next items ++ last))
+opened-follows [] last (inl e) = rw e refl
+opened-follows [] last (inr (inl e)) = rw e refl
+opened-follows [] last (inr (inr f)) = rw f.1 refl
+opened-follows (item ∷ items) last h = opened-follows items last h
 
--- the machine goes through exactly the texts that the rules allow
-pub passes-iff : (text : List Signal) → IsTrue (passes Fresh text) ↔ IsFlowText text
-passes-iff text = (allowed text, passed text) where
-  allowed : (text : List Signal) → IsTrue (passes Fresh text) → IsFlowText text
+-- the machine goes through exactly the lists that the rules allow
+pub passes-iff : (signals : List Signal) → IsTrue (passes Fresh signals) ↔ IsFlowText signals
+passes-iff signals = (allowed signals, passed signals) where
+  allowed : (signals : List Signal) → IsTrue (passes Fresh signals) → IsFlowText signals
   allowed [] h = inl refl
-  allowed (Subscribed ∷ text) h =
-      let rest = opened-passes text h in
+  allowed (Subscribed ∷ signals) h =
+      let rest = opened-passes signals h in
       inr (rest.0, rest.1, ap (λ t. Subscribed ∷ t) rest.2, rest.3)
-  allowed (Next _ ∷ text) h = cc
-  allowed (Complete ∷ text) h = cc
-  allowed (Error _ ∷ text) h = cc
+  allowed (Next _ ∷ signals) h = cc
+  allowed (Complete ∷ signals) h = cc
+  allowed (Error _ ∷ signals) h = cc
 
-  passed : (text : List Signal) → IsFlowText text → IsTrue (passes Fresh text)
-  passed text (inl e) = rw e refl
-  passed text (inr h) = rw h.2 (opened-follows h.0 h.1 h.3)
+  passed : (signals : List Signal) → IsFlowText signals → IsTrue (passes Fresh signals)
+  passed signals (inl e) = rw e refl
+  passed signals (inr h) = rw h.2 (opened-follows h.0 h.1 h.3)
 
--- no stage has signals left to refuse at the end of the text
-pub passes-end : (stage : Stage) (text : List Signal) → text ≡ [] → passes stage text ≡ true
-passes-end Fresh text e = rw e refl
-passes-end Opened text e = rw e refl
-passes-end Ended text e = rw e refl
+-- no stage has signals left to refuse at the end of the list
+pub passes-end : (stage : Stage) (signals : List Signal) → signals ≡ [] → passes stage signals ≡ true
+passes-end Fresh signals e = rw e refl
+passes-end Opened signals e = rw e refl
+passes-end Ended signals e = rw e refl
 
--- where the machine stops at a signal, the text is not allowed
-pub stopped : (text : List Signal) (stage : Stage) (i : ℕ) (s : Signal) → passes Fresh text ≡ passes stage (drop i text) → i < length text → s ≡ get_or text i s → ((rest : List Signal) → passes stage (s ∷ rest) ≡ false) → (IsTrue false → IsFlowText text) × (IsFlowText text → IsTrue false)
-stopped text stage i s so_far more at stuck =
-    let next : drop i text ≡ s ∷ drop (suc i) text = drop-cons text i s more ∙ ap (λ x. x ∷ drop (suc i) text) (sym at) in
-    let refused : passes Fresh text ≡ false = so_far ∙ ap (passes stage) next ∙ stuck (drop (suc i) text) in
-    (λ accepted. cc, λ allowed. let accepted : IsTrue (passes Fresh text) = (passes-iff text).1 allowed in cc)
+-- where the machine stops at a signal, the list is not allowed
+pub stopped : (signals : List Signal) (stage : Stage) (i : ℕ) (s : Signal) → passes Fresh signals ≡ passes stage (drop i signals) → i < length signals → s ≡ get_or signals i s → ((rest : List Signal) → passes stage (s ∷ rest) ≡ false) → (IsTrue false → IsFlowText signals) × (IsFlowText signals → IsTrue false)
+stopped signals stage i s so_far more at stuck =
+    let next : drop i signals ≡ s ∷ drop (suc i) signals = drop-cons signals i s more ∙ ap (λ x. x ∷ drop (suc i) signals) (sym at) in
+    let refused : passes Fresh signals ≡ false = so_far ∙ ap (passes stage) next ∙ stuck (drop (suc i) signals) in
+    (λ accepted. cc, λ allowed. let accepted : IsTrue (passes Fresh signals) = (passes-iff signals).1 allowed in cc)
 
 -- at the first stage only onSubscribe may come
 pub only-subscribed : (s : Signal) → (s ≡ Subscribed → ⊥) → (rest : List Signal) → passes Fresh (s ∷ rest) ≡ false

@@ -1,9 +1,10 @@
+//! Which lists of signals the Flow rules allow.
 ghost use Rattle.std.specs.Prelude.{◌↔◌, IsTrue};
 ghost use Rattle.flow_rules.specs.Signals.{IsFlowText};
 
 use crate::signal::Signal;
 
-/// How far a text of signals has come.
+/// How far a list of signals has come.
 #[derive(Clone, Copy)]
 enum Stage {
     Fresh,
@@ -11,7 +12,7 @@ enum Stage {
     Ended,
 }
 
-/// Whether the signals are a text that the Flow rules allow: nothing, or `Subscribed`, then any number of `Next`, then
+/// Whether the signals are a list that the Flow rules allow: nothing, or `Subscribed`, then any number of `Next`, then
 /// nothing, one `Complete` or one `Error` (Reactive Streams 1.0, rules 1.3, 1.7 and 1.9).
 pub fn audit(signals: &[Signal]) -> bool
     ensures { IsTrue result ↔ IsFlowText signals.now }

@@ -1,3 +1,4 @@
+//! The capacity that is enforced.
 ghost use Rattle.std.specs.Prelude.{◌≡◌, ◌↔◌, IfOk, IsErr};
 ghost use Rattle.flow_rules.specs.Capacity.{capacity_of, IsCapacityOf};
 

@@ -1,5 +1,5 @@
+//! A subscriber that keeps what it is told.
 ghost use Rattle.std.specs.Prelude.{◌≡◌, ◌∷◌, ◌++◌, [], IfOk, OnOk, OnErr, Some, None};
-ghost use Rattle.flow_rules.specs.declared.signal.Signal.TheVariants.{Subscribed};
 
 use crate::refusal::NoMemory;
 use crate::answer::Answer;
@@ -25,6 +25,8 @@ impl Model for Collector {
 }
 
 impl Collector {
+    ghost use Rattle.flow_rules.specs.Collected.{answer_to};
+
     /// A collector that was told nothing, and that asks for nothing. It takes no memory until it is told something.
     pub fn new(alloc: Global) -> Collector
         ensures untold { result.told ≡ [] }
@@ -47,13 +49,19 @@ impl Collector {
         }
     }
 
-    /// Keeps one more signal, or nothing where the growth is refused.
-    fn keep(&mut self, signal: Signal) -> Result<(), NoMemory>
+    /// Keeps one more signal, and answers `Request(n)` to `onSubscribe` where it asks for n items, and `Go` otherwise. Where the
+    /// growth is refused, it keeps nothing.
+    fn hear(&mut self, signal: Signal) -> Result<Answer, NoMemory>
         ensures ok { OnOk result (self.new ≡ record self.old { told = self.old.told ++ signal ∷ [] }) }
+        ensures answer { IfOk result (λ answer. answer ≡ answer_to signal self.old.requests) }
         ensures err { OnErr result (self.new ≡ self.old) }
     {
+        let answer = match (&signal, self.requests) {
+            (Signal::Subscribed, Some(n)) => Answer::Request(n),
+            _ => Answer::Go,
+        };
         self.told.push(signal)?;
-        Ok(())
+        Ok(answer)
     }
 }
 
@@ -73,25 +81,18 @@ impl Subscriber for Collector {
     }
 
     fn on_subscribe(&mut self) -> Result<Answer, NoMemory> {
-        self.keep(Signal::Subscribed)?;
-        Ok(match self.requests {
-            Some(n) => Answer::Request(n),
-            None => Answer::Go,
-        })
+        self.hear(Signal::Subscribed)
     }
 
     fn on_next(&mut self, item: &Item) -> Result<Answer, NoMemory> {
-        self.keep(Signal::Next(item.share()?))?;
-        Ok(Answer::Go)
+        self.hear(Signal::Next(item.share()?))
     }
 
     fn on_error(&mut self, fault: Fault) -> Result<Answer, NoMemory> {
-        self.keep(Signal::Error(fault))?;
-        Ok(Answer::Go)
+        self.hear(Signal::Error(fault))
     }
 
     fn on_complete(&mut self) -> Result<Answer, NoMemory> {
-        self.keep(Signal::Complete)?;
-        Ok(Answer::Go)
+        self.hear(Signal::Complete)
     }
 }

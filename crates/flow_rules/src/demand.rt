@@ -1,7 +1,9 @@
 //! Demand: how many items were requested, and the error of a bad request.
-ghost use Rattle.std.specs.Prelude.{◌≡◌, ◌≤◌, ◌≤ℤ◌, ◌↔◌, min, pos, unsigned_abs, IsErr, OnOk, OnErr};
+ghost use Rattle.std.specs.Prelude.{◌≡◌, ◌≤◌, ◌≤ℤ◌, ◌↔◌, min, pos, unsigned_abs, codes, Some, IsErr, OnOk, OnErr};
 ghost use Rattle.flow_rules.specs.Demand.{total_after};
 
+use std::error::Error;
+use std::fmt;
 use std::marker::Model;
 
 /// The largest total, 2^63-1, which counts as unbounded (Reactive Streams 1.0, rule 3.17).
@@ -10,6 +12,16 @@ pub const UNBOUNDED: u64 = 9_223_372_036_854_775_807;
 /// A bad request as a value of its own: `request(n)` with `n <= 0` (Reactive Streams 1.0, rule 3.9).
 #[derive(Clone, Copy, Debug, PartialEq, Eq)]
 pub struct IllegalArgument;
+
+impl fmt::Display for IllegalArgument {
+    ghost output = { λ _. Some (codes "argument") };
+
+    fn fmt<W: fmt::Write>(&self, f: &mut fmt::Formatter<W>) -> fmt::Result {
+        f.write_str("argument")
+    }
+}
+
+impl Error for IllegalArgument {}
 
 /// All that a subscriber has requested so far (Reactive Streams 1.0, rules 3.8 and 3.17).
 #[derive(Clone, Copy, Debug, PartialEq, Eq)]

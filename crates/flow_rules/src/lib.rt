@@ -1,5 +1,5 @@
 //! The rules of `java.util.concurrent.Flow` as plain values: items and signals, what a subscriber promises,
-//! capacity, demand, and the check that a text of signals is one that the rules allow.
+//! capacity, demand, and the check that a list of signals is one that the rules allow.
 #![tactic(auto)]
 
 mod answer;

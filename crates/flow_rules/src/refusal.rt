@@ -1,3 +1,4 @@
+//! Why a call is refused.
 ghost use Rattle.std.specs.Prelude.{◌≡◌, Some, codes};
 ghost use Rattle.std.specs.declared.string.String.{String};
 ghost use Rattle.flow_rules.specs.Refusal.{refusal_number, refusal_word, refusal_line};
@@ -29,7 +30,7 @@ pub enum Refusal {
     TooMany,
     /// A growth was refused.
     NoMemory,
-    /// The text has more than 4,096 bytes.
+    /// The text has more bytes than [`Text::LONGEST`](crate::Text::LONGEST).
     LineTooLong,
     /// The number of workers was not 1 to 8.
     BadWorkers,
@@ -111,6 +112,16 @@ impl fmt::Display for NoMemory {
 }
 
 impl Error for NoMemory {}
+
+impl fmt::Display for BadCapacity {
+    ghost output = { λ _. Some (codes "capacity") };
+
+    fn fmt<W: fmt::Write>(&self, f: &mut fmt::Formatter<W>) -> fmt::Result {
+        f.write_str("capacity")
+    }
+}
+
+impl Error for BadCapacity {}
 
 impl From<AllocError> for NoMemory {
     fn from(_refused: AllocError) -> NoMemory {

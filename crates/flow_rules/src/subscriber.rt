@@ -1,3 +1,4 @@
+//! Who is told.
 use crate::refusal::NoMemory;
 use crate::answer::Answer;
 use crate::signal::{Fault, Signal};

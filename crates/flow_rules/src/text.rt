@@ -9,7 +9,7 @@ use std::alloc::Global;
 use std::marker::Model;
 use std::sync::Arc;
 
-/// A text of up to 4,096 bytes that its owners share: to share it copies no byte.
+/// A text of up to [`Text::LONGEST`] bytes that its owners share: to share it copies no byte.
 #[derive(Debug, Drop)]
 pub struct Text {
     bytes: Arc<Vec<u8>>,
@@ -17,12 +17,13 @@ pub struct Text {
 
 impl Model for Text {
     ghost use Rattle.std.specs.Prelude.{List, ℕ, ◌≤◌, length};
+    ghost use Rattle.flow_rules.specs.declared.text.TheConstants.Text.{LONGEST};
 
     ghost Value = { List ℕ };
 
     ghost view = { λ t. t.bytes.value.items };
 
-    ghost invariant = { λ t. length t.bytes.value.items ≤ 4096 };
+    ghost invariant = { λ t. length t.bytes.value.items ≤ LONGEST };
 }
 
 impl Text {
