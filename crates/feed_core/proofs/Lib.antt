@@ -5,5 +5,6 @@ pub mod FlowRules
 pub mod Looks
 pub mod PlainTurns
 pub mod SignalLists
+pub mod SoundLanes
 pub mod TurnLoop
 pub mod WholeTurns

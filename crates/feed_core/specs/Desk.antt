@@ -1,5 +1,5 @@
 -- One subscription as plain state: what its calls change, and what they answer.
-use Rattle.std.specs.Prelude.{◌≡◌, ◌↔◌, ℕ, ◌<◌, Bool, true, false, ◌&&◌, if◌then◌else◌, is_none, is_some, Option, None, Some, IsSome, List, [], ◌∷◌, ◌++◌}
+use Rattle.std.specs.Prelude.{◌≡◌, ◌↔◌, ℕ, ◌<◌, ◌≤◌, Bool, true, false, ◌&&◌, if◌then◌else◌, is_none, is_some, Option, None, Some, IsSome, List, [], ◌∷◌, ◌++◌}
 use Rattle.feed_core.specs.Prelude.{Item, Signal, Ending}
 use Rattle.feed_core.specs.declared.turn.outlook.Outlook.{Outlook}
 use Rattle.feed_core.specs.declared.turn.outlook.Outlook.TheVariants.{Again, Resting, Ended}
@@ -50,6 +50,7 @@ pub record AcceptsItem (old new : DeskState) (item : Item) (lag : ℕ) (start : 
   pub room_before : lag_of old.lane < old.capacity
   pub taken : new ≡ desk_after_signal old (lane_with_item item old.lane)
   pub lag_after : lag ≡ lag_of new.lane
+  pub lag_fits : lag ≤ new.capacity
   pub starts : IsSome start ↔ Rests old
 
 -- whether the task goes on holding the subscription after a turn

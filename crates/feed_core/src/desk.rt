@@ -67,9 +67,10 @@ impl<B: Subscriber> Model for Desk<B> {
 }
 
 impl<B: Subscriber> Desk<B> {
-    ghost use Rattle.std.specs.Prelude.{◌≡◌, ◌↔◌, [], true, length, IsTrue, IsFalse, IfOk, IfErr};
+    ghost use Rattle.std.specs.Prelude.{◌≡◌, ◌≤◌, ◌+◌, ◌↔◌, [], true, length, IsTrue, IsFalse, IfOk, IfErr};
     ghost use Rattle.feed_core.specs.Desk.{IsNew, Owes};
-    ghost use Rattle.feed_core.specs.LaneCalls.{IsCapacity};
+    ghost use Rattle.feed_core.specs.LaneCalls.{IsCapacity, lag_of};
+    ghost use Rattle.feed_core.specs.Prelude.{UNBOUNDED};
     ghost use Rattle.feed_core.specs.Lane.{IsFlow, IsSettled};
 
     /// An empty subscription of this subscriber, with a buffer of this capacity. It owes its first turn, which tells
@@ -105,21 +106,33 @@ impl<B: Subscriber> Desk<B> {
 
     /// How many items its buffer has accepted.
     pub fn accepted(&self) -> u64
-        ensures { result ≡ length self.now.lane.accepted }
+        ensures value { result ≡ length self.now.lane.accepted }
+        ensures bounded { result ≤ self.now.lane.given + self.now.capacity }
     {
         self.accepted
     }
 
     /// How many items were taken for `onNext`.
     pub fn given(&self) -> u64
-        ensures { result ≡ self.now.lane.given }
+        ensures value { result ≡ self.now.lane.given }
+        ensures bounded { result ≤ length self.now.lane.accepted }
+        ensures requested { result ≤ self.now.lane.asked }
     {
         self.given
     }
 
+    /// How many accepted items were not taken for `onNext` yet (`SubmissionPublisher.estimateMaximumLag` of one subscription).
+    pub fn lag(&self) -> u64
+        ensures value { result ≡ lag_of self.now.lane }
+        ensures bounded { result ≤ self.now.capacity }
+    {
+        self.accepted - self.given
+    }
+
     /// How many items were requested in all, at most [`UNBOUNDED`](flow_rules::UNBOUNDED).
     pub fn asked(&self) -> u64
-        ensures { result ≡ self.now.lane.asked }
+        ensures value { result ≡ self.now.lane.asked }
+        ensures bounded { result ≤ UNBOUNDED }
     {
         self.asked.total()
     }

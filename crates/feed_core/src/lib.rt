@@ -3,8 +3,10 @@
 
 mod cause;
 mod desk;
+mod laws;
 mod turn;
 
 pub use cause::Causes;
 pub use desk::Desk;
+pub use laws::desks_keep_the_flow_rules;
 pub use turn::{ITEMS_IN_A_TURN, Outlook, SIGNALS_IN_A_TURN, Seen};

@@ -2,6 +2,7 @@
 ghost use Rattle.std.specs.Prelude.{◌≡◌, ◌↔◌, ◌⊎◌, ◌^◌, ◌<◌, ◌<ℤ◌, pos, length, unsigned_abs, None, Some, true, false, IsSome, IsTrue};
 ghost use Rattle.feed_core.specs.Prelude.{Ending, total_after, IfAccepted, IfFull, IfGone};
 ghost use Rattle.feed_core.specs.Desk.{AcceptsItem, GivesBack, IsFull, Rests, desk_after_signal};
+ghost use Rattle.feed_core.specs.Lane.{IsFlow};
 ghost use Rattle.feed_core.specs.LaneCalls.{is_gone, lane_with_closing, lane_with_demand};
 
 use super::Desk;
@@ -17,6 +18,7 @@ impl<B: Subscriber> Desk<B> {
         ensures accepted { IfAccepted result (AcceptsItem self.old self.new item) }
         ensures full { IfFull result (λ back. IsFull self.old × GivesBack self.old self.new item back) }
         ensures gone { IfGone result (λ back. IsTrue (is_gone self.old.lane) × GivesBack self.old self.new item back) }
+        ensures flow { IsFlow self.new.lane }
     {
         if self.how.is_some() || self.causes.closing.is_some() {
             return Put::Gone(item);
@@ -42,6 +44,7 @@ impl<B: Subscriber> Desk<B> {
             → self.new ≡ desk_after_signal self.old (lane_with_closing ending self.old.lane) }
         ensures later { IsSome self.old.lane.causes.closing → self.new ≡ self.old }
         ensures starts { IsSome result ↔ ((self.old.lane.causes.closing ≡ None) × Rests self.old) }
+        ensures flow { IsFlow self.new.lane }
     {
         if self.causes.closing.is_some() {
             return None;
@@ -57,6 +60,7 @@ impl<B: Subscriber> Desk<B> {
         requires positive { pos 0 <ℤ n }
         ensures asked { self.new ≡ desk_after_signal self.old (lane_with_demand (unsigned_abs n) self.old.lane) }
         ensures starts { IsSome result ↔ Rests self.old }
+        ensures flow { IsFlow self.new.lane }
     {
         let _ = self.asked.add(n);
         signal(&mut self.started)

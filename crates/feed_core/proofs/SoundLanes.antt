@@ -1,0 +1,59 @@
+-- The calls of a subscription keep its lane sound.
+use Rattle.std.proofs.Common.{◌≡◌, ℕ, ◌≤◌, [], ◌∷◌, ◌++◌, length, ap, sym, ◌∙◌, append_assoc, length-append, arith, None, Some}
+use Rattle.feed_core.specs.Prelude.{Item, Ending, items_of}
+use Rattle.feed_core.specs.Lane.{LaneState}
+use Rattle.feed_core.specs.LaneCalls.{lane_with_item, lane_with_closing}
+use Rattle.feed_core.specs.Sound.{IsSound}
+use Rattle.feed_core.proofs.DeskSteps.{no_cause}
+
+-- a lane that has not ended stays sound when one more item is accepted
+pub sound-lane_with_item : (lane : LaneState) (item : Item) → IsSound lane → lane.how ≡ None → IsSound (lane_with_item item lane)
+sound-lane_with_item lane item sound unended =
+    let grown = length-append lane.accepted (item ∷ []) in
+    let counts = sound.counts in
+    let taken = counts.taken in
+    record {
+      told_is = sound.told_is;
+      in_order = (sound.in_order.0 ++ item ∷ [], sym (append_assoc (items_of lane.told) sound.in_order.0 (item ∷ [])) ∙ ap (λ items. items ++ item ∷ []) sound.in_order.1);
+      counts = record { tells = counts.tells; loses = counts.loses; taken = omega (arith, grown); requested = counts.requested };
+      cause = no_cause (lane_with_item item lane) unended;
+      unfailed = sound.unfailed;
+      remembered = sound.remembered;
+    }
+
+-- a lane stays sound when another total is asked, which is not below what was given
+pub sound-asked : (lane : LaneState) (asked : ℕ) → IsSound lane → lane.given ≤ asked → IsSound (record lane { asked = asked })
+sound-asked lane asked sound requested =
+    let counts = sound.counts in
+    let cause = sound.cause in
+    record {
+      told_is = sound.told_is;
+      in_order = sound.in_order;
+      counts = record { tells = counts.tells; loses = counts.loses; taken = counts.taken; requested = requested };
+      cause = record { completed = cause.completed; whole = cause.whole; published = cause.published; argument = cause.argument; state = cause.state; cancelled = cause.cancelled; failed = cause.failed; refused = cause.refused };
+      unfailed = sound.unfailed;
+      remembered = sound.remembered;
+    }
+
+-- a lane stays sound when it is closed for the first time
+pub sound-lane_with_closing : (lane : LaneState) (ending : Ending) → IsSound lane → lane.causes.closing ≡ None → IsSound (lane_with_closing ending lane)
+sound-lane_with_closing lane ending sound unclosed =
+    let counts = sound.counts in
+    let cause = sound.cause in
+    record {
+      told_is = sound.told_is;
+      in_order = sound.in_order;
+      counts = record { tells = counts.tells; loses = counts.loses; taken = counts.taken; requested = counts.requested };
+      cause = record {
+        completed = λ e. (let never = cause.completed e in cc);
+        whole = cause.whole;
+        published = λ code e. (let never = cause.published code e in cc);
+        argument = cause.argument;
+        state = cause.state;
+        cancelled = cause.cancelled;
+        failed = cause.failed;
+        refused = cause.refused;
+      };
+      unfailed = sound.unfailed;
+      remembered = sound.remembered;
+    }

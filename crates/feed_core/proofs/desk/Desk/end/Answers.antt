@@ -1,0 +1,18 @@
+-- A close keeps the Flow rules, whether it changes the lane or not.
+use Rattle.std.proofs.Common.{◌≡◌, None, subst, rules}
+use Rattle.feed_core.specs.Desk.{DeskState}
+use Rattle.feed_core.specs.Lane.{LaneState, IsFlow}
+use Rattle.feed_core.specs.Sound.{lane_of}
+use Rattle.feed_core.proofs.FlowRules.{flow_kept}
+use Rattle.feed_core.proofs.SoundLanes.{sound-lane_with_closing}
+use Rattle.feed_core.proofs.desk.Desk.end.Goals as goal
+
+pub returns-then-is_some-clause-flow : goal.returns-then-is_some-clause-flow
+returns-then-is_some-clause-flow g c = subst (λ (desk : DeskState). IsFlow desk.lane) c.self.view_is (flow_kept c.self.invariant.in_order.sound)
+
+pub returns-clause-flow : goal.returns-clause-flow
+returns-clause-flow g c =
+    let s = c.self.inside in
+    let lane : LaneState = lane_of (g.B.Subscriber.told s.subscriber) s.held.items s.given s.asked s.causes s.how in
+    let unclosed : lane.causes.closing ≡ None = search rules in
+    flow_kept (sound-lane_with_closing lane c.args.ending c.self.invariant.in_order.sound unclosed)
