@@ -61,7 +61,7 @@ class Edit:
     def change_of(self, crate, folder, file, text, known):
         was = text_of(f"{folder}/{file}")
         functions = functions_of(was) if file.startswith("src/") else []
-        for it in sorted(functions, key=lambda it: it.end - it.start):
+        for it in sorted((it for it in functions if it.end), key=lambda it: it.end - it.start):
             before, after = was[: it.start], was[it.end :]
             # The body of a `const fn` may be seen by types and constants.
             if text.startswith(before) and text.endswith(after) and not it.is_const:

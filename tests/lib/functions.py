@@ -1,25 +1,27 @@
-"""Finds the functions of a .rt file: where each body stands, and what rt calls the function."""
+"""Finds the functions of a .rt file: where each body stands, which clauses it has, and what rt calls the function."""
 
 import re
-from dataclasses import dataclass
+from dataclasses import dataclass, field
 
 # Comments, texts and characters, in which a brace is none. A lifetime has no second quote.
 HIDDEN = re.compile(
     r"""//[^\n]*|/\*.*?\*/|b?r(\#*)".*?"\1|b?"(?:\\.|[^"\\])*"|b?'(?:\\[^\n']{1,8}|\\'|[^\\'\n])'""", re.S
 )
-CLAUSE = re.compile(r"\b(requires|ensures|decreases|invariant)\*?(\s+\w+)?\s*$|\bghost\s+\w+\s*:\s*$")
+CLAUSE = re.compile(r"\b(requires|ensures|decreases|invariant|ghost)\b\*?\s*(\w*)\s*:?\s*$")
 NAMED = re.compile(r"(\bconst\s+)?(?:\bunsafe\s+)?\bfn\s+(\w+)")
 
 
 @dataclass
 class Function:
-    """A function with a body: the offsets inside its braces, and the heads of the blocks around it, outermost first."""
+    """A function: the offsets inside the braces of its body (none: 0), the heads of the blocks around it, outermost first, and
+    its clauses, each a kind and a name, which is empty where the clause has none."""
 
     name: str
     is_const: bool
+    around: tuple
     start: int = 0
     end: int = 0
-    around: tuple = ()
+    clauses: list = field(default_factory=list)
 
 
 @dataclass
@@ -37,7 +39,7 @@ def without_texts(text):
 
 
 def functions_of(text):
-    """The functions with a body in the text of a .rt file."""
+    """The functions in the text of a .rt file."""
     code = without_texts(text)
     found, blocks, since = [], [Block("")], 0
     for at, sign in enumerate(code):
@@ -45,18 +47,22 @@ def functions_of(text):
         if sign not in "{};" or sign == ";" and code.count("[", since, at) != code.count("]", since, at):
             continue
         head, block = code[since:at], blocks[-1]
+        named = NAMED.search(head) if sign != "}" else None
+        if named:
+            block.awaited = Function(named[2], bool(named[1]), tuple(it.head for it in blocks[1:]))
+            found.append(block.awaited)
         if sign == "{":
-            named = NAMED.search(head)
-            block.awaited = Function(named[2], bool(named[1])) if named else block.awaited
+            clause = CLAUSE.search(head)
             blocks.append(Block(" ".join(head.split())))
-            if block.awaited and not CLAUSE.search(head):
+            if block.awaited and clause:
+                block.awaited.clauses.append((clause[1], clause[2]))
+            elif block.awaited:
                 blocks[-1].body_of, block.awaited = block.awaited, None
                 blocks[-1].body_of.start = at + 1
         elif sign == "}":
             function = blocks.pop().body_of
             if function:
-                function.end, function.around = at, tuple(it.head for it in blocks[1:])
-                found.append(function)
+                function.end = at
         else:
             block.awaited = None
         since = at + 1
