@@ -73,7 +73,7 @@ class Crate:
 
     def read_ghosts(self, code):
         """Notes the ghost members of each impl, and the ghost fields of each struct."""
-        for kind, head, body in re.findall(r"(?ms)^(?:pub(?:\([^)]*\))? )?(impl|struct)\b([^{;]*)\{(.*?)^\}", code):
+        for kind, head, body in re.findall(r"(?ms)^(?:pub(?:\([^)]*\))? )?(impl|struct)\b([^{;]*)\{\n(.*?)^\}", code):
             owner = head.split()[0].partition("<")[0] if kind == "struct" else owner_in(" ".join(f"impl{head}".split()))[0]
             self.ghosts.setdefault(owner, set()).update(re.findall(r"\bghost (\w+)\s*[=:]", body))
 
