@@ -1,9 +1,11 @@
 #!/bin/sh
 # Plays scripts on the native program, and compares whole outputs and the status.
-# It needs the program, which `rt run` and `rt ci` leave in crates/lines_demo/out.
+# It needs the program, which `rt ci` and `./play --build` leave in crates/lines_demo/out.
 set -eu
 cd "$(dirname "$0")/../.."
+. tests/program.sh
 program=${PROGRAM:-crates/lines_demo/out/lines_demo}
+need lines_demo "$program"
 work=$(mktemp -d)
 trap 'rm -rf "$work"' EXIT
 failures=0
@@ -42,7 +44,11 @@ bytes() {
     head -c "$1" /dev/zero | tr '\0' "$2"
 }
 
-# The scripts that stand beside their outputs, and the example.
+# The scripts that stand beside their outputs, and the example. Each output needs its script.
+for wanted in tests/scripts/*.expected; do
+    row=$wanted
+    [ -f "${wanted%.expected}.script" ] || fault 'no script of this name'
+done
 for script in tests/scripts/*.script; do
     cp "$script" "$work/in"
     cp "${script%.script}.expected" "$work/want"

@@ -1,0 +1,106 @@
+#!/usr/bin/env bash
+# Measures what the gate costs for each crate, in seconds of the clock and of processors: its proof, its tests (proved from
+# nothing, built and run), its must-fail edits, its wrong bodies (with the proof of the copy from nothing), and the native
+# builds of a program by both compilers, over kept work. One command runs at a time, with one job, in a copy of the
+# repository in a temporary folder, lowest crate first; so it takes longer by the clock than .ci/run, and sets no bounds.
+# Usage: bench/gate.sh [NAME..]; without names all crates of crates.txt.
+set -u
+cd "$(dirname "${BASH_SOURCE[0]}")/.." || exit 1
+work=$(mktemp -d) || exit 1
+trap 'rm -rf "$work"' EXIT
+tar -c --exclude=./.git --exclude='crates/*/out' . | tar -x -C "$work" || exit 1
+cd "$work" || exit 1
+. tests/program.sh
+TIMEFORMAT='%R %U %S'
+
+# spent FOLDER COMMAND..: runs it there, and adds its seconds to the row.
+spent() {
+    local folder=$1 wall user system
+    shift
+    { time (cd "$folder" && "$@" </dev/null >"$work/log" 2>&1); } 2>"$work/time" || {
+        echo "$crate: failed: $*" >&2
+        tail -n 5 "$work/log" >&2
+    }
+    read -r wall user system < <(tail -n 1 "$work/time")
+    row="$row $wall $(echo "$user $system" | awk '{ print $1 + $2 }')"
+}
+
+# none: nothing to measure in this column.
+none() {
+    row="$row 0 0"
+}
+
+# from_nothing FOLDER COMMAND..: as spent, with the crate's kept work set aside.
+from_nothing() {
+    mv "$out/incremental" "$out/aside"
+    spent "$@"
+    rm -rf "$out/incremental"
+    mv "$out/aside" "$out/incremental"
+}
+
+# has FOLDER: the crate has edits in it.
+has() {
+    compgen -G "crates/$crate/$1/*.edit" >/dev/null
+}
+
+# measure: one row, for $crate.
+measure() {
+    row=$crate
+    out=crates/$crate/out
+    spent "crates/$crate" rt check --jobs 1
+    if grep -rq '#\[test\]' "crates/$crate/src"; then
+        from_nothing "crates/$crate" rt test --jobs 1
+    else
+        none
+    fi
+    if has must-fail; then spent . rt must-fail "$crate"; else none; fi
+    if has wrong-bodies; then
+        from_nothing . tests/wrong_bodies/try.py --jobs 1 "$crate"
+    else
+        none
+    fi
+    if [ -f "crates/$crate/src/main.rt" ]; then
+        spent "crates/$crate" sh -c 'rt run --jobs 1 -- --help && rt run --jobs 1 --backend rattle -- --help'
+    else
+        none
+    fi
+    echo "$row"
+}
+
+# table: the rows with their sums.
+table() {
+    awk 'BEGIN {
+        printf "%-14s %15s %15s %15s %15s %15s %15s\n", "", "proof", "tests", "must-fail", "wrong bodies", "native builds", "whole"
+        printf "%-14s", "crate"
+        for (i = 0; i < 6; i++) printf " %7s %7s", "clock", "proc."
+        print ""
+    }
+    function line(name) {
+        printf "%-14s", name
+        for (i = 1; i <= 12; i++) printf " %7.0f", cell[i]
+        print ""
+    }
+    {
+        cell[11] = cell[12] = 0
+        for (i = 1; i <= 10; i++) { cell[i] = $(i + 1); cell[11 + (i + 1) % 2] += cell[i] }
+        for (i = 1; i <= 12; i++) sum[i] += cell[i]
+        line($1)
+    }
+    END {
+        for (i = 1; i <= 12; i++) cell[i] = sum[i]
+        line("all")
+    }'
+}
+
+names=$(sed -n 's/^\([a-z0-9_]*\)[ :].*/\1/p' crates.txt)
+wanted=" ${*:-$names} "
+for crate in $(for name in $names; do below "$name" | tac; done | awk '!seen[$0]++'); do
+    case $wanted in
+    *" $crate "*) measure ;;
+    esac
+    # The crates above it take it built.
+    if [ -f "crates/$crate/src/lib.rt" ]; then
+        (cd "crates/$crate" && rt lib --jobs 1 </dev/null >"$work/log" 2>&1) || tail -n 5 "$work/log" >&2
+    fi
+done | tee "$work/rows" | sed -u 's/^\([^ ]*\) .*/measured: \1/' >&2
+table <"$work/rows"

@@ -1,0 +1,194 @@
+"""Holds docs/PROMISES.md to the crates: each function, clause, edit and test that a row names has to be there.
+
+usage: tests/promises/promises.sh [FILE]
+
+The form of the file. A section `## NAME` for a crate has tables with these five columns, and a row has one clause:
+
+| Promise | Function | Clause | Premise | Shown by |
+
+- Function: names in backticks, `f`, `Type::f`, `Trait::f`, `<Type as Trait>::f`, or a struct with ghost fields, `Type`. Of
+  several, parted by `, `, each has the clause. A method of an impl has the clauses of its trait, if it has none of its own.
+- Clause: a name in backticks; or the words its only one, of a function with one `ensures` that has no name; or the word
+  ghost and a name in backticks, of a ghost member of the impl, or of a ghost field of the struct.
+- Premise: the word none, where the function has no `requires`; or text, in which a name in backticks before a colon is
+  that of a `requires` of the function.
+- Shown by: names in backticks, parted by `, ` or `; `. An edit is a file of must-fail/ or wrong-bodies/ of the section's crate,
+  without `.edit`. After the word test (or tests, up to the next `;`) stands the name of a test function of any crate, or a
+  path from the top of the repository. A cell that begins with `no edit:` gives a reason, and may name tests after a `;`.
+
+The other way round, each edit is named in a row of its crate's section, or in crates/NAME/must-fail/README.md.
+"""
+
+import glob
+import os
+import re
+import sys
+
+sys.dont_write_bytecode = True
+HERE = os.path.dirname(os.path.realpath(__file__))
+sys.path.append(f"{HERE}/../lib")
+from functions import functions_of, owner_of, without_texts
+
+TESTED = re.compile(r"#\[test\]\s*(?:#\[[^\]]*\]\s*)*fn (\w+)")
+
+
+def text_of(file):
+    with open(file, encoding="utf-8") as it:
+        return it.read()
+
+
+def plain(owner):
+    """A type or `<Type as Trait>` with no blanks and no modules: `<Name as fmt::Display>` and `<Name as Display>` are one."""
+    return re.sub(r"\s|\b[a-z_]\w*::", "", owner)
+
+
+def owner_in(head):
+    """How a row names a block: `Type` or `Trait`, or `<Type as Trait>` of the impl of a trait; and that trait, or nothing."""
+    words, is_of_trait = owner_of(head)
+    if not is_of_trait:
+        return words[0], ""
+    trait, _, kind = re.sub(r"^.*?\bimpl\b\s*(<.*?>\s)?", "", head).partition(" for ")
+    kind = re.split(r"\bwhere\b", kind)[0]
+    return plain(f"<{kind} as {trait}>"), plain(trait.partition("<")[0])
+
+
+class Crate:
+    """The clauses of the functions, the ghost members, the edits and the tests of a crate."""
+
+    def __init__(self, folder):
+        self.clauses, self.ghosts, self.traits, self.tests = {}, {}, {}, set()
+        for file in glob.glob(f"{folder}/src/**/*.rt", recursive=True):
+            text = text_of(file)
+            self.tests |= {*TESTED.findall(text)}
+            self.read_ghosts(without_texts(text))
+            for it in functions_of(text):
+                heads = [head for head in it.around if re.search(r"\b(impl|trait)\b", head)]
+                owner, trait = owner_in(heads[-1]) if heads else ("", "")
+                self.traits[owner] = trait
+                self.clauses.setdefault(f"{owner}::{it.name}" if owner else it.name, []).extend(it.clauses)
+        edits = [*glob.glob(f"{folder}/must-fail/*.edit"), *glob.glob(f"{folder}/wrong-bodies/*.edit")]
+        self.edits = {os.path.basename(it).removesuffix(".edit") for it in edits}
+        readme = f"{folder}/must-fail/README.md"
+        self.readme = text_of(readme) if os.path.isfile(readme) else ""
+
+    def read_ghosts(self, code):
+        """Notes the ghost members of each impl, and the ghost fields of each struct."""
+        for kind, head, body in re.findall(r"(?ms)^(?:pub(?:\([^)]*\))? )?(impl|struct)\b([^{;]*)\{\n(.*?)^\}", code):
+            owner = head.split()[0].partition("<")[0] if kind == "struct" else owner_in(" ".join(f"impl{head}".split()))[0]
+            self.ghosts.setdefault(owner, set()).update(re.findall(r"\bghost (\w+)\s*[=:]", body))
+
+    def clauses_of(self, owner, function):
+        """The clauses of a function, or of its trait's where it has none of its own; None where there is no such function."""
+        own = self.clauses.get(f"{owner}::{function}" if owner else function)
+        trait = self.traits.get(owner)
+        return self.clauses.get(f"{trait}::{function}", own) if own == [] and trait else own
+
+
+class Promises:
+    """The file, row by row, with what is wrong with it."""
+
+    def __init__(self, root, file):
+        self.root, self.file, self.faults, self.rows = root, file, [], 0
+        self.crates = {os.path.basename(it): Crate(it) for it in sorted(glob.glob(f"{root}/crates/*")) if os.path.isdir(f"{it}/src")}
+        self.tests = {name for it in self.crates.values() for name in it.tests}
+        self.named = {it: set() for it in self.crates}
+        self.where, self.crate = "", None
+
+    def fault(self, text):
+        self.faults.append(f"{self.where}: {text}")
+
+    def read(self):
+        for number, line in enumerate(text_of(self.file).split("\n"), 1):
+            self.where = f"{os.path.relpath(self.file, self.root)}:{number}"
+            if line.startswith("## "):
+                self.crate = self.crates.get(line[3:].strip())
+                self.name = line[3:].strip()
+            elif self.crate and re.match(r"\|(?!\s*(Promise\s*\||-))", line):
+                self.rows += 1
+                cells = [it.strip() for it in line.strip().strip("|").split(" | ")]
+                if len(cells) == 5:
+                    self.row(*cells[1:])
+                else:
+                    self.fault(f"the row has {len(cells)} cells, and not 5")
+
+    def row(self, function, clause, premise, shown):
+        names = re.findall(r"`([^`]+)`", function)
+        if not names or re.sub(r"`[^`]+`|, ", "", function):
+            self.fault(f"Function is not a list of names in backticks: {function}")
+        ghost = re.search(r"\bghost\b[^`]*`(\w+)`$", clause)
+        named = re.fullmatch(r"`(\w+)`", clause)
+        if not ghost and not named and clause != "its only one":
+            self.fault(f"Clause is not one name in backticks, `its only one` or a ghost member: {clause}")
+            return
+        for name in names:
+            owner, _, last = name.rpartition("::")
+            clauses = self.crate.clauses_of(plain(owner), last)
+            if ghost:
+                self.check_ghost(name, ghost[1])
+            elif clauses is None:
+                self.fault(f"there is no function `{name}` in {self.name}")
+            else:
+                self.check_clause(name, [it for kind, it in clauses if kind == "ensures"], named[1] if named else "")
+                self.check_premise(name, [it for kind, it in clauses if kind == "requires"], premise)
+        self.check_shown(shown)
+
+    def check_ghost(self, name, ghost):
+        owners = [plain(name), plain(name.rpartition("::")[0])]
+        if not any(ghost in self.crate.ghosts.get(it, ()) for it in owners):
+            self.fault(f"`{name}` has no ghost `{ghost}`")
+
+    def check_clause(self, name, ensures, clause):
+        if clause and clause not in ensures:
+            self.fault(f"`{name}` has no `ensures {clause}`")
+        elif not clause and ensures != [""]:
+            self.fault(f"`{name}` has not just one `ensures`, with no name")
+
+    def check_premise(self, name, requires, premise):
+        if premise == "none" and requires:
+            self.fault(f"`{name}` has a premise: {' '.join(requires) or 'one with no name'}")
+        for it in re.findall(r"`(\w+)`:", premise):
+            if it not in requires:
+                self.fault(f"`{name}` has no `requires {it}`")
+
+    def check_shown(self, shown):
+        if not re.search(r"`|^no edit:", shown):
+            self.fault(f"Shown by names nothing: {shown}")
+        for part in shown.split(";"):
+            if part.strip().startswith("no edit:"):
+                continue
+            before, is_test = "", False
+            for text, name in re.findall(r"([^`]*)`([^`]+)`", part):
+                is_test = is_test or bool(re.search(r"\btests?\b", text))
+                self.check_name(name, is_test)
+
+    def check_name(self, name, is_test):
+        if not is_test and name in self.crate.edits:
+            self.named[self.name].add(name)
+        elif not is_test:
+            self.fault(f"there is no edit `{name}` in {self.name}")
+        elif "/" in name and not os.path.exists(f"{self.root}/{name}"):
+            self.fault(f"there is no file `{name}`")
+        elif "/" not in name and name not in self.tests:
+            self.fault(f"there is no test `{name}`")
+
+    def check_edits(self):
+        """Each edit is named by a row of its crate, or in the README beside it."""
+        for name, crate in self.crates.items():
+            for edit in sorted(crate.edits - self.named[name]):
+                if not re.search(rf"\b{re.escape(edit)}\b", crate.readme):
+                    self.faults.append(f"crates/{name}: the edit {edit} is named in no row")
+
+
+def main(words):
+    root = os.path.realpath(f"{HERE}/../..")
+    promises = Promises(root, os.path.realpath(words[0]) if words else f"{root}/docs/PROMISES.md")
+    promises.read()
+    promises.check_edits()
+    if not promises.rows:
+        promises.faults.append("no row was found")
+    print("\n".join([*promises.faults, f"{promises.rows} rows, {len(promises.faults)} faults"]))
+    return 1 if promises.faults else 0
+
+
+if __name__ == "__main__":
+    sys.exit(main(sys.argv[1:]))

@@ -1,0 +1,109 @@
+#!/usr/bin/env bash
+# Plants flaws of its own in a tiny crate, and compares what try.py says of each: a bug is refused, and all else is reported.
+# It needs the toolchain's command `rt`, and takes ten checks of a crate of four functions, about a minute.
+set -eu
+here=$(cd "$(dirname "$0")" && pwd)
+work=$(mktemp -d)
+trap 'rm -rf "$work"' EXIT
+crate=$work/crates/tiny
+mkdir -p "$crate/src" "$crate/proofs/least_of_three" "$crate/wrong-bodies"
+echo 'tiny:' >"$work/crates.txt"
+cat >"$crate/src/lib.rt" <<'END'
+#![tactic(auto)]
+
+ghost use Rattle.std.specs.Prelude.{◌≡◌, ◌≤◌, min};
+
+pub const MOST: u8 = 200;
+
+pub fn least(a: u8, b: u8) -> u8
+    ensures { result ≡ min a b }
+{
+    if a < b { a } else { b }
+}
+
+pub fn least_of_three(a: u8, b: u8, c: u8) -> u8
+    ensures { result ≡ min (min a b) c }
+{
+    let low = least(a, b);
+    least(low, c)
+}
+
+pub fn least_again(a: u8, b: u8) -> u8
+    ensures { result ≡ min a b }
+{
+    least(a, b)
+}
+
+pub fn bounded(a: u8) -> u8
+    ensures { result ≤ 200 }
+{
+    a.min(MOST)
+}
+END
+cat >"$crate/proofs/least_of_three/Answers.antt" <<'END'
+use Rattle.std.proofs.Common.{rules}
+use Rattle.tiny.proofs.least_of_three.Goals as goal
+
+pub returns : goal.returns
+returns c = search (c.least-low.ensures, c.least.ensures, rules)
+END
+
+# edit NAME LINE..
+edit() {
+    name=$1
+    shift
+    printf '%s\n' 'file: src/lib.rt' "$@" >"$crate/wrong-bodies/$name.edit"
+}
+
+# try: runs try.py on the tiny crate. The status has to be 1 where anything fails, and 0 else.
+try() {
+    status=0
+    "$here/try.py" --root "$work" "$@" >"$work/said" 2>&1 || status=$?
+}
+
+# said TEXT: it wrote a line that begins so.
+said() {
+    grep -qF -- "$1" "$work/said" || {
+        echo "no line with: $1"
+        cat "$work/said"
+        exit 1
+    }
+}
+
+try
+[ "$status" -eq 1 ]
+said 'no edit was tried'
+said '0 passed, 1 failed'
+
+edit a_bug 'old: if a < b' 'new: if a > b'
+edit a_bug_in_a_constant 'old: u8 = 200' 'new: u8 = 201'
+edit no_bug 'old: if a < b' 'new: if a <= b'
+edit names_are_gone 'old: let low = least(a, b);' 'new: let lowest = least(a, b);' 'old: least(low, c)' 'new: least(lowest, c)'
+edit only_its_callee_is_wrong 'old:     least(a, b)' 'new:     least(b, a)'
+edit no_such_name 'old: a.min(MOST)' 'new: a.min(LEAST)'
+edit no_single_place 'old: least(' 'new: most('
+edit no_line 'old: a.min(MOST)' 'now: a'
+edit half_a_pair 'old: a.min(MOST)'
+try
+[ "$status" -eq 1 ]
+said 'tiny/a_bug: refused: note: src/lib.rt:'
+said 'tiny/a_bug_in_a_constant: refused: '
+said 'tiny/no_bug: LET THROUGH'
+said 'tiny/names_are_gone: refused only by names that are gone'
+said 'tiny/only_its_callee_is_wrong: LET THROUGH'
+said "tiny/no_such_name: it doesn't compile"
+said 'tiny/no_single_place: an `old:` text is in src/lib.rt 4 times'
+said 'tiny/no_line: this line is not in its place: now: a'
+said 'tiny/half_a_pair: it has no pair'
+said '2 passed, 7 failed'
+
+try tiny/no_such_edit
+[ "$status" -eq 1 ]
+said 'no edit tiny/no_such_edit'
+
+sed -i 's/result ≡ min a b/result ≤ b/' "$crate/src/lib.rt"
+rm "$crate/proofs/least_of_three/Answers.antt"
+try tiny/a_bug
+[ "$status" -eq 1 ]
+said 'a crate is not proved as it is'
+echo 'each planted flaw is told from a bug'

@@ -1,0 +1,175 @@
+#!/usr/bin/env python3
+"""Tries the wrong bodies crates/NAME/wrong-bodies/*.edit: the prover has to refuse each at the function that it changes.
+
+An edit is a file with a line `file: src/x.rt` and then pairs of lines `old: TEXT` and `new: TEXT`, each old text once in
+that file. Contracts separate functions, so edits of different functions are tried in one check. It counts as a refusal
+only where the edited function itself has an open goal: a text that can't be read, a proof file that names what is gone, or
+a callee that is not proved is none. What is not refused so is tried alone before it is reported. An edit of several
+functions, or of anything but a body (a constant, a type, a clause, an invariant), is tried alone; of the last, any open
+goal of the crate counts.
+
+It works on a copy in a temporary folder, and proves the crates there first as they are.
+The last line is `N passed, M failed`. The status is 1 where anything failed, or where there was no edit to try.
+"""
+
+import argparse
+import os
+import shutil
+import subprocess
+import sys
+import tempfile
+import time
+from concurrent.futures import ThreadPoolExecutor
+
+sys.dont_write_bytecode = True
+sys.path.append(f"{os.path.dirname(os.path.realpath(__file__))}/../lib")
+from edits import Edit, batches, named_by, together
+from verdicts import Check
+
+PARTS = ("src", "specs", "proofs", "out/incremental", "out/rlib")
+
+
+def say(text):
+    print(text, flush=True)
+
+
+class Crate:
+    """A crate with its wrong bodies, those that are wanted."""
+
+    def __init__(self, name, below, root, wanted):
+        self.name, self.below, self.folder = name, below, f"{root}/crates/{name}"
+        folder = f"{self.folder}/wrong-bodies"
+        files = sorted(os.listdir(folder)) if os.path.isdir(folder) else []
+        edits = [Edit(f"{folder}/{it}", self.folder) for it in files if it.endswith(".edit")]
+        is_wanted = lambda edit: not wanted or name in wanted or f"{name}/{edit.name}" in wanted
+        self.edits = [it for it in edits if is_wanted(it)]
+        self.checks, self.seconds, self.room = 0, 0.0, None
+
+    def check(self, texts=(), jobs=1):
+        """Checks the crate in its room with these texts in place of its own."""
+        folder = f"{self.room}/crates/{self.name}"
+        for file in texts:
+            with open(f"{folder}/{file}", "w", encoding="utf-8") as it:
+                it.write(texts[file])
+        start = time.monotonic()
+        how = {"stdin": subprocess.DEVNULL, "stdout": subprocess.PIPE, "stderr": subprocess.STDOUT, "errors": "replace"}
+        said = subprocess.run(["rt", "check", "--jobs", str(jobs)], cwd=folder, **how).stdout
+        self.checks, self.seconds = self.checks + 1, self.seconds + time.monotonic() - start
+        for file in texts:
+            shutil.copyfile(f"{self.folder}/{file}", f"{folder}/{file}")
+        return Check(self.name, said)
+
+    def try_batch(self, batch):
+        """Tries edits in one check, and alone what is not refused there."""
+        check = self.check(together(batch, self.folder))
+        if len(batch) > 1 and not check.is_judged:
+            # An edit that doesn't compile hides all others.
+            wrong = named_by(check.places, batch, self.folder)
+            rest = [it for it in batch if it not in wrong] if wrong else []
+            for edit in wrong or batch:
+                self.try_batch([edit])
+            if rest:
+                self.try_batch(rest)
+            return
+        for edit in batch:
+            edit.is_refused, edit.why = check.judge([it.function for it in edit.changes])
+            if not edit.is_refused and len(batch) > 1:
+                self.try_batch([edit])
+
+    def try_all(self, known, base, room):
+        """Tries all edits in a room of the crate's own, and says what became of each."""
+        copy_crates([*self.below, self.name], base, room)
+        self.room = room
+        for edit in self.edits:
+            if edit.why is None:
+                edit.place(self.name, self.folder, known)
+        for batch in batches([it for it in self.edits if it.why is None]):
+            self.try_batch(batch)
+        lines = [f"wrong body {self.name}/{it.name}: {'refused: ' * it.is_refused}{it.why}" for it in self.edits]
+        refused = sum(it.is_refused for it in self.edits)
+        say("\n".join(lines))
+        say(f"{self.name}: {refused} of {len(self.edits)} refused, {self.checks} checks, {self.seconds:.0f} seconds")
+
+
+def copy_crates(names, root, to):
+    """Copies what a check of these crates reads, and what their checks kept."""
+    for name in names:
+        for part in PARTS:
+            if os.path.isdir(f"{root}/crates/{name}/{part}"):
+                shutil.copytree(f"{root}/crates/{name}/{part}", f"{to}/crates/{name}/{part}")
+    with open(f"{root}/crates.txt", encoding="utf-8") as it:
+        lines = [line for line in it if line.partition(":")[0].split()[:1] in [[name] for name in names]]
+    with open(f"{to}/crates.txt", "w", encoding="utf-8") as it:
+        it.writelines(lines)
+
+
+def crates_of(root, wanted):
+    """The crates of crates.txt with edits that are wanted, each after those below it."""
+    named = {}
+    with open(f"{root}/crates.txt", encoding="utf-8") as it:
+        for line in it:
+            head, colon, rest = line.partition("#")[0].partition(":")
+            if colon:
+                named[head.split()[0]] = rest.split()
+
+    def below(name):
+        return list(dict.fromkeys(low for it in named[name] if it in named for low in [*below(it), it]))
+
+    crates = [Crate(it, below(it), root, wanted) for it in named]
+    return sorted((it for it in crates if it.edits), key=lambda it: len(it.below))
+
+
+def prove(crates, root, base, jobs):
+    """Proves the crates as they are, over what earlier checks kept, and returns the names of the functions of each; None where one is not proved."""
+    copy_crates(dict.fromkeys(name for it in crates for name in [*it.below, it.name]), root, base)
+    known = {}
+    for crate in crates:
+        crate.room = base
+        check = crate.check(jobs=jobs)
+        known[crate.name] = {*check.verdicts}
+        say(f"{crate.name}: {'proved' if check.is_proved else 'NOT PROVED'} as it is, {crate.seconds:.0f} seconds")
+        if not check.is_proved:
+            say(check.text)
+            return None
+    return known
+
+
+def try_crates(crates, root, jobs):
+    """Tries the edits of the crates, so many crates at a time; False where they are not proved as they are."""
+    with tempfile.TemporaryDirectory(prefix="wrong-bodies-") as folder:
+        known = prove(crates, root, f"{folder}/base", jobs)
+        if known is None:
+            return False
+        with ThreadPoolExecutor(jobs) as pool:
+            longest_first = sorted(crates, key=lambda it: -it.seconds * len(it.edits))
+            runs = [pool.submit(it.try_all, known[it.name], f"{folder}/base", f"{folder}/{it.name}") for it in longest_first]
+            for run in runs:
+                run.result()
+    return True
+
+
+def main():
+    parser = argparse.ArgumentParser(description=__doc__, formatter_class=argparse.RawDescriptionHelpFormatter)
+    parser.add_argument("--jobs", type=int, default=min(2, len(os.sched_getaffinity(0))), help="how many crates are tried at a time")
+    parser.add_argument("--root", default=f"{os.path.dirname(os.path.realpath(__file__))}/../..", help="another repository")
+    parser.add_argument("wanted", nargs="*", metavar="NAME | NAME/EDIT", help="a crate, or one edit of it (all)")
+    given = parser.parse_args()
+    root = os.path.realpath(given.root)
+    crates = crates_of(root, given.wanted)
+    names = {name for it in crates for name in (it.name, *(f"{it.name}/{edit.name}" for edit in it.edits))}
+    failed = [f"no edit {it}" for it in given.wanted if it not in names]
+    edits = [(it, edit) for it in crates for edit in it.edits]
+    if not edits:
+        failed.append("no edit was tried")
+    elif not try_crates(crates, root, given.jobs):
+        failed.append("a crate is not proved as it is")
+    else:
+        failed += [f"{it.name}/{edit.name}" for it, edit in edits if not edit.is_refused]
+    if failed:
+        say(f"FAILED: {', '.join(failed)}")
+    say(f"{sum(edit.is_refused for _, edit in edits)} passed, {len(failed)} failed")
+    return 1 if failed else 0
+
+
+if __name__ == "__main__":
+    sys.exit(main())

@@ -1,0 +1,70 @@
+"""Reads what `rt check` prints, and judges by it whether a function was refused for a goal of its own."""
+
+import re
+
+# A proof file that names what an edit took away: it says nothing of the contract.
+GONE = re.compile(r"has no field|is not in scope|has no `|not admitted")
+PROOF = re.compile(r"(?:\./)?proofs/(\S+)/(?:Answers|Invariants|Proof)\.antt:\d+:\d+: error: (.*)")
+SOURCE = re.compile(r"(?:\./)?((?:src|specs)/\S+?):(\d+):\d+: error(?:\[\S+\])?: (?:(`[^`]*`): )?(.*)")
+GOAL = re.compile(r"note: (?:\./)?src/\S+:\d+:\d+: .*(is not proved|found no proof)")
+VERDICT = re.compile(r"(?:fn|struct|enum|impl|trait) (\S+): (.*)")
+
+
+class Check:
+    """What one check said: of each function its own open goals, the names that are gone, and its verdict."""
+
+    def __init__(self, crate, text):
+        self.crate, self.text, self.goals, self.gone, self.verdicts = crate, text, {}, {}, {}
+        self.is_proved = bool(re.search(r"^logic=proved ", text, re.M))
+        self.is_judged = bool(re.search(r"^logic=", text, re.M))
+        # Texts that can't be read, and where they stand.
+        self.errors, self.places = [], []
+        notes = []
+        for line in text.split("\n"):
+            self.read_error(line)
+            verdict = VERDICT.match(line)
+            if GOAL.match(line):
+                notes.append(line)
+            elif verdict:
+                self.verdicts[verdict[1]] = verdict[2]
+                # The verdict itself names the goals that are open; it follows their notes.
+                is_open = "did not prove" in verdict[2]
+                self.goals.setdefault(verdict[1], []).extend(notes or [line] * is_open)
+                notes = []
+
+    def read_error(self, line):
+        proof, source = PROOF.match(line), SOURCE.match(line)
+        if proof:
+            name = "::".join([self.crate, *proof[1].split("/")])
+            (self.gone if GONE.search(proof[2]) else self.goals).setdefault(name, []).append(line)
+        elif source and (not source[3] or GONE.search(source[4])):
+            self.errors.append(line)
+            self.places.append((source[1], int(source[2])))
+        elif source:
+            self.goals.setdefault(source[1], []).append(line)
+
+    def of(self, lists, function):
+        """The lines of a function and of the closures in it."""
+        head, _, name = function.rpartition("::")
+        inside = (f"{head}::fn::{name}::", f"{function}::")
+        return [line for it, lines in lists.items() if it == function or it.startswith(inside) for line in lines]
+
+    def last(self):
+        return self.text.strip().split("\n")[-1]
+
+    def judge(self, functions):
+        """Whether one of the functions (of all, where none is named) has an open goal of its own; and that goal, or why not."""
+        if not self.is_judged or self.errors:
+            return False, f"it doesn't compile, so no contract was tried: {(self.errors or [self.last()])[0]}"
+        goals = [line for it in functions for line in self.of(self.goals, it)]
+        if not functions:
+            goals = [line for lines in self.goals.values() for line in lines]
+        gone = [line for it in functions or self.gone for line in self.of(self.gone, it)]
+        if goals:
+            return True, goals[0] + " (names are gone from a proof file, too)" * bool(gone)
+        if gone:
+            return False, f"refused only by names that are gone from a proof file, which says nothing of the contract: {gone[0]}"
+        said = [f"{it}: {self.verdicts.get(it, 'no line')}" for it in functions]
+        if self.is_proved or said and all(": proved" in it for it in said):
+            return False, "LET THROUGH: it is proved"
+        return False, f"refused, but only through what it calls: {' '.join(said) or self.last()}"
