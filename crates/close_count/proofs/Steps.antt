@@ -1,5 +1,5 @@
 -- Each step on a count's word keeps its rule.
-use Rattle.std.proofs.Common.{◌≡◌, ℕ, zero, suc, ◌+◌, ◌-◌, ◌%◌, ◌^◌, ◌<◌, ◌≤◌, List, [], ◌∷◌, get_or, set, min, sym, refl, ap, ◌∙◌, subst, arith, length-set, get_or-set_same, eq-eqb, ne_eqb}
+use Rattle.std.proofs.Common.{◌≡◌, ℕ, zero, suc, Bool, true, false, ◌==◌, ◌+◌, ◌-◌, ◌%◌, ◌^◌, ◌<◌, ◌≤◌, List, [], ◌∷◌, get_or, set, min, sym, refl, ap, ◌∙◌, subst, arith, length-set, get_or-set_same, eq-eqb, ne_eqb}
 use Rattle.std.specs.Prelude.{sum_by}
 use Rattle.std.proofs.lemmas.List.Sums.{sum_by-cons, sum_by_push}
 use mathlib.Core.Logic.{dite}
@@ -8,7 +8,7 @@ use native.Mathlib.Decide.{ℕ_discrete}
 use lib.ListN.{get_elem?}
 use Rattle.atomic_table.specs.Table.{Me, step, keeps, stepped, Allows, Splits, Joins}
 use Rattle.close_count.specs.declared.rule.View.{View}
-use Rattle.close_count.specs.Tickets.{Moment, Counted, Completes, word_of, spent_until, one_if, made_by, room_of, held_by, spent_by, last_of, one_more, one_less, one_spent, gathered, nothing, ticket_view, added, completed, looked}
+use Rattle.close_count.specs.Tickets.{Moment, Counted, Completes, word_of, spent_until, one_if, made_by, room_of, held_by, earlier_count, last_of, one_more, one_less, one_spent, gathered, nothing, ticket_view, added, completed, IsOfCount, looked}
 
 -- a sum after one view was replaced
 pub sum_by-set_view : (f : View → ℕ) (l : List View) (i : ℕ) (v w : View) → get_elem? l i ≡ some v → sum_by f (set l i w) + f v ≡ sum_by f l + f w
@@ -24,7 +24,7 @@ sum_by_has f (x ∷ xs) (suc i) v e = omega (arith, sum_by-cons f x xs, sum_by_h
 
 -- how a step that takes the word from x to n may change its seat's view
 record Balances (x n : ℕ) (v w : View) : Type 0 where
-  unspent : (n + w.spent) + v.made ≡ (x + v.spent) + w.made
+  unspent : (n + (w.earlier + w.last)) + v.made ≡ (x + (v.earlier + v.last)) + w.made
   held : w.held + x ≡ v.held + n
   once : w.last + min 1 n ≡ v.last + min 1 x
   bounded : w.made + w.room ≡ v.made + v.room
@@ -36,7 +36,7 @@ moved s r id n v w at b =
     let made = sum_by-set_view made_by s.views id v w at in
     let room = sum_by-set_view room_of s.views id v w at in
     let held = sum_by-set_view held_by s.views id v w at in
-    let spent = sum_by-set_view spent_by s.views id v w at in
+    let earlier = sum_by-set_view earlier_count s.views id v w at in
     let last = sum_by-set_view last_of s.views id v w at in
     let unspent_was = r.unspent in
     let held_was = r.held in
@@ -54,9 +54,14 @@ moved s r id n v w at b =
       bounded = omega arith;
     }
 
+-- one ticket is at most one
+one_if-le : (b : Bool) → one_if b ≤ 1
+one_if-le true = omega arith
+one_if-le false = omega arith
+
 spends_balanced : (x : ℕ) (v : View) → 1 ≤ x → 1 ≤ v.held → Balances x (x - 1) v (one_spent v x)
 spends_balanced x v some_left holds = record {
-  unspent = omega arith;
+  unspent = omega (arith, one_if-le (x == 1));
   held = omega arith;
   once = dite (ℕ_discrete x 1)
       (λ one. ap (λ (b : ℕ). (v.last + b) + min 1 (x - 1)) (ap one_if (eq-eqb x 1 one)) ∙ omega (arith, one))
@@ -64,7 +69,7 @@ spends_balanced x v some_left holds = record {
   bounded = refl;
 }
 
-one_completes : (s : Moment) → Counted s → (id : ℕ) (v w : View) → get_elem? s.views id ≡ some v → 1 ≤ word_of s → w.made ≡ v.made → w.spent ≡ v.spent + 1
+one_completes : (s : Moment) → Counted s → (id : ℕ) (v w : View) → get_elem? s.views id ≡ some v → 1 ≤ word_of s → w.made ≡ v.made → w.earlier + w.last ≡ (v.earlier + v.last) + 1
     → Counted (record s { words = set s.words 0 (word_of s - 1); views = set s.views id w }) → Completes (word_of s) s (record s { words = set s.words 0 (word_of s - 1); views = set s.views id w })
 one_completes s r id v w at some_left made spent after =
     let x : ℕ = word_of s in
@@ -75,7 +80,7 @@ one_completes s r id v w at some_left made spent after =
       word_before = refl;
       word_after = ap (λ (k : ℕ). k + 1) here ∙ omega (arith, some_left);
       made = omega (arith, sum_by-set_view made_by s.views id v w at, made);
-      spent = omega (arith, sum_by-set_view spent_by s.views id v w at, spent);
+      spent = omega (arith, sum_by-set_view earlier_count s.views id v w at, sum_by-set_view last_of s.views id v w at, spent);
     }
 
 -- a step that spends one ticket
@@ -89,7 +94,7 @@ spends slots id me holds s r _ at small =
     let some_left : 1 ≤ x = (let h = r.held in omega arith) in
     let less : x - 1 ≡ (x + 18446744073709551615) % 18446744073709551616 = (let fits : x < 18446744073709551616 = small in omega arith) in
     let after = moved s r id (x - 1) v w at (spends_balanced x v some_left holds) in
-    (w, keeps, tt, subst (λ (n : ℕ). Counted (stepped s 0 n id me.1 w keeps)) less after, (refl, (s, record s { words = set s.words 0 (x - 1); views = set s.views id w }, one_completes s r id v w at some_left refl refl after)))
+    (w, keeps, tt, subst (λ (n : ℕ). Counted (stepped s 0 n id me.1 w keeps)) less after, (refl, (s, record s { words = set s.words 0 (x - 1); views = set s.views id w }, one_completes s r id v w at some_left refl (omega (arith, one_if-le (x == 1))) after)))
 
 adds_balanced : (x : ℕ) (v : View) → 1 ≤ x → 1 ≤ v.room → Balances x (x + 1) v (one_more v)
 adds_balanced x v some_left may = record {
@@ -119,7 +124,7 @@ hands_out id v holds s r at =
     let made = sum_by-set_view made_by s.views id v (one_less v) at in
     let room = sum_by-set_view room_of s.views id v (one_less v) at in
     let held = sum_by-set_view held_by s.views id v (one_less v) at in
-    let spent = sum_by-set_view spent_by s.views id v (one_less v) at in
+    let earlier = sum_by-set_view earlier_count s.views id v (one_less v) at in
     let last = sum_by-set_view last_of s.views id v (one_less v) at in
     let unspent_was = r.unspent in
     let held_was = r.held in
@@ -127,7 +132,7 @@ hands_out id v holds s r at =
     let bounded_was = r.bounded in
     record {
       one_word = r.one_word;
-      unspent = omega (arith, sum_by_push made_by rest ticket_view, sum_by_push spent_by rest ticket_view);
+      unspent = omega (arith, sum_by_push made_by rest ticket_view, sum_by_push earlier_count rest ticket_view, sum_by_push last_of rest ticket_view);
       held = omega (arith, sum_by_push held_by rest ticket_view);
       once = omega (arith, sum_by_push last_of rest ticket_view);
       bounded = omega (arith, sum_by_push made_by rest ticket_view, sum_by_push room_of rest ticket_view);
@@ -140,7 +145,7 @@ gathers id v other w s r at apart there =
     let made = sum_by-set_view made_by s.views id v (gathered v w) at in
     let room = sum_by-set_view room_of s.views id v (gathered v w) at in
     let held = sum_by-set_view held_by s.views id v (gathered v w) at in
-    let spent = sum_by-set_view spent_by s.views id v (gathered v w) at in
+    let earlier = sum_by-set_view earlier_count s.views id v (gathered v w) at in
     let last = sum_by-set_view last_of s.views id v (gathered v w) at in
     let unspent_was = r.unspent in
     let held_was = r.held in
@@ -148,7 +153,7 @@ gathers id v other w s r at apart there =
     let bounded_was = r.bounded in
     record {
       one_word = r.one_word;
-      unspent = omega (arith, sum_by-set_view made_by mid other w nothing there, sum_by-set_view spent_by mid other w nothing there);
+      unspent = omega (arith, sum_by-set_view made_by mid other w nothing there, sum_by-set_view earlier_count mid other w nothing there, sum_by-set_view last_of mid other w nothing there);
       held = omega (arith, sum_by-set_view held_by mid other w nothing there);
       once = omega (arith, sum_by-set_view last_of mid other w nothing there);
       bounded = omega (arith, sum_by-set_view made_by mid other w nothing there, sum_by-set_view room_of mid other w nothing there);
@@ -161,6 +166,16 @@ looks slots id me s r _ at _ =
     let v : View = me.0 in
     let held_here : v.held ≤ sum_by held_by s.views = sum_by_has held_by s.views id v at in
     let last_here : v.last ≤ sum_by last_of s.views = sum_by_has last_of s.views id v at in
+    let earlier_here : v.earlier ≤ sum_by earlier_count s.views = sum_by_has earlier_count s.views id v at in
+    let made_here : v.made ≤ sum_by made_by s.views = sum_by_has made_by s.views id v at in
+    let room_here : v.room ≤ sum_by room_of s.views = sum_by_has room_of s.views id v at in
+    let unspent_was = r.unspent in
     let held_was = r.held in
     let once_was = r.once in
-    (v, keeps, tt, moved s r id x v v at (record { unspent = refl; held = refl; once = refl; bounded = refl }), omega arith)
+    let bounded_was = r.bounded in (
+      v,
+      keeps,
+      tt,
+      moved s r id x v v at (record { unspent = refl; held = refl; once = refl; bounded = refl }),
+      (record { last_once = omega arith; bounded = omega arith; all_spent = λ all spent. omega (arith, all, spent) }, refl),
+    )

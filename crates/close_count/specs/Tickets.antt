@@ -1,5 +1,5 @@
 -- The tickets of a count (Java SE 17, CountedCompleter: the pending count is the number of unspent tickets less one).
-use Rattle.std.specs.Prelude.{◌≡◌, ℕ, ◌+◌, ◌-◌, ◌≤◌, ◌==◌, Bool, true, false, min, length, slice_index, sum_by}
+use Rattle.std.specs.Prelude.{◌≡◌, ℕ, ◌+◌, ◌-◌, ◌≤◌, ◌==◌, Bool, if◌then◌else◌, min, length, slice_index, sum_by}
 use Rattle.atomic_table.specs.Table.{State, Me, Step}
 use Rattle.close_count.specs.declared.rule.View.{View}
 
@@ -9,8 +9,7 @@ most_tickets = 4294967295
 
 -- 1 for true, 0 for false
 abbrev pub one_if : Bool → ℕ
-one_if true = 1
-one_if false = 0
+one_if b = if b then 1 else 0
 
 -- the parts of what a seat knows, as functions: the tickets that it made
 abbrev pub made_by : View → ℕ
@@ -24,9 +23,9 @@ room_of v = v.room
 abbrev pub held_by : View → ℕ
 held_by v = v.held
 
--- the tickets that it spent
-abbrev pub spent_by : View → ℕ
-spent_by v = v.spent
+-- the tickets that it spent while others were left
+abbrev pub earlier_count : View → ℕ
+earlier_count v = v.earlier
 
 -- 1 where its own step spent the last ticket
 abbrev pub last_of : View → ℕ
@@ -46,7 +45,7 @@ made_until s = sum_by made_by s.views
 
 -- how many were spent by then
 abbrev pub spent_until : Moment → ℕ
-spent_until s = sum_by spent_by s.views
+spent_until s = sum_by earlier_count s.views + sum_by last_of s.views
 
 -- between any two steps
 pub record Counted (s : Moment) : Type 0 where
@@ -75,31 +74,31 @@ CompletesAt n = (before : Moment) × (after : Moment) × Completes n before afte
 
 -- what the seat of an Opening knows that made so many tickets
 abbrev pub opening_view : ℕ → View
-opening_view made = record { made = made + 1; room = most_tickets - made; held = 1; spent = 0; last = 0 }
+opening_view made = record { made = made + 1; room = most_tickets - made; held = 1; earlier = 0; last = 0 }
 
 -- what the seat of a ticket knows
 abbrev pub ticket_view : View
-ticket_view = record { made = 0; room = 0; held = 1; spent = 0; last = 0 }
+ticket_view = record { made = 0; room = 0; held = 1; earlier = 0; last = 0 }
 
 -- what a seat knows that made, holds and spent nothing
 abbrev pub nothing : View
-nothing = record { made = 0; room = 0; held = 0; spent = 0; last = 0 }
+nothing = record { made = 0; room = 0; held = 0; earlier = 0; last = 0 }
 
 -- after a step that added a ticket
 abbrev pub one_more : View → View
-one_more v = record { made = v.made + 1; room = v.room - 1; held = v.held + 1; spent = v.spent; last = v.last }
+one_more v = record { made = v.made + 1; room = v.room - 1; held = v.held + 1; earlier = v.earlier; last = v.last }
 
 -- after a ticket was handed out to a seat of its own
 abbrev pub one_less : View → View
-one_less v = record { made = v.made; room = v.room; held = v.held - 1; spent = v.spent; last = v.last }
+one_less v = record { made = v.made; room = v.room; held = v.held - 1; earlier = v.earlier; last = v.last }
 
 -- after a step that found the count at n and spent a ticket
 abbrev pub one_spent : View → ℕ → View
-one_spent v n = record { made = v.made; room = v.room; held = v.held - 1; spent = v.spent + 1; last = v.last + one_if (n == 1) }
+one_spent v n = record { made = v.made; room = v.room; held = v.held - 1; earlier = v.earlier + (1 - one_if (n == 1)); last = v.last + one_if (n == 1) }
 
 -- what two seats know together
 abbrev pub gathered : View → View → View
-gathered v w = record { made = v.made + w.made; room = v.room + w.room; held = v.held + w.held; spent = v.spent + w.spent; last = v.last + w.last }
+gathered v w = record { made = v.made + w.made; room = v.room + w.room; held = v.held + w.held; earlier = v.earlier + w.earlier; last = v.last + w.last }
 
 -- a seat's view, and the slots that it holds, of which a count has none
 abbrev Sat : Type 0
@@ -113,6 +112,15 @@ added step before found after = after ≡ (one_more before.0, before.1)
 abbrev pub completed : Step (Unit {0}) → Sat → ℕ → Sat → Type 0
 completed step before found after = (after ≡ (one_spent before.0 found, before.1)) × CompletesAt found
 
--- nobody who spent the last ticket holds one, and nobody spent it twice, so this holds of what any two seats know together
+-- what the rule says of what a seat knows, and of what two seats know together
+pub record IsOfCount (v : View) : Type 0 where
+  -- the last ticket is spent once, and beside it none is held
+  pub last_once : v.last + min 1 v.held ≤ 1
+  -- an Opening makes at most 2 ^ 32 - 1 tickets beside itself
+  pub bounded : v.made + v.room ≤ most_tickets + 1
+  -- whoever made all tickets and spent them all spent the last
+  pub all_spent : v.made + v.room ≡ most_tickets + 1 → v.earlier + v.last ≡ v.made → v.last ≡ 1
+
+-- the count says of a seat what the rule says of it
 abbrev pub looked : Step (Unit {0}) → Sat → ℕ → Sat → Type 0
-looked step before found after = before.0.last + min 1 before.0.held ≤ 1
+looked step before found after = IsOfCount before.0 × (after ≡ before)

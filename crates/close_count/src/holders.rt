@@ -1,5 +1,5 @@
 //! Who holds a ticket of a count, and who has spent one.
-ghost use Rattle.std.specs.Prelude.{◌≡◌, ◌≤◌, [], IsTrue};
+ghost use Rattle.std.specs.Prelude.{◌≡◌, ◌+◌, ◌≤◌, [], IsTrue};
 ghost use Rattle.std.specs.Arc.{arc_value};
 ghost use Rattle.close_count.specs.Tickets.{most_tickets, one_if, opening_view, ticket_view};
 
@@ -43,6 +43,8 @@ pub struct Spent {
     ghost one_word: { (arc_value counter).shared.table_id.words ≡ 1 },
     ghost seated: { seat.table_id ≡ (arc_value counter).shared.table_id },
     ghost no_slots: { seat.me.1 ≡ [] },
-    ghost spent: { seat.me.0.spent ≡ 1 },
+    ghost spent: { seat.me.0.earlier + seat.me.0.last ≡ 1 },
+    // Whoever made one ticket made all.
+    ghost whole: { 1 ≤ seat.me.0.made → seat.me.0.made + seat.me.0.room ≡ most_tickets + 1 },
     ghost found: { seat.me.0.last ≡ one_if last },
 }

@@ -19,5 +19,5 @@ mod tests;
 mod ticket;
 
 pub use holders::{Opening, Spent, Ticket};
-pub use laws::{last_once, none_left, none_open};
+pub use laws::{last_once, none_left, none_open, one_of_all_is_last};
 pub use opening::Count;

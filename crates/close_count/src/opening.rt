@@ -3,7 +3,7 @@ ghost use Rattle.std.specs.Prelude.{◌≡◌, ◌+◌, ◌⊎◌, ℕ, ◌↔�
 ghost use Rattle.std.specs.Arc.{arc_value};
 ghost use Rattle.flow_rules.specs.declared.refusals.Refusal.TheVariants as Refusal;
 ghost use Rattle.close_count.specs.Tickets.{most_tickets, CompletesAt};
-ghost use Rattle.close_count.specs.Holders.{count_of_opening, count_of_ticket, count_of_spent, tickets_made, was_last};
+ghost use Rattle.close_count.specs.Holders.{count_of_opening, count_of_ticket, count_of_spent, made_by_spent, tickets_made, was_last};
 
 use crate::holders::{Opening, Spent, Ticket};
 use crate::rule::{Add, Counter, HandOut, UNSPENT};
@@ -60,6 +60,7 @@ impl Opening {
     /// Spends the opening. What comes back tells whether it was the last ticket.
     pub fn spend(self) -> Spent
         ensures count { count_of_spent result ≡ count_of_opening self }
+        ensures made { made_by_spent result ≡ tickets_made self + 1 }
         ensures step { (n : ℕ) × CompletesAt n × (IsTrue (was_last result) ↔ (n ≡ 1)) }
     {
         spend_seat(self.counter, self.seat)

@@ -10,8 +10,8 @@ pub struct View {
     pub room: u64,
     /// The tickets that it holds.
     pub held: u64,
-    /// The tickets that it spent.
-    pub spent: u64,
+    /// The tickets that it spent while others were left.
+    pub earlier: u64,
     /// 1 where its own step spent the last ticket.
     pub last: u64,
 }
