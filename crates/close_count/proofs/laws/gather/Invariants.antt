@@ -1,6 +1,6 @@
 use Rattle.std.proofs.Common.{◌≡◌, ◌+◌, ◌≤◌, length}
 use Rattle.std.specs.Prelude.{All, count_by}
-use Rattle.close_count.specs.Holders.{count_of_spent, was_last}
+use Rattle.close_count.specs.Spent.{count_of_spent, was_last}
 use Rattle.close_count.proofs.laws.gather.Given as goal
 
 abbrev pub invariant-loop-ticket : goal.invariant-loop-ticket
