@@ -2,7 +2,7 @@
 ghost use Rattle.std.specs.Prelude.{◌≡◌, ◌<◌, true, false, replicate, slice_get, Some, slice_set, IsTrue, ◌↔◌};
 
 /// The most workers of a pool.
-pub(crate) const MOST_WORKERS: usize = 8;
+pub const MOST_WORKERS: usize = 8;
 
 /// The marks of a pool's workers.
 #[derive(Drop)]
