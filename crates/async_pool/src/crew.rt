@@ -1,5 +1,5 @@
 //! Which workers run, and whether the pool was shut.
-ghost use Rattle.std.specs.Prelude.{◌≡◌, ◌<◌, true, false, replicate, slice_get, Some, slice_set, IsTrue, ◌↔◌};
+ghost use Rattle.std.specs.Prelude.{◌≡◌, ◌<◌, true, false, replicate, slice_get, Some, slice_set, IsTrue, IsFalse, ◌↔◌};
 
 /// The most workers of a pool.
 pub const MOST_WORKERS: usize = 8;
@@ -15,7 +15,7 @@ impl Crew {
     /// Nobody runs, and the pool is open.
     pub fn new() -> Crew
         ensures nobody { result.running ≡ replicate MOST_WORKERS false }
-        ensures open { result.shut ≡ false }
+        ensures open { IsFalse result.shut }
     {
         Crew {
             running: [false; MOST_WORKERS],
