@@ -1,5 +1,7 @@
-pub mod Amounts
+pub mod Amount
 pub mod Bag
-pub mod Inboxes
-pub mod Pools
-pub mod Workers
+pub mod Crew
+pub mod Inbox
+pub mod Pool
+pub mod Sleepers
+pub mod Yard

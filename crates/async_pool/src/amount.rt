@@ -22,17 +22,17 @@ struct OneMore;
 
 impl Names<Amount> for OneMore {
     ghost use Rattle.std.specs.Prelude.{[], ◌∷◌, ◌+◌};
-    ghost use Rattle.async_pool.specs.Amounts.{number_of};
+    ghost use Rattle.async_pool.specs.Amount.{amount_of};
 
-    ghost numbers = { λ amount. (number_of amount + 1) ∷ [] };
+    ghost numbers = { λ amount. (amount_of amount + 1) ∷ [] };
 }
 
 impl Amount {
-    ghost use Rattle.async_pool.specs.Amounts.{number_of};
+    ghost use Rattle.async_pool.specs.Amount.{amount_of};
 
     /// None.
     pub fn zero() -> Amount
-        ensures { number_of result ≡ 0 }
+        ensures { amount_of result ≡ 0 }
     {
         Amount {
             tag: Tag::of::<(), Zero>(&()),
@@ -41,7 +41,7 @@ impl Amount {
 
     /// One more.
     pub fn add_one(&mut self)
-        ensures { number_of self.new ≡ number_of self.old + 1 }
+        ensures { amount_of self.new ≡ amount_of self.old + 1 }
     {
         self.tag = Tag::of::<Amount, OneMore>(self);
     }

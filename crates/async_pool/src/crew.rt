@@ -1,8 +1,8 @@
 //! Which workers run, and whether the pool was shut.
-ghost use Rattle.std.specs.Prelude.{◌≡◌, ◌<◌, true, false, replicate, slice_get, Some, slice_set, IsTrue, ◌↔◌};
+ghost use Rattle.std.specs.Prelude.{◌≡◌, ◌<◌, true, false, replicate, slice_get, Some, slice_set, IsTrue, IsFalse, ◌↔◌};
 
 /// The most workers of a pool.
-pub(crate) const MOST_WORKERS: usize = 8;
+pub const MOST_WORKERS: usize = 8;
 
 /// The marks of a pool's workers.
 #[derive(Drop)]
@@ -15,7 +15,7 @@ impl Crew {
     /// Nobody runs, and the pool is open.
     pub fn new() -> Crew
         ensures nobody { result.running ≡ replicate MOST_WORKERS false }
-        ensures open { result.shut ≡ false }
+        ensures open { IsFalse result.shut }
     {
         Crew {
             running: [false; MOST_WORKERS],

@@ -1,8 +1,8 @@
 //! The bounded list of jobs.
-ghost use Rattle.std.specs.Prelude.{◌≡◌, ◌+◌, ◌≤◌, ◌∷◌, ◌++◌, [], length, vec_len, IfOk, OnOk, IfErr, OnErr, IsErr, IsNone, IfSome, IfNone, OnSome, IsTrue, ◌↔◌};
+ghost use Rattle.std.specs.Prelude.{◌≡◌, ◌+◌, ◌≤◌, ◌∷◌, ◌++◌, [], length, vec_len, IfOk, OnOk, IfErr, OnErr, IsErr, IsNone, IfSome, IfNone, OnSome, ◌↔◌};
 ghost use Rattle.std.specs.VecDeque.{deque_len, deque_capacity};
 ghost use Rattle.std.specs.Vec.{vec_capacity};
-ghost use Rattle.async_pool.specs.Amounts.{number_of};
+ghost use Rattle.async_pool.specs.Amount.{amount_of};
 ghost use Rattle.async_pool.specs.Bag.{IsBag};
 ghost use Rattle.async_pool.specs.declared.inbox.TheConstants.{CAPACITY};
 
@@ -10,8 +10,8 @@ use crate::amount::Amount;
 use std::alloc::{AllocError, Global};
 use std::collections::VecDeque;
 
-/// The most jobs that a list holds.
-pub(crate) const CAPACITY: usize = 1024;
+/// The most jobs that wait at a pool.
+pub const CAPACITY: usize = 1024;
 
 /// Jobs in the order in which they came, with how many were pushed and taken. Its room is made once.
 #[derive(Drop)]
@@ -19,17 +19,17 @@ pub(crate) struct Inbox<J> {
     jobs: VecDeque<J>,
     pushed: Amount,
     taken: Amount,
-    ghost counted: { IsBag (number_of pushed) (number_of taken) (deque_len jobs) },
+    ghost counted: { IsBag (amount_of pushed) (amount_of taken) (deque_len jobs) },
     ghost bounded: { deque_len jobs ≤ CAPACITY },
     ghost room: { CAPACITY ≤ deque_capacity jobs },
 }
 
 impl<J: Drop> Inbox<J> {
-    ghost use Rattle.async_pool.specs.Inboxes.{held, pushed, taken};
+    ghost use Rattle.async_pool.specs.Inbox.{jobs_of, push_count, take_count};
 
     /// An empty list with all its room.
     pub fn new(alloc: Global) -> Result<Inbox<J>, AllocError>
-        ensures { IfOk result (λ inbox. (held inbox ≡ []) × (pushed inbox ≡ 0) × (taken inbox ≡ 0)) }
+        ensures { IfOk result (λ inbox. (jobs_of inbox ≡ []) × (push_count inbox ≡ 0) × (take_count inbox ≡ 0)) }
     {
         Ok(Inbox {
             jobs: VecDeque::with_capacity(alloc, CAPACITY)?,
@@ -38,19 +38,12 @@ impl<J: Drop> Inbox<J> {
         })
     }
 
-    /// Whether no job is held.
-    pub fn is_empty(&self) -> bool
-        ensures { IsTrue result ↔ (held self.now ≡ []) }
-    {
-        self.jobs.is_empty()
-    }
-
     /// Puts a job at the back. A full list gives it back, and stays as it was.
     pub fn push(&mut self, job: J) -> Result<(), J>
-        ensures full { IsErr result ↔ (length (held self.old) ≡ CAPACITY) }
-        ensures back { OnOk result (held self.new ≡ held self.old ++ job ∷ []) }
-        ensures pushed { OnOk result (pushed self.new ≡ pushed self.old + 1) }
-        ensures taken { taken self.new ≡ taken self.old }
+        ensures full { IsErr result ↔ (length (jobs_of self.old) ≡ CAPACITY) }
+        ensures back { OnOk result (jobs_of self.new ≡ jobs_of self.old ++ job ∷ []) }
+        ensures pushed { OnOk result (push_count self.new ≡ push_count self.old + 1) }
+        ensures taken { take_count self.new ≡ take_count self.old }
         ensures same_job { IfErr result (λ back. back ≡ job) }
         ensures unchanged { OnErr result (self.new ≡ self.old) }
     {
@@ -64,11 +57,11 @@ impl<J: Drop> Inbox<J> {
 
     /// Takes the first job, if there is one.
     pub fn take(&mut self) -> Option<J>
-        ensures first { IfSome result (λ job. held self.old ≡ job ∷ held self.new) }
-        ensures taken { OnSome result (taken self.new ≡ taken self.old + 1) }
-        ensures pushed { pushed self.new ≡ pushed self.old }
-        ensures empty { IsNone result ↔ (held self.old ≡ []) }
-        ensures unchanged { IfNone result ((held self.new ≡ []) × (taken self.new ≡ taken self.old)) }
+        ensures first { IfSome result (λ job. jobs_of self.old ≡ job ∷ jobs_of self.new) }
+        ensures taken { OnSome result (take_count self.new ≡ take_count self.old + 1) }
+        ensures pushed { push_count self.new ≡ push_count self.old }
+        ensures empty { IsNone result ↔ (jobs_of self.old ≡ []) }
+        ensures unchanged { IfNone result ((jobs_of self.new ≡ []) × (take_count self.new ≡ take_count self.old)) }
     {
         let job = self.jobs.pop_front()?;
         self.taken.add_one();
@@ -77,11 +70,11 @@ impl<J: Drop> Inbox<J> {
 
     /// Takes all jobs, and puts them behind those of `left`, in their order.
     pub fn drain_into(&mut self, left: &mut Vec<J>)
-        requires room { vec_len left.old + length (held self.old) ≤ vec_capacity left.old }
-        ensures order { left.new.items ≡ left.old.items ++ held self.old }
-        ensures empty { held self.new ≡ [] }
-        ensures taken { taken self.new ≡ taken self.old + length (held self.old) }
-        ensures pushed { pushed self.new ≡ pushed self.old }
+        requires room { vec_len left.old + length (jobs_of self.old) ≤ vec_capacity left.old }
+        ensures order { left.new.items ≡ left.old.items ++ jobs_of self.old }
+        ensures empty { jobs_of self.new ≡ [] }
+        ensures taken { take_count self.new ≡ take_count self.old + length (jobs_of self.old) }
+        ensures pushed { push_count self.new ≡ push_count self.old }
     {
         while let Some(job) = self.take() {
             left.push_reserved(job);

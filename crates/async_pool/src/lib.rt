@@ -6,10 +6,11 @@
 //! number of its own. [`Pool::execute`] hands a job in, from any thread, and gives it back where there is no room.
 //! [`Pool::shut`] ends the loops once no job is left, and [`Pool::stop`] gives the jobs that are left then.
 //!
-//! All jobs stand in one list of at most 1,024, behind one lock. A worker passes its [`Gate`], looks for a job a
+//! All jobs stand in one list of at most [`CAPACITY`], behind one lock. A worker passes its [`Gate`], looks for a job a
 //! bounded number of times, and then sleeps until one comes or the pool is shut. The lock also keeps how many sleep,
-//! so that nobody is woken where nobody sleeps. Each job that was handed in was taken once, or is held still: the list
-//! behind the lock keeps that as numbers. All room is made by [`Pool::new`], so no other call takes memory.
+//! so that nobody is woken where nobody sleeps. Whom to wake, and that a loop may end, is said behind the lock, by
+//! values that can't be dropped. Each job that was handed in was taken once, or is held still: the list behind the
+//! lock keeps that as numbers. All room is made by [`Pool::new`], so no other call takes memory.
 #![tactic(auto)]
 
 mod amount;
@@ -22,5 +23,7 @@ mod sleepers;
 mod tests;
 mod yard;
 
+pub use crew::MOST_WORKERS;
+pub use inbox::CAPACITY;
 pub use job::{Gate, Job, Wide};
 pub use pool::Pool;

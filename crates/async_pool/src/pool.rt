@@ -1,11 +1,12 @@
 //! The pool: its threads take the lock, call what stands behind it, and let go.
 ghost use Rattle.std.specs.Prelude.{◌≡◌, ◌<◌, ◌↔◌, ◌⊎◌, IfOk, IfErr, Err};
 ghost use Rattle.flow_rules.specs.declared.refusal.Refusal.TheVariants as Refusal;
-ghost use Rattle.async_pool.specs.Workers.{IsWorkerCount};
+ghost use Rattle.async_pool.specs.Crew.{IsWorkerCount};
 
 use crate::crew::MOST_WORKERS;
 use crate::job::{Gate, Job};
-use crate::yard::Yard;
+use crate::sleepers::Wake;
+use crate::yard::{Look, Over, Yard};
 use crossbeam_utils::Backoff;
 use flow_rules::{NoMemory, Refusal};
 use std::alloc::Global;
@@ -24,17 +25,10 @@ pub struct Pool<J: Job> {
     ghost allowed: { IsWorkerCount workers },
 }
 
-/// What a worker finds at one look.
-enum Look<J> {
-    Found(J),
-    Nothing,
-    Over,
-}
-
 impl<J: Job> Pool<J> {
-    ghost use Rattle.async_pool.specs.Pools.{pool_workers};
+    ghost use Rattle.async_pool.specs.Pool.{pool_workers};
 
-    /// A pool with no job, for 1 to 8 workers.
+    /// A pool with no job, for 1 to [`MOST_WORKERS`] workers.
     ///
     /// `BadWorkers` for any other number, and `NoMemory` where room for the jobs is refused.
     pub fn new(alloc: Global, workers: usize) -> Result<Pool<J>, Refusal>
@@ -52,14 +46,14 @@ impl<J: Job> Pool<J> {
         })
     }
 
-    /// Hands a job in, behind all others (`ForkJoinPool.execute`). It comes back where 1,024 jobs wait, or the pool
-    /// was shut.
+    /// Hands a job in, behind all others (`ForkJoinPool.execute`). It comes back where [`CAPACITY`](crate::CAPACITY)
+    /// jobs wait, or the pool was shut.
     pub fn execute<R: Wait>(&self, rt: &R, job: J) -> Result<(), J>
         ensures same_job { IfErr result (λ back. back ≡ job) }
     {
         let mut yard = self.yard.lock(rt);
-        yard.admit(job)?;
-        self.call_one(yard);
+        let wake = yard.admit(job)?;
+        self.wake(yard, wake);
         Ok(())
     }
 
@@ -67,7 +61,7 @@ impl<J: Job> Pool<J> {
     /// once.
     ///
     /// The gate is passed once for each job, before the loop looks for it. A job to be run again goes behind all
-    /// others, and is run on at once where 1,024 wait.
+    /// others, and is run on at once where the list is full.
     pub fn worker_loop<R: Wait, G: Gate>(
         &self,
         rt: &R,
@@ -77,34 +71,24 @@ impl<J: Job> Pool<J> {
     )
         requires { worker < pool_workers self.now }
     {
-        if !self.yard.lock(rt).crew.start(worker) {
+        if !self.yard.lock(rt).start(worker) {
             return;
         }
-        for _ in rt.forever() {
-            gate.pass(worker);
-            let Some(job) = self.next_job(rt) else {
-                break;
-            };
-            self.run(rt, job, context);
-        }
-        self.yard.lock(rt).crew.end(worker);
+        let over = self.work(rt, worker, gate, context);
+        self.yard.lock(rt).end(worker, over);
     }
 
     /// Takes the first job out, for the caller to run (`ForkJoinPool.pollSubmission`).
     pub fn run_one<R: Wait>(&self, rt: &R) -> Option<J> {
-        self.yard.lock(rt).inbox.take()
+        self.yard.lock(rt).take()
     }
 
     /// From now on `execute` gives its job back, and each loop ends once no job is left (`ForkJoinPool.shutdown`).
     /// It takes no memory.
     pub fn shut<R: Wait>(&self, rt: &R) {
         let mut yard = self.yard.lock(rt);
-        yard.crew.shut();
-        let wakes = yard.sleepers.call_all();
-        drop(yard);
-        if wakes {
-            self.moved.notify_all();
-        }
+        let wake = yard.shut();
+        self.wake(yard, wake);
     }
 
     /// The jobs that are left, in their order (`ExecutorService.shutdownNow` gives such a list). It is called once the
@@ -116,6 +100,24 @@ impl<J: Job> Pool<J> {
             moved: _,
         } = self;
         yard.into_inner().into_left()
+    }
+
+    /// Runs jobs until the pool is over.
+    fn work<R: Wait, G: Gate>(
+        &self,
+        rt: &R,
+        worker: usize,
+        gate: &G,
+        context: &mut J::Context,
+    ) -> Over {
+        for _ in rt.forever() {
+            gate.pass(worker);
+            match self.next_job(rt) {
+                Ok(job) => self.run(rt, job, context),
+                Err(over) => return over,
+            }
+        }
+        unreachable!()
     }
 
     /// Runs a job, and again where it can't go back into the list.
@@ -137,54 +139,49 @@ impl<J: Job> Pool<J> {
         ensures same_job { IfErr result (λ back. back ≡ job) }
     {
         let mut yard = self.yard.lock(rt);
-        yard.inbox.push(job)?;
-        self.call_one(yard);
+        let wake = yard.put_back(job)?;
+        self.wake(yard, wake);
         Ok(())
     }
 
-    /// The next job, or `None` once the pool was shut and none is left.
-    fn next_job<R: Wait>(&self, rt: &R) -> Option<J> {
+    /// The next job, or that the pool is over.
+    fn next_job<R: Wait>(&self, rt: &R) -> Result<J, Over> {
         let backoff = Backoff::new();
         for _ in 0..LOOKS {
-            match self.look(rt) {
-                Look::Found(job) => return Some(job),
-                Look::Over => return None,
+            let look = self.yard.lock(rt).look();
+            match look {
+                Look::Found(job) => return Ok(job),
+                Look::Over(over) => return Err(over),
                 Look::Nothing => backoff.snooze(),
             }
         }
         self.wait_for_job(rt)
     }
 
-    /// One look for a job.
-    fn look<R: Wait>(&self, rt: &R) -> Look<J> {
-        let mut yard = self.yard.lock(rt);
-        match yard.inbox.take() {
-            Some(job) => Look::Found(job),
-            None if yard.crew.is_shut() => Look::Over,
-            None => Look::Nothing,
-        }
-    }
-
-    /// Sleeps until there is a job, or the pool was shut.
-    fn wait_for_job<R: Wait>(&self, rt: &R) -> Option<J> {
+    /// Sleeps until there is a job, or the pool is over.
+    fn wait_for_job<R: Wait>(&self, rt: &R) -> Result<J, Over> {
         let mut yard = self.yard.lock(rt);
         for _ in rt.forever() {
-            if !yard.is_idle() {
-                break;
+            match yard.look() {
+                Look::Found(job) => return Ok(job),
+                Look::Over(over) => return Err(over),
+                Look::Nothing => {
+                    let sleeper = yard.lie_down();
+                    yard = self.moved.wait(rt, yard);
+                    yard.get_up(sleeper);
+                }
             }
-            yard.sleepers.lie_down();
-            yard = self.moved.wait(rt, yard);
-            yard.sleepers.get_up();
         }
-        yard.inbox.take()
+        unreachable!()
     }
 
-    /// Lets go of the lock, and wakes a worker if one sleeps that is not called yet.
-    fn call_one(&self, mut yard: MutexGuard<'_, Yard<J>>) {
-        let wakes = yard.sleepers.call_one();
+    /// Lets go of the lock, and wakes whom the lock said.
+    fn wake(&self, yard: MutexGuard<'_, Yard<J>>, wake: Wake) {
         drop(yard);
-        if wakes {
-            self.moved.notify_one();
+        match wake {
+            Wake::Nobody => {}
+            Wake::One => self.moved.notify_one(),
+            Wake::All => self.moved.notify_all(),
         }
     }
 }

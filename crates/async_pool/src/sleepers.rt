@@ -1,18 +1,31 @@
-//! How many workers sleep, and how many of them were called.
-ghost use Rattle.std.specs.Prelude.{◌≡◌, ◌<◌, ◌≤◌, ◌+◌, ◌-◌, min, IsTrue, ◌↔◌};
-ghost use Rattle.std.specs.Bool.{OnTrue, OnFalse};
+//! How many workers sleep, how many of them were called, and whom to wake then.
+ghost use Rattle.std.specs.Prelude.{◌≡◌, ◌≤◌, ◌+◌, ◌-◌, min};
 
 /// Workers that sleep. Each is called once, and gets up then.
 #[derive(Drop)]
 pub(crate) struct Sleepers {
-    /// A pool has at most 8 workers, so it never saturates.
+    /// A pool has at most [`MOST_WORKERS`](crate::MOST_WORKERS) workers, so it never saturates.
     asleep: usize,
     /// Those that were called and did not get up yet.
     called: usize,
     ghost of_those: { called ≤ asleep },
 }
 
+/// One that lay down. It can't be dropped: it is handed back by [`Sleepers::get_up`] alone.
+#[must_use]
+pub(crate) struct Sleeper(());
+
+/// Whom to wake once the lock was let go. It can't be dropped, so nobody forgets it.
+#[must_use]
+pub(crate) enum Wake {
+    Nobody,
+    One,
+    All,
+}
+
 impl Sleepers {
+    ghost use Rattle.async_pool.specs.Sleepers.{CallsOne, CallsAll};
+
     /// Nobody sleeps.
     pub fn none() -> Sleepers
         ensures { (result.asleep ≡ 0) × (result.called ≡ 0) }
@@ -24,43 +37,44 @@ impl Sleepers {
     }
 
     /// One more sleeps.
-    pub fn lie_down(&mut self)
+    pub fn lie_down(&mut self) -> Sleeper
         ensures asleep { self.new.asleep ≡ min (self.old.asleep + 1) 18446744073709551615 }
         ensures called { self.new.called ≡ self.old.called }
     {
         self.asleep = self.asleep.saturating_add(1);
+        Sleeper(())
     }
 
     /// One sleeps no more, and answers a call if there is one.
-    pub fn get_up(&mut self)
+    pub fn get_up(&mut self, sleeper: Sleeper)
         ensures asleep { self.new.asleep ≡ self.old.asleep - 1 }
         ensures called { self.new.called ≡ self.old.called - 1 }
     {
+        let Sleeper(()) = sleeper;
         self.called = self.called.saturating_sub(1);
         self.asleep = self.asleep.saturating_sub(1);
     }
 
-    /// Calls one more. False, and nothing changes, where each that sleeps was called, so that nobody need be woken.
-    pub fn call_one(&mut self) -> bool
-        ensures one { IsTrue result ↔ (self.old.called < self.old.asleep) }
-        ensures called { OnTrue result (self.new.called ≡ self.old.called + 1) }
-        ensures unchanged { OnFalse result (self.new.called ≡ self.old.called) }
-        ensures asleep { self.new.asleep ≡ self.old.asleep }
+    /// Calls one more, and nobody where each that sleeps was called.
+    pub fn call_one(&mut self) -> Wake
+        ensures { CallsOne self.old result self.new }
     {
         if self.called == self.asleep {
-            return false;
+            return Wake::Nobody;
         }
         self.called += 1;
-        true
+        Wake::One
     }
 
-    /// Calls all. False where nobody sleeps.
-    pub fn call_all(&mut self) -> bool
-        ensures any { IsTrue result ↔ (0 < self.old.asleep) }
-        ensures called { self.new.called ≡ self.old.asleep }
-        ensures asleep { self.new.asleep ≡ self.old.asleep }
+    /// Calls all.
+    pub fn call_all(&mut self) -> Wake
+        ensures { CallsAll self.old result self.new }
     {
         self.called = self.asleep;
-        self.asleep > 0
+        if self.asleep > 0 {
+            Wake::All
+        } else {
+            Wake::Nobody
+        }
     }
 }

@@ -1,5 +1,6 @@
 //! What no clause can say: what happens behind the lock, and between threads.
 mod alone;
+mod sleepers;
 mod threads;
 
 use crate::{Job, Pool};

@@ -1,2 +1,4 @@
 pub mod Tickets
-pub mod Holders
+pub mod Opening
+pub mod Ticket
+pub mod Spent

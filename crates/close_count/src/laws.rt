@@ -1,11 +1,16 @@
-//! What holds of any two holders of one count. Each law is a function, and calling it tells its caller the law.
-ghost use Rattle.std.specs.Prelude.{◌≡◌, ◌+◌, ◌≤◌, [], min, IsTrue};
+//! What holds of the tickets of one count. Each law is a function, and calling it tells its caller the law.
+//! None of them does anything else.
+ghost use Rattle.std.specs.Prelude.{◌≡◌, ◌+◌, ◌≤◌, [], ◌∷◌, length, min, count_by, All, IsTrue};
 ghost use Rattle.std.specs.Arc.{arc_value};
-ghost use Rattle.close_count.specs.Holders.{count_of_opening, count_of_ticket, count_of_spent, was_last};
+ghost use Rattle.close_count.specs.Opening.{count_of_opening};
+ghost use Rattle.close_count.specs.Ticket.{count_of_ticket};
+ghost use Rattle.close_count.specs.Spent.{count_of_spent, total_of_spent, was_last, TakesIn};
 
-use crate::holders::{Opening, Spent, Ticket};
-use crate::rule::{Counter, Gather, Look, UNSPENT, View};
-use atomic_table::Seat;
+use crate::opening::Opening;
+use crate::rule::{Counter, Gather, Look, Tickets, UNSPENT, View};
+use crate::spent::Spent;
+use crate::ticket::Ticket;
+use atomic_table::{Seat, Shared};
 use std::alloc::Global;
 use std::sync::Arc;
 
@@ -33,6 +38,21 @@ pub fn none_open(spent: Spent, opening: Opening)
     compare(spent.counter, spent.seat, opening.seat);
 }
 
+/// Of an opening and all tickets that it made, each of them spent, exactly one was the last.
+pub fn one_of_all_is_last(opening: Spent, tickets: Vec<Spent>)
+    requires same_count { All (λ ticket. count_of_spent ticket ≡ count_of_spent opening) tickets.items }
+    requires all { total_of_spent opening ≡ length (opening ∷ tickets.items) }
+    ensures { count_by was_last (opening ∷ tickets.items) ≡ 1 }
+{
+    let Spent {
+        counter,
+        mut seat,
+        last: _,
+    } = opening;
+    gather(&counter.shared, &mut seat, tickets);
+    counter.shared.load::<Look>(&mut seat, UNSPENT);
+}
+
 /// What two seats of one table can know together.
 fn compare(counter: Arc<Counter, Global>, mut seat: Seat<(), View>, other: Seat<(), View>)
     requires table { (seat.table_id ≡ (arc_value counter).shared.table_id) × ((arc_value counter).shared.table_id.words ≡ 1) }
@@ -42,4 +62,20 @@ fn compare(counter: Arc<Counter, Global>, mut seat: Seat<(), View>, other: Seat<
     let shared = &counter.shared;
     shared.join_seat::<Gather>(&mut seat, other);
     shared.load::<Look>(&mut seat, UNSPENT);
+}
+
+/// What the seats of spent tickets know together with one more seat of their table.
+fn gather(
+    shared: &Shared<(), View, (), Tickets>,
+    seat: &mut Seat<(), View>,
+    mut tickets: Vec<Spent>,
+)
+    requires table { (seat.old.table_id ≡ shared.now.table_id) × (shared.now.table_id.words ≡ 1) }
+    requires tickets { All (λ ticket. count_of_spent ticket ≡ seat.old.table_id) tickets.items }
+    ensures same_table { seat.new.table_id ≡ seat.old.table_id }
+    ensures all { TakesIn seat.old.me.0 tickets.items seat.new.me.0 }
+{
+    while let Some(ticket) = tickets.pop() {
+        shared.join_seat::<Gather>(seat, ticket.seat);
+    }
 }

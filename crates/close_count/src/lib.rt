@@ -8,16 +8,24 @@
 //! The number of unspent tickets is one word, which all tickets of a count share. To add a ticket is one
 //! fetch-and-add, and to spend one is one fetch-and-sub, which learns by the number that it found whether it was the
 //! last. No call waits, and none but [`Count::new`] and [`Opening::add`] can be refused memory.
+//!
+//! `spend` spends a ticket as `try_complete` does, and gives a [`Spent`]. The laws hold of these: two of one count were
+//! not both the last ([`last_once`]), beside the last there is no ticket ([`none_left`]) and no opening
+//! ([`none_open`]), and of an opening and all its tickets one was the last ([`one_of_all_is_last`]).
 #![tactic(auto)]
 
-mod holders;
+mod count;
 mod laws;
 mod opening;
 mod rule;
+mod spent;
 #[cfg(test)]
 mod tests;
 mod ticket;
 
-pub use holders::{Opening, Spent, Ticket};
-pub use laws::{last_once, none_left, none_open};
-pub use opening::Count;
+pub use count::Count;
+pub use laws::{last_once, none_left, none_open, one_of_all_is_last};
+pub use opening::Opening;
+pub use rule::MOST_TICKETS;
+pub use spent::Spent;
+pub use ticket::Ticket;

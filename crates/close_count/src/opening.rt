@@ -1,48 +1,46 @@
-//! How a count is opened, and what its opening does.
-ghost use Rattle.std.specs.Prelude.{◌≡◌, ◌+◌, ◌⊎◌, ℕ, ◌↔◌, IsTrue, IfOk, OnOk, IfErr, OnErr, Err};
+//! The first ticket of a count, which makes all others.
+ghost use Rattle.std.specs.Prelude.{◌≡◌, ◌+◌, ◌≤◌, ◌⊎◌, ℕ, ◌↔◌, [], IsTrue, IfOk, OnOk, IfErr, OnErr, Err};
 ghost use Rattle.std.specs.Arc.{arc_value};
 ghost use Rattle.flow_rules.specs.declared.refusal.Refusal.TheVariants as Refusal;
-ghost use Rattle.close_count.specs.Tickets.{most_tickets, CompletesAt};
-ghost use Rattle.close_count.specs.Holders.{count_of_opening, count_of_ticket, count_of_spent, tickets_made, was_last};
+ghost use Rattle.close_count.specs.declared.rule.TheConstants.{MOST_TICKETS};
+ghost use Rattle.close_count.specs.Tickets.{opening_view, CompletesAt};
 
-use crate::holders::{Opening, Spent, Ticket};
-use crate::rule::{Add, Counter, HandOut, UNSPENT};
-use crate::ticket::spend_seat;
-use atomic_table::Table;
+use crate::rule::{Add, Counter, HandOut, MOST_TICKETS, UNSPENT, View};
+use crate::spent::Spent;
+use crate::ticket::Ticket;
+use atomic_table::Seat;
 use flow_rules::{NoMemory, Refusal};
 use std::alloc::Global;
 use std::sync::Arc;
 
-/// The most tickets that one opening makes.
-const MOST_TICKETS: u64 = 4_294_967_295;
-
-/// Opens counts (`CountedCompleter`'s constructor with a pending count of 0).
-pub struct Count;
-
-impl Count {
-    /// A new count, with the opening as its one ticket.
-    pub fn new(alloc: Global) -> Result<Opening, NoMemory>
-        ensures { IfOk result (λ opening. tickets_made opening ≡ 0) }
-    {
-        let (table, seat) = Table::of_words(alloc, &[1], &())?;
-        Ok(Opening {
-            counter: Arc::new(alloc, table)?,
-            seat,
-            made: 0,
-        })
-    }
+/// The first ticket of a count, which makes all others. One that is dropped is never spent.
+#[derive(Drop)]
+#[must_use]
+pub struct Opening {
+    pub(crate) counter: Arc<Counter, Global>,
+    pub(crate) seat: Seat<(), View>,
+    /// The tickets that `add` made.
+    pub(crate) made: u64,
+    ghost one_word: { (arc_value counter).shared.table_id.words ≡ 1 },
+    ghost seated: { seat.table_id ≡ (arc_value counter).shared.table_id },
+    ghost knows: { seat.me ≡ (opening_view made, []) },
+    ghost bounded: { made ≤ MOST_TICKETS },
 }
 
 impl Opening {
+    ghost use Rattle.close_count.specs.Opening.{count_of_opening, tickets_made};
+    ghost use Rattle.close_count.specs.Ticket.{count_of_ticket};
+    ghost use Rattle.close_count.specs.Spent.{count_of_spent, total_of_spent, was_last};
+
     /// One more ticket (`CountedCompleter.addToPendingCount(1)`).
     ///
-    /// `Exhausted` once 2^32 - 1 tickets were made, and else `NoMemory` where one more owner of the shared
+    /// `Exhausted` once [`MOST_TICKETS`](crate::MOST_TICKETS) were made, and else `NoMemory` where one more owner of the shared
     /// count is refused. After either the opening is as it was.
     pub fn add(&mut self) -> Result<Ticket, Refusal>
         ensures ticket { IfOk result (λ ticket. count_of_ticket ticket ≡ count_of_opening self.old) }
         ensures made { OnOk result (tickets_made self.new ≡ tickets_made self.old + 1) }
         ensures same_count { count_of_opening self.new ≡ count_of_opening self.old }
-        ensures exhausted { (result ≡ Err Refusal.Exhausted) ↔ (tickets_made self.old ≡ most_tickets) }
+        ensures exhausted { (result ≡ Err Refusal.Exhausted) ↔ (tickets_made self.old ≡ MOST_TICKETS) }
         ensures refusals { IfErr result (λ refusal. (refusal ≡ Refusal.Exhausted) ⊎ (refusal ≡ Refusal.NoMemory)) }
         ensures unchanged { OnErr result (self.new ≡ self.old) }
     {
@@ -57,12 +55,13 @@ impl Opening {
         Ok(Ticket { counter, seat })
     }
 
-    /// Spends the opening. What comes back tells whether it was the last ticket.
+    /// Spends the opening. What comes back tells whether it was the last ticket, and how many there are in all.
     pub fn spend(self) -> Spent
         ensures count { count_of_spent result ≡ count_of_opening self }
+        ensures total { total_of_spent result ≡ tickets_made self + 1 }
         ensures step { (n : ℕ) × CompletesAt n × (IsTrue (was_last result) ↔ (n ≡ 1)) }
     {
-        spend_seat(self.counter, self.seat)
+        Spent::of_seat(self.counter, self.seat)
     }
 
     /// Spends the opening, and answers whether it was the last ticket (`CountedCompleter.tryComplete`).

@@ -10,14 +10,17 @@ pub struct View {
     pub room: u64,
     /// The tickets that it holds.
     pub held: u64,
-    /// The tickets that it spent.
-    pub spent: u64,
+    /// The tickets that it spent while others were left.
+    pub earlier: u64,
     /// 1 where its own step spent the last ticket.
     pub last: u64,
 }
 
 /// The table of a count: one word, the number of unspent tickets, and no slots.
 pub(crate) type Counter = Table<(), View, (), Tickets, Global>;
+
+/// The most tickets that one opening makes beside itself, 2^32 - 1.
+pub const MOST_TICKETS: u64 = 4_294_967_295;
 
 /// The index of the one word.
 pub(crate) const UNSPENT: usize = 0;
@@ -26,9 +29,9 @@ pub(crate) const UNSPENT: usize = 0;
 pub struct Tickets;
 
 impl TableRule<(), View, ()> for Tickets {
-    ghost use Rattle.close_count.specs.Tickets.{Counted, opening_view};
+    ghost use Rattle.close_count.specs.Tickets.{KeepsCount, opening_view};
 
-    ghost holds = { λ _. Counted };
+    ghost holds = { λ _. KeepsCount };
 
     ghost first = { λ _. opening_view 0 };
 }
@@ -37,36 +40,36 @@ impl TableRule<(), View, ()> for Tickets {
 pub(crate) struct Add;
 
 impl Play<(), View> for Add {
-    ghost use Rattle.close_count.specs.Tickets.{added};
+    ghost use Rattle.close_count.specs.Tickets.{IsStepOfAdd};
 
-    ghost then = { added };
+    ghost then = { IsStepOfAdd };
 }
 
 /// One ticket of the seat is spent.
 pub(crate) struct Complete;
 
 impl Play<(), View> for Complete {
-    ghost use Rattle.close_count.specs.Tickets.{completed};
+    ghost use Rattle.close_count.specs.Tickets.{IsStepOfComplete};
 
-    ghost then = { completed };
+    ghost then = { IsStepOfComplete };
 }
 
 /// The seat compares what it knows with the rule.
 pub(crate) struct Look;
 
 impl Play<(), View> for Look {
-    ghost use Rattle.close_count.specs.Tickets.{looked};
+    ghost use Rattle.close_count.specs.Tickets.{IsStepOfLook};
 
-    ghost then = { looked };
+    ghost then = { IsStepOfLook };
 }
 
 /// The ticket that was added gets a seat of its own.
 pub(crate) struct HandOut;
 
 impl Split<View> for HandOut {
-    ghost use Rattle.close_count.specs.Tickets.{one_less, ticket_view};
+    ghost use Rattle.close_count.specs.Tickets.{view_after_hand_out, ticket_view};
 
-    ghost left = { one_less };
+    ghost left = { view_after_hand_out };
 
     ghost right = { λ _. ticket_view };
 }
@@ -75,9 +78,9 @@ impl Split<View> for HandOut {
 pub(crate) struct Gather;
 
 impl Join<View> for Gather {
-    ghost use Rattle.close_count.specs.Tickets.{gathered, nothing};
+    ghost use Rattle.close_count.specs.Tickets.{view_together, empty_view};
 
-    ghost both = { gathered };
+    ghost both = { view_together };
 
-    ghost spent = { nothing };
+    ghost spent = { empty_view };
 }

@@ -1,4 +1,4 @@
-use crate::{Count, last_once, none_left, none_open};
+use crate::{Count, last_once, none_left, none_open, one_of_all_is_last};
 use std::test::Fail;
 use std::thread;
 
@@ -37,6 +37,24 @@ fn no_two_of_one_count_are_the_last(rt: HostRuntime) -> Result<(), Fail> {
     let third = opening.add()?;
     none_left(opening.add()?.spend(), third);
     none_open(opening.add()?.spend(), opening);
+    Ok(())
+}
+
+#[test]
+fn of_all_one_is_the_last(rt: HostRuntime) -> Result<(), Fail> {
+    let mut opening = Count::new(rt.alloc())?;
+    let first = opening.add()?.spend();
+    let second = opening.add()?.spend();
+    let third = opening.spend();
+    let first_is_last = first.is_last();
+    let second_is_last = second.is_last();
+    let third_is_last = third.is_last();
+    let mut tickets = Vec::with_capacity(rt.alloc(), 2)?;
+    tickets.push(first)?;
+    tickets.push(second)?;
+    one_of_all_is_last(third, tickets);
+    prove!(first_is_last || second_is_last || third_is_last);
+    assert!(rt; third_is_last);
     Ok(())
 }
 

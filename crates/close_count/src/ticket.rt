@@ -1,22 +1,35 @@
-//! How a ticket is spent.
-ghost use Rattle.std.specs.Prelude.{◌≡◌, ◌≤◌, ℕ, ◌↔◌, [], IsTrue};
+//! One ticket of a count, which any thread may spend.
+ghost use Rattle.std.specs.Prelude.{◌≡◌, ℕ, ◌↔◌, [], IsTrue};
 ghost use Rattle.std.specs.Arc.{arc_value};
-ghost use Rattle.close_count.specs.Tickets.{CompletesAt};
-ghost use Rattle.close_count.specs.Holders.{count_of_ticket, count_of_spent, was_last};
+ghost use Rattle.close_count.specs.Tickets.{ticket_view, CompletesAt};
 
-use crate::holders::{Spent, Ticket};
-use crate::rule::{Complete, Counter, UNSPENT, View};
+use crate::rule::{Counter, View};
+use crate::spent::Spent;
 use atomic_table::Seat;
 use std::alloc::Global;
 use std::sync::Arc;
 
+/// One ticket of a count. One that is dropped is never spent.
+#[derive(Drop)]
+#[must_use]
+pub struct Ticket {
+    pub(crate) counter: Arc<Counter, Global>,
+    pub(crate) seat: Seat<(), View>,
+    ghost one_word: { (arc_value counter).shared.table_id.words ≡ 1 },
+    ghost seated: { seat.table_id ≡ (arc_value counter).shared.table_id },
+    ghost knows: { seat.me ≡ (ticket_view, []) },
+}
+
 impl Ticket {
+    ghost use Rattle.close_count.specs.Ticket.{count_of_ticket};
+    ghost use Rattle.close_count.specs.Spent.{count_of_spent, was_last};
+
     /// Spends the ticket. What comes back tells whether it was the last one.
     pub fn spend(self) -> Spent
         ensures count { count_of_spent result ≡ count_of_ticket self }
         ensures step { (n : ℕ) × CompletesAt n × (IsTrue (was_last result) ↔ (n ≡ 1)) }
     {
-        spend_seat(self.counter, self.seat)
+        Spent::of_seat(self.counter, self.seat)
     }
 
     /// Spends the ticket, and answers whether it was the last one (`CountedCompleter.tryComplete`).
@@ -25,29 +38,5 @@ impl Ticket {
         ensures { (n : ℕ) × CompletesAt n × (IsTrue result ↔ (n ≡ 1)) }
     {
         self.spend().is_last()
-    }
-}
-
-impl Spent {
-    /// Whether this was the last ticket of its count: its own step took the count from 1 to 0.
-    pub fn is_last(&self) -> bool
-        ensures { result ≡ was_last self.now }
-    {
-        self.last
-    }
-}
-
-/// Spends the ticket of a seat.
-pub(crate) fn spend_seat(counter: Arc<Counter, Global>, mut seat: Seat<(), View>) -> Spent
-    requires table { (seat.table_id ≡ (arc_value counter).shared.table_id) × ((arc_value counter).shared.table_id.words ≡ 1) }
-    requires ticket { (1 ≤ seat.me.0.held) × (seat.me.0.spent ≡ 0) × (seat.me.0.last ≡ 0) × (seat.me.1 ≡ []) }
-    ensures count { count_of_spent result ≡ seat.table_id }
-    ensures step { (n : ℕ) × CompletesAt n × (IsTrue (was_last result) ↔ (n ≡ 1)) }
-{
-    let found = counter.shared.fetch_sub::<Complete>(&mut seat, UNSPENT, 1);
-    Spent {
-        counter,
-        seat,
-        last: found == 1,
     }
 }

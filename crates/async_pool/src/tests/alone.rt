@@ -1,6 +1,6 @@
 //! What one thread sees of a pool.
 use super::{Numbered, hand_in, job_of, no_runs};
-use crate::{Job, Pool, Wide};
+use crate::{CAPACITY, Job, MOST_WORKERS, Pool, Wide};
 use flow_rules::Refusal;
 use std::test::Fail;
 
@@ -8,9 +8,9 @@ use std::test::Fail;
 fn a_full_pool_gives_the_job_back(rt: HostRuntime) -> Result<(), Fail> {
     let runs = no_runs(rt.alloc(), 1)?;
     let pool = Pool::new(rt.alloc(), 1)?;
-    assert!(rt; hand_in(&rt, &pool, 1024, 0, &runs)?);
-    let back = pool.execute(&rt, job_of(1024, 0, &runs)?);
-    assert!(rt; back.err().map(|job| job.number) == Some(1024));
+    assert!(rt; hand_in(&rt, &pool, CAPACITY, 0, &runs)?);
+    let back = pool.execute(&rt, job_of(CAPACITY, 0, &runs)?);
+    assert!(rt; back.err().map(|job| job.number) == Some(CAPACITY));
     assert!(rt; pool.run_one(&rt).map(|job| job.number) == Some(0));
     Ok(())
 }
@@ -18,13 +18,13 @@ fn a_full_pool_gives_the_job_back(rt: HostRuntime) -> Result<(), Fail> {
 #[test]
 fn a_shut_pool_gives_the_job_back(rt: HostRuntime) -> Result<(), Fail> {
     let runs = no_runs(rt.alloc(), 1)?;
-    let pool = Pool::new(rt.alloc(), 8)?;
+    let pool = Pool::new(rt.alloc(), MOST_WORKERS)?;
     assert!(rt; pool.execute(&rt, job_of(0, 0, &runs)?).is_ok());
     pool.shut(&rt);
     let back = pool.execute(&rt, job_of(1, 0, &runs)?);
     assert!(rt; back.err().map(|job| job.number) == Some(1));
     let mut ran = 0;
-    pool.worker_loop(&rt, 7, &Wide, &mut ran);
+    pool.worker_loop(&rt, MOST_WORKERS - 1, &Wide, &mut ran);
     assert!(rt; ran == 1 && pool.run_one(&rt).is_none());
     Ok(())
 }
@@ -57,20 +57,20 @@ fn stop_gives_the_jobs_left_in_order(rt: HostRuntime) -> Result<(), Fail> {
 fn a_job_is_run_on_where_the_list_is_full(rt: HostRuntime) -> Result<(), Fail> {
     let runs = no_runs(rt.alloc(), 2000)?;
     let pool = Pool::new(rt.alloc(), 1)?;
-    assert!(rt; hand_in(&rt, &pool, 1024, 0, &runs)?);
+    assert!(rt; hand_in(&rt, &pool, CAPACITY, 0, &runs)?);
     let mut ran = 0;
     pool.run(&rt, job_of(1500, 4, &runs)?, &mut ran);
-    assert!(rt; ran == 5 && pool.stop(&rt).len() == 1024);
+    assert!(rt; ran == 5 && pool.stop(&rt).len() == CAPACITY);
     Ok(())
 }
 
 #[test]
 fn only_one_to_eight_workers(rt: HostRuntime) -> Result<(), Fail> {
-    for workers in [0, 9, 100] {
+    for workers in [0, MOST_WORKERS + 1, 100] {
         let refused = Pool::<Numbered>::new(rt.alloc(), workers).err();
         assert!(rt; refused == Some(Refusal::BadWorkers));
     }
-    for workers in 1..9 {
+    for workers in 1..MOST_WORKERS + 1 {
         assert!(rt; Pool::<Numbered>::new(rt.alloc(), workers).is_ok());
     }
     Ok(())

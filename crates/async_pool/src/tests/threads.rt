@@ -1,13 +1,13 @@
-//! What a pool's threads do, and where they wait.
+//! What a pool's threads do.
 ghost use Rattle.std.specs.Prelude.{◌<◌};
 ghost use Rattle.std.specs.Arc.{arc_value};
-ghost use Rattle.async_pool.specs.Pools.{pool_workers};
+ghost use Rattle.async_pool.specs.Pool.{pool_workers};
 
-use super::{Numbered, hand_in, no_runs};
-use crate::{Gate, Job, Pool, Wide};
+use super::{Numbered, Runs, hand_in, no_runs};
+use crate::{Gate, Job, MOST_WORKERS, Pool, Wide};
 use std::cell::Cell;
+use std::sync::atomic::AtomicBool;
 use std::sync::atomic::Ordering::SeqCst;
-use std::sync::atomic::{AtomicBool, AtomicU64};
 use std::sync::{Arc, Wait};
 use std::test::Fail;
 use std::thread;
@@ -65,27 +65,47 @@ fn a_job_need_not_be_sync(rt: HostRuntime) -> Result<(), Fail> {
     Ok(())
 }
 
-// A gate that counts how often it was passed.
+// A gate that keeps how often each worker passed it.
 #[derive(Drop)]
-struct Counting(AtomicU64);
+struct Keeping(Runs);
 
-impl Gate for Counting {
-    fn pass(&self, _worker: usize) {
-        self.0.fetch_add(1, SeqCst);
+impl Gate for Keeping {
+    fn pass(&self, worker: usize) {
+        if let Some(passes) = self.0.get(worker) {
+            passes.fetch_add(1, SeqCst);
+        }
+    }
+}
+
+impl Keeping {
+    // How often the worker passed, if nobody else did.
+    fn passes_of(&self, worker: usize) -> Option<u64> {
+        let mut passes = 0;
+        for (number, count) in self.0.iter().enumerate() {
+            let count = count.load(SeqCst);
+            if number == worker {
+                passes = count;
+            } else if count > 0 {
+                return None;
+            }
+        }
+        Some(passes)
     }
 }
 
 #[test]
 fn the_gate_is_passed_once_for_each_job(rt: HostRuntime) -> Result<(), Fail> {
     let runs = no_runs(rt.alloc(), 1)?;
-    let pool = Pool::new(rt.alloc(), 1)?;
-    assert!(rt; hand_in(&rt, &pool, 5, 1, &runs)?);
-    pool.shut(&rt);
-    let gate = Counting(AtomicU64::new(0));
-    let mut ran = 0;
-    pool.worker_loop(&rt, 0, &gate, &mut ran);
-    // Ten runs, and the look that finds that the pool is over.
-    assert!(rt; ran == 10 && gate.0.load(SeqCst) == 11);
+    for worker in 0..MOST_WORKERS {
+        let pool = Pool::new(rt.alloc(), MOST_WORKERS)?;
+        assert!(rt; hand_in(&rt, &pool, 5, 1, &runs)?);
+        pool.shut(&rt);
+        let gate = Keeping(no_runs(rt.alloc(), MOST_WORKERS)?);
+        let mut ran = 0;
+        pool.worker_loop(&rt, worker, &gate, &mut ran);
+        // Ten runs, and the look that finds that the pool is over.
+        assert!(rt; ran == 10 && gate.passes_of(worker) == Some(11));
+    }
     Ok(())
 }
 
@@ -124,7 +144,7 @@ fn a_second_loop_of_a_number_returns_at_once(rt: HostRuntime) -> Result<(), Fail
         reached: AtomicBool::new(false),
         open: AtomicBool::new(false),
     };
-    let gate = Counting(AtomicU64::new(0));
+    let gate = Keeping(no_runs(rt.alloc(), 2)?);
     let (mut first, mut second) = (0, 0);
     let mut one = || pool.worker_loop(&rt, 0, &held, &mut first);
     let mut other = ||
@@ -136,34 +156,10 @@ fn a_second_loop_of_a_number_returns_at_once(rt: HostRuntime) -> Result<(), Fail
         held.open.store(true, SeqCst);
     };
     thread::join_mut(&rt, &mut one, &mut other);
-    assert!(rt; gate.0.load(SeqCst) == 0);
+    assert!(rt; gate.passes_of(0) == Some(0));
     // Once that loop has ended, another of its number runs.
     let mut third = 0;
     pool.worker_loop(&rt, 0, &gate, &mut third);
-    assert!(rt; gate.0.load(SeqCst) == 1);
-    Ok(())
-}
-
-#[test]
-fn a_worker_that_sleeps_is_woken(rt: HostRuntime) -> Result<(), Fail> {
-    let ran = no_runs(rt.alloc(), 1)?;
-    let pool = Pool::new(rt.alloc(), 1)?;
-    let mut runs = 0;
-    let mut worker = || pool.worker_loop(&rt, 0, &Wide, &mut runs);
-    let mut caller = || {
-        // Time enough for the worker to find nothing, and to sleep.
-        for _ in 0..100_000 {
-            thread::yield_now();
-        }
-        let came_in = matches!(hand_in(&rt, &pool, 1, 0, &ran), Ok(true));
-        let ran_open = wait_until(|| ran.iter().all(|run| run.load(SeqCst) == 1));
-        for _ in 0..100_000 {
-            thread::yield_now();
-        }
-        pool.shut(&rt);
-        came_in && ran_open
-    };
-    let (_, ran_open) = thread::join_mut(&rt, &mut worker, &mut caller);
-    assert!(rt; ran_open && runs == 1);
+    assert!(rt; gate.passes_of(0) == Some(1));
     Ok(())
 }

@@ -1,0 +1,7 @@
+-- What clauses see of an Amount.
+use Rattle.std.specs.Prelude.{ℕ, slice_index}
+use Rattle.async_pool.specs.declared.amount.Amount.{Amount}
+
+-- how many there were
+abbrev pub amount_of : Amount → ℕ
+amount_of a = slice_index a.tag.numbers 0

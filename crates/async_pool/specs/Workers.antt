@@ -1,5 +1,0 @@
--- How many workers a pool may have (Java SE 17, ForkJoinPool: a parallelism of at least 1).
-use Rattle.std.specs.Prelude.{ℕ, ◌≤◌}
-
-abbrev pub IsWorkerCount : ℕ → Type 0
-IsWorkerCount n = (1 ≤ n) × (n ≤ 8)

@@ -1,0 +1,123 @@
+//! What workers do that sleep: who wakes them, and that each looks again.
+ghost use Rattle.std.specs.Prelude.{◌<◌};
+ghost use Rattle.std.specs.Arc.{arc_value};
+ghost use Rattle.async_pool.specs.Pool.{pool_workers};
+
+use super::{Numbered, hand_in, job_of, no_runs};
+use crate::{Pool, Wide};
+use std::alloc::{AllocError, Global};
+use std::sync::atomic::AtomicU64;
+use std::sync::atomic::Ordering::SeqCst;
+use std::sync::{Arc, Wait};
+use std::test::Fail;
+use std::thread;
+use std::thread::{JoinHandle, Threads};
+use std::time::{Clock, Duration};
+
+// For how many milliseconds a test waits for what another thread does before it gives up.
+const PATIENCE: u64 = 10_000;
+
+// How often a sleeper is woken for a job that is gone when it looks.
+const ROUNDS: u64 = 3000;
+
+type Shared = Arc<Pool<Numbered>, Global>;
+
+type Counter = Arc<AtomicU64, Global>;
+
+// A thread that runs the loop of one worker, and then counts itself among those that have ended.
+fn start_worker<R: Threads + Wait + Send + Copy + 'static>(
+    rt: R,
+    pool: &Shared,
+    ended: &Counter,
+    worker: usize,
+) -> Result<JoinHandle<u64>, AllocError>
+    requires { worker < pool_workers (arc_value pool.now) }
+{
+    let pool = Arc::try_clone(pool)?;
+    let ended = Arc::try_clone(ended)?;
+    Ok(thread::spawn(
+        &rt,
+        move ||
+            requires { worker < pool_workers (arc_value pool) }
+        {
+            let mut ran = 0;
+            pool.worker_loop(&rt, worker, &Wide, &mut ran);
+            ended.fetch_add(1, SeqCst);
+            ran
+        },
+    )?)
+}
+
+// Time enough for workers to find nothing, and to sleep.
+fn let_them_sleep(rt: &impl Clock) {
+    thread::sleep(rt, Duration::from_millis(50));
+}
+
+// Whether a counter comes to a number. It waits for that, but not for ever.
+fn comes_to(rt: &impl Clock, counter: &AtomicU64, number: u64) -> bool {
+    for _ in 0..PATIENCE {
+        if counter.load(SeqCst) == number {
+            return true;
+        }
+        thread::sleep(rt, Duration::from_millis(1));
+    }
+    false
+}
+
+#[test]
+fn a_shut_ends_both_that_sleep(rt: HostRuntime) -> Result<(), Fail> {
+    let pool = Arc::new(rt.alloc(), Pool::new(rt.alloc(), 2)?)?;
+    let ended = Arc::new(rt.alloc(), AtomicU64::new(0))?;
+    let one = start_worker(rt, &pool, &ended, 0)?;
+    let other = start_worker(rt, &pool, &ended, 1)?;
+    let_them_sleep(&rt);
+    assert!(rt; ended.load(SeqCst) == 0);
+    pool.shut(&rt);
+    assert!(rt; comes_to(&rt, &ended, 2));
+    assert!(rt; one.join(&rt) == 0 && other.join(&rt) == 0);
+    Ok(())
+}
+
+#[test]
+fn a_sleeper_that_finds_nothing_sleeps_on(rt: HostRuntime) -> Result<(), Fail> {
+    let runs = no_runs(rt.alloc(), 1)?;
+    let pool = Arc::new(rt.alloc(), Pool::new(rt.alloc(), 2)?)?;
+    let ended = Arc::new(rt.alloc(), AtomicU64::new(0))?;
+    let one = start_worker(rt, &pool, &ended, 0)?;
+    let other = start_worker(rt, &pool, &ended, 1)?;
+    let_them_sleep(&rt);
+    let mut taken: u64 = 0;
+    for _ in 0..ROUNDS {
+        assert!(rt; hand_in(&rt, &pool, 1, 0, &runs)?);
+        if pool.run_one(&rt).is_some() {
+            taken = taken.saturating_add(1);
+        }
+        thread::sleep(&rt, Duration::from_micros(100));
+    }
+    assert!(rt; ended.load(SeqCst) == 0);
+    pool.shut(&rt);
+    assert!(rt; comes_to(&rt, &ended, 2));
+    let ran = one.join(&rt).saturating_add(other.join(&rt));
+    assert!(rt; ran.saturating_add(taken) == ROUNDS);
+    Ok(())
+}
+
+#[test]
+fn a_worker_that_sleeps_is_woken(rt: HostRuntime) -> Result<(), Fail> {
+    let runs = no_runs(rt.alloc(), 2)?;
+    let pool = Arc::new(rt.alloc(), Pool::new(rt.alloc(), 1)?)?;
+    let ended = Arc::new(rt.alloc(), AtomicU64::new(0))?;
+    let worker = start_worker(rt, &pool, &ended, 0)?;
+    let_them_sleep(&rt);
+    assert!(rt; hand_in(&rt, &pool, 1, 0, &runs)?);
+    assert!(rt; runs.first().is_some_and(|run| comes_to(&rt, run, 1)));
+    // It sleeps again. This thread runs a job, and the worker runs it the second time.
+    let_them_sleep(&rt);
+    let mut here = 0;
+    pool.run(&rt, job_of(1, 1, &runs)?, &mut here);
+    assert!(rt; runs.last().is_some_and(|run| comes_to(&rt, run, 2)));
+    pool.shut(&rt);
+    assert!(rt; comes_to(&rt, &ended, 1));
+    assert!(rt; here == 1 && worker.join(&rt) == 2);
+    Ok(())
+}
