@@ -1,13 +1,11 @@
-pub mod Answering
-pub mod Cutting
 pub mod Digits
-pub mod Greeted
 pub mod Inside
-pub mod Kept
 pub mod Lawful
-pub mod Missed
+pub mod Lines
 pub mod Offering
 pub mod Places
 pub mod Reading
-pub mod Rounds
+pub mod Replying
+pub mod Results
+pub mod Turns
 pub mod Writers

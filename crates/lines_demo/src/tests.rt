@@ -3,9 +3,7 @@ mod streams;
 
 ghost use Rattle.std.specs.Prelude.{◌≡◌, [], true, All, IfOk};
 
-use crate::faults::ScriptFault;
-use crate::fresh;
-use crate::scripts::run_script;
+use crate::script::{ScriptFault, run_script, steady_and_untold};
 use flow_rules::{Answer, Collector, Fault, Item, NoMemory, Signal, Subscriber};
 use std::alloc::Global;
 
@@ -82,7 +80,7 @@ fn stock(alloc: Global, refused_at: Option<u32>) -> Result<Vec<Box<dyn Subscribe
     }
     let boxed = Box::new(alloc, Collector::new(alloc)).map_err(|_| ScriptFault::Memory)?;
     boxes.push(boxed).map_err(|_| ScriptFault::Memory)?;
-    fresh(alloc, boxes)
+    steady_and_untold(alloc, boxes)
 }
 
 /// What a script is answered.

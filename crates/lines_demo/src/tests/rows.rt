@@ -1,5 +1,5 @@
 use super::{answers, stock};
-use crate::scripts::run_script;
+use crate::script::run_script;
 use std::alloc::Global;
 use std::process::Abort;
 use std::test::Fail;

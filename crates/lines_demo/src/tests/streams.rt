@@ -1,6 +1,5 @@
 use super::stock;
-use crate::faults::ScriptFault;
-use crate::scripts::run_script;
+use crate::script::{ScriptFault, run_script};
 use std::io;
 use std::io::{ErrorKind, Read, Write};
 use std::test::Fail;
