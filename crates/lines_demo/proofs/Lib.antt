@@ -7,5 +7,6 @@ pub mod Places
 pub mod Reading
 pub mod Replying
 pub mod Results
+pub mod Serials
 pub mod Turns
 pub mod Writers

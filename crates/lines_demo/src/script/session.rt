@@ -5,7 +5,7 @@ ghost use Rattle.feed_core.specs.LaneCalls.{IsCapacity};
 ghost use Rattle.lines_demo.specs.Prelude.{UNBOUNDED};
 ghost use Rattle.lines_demo.specs.Script.Calls.{command_result, cap_result, sub_result, offer_result, submit_result, request_result, close_result, call_result, state_at_command, desk_at_subscribing, publication_answer, subscription_after_put};
 ghost use Rattle.lines_demo.specs.Script.Command.{IsInRange};
-ghost use Rattle.lines_demo.specs.Script.Law.{KeepsFlow, IsSettledSession, SerialsRiseIn};
+ghost use Rattle.lines_demo.specs.Script.Law.{KeepsFlow, IsSettledSession};
 ghost use Rattle.lines_demo.specs.Script.Playing.{Replies, IsItemOf, MakesTurn};
 ghost use Rattle.lines_demo.specs.Script.Reply.{reply_or_refusal};
 ghost use Rattle.lines_demo.specs.Script.Session.{state_at_start};
