@@ -42,7 +42,7 @@ class Crate:
         self.name, self.below, self.folder = name, below, f"{root}/crates/{name}"
         folder = f"{self.folder}/wrong-bodies"
         files = sorted(os.listdir(folder)) if os.path.isdir(folder) else []
-        edits = [Edit(f"{folder}/{it}", self.folder) for it in files if it.endswith(".edit")]
+        edits = [Edit(f"{folder}/{it}", self.folder) for it in files if not it.endswith(".md")]
         is_wanted = lambda edit: not wanted or name in wanted or f"{name}/{edit.name}" in wanted
         self.edits = [it for it in edits if is_wanted(it)]
         self.checks, self.seconds, self.room = 0, 0.0, None
