@@ -12,12 +12,14 @@ use std::sync::{Arc, Wait};
 use std::test::Fail;
 use std::thread;
 use std::thread::{JoinHandle, Threads};
-use std::time::{Clock, Duration};
+use std::time::{Clock, Duration, Instant};
 
-// For how many milliseconds a test waits for what another thread does before it gives up.
-const PATIENCE: u64 = 10_000;
+// How often, and for how many seconds, a test looks for what another thread does before it gives up.
+const LOOKS: u64 = 10_000;
 
-// How often a sleeper is woken for a job that is gone when it looks.
+const PATIENCE: u64 = 10;
+
+// How often a sleeper is woken for a job that is gone when it looks, if there is time for that.
 const ROUNDS: u64 = 3000;
 
 type Shared = Arc<Pool<Numbered>, Global>;
@@ -55,13 +57,26 @@ fn let_them_sleep(rt: &impl Clock) {
 
 // Whether a counter comes to a number. It waits for that, but not for ever.
 fn comes_to(rt: &impl Clock, counter: &AtomicU64, number: u64) -> bool {
-    for _ in 0..PATIENCE {
+    let Ok(start) = Instant::now(rt) else {
+        return false;
+    };
+    for _ in 0..LOOKS {
         if counter.load(SeqCst) == number {
             return true;
+        }
+        if is_late(rt, &start) {
+            return false;
         }
         thread::sleep(rt, Duration::from_millis(1));
     }
     false
+}
+
+// Whether a test has waited for long enough.
+fn is_late(rt: &impl Clock, start: &Instant) -> bool {
+    !start
+        .elapsed(rt)
+        .is_ok_and(|time| time.as_secs() < PATIENCE)
 }
 
 #[test]
@@ -86,9 +101,15 @@ fn a_sleeper_that_finds_nothing_sleeps_on(rt: HostRuntime) -> Result<(), Fail> {
     let one = start_worker(rt, &pool, &ended, 0)?;
     let other = start_worker(rt, &pool, &ended, 1)?;
     let_them_sleep(&rt);
+    let mut handed_in: u64 = 0;
     let mut taken: u64 = 0;
+    let start = Instant::now(&rt)?;
     for _ in 0..ROUNDS {
+        if is_late(&rt, &start) {
+            break;
+        }
         assert!(rt; hand_in(&rt, &pool, 1, 0, &runs)?);
+        handed_in = handed_in.saturating_add(1);
         if pool.run_one(&rt).is_some() {
             taken = taken.saturating_add(1);
         }
@@ -98,7 +119,7 @@ fn a_sleeper_that_finds_nothing_sleeps_on(rt: HostRuntime) -> Result<(), Fail> {
     pool.shut(&rt);
     assert!(rt; comes_to(&rt, &ended, 2));
     let ran = one.join(&rt).saturating_add(other.join(&rt));
-    assert!(rt; ran.saturating_add(taken) == ROUNDS);
+    assert!(rt; ran.saturating_add(taken) == handed_in);
     Ok(())
 }
 
