@@ -13,8 +13,6 @@ use std::{env, io};
 mod line;
 mod number;
 mod script;
-#[cfg(test)]
-mod tests;
 mod writing;
 
 /// The exit status of a wrong command line.
