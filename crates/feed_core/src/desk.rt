@@ -12,15 +12,16 @@
 //! `#[must_use]`. Where the task was started before, its next look finds the change. Only a look that finds nothing to do takes the
 //! mark away. So between two calls a turn is owed, or the subscriber was told all that its demand and its ending allow. The mark
 //! stays after the end, so that nothing starts the task of a subscription that has ended.
+mod buffer;
 mod call;
 #[cfg(test)]
 mod tests;
 mod turn;
 
 use crate::cause::Causes;
-use flow_rules::{Demand, How, Item, NoMemory, Subscriber};
+use buffer::Buffer;
+use flow_rules::{Demand, How, NoMemory, Subscriber};
 use std::alloc::Global;
-use std::collections::VecDeque;
 use std::marker::Model;
 
 /// One subscription: the buffer of its items, what was requested, why it may end, and its subscriber (`Flow.Subscription`, and the
@@ -30,7 +31,7 @@ pub struct Desk<B: Subscriber> {
     /// Who is told.
     subscriber: B,
     /// The accepted items that were not told yet, in order.
-    held: VecDeque<Item>,
+    held: Buffer,
     /// How many items it holds at most, a value of [`capacity`](flow_rules::capacity).
     capacity: usize,
     /// How many items it has accepted, at most 2^62.
@@ -48,7 +49,6 @@ pub struct Desk<B: Subscriber> {
 }
 
 impl<B: Subscriber> Model for Desk<B> {
-    ghost use Rattle.std.specs.VecDeque.{deque_capacity};
     ghost use Rattle.feed_core.specs.Desk.{DeskState};
     ghost use Rattle.feed_core.specs.Sound.{lane_of, IsStored};
 
@@ -63,7 +63,7 @@ impl<B: Subscriber> Model for Desk<B> {
 
     ghost invariant = { λ d. IsStored
         (lane_of (B.told d.subscriber) d.held.items d.given d.asked d.causes d.how)
-        d.held.items d.accepted d.capacity (deque_capacity d.held) d.started };
+        d.held.items d.accepted d.capacity d.held.room d.started };
 }
 
 impl<B: Subscriber> Desk<B> {
@@ -81,7 +81,7 @@ impl<B: Subscriber> Desk<B> {
         ensures ok { IfOk result (λ desk. IsNew capacity (B.is_steady subscriber) desk) }
         ensures err { IfErr result (λ refused. refused.1 ≡ subscriber) }
     {
-        let Ok(held) = VecDeque::with_capacity(alloc, capacity) else {
+        let Ok(held) = Buffer::with_room(alloc, capacity) else {
             return Err((NoMemory, subscriber));
         };
         Ok(Desk {

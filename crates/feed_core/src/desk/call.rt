@@ -27,7 +27,7 @@ impl<B: Subscriber> Desk<B> {
         if lag == self.capacity as u64 {
             return Put::Full(item);
         }
-        self.held.push_back_reserved(item);
+        self.held.put(item);
         self.accepted += 1;
         Put::Accepted {
             lag: lag + 1,

@@ -97,12 +97,12 @@ impl<B: Subscriber> Desk<B> {
         ensures looks { Looks self.old self.new seen.old.signals seen.new.signals result }
         ensures room { seen.new.room ≡ seen.old.room }
     {
-        let item = self.held.pop_front().unwrap();
+        let item = self.held.take();
         self.given += 1;
         match tell_next(&mut self.subscriber, item, seen) {
             Ok(_) => Outlook::Again,
             Err(item) => {
-                self.held.push_front_reserved(item);
+                self.held.put_back(item);
                 end_as(How::OutOfMemory, &mut self.causes, &mut self.how)
             }
         }

@@ -245,7 +245,7 @@ impl<B: Subscriber> Session<B> {
     /// Makes a turn, and answers whose it was. What it told stands in `seen`.
     pub fn turn(&mut self, seen: &mut Seen) -> (Name, Outlook)
         requires { IsTrue (owes_turn self.old.subscription) }
-        ensures turn { MakesTurn self.old self.new result.0 seen.new result.1 }
+        ensures turn { MakesTurn self.old self.new result.0 seen.new.signals result.1 }
         ensures fewer { IsTrue (owes_turn self.new.subscription) → waiting_items self.new.subscription < waiting_items self.old.subscription }
     {
         match &mut self.subscription {

@@ -85,8 +85,8 @@ impl<B: Subscriber> Subscription<B> {
     /// Makes a turn. What it told stands in `seen`.
     pub fn turn(&mut self, seen: &mut Seen) -> Outlook
         requires { IsTrue (owes self.old.desk) }
-        ensures after { self.new ≡ subscription_after_turn self.old seen.new result }
-        ensures plain { MeetsPlainTurn (plain_turn_of self.old.desk.lane) seen.new result }
+        ensures after { self.new ≡ subscription_after_turn self.old seen.new.signals result }
+        ensures plain { MeetsPlainTurn (plain_turn_of self.old.desk.lane) seen.new.signals result }
         ensures fewer { IsTrue (owes self.new.desk) → lag_of self.new.desk.lane < lag_of self.old.desk.lane }
     {
         self.desk.turn(seen)

@@ -1,6 +1,7 @@
 -- The item that was taken moves from the held ones to the told ones, or goes back where its callback met want of memory.
 use Rattle.std.proofs.Common.{◌≡◌, ◌<◌, ◌≤◌, ◌∷◌, length, ap, sym, ◌∙◌, subst}
 use Rattle.feed_core.specs.Prelude.{Item}
+use Rattle.feed_core.specs.Buffer.{BufferState}
 use Rattle.feed_core.specs.Cause.{stops}
 use Rattle.feed_core.specs.Desk.{DeskState}
 use Rattle.feed_core.specs.Seen.{SeenState}
@@ -13,12 +14,12 @@ pub invariant_of-self : goal.invariant_of-self
 invariant_of-self g c =
     let mid = subst (λ (desk : DeskState). IsMidTurn desk) (sym c.self.view_is) c.requires.mid_turn in
     let requested = subst (λ (desk : DeskState). desk.lane.given < desk.lane.asked) (sym c.self.view_is) c.requires.requested in
-    let moves : MovesNext _ _ c.self.inside.held.items c.pop_front.new.self.items c.args.seen.now.signals c.tell_next.new.seen.signals =
-    record { item = c.unwrap-item.result; waited = rw c.unwrap-item.ensures at c.pop_front.ensures.items; told_after = c.in-Ok.ensures.told; seen_after = ap (λ (seen : SeenState). seen.signals) c.in-Ok.ensures.seen } in
+    let moves : MovesNext _ _ c.self.inside.held.items c.take-item.new.self.items c.args.seen.now.signals c.tell_next.new.seen.signals =
+    record { item = c.take-item.result; waited = c.take-item.ensures.first; told_after = c.in-Ok.ensures.told; seen_after = ap (λ (seen : SeenState). seen.signals) c.in-Ok.ensures.seen } in
     record {
       in_order = in_order_given c.self.invariant.in_order mid.owed.1 mid.owed.0 mid.begun moves requested;
       counted = ap length (accepted_kept c.self.invariant.in_order mid.owed.1 mid.owed.0 mid.begun moves) ∙ c.self.invariant.counted;
-      roomy = subst (λ room. c.self.inside.capacity ≤ room) (sym c.pop_front.ensures.capacity) c.self.invariant.roomy;
+      roomy = subst (λ room. c.self.inside.capacity ≤ room) (sym c.take-item.ensures.room) c.self.invariant.roomy;
     }
 
 pub returns-in-Ok-clause-looks : goal.returns-in-Ok-clause-looks
@@ -26,8 +27,8 @@ returns-in-Ok-clause-looks g c =
     let mid = subst (λ (desk : DeskState). IsMidTurn desk) (sym c.self.view_is) c.requires.mid_turn in
     let unstopped = ap (λ (desk : DeskState). stops desk.lane.causes) c.self.view_is ∙ c.requires.unstopped in
     let requested = subst (λ (desk : DeskState). desk.lane.given < desk.lane.asked) (sym c.self.view_is) c.requires.requested in
-    let moves : MovesNext _ _ c.self.inside.held.items c.pop_front.new.self.items c.args.seen.now.signals c.tell_next.new.seen.signals =
-    record { item = c.unwrap-item.result; waited = rw c.unwrap-item.ensures at c.pop_front.ensures.items; told_after = c.in-Ok.ensures.told; seen_after = ap (λ (seen : SeenState). seen.signals) c.in-Ok.ensures.seen } in
+    let moves : MovesNext _ _ c.self.inside.held.items c.take-item.new.self.items c.args.seen.now.signals c.tell_next.new.seen.signals =
+    record { item = c.take-item.result; waited = c.take-item.ensures.first; told_after = c.in-Ok.ensures.told; seen_after = ap (λ (seen : SeenState). seen.signals) c.in-Ok.ensures.seen } in
     rw (← c.self.view_is) (looks_given c.self.invariant.in_order mid.owed.1 mid.owed.0 mid.begun moves unstopped requested c.tell_next.ensures.steady)
 
 pub returns-in-Err-clause-looks : goal.returns-in-Err-clause-looks
@@ -37,7 +38,6 @@ returns-in-Err-clause-looks g c =
     let waits = subst (λ (desk : DeskState). desk.lane.given < length desk.lane.accepted) (sym c.self.view_is) c.requires.waits in
     let requested = subst (λ (desk : DeskState). desk.lane.given < desk.lane.asked) (sym c.self.view_is) c.requires.requested in
     let err = c.in-Err.ensures.err in
-    let waited : c.self.inside.held.items ≡ c.unwrap-item.result ∷ c.pop_front.new.self.items = rw c.unwrap-item.ensures at c.pop_front.ensures.items in
-    let back : c.push_front_reserved.new.self.items ≡ c.self.inside.held.items =
-    c.push_front_reserved.ensures.items ∙ ap (λ (item : Item). item ∷ c.pop_front.new.self.items) c.in-Err.ensures.back ∙ sym waited in
+    let back : c.put_back.new.self.items ≡ c.self.inside.held.items =
+    ap (λ (buffer : BufferState). buffer.items) c.put_back.ensures ∙ ap (λ (item : Item). item ∷ c.take-item.new.self.items) c.in-Err.ensures.back ∙ sym c.take-item.ensures.first in
     rw (← c.self.view_is, c.end_as.ensures.causes, c.end_as.ensures.ended, c.end_as.ensures.value) (looks_lost c.self.invariant.in_order mid.owed.1 mid.owed.0 mid.begun err.0 back (ap (λ (seen : SeenState). seen.signals) err.1) unstopped waits requested c.tell_next.ensures.steady)
