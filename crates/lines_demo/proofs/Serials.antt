@@ -32,7 +32,7 @@ serials-later items serial has = record {
   given_out = All-weaker (λ item. item.serial < serial) (λ item. item.serial < serial + 1) (λ item less. omega arith) items has.given_out;
 }
 
--- it was given to one more item
+-- one more serial number was given out, to an item that was accepted
 serials-more : (items : List Item) (item : Item) → HasSerials items item.serial → HasSerials (items ++ item ∷ []) (item.serial + 1)
 serials-more items item has = record {
   rise = all_pairs_push (λ a b. a.serial < b.serial) items item has.rise (λ k d within. has.given_out k d within);
@@ -46,7 +46,7 @@ abbrev pub Numbered : Option SubscriptionState → ℕ → Type 0
 Numbered None serial = ⊤
 Numbered (Some s) serial = HasSerials s.desk.lane.accepted serial
 
--- where a script stands
+-- what the subscription of a script accepted has serial numbers that were given out
 abbrev pub IsNumbered : SessionState → Type 0
 IsNumbered state = Numbered state.subscription state.serial
 

@@ -1,5 +1,5 @@
 //! The player: it has a session obey the lines of a script, and writes what they are answered.
-ghost use Rattle.std.specs.Prelude.{◌≡◌, ◌<◌, Some, [], true, All, length, is_ok, IsTrue, IfOk, OnOk, false};
+ghost use Rattle.std.specs.Prelude.{◌≡◌, ◌<◌, Some, [], true, All, length, is_ok, IsTrue, IfOk, OnOk, IsFalse};
 ghost use Rattle.lines_demo.specs.Line.{lines_of};
 ghost use Rattle.lines_demo.specs.Writing.{Writes, line_of};
 ghost use Rattle.lines_demo.specs.Script.Command.{IsInRange};
@@ -100,7 +100,7 @@ impl<B: Subscriber> Player<B> {
     fn play_turns<W: Write>(&mut self, writer: &mut W) -> Result<(), OutputFault>
         ensures turns { Answers (is_ok result) (λ refusals. run_turns self.old.session refusals)
             (W.contents writer.old) (W.contents writer.new) self.new.session }
-        ensures rests { OnOk result (owes_turn self.new.session.subscription ≡ false) }
+        ensures rests { OnOk result (IsFalse (owes_turn self.new.session.subscription)) }
         ensures settled { OnOk result (IsSettledSession self.new.session) }
     {
         while self.session.owes_turn() {
