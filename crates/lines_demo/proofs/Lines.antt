@@ -31,7 +31,7 @@ no-turns (Request name number) state other refusals = refl
 no-turns Close state other refusals = refl
 no-turns Run state other refusals = absurd (other refl)
 
--- such a command is answered by its reply alone
+-- a command other than `run` is answered by its reply alone
 pub command-called : (command : Command) (old new : SessionState) (reply : Reply) (done : Bool) (a b : Option (List ℕ)) → (command ≡ Run → ⊥)
     → Replies (λ refusals. command_result command old refusals) reply new → Writes done a b (line_of (reply_text reply)) → Answers done (λ refusals. spelled_result (Some command) old refusals) a b new
 command-called command old new reply done a b other replies w =
@@ -49,7 +49,7 @@ run-called old middle new reply done a b c turns replies w =
     progress-last done whole (later middle) new a b c (progress-more whole whole (λ refusals. run_turns old refusals) later middle a a b (progress-start whole a) (λ refusals. refl) turns)
     (answers-reply done (λ refusals. command_result Run middle refusals) reply new b c replies w)
 
--- the writing failed within the turns
+-- the writing failed within the turns of a `run`
 pub run-fault : (old middle new : SessionState) (a b : Option (List ℕ)) → Answers false (λ refusals. run_turns old refusals) a b middle → Answers false (λ refusals. spelled_result (Some Run) old refusals) a b new
 run-fault old middle new a b turns =
     answers-cut (λ refusals. run_turns old refusals) (λ refusals. spelled_result (Some Run) old refusals) (λ state left. reply_result (command_result Run state left)) a b middle new (λ refusals. refl) turns
@@ -125,7 +125,7 @@ lines-split (byte ∷ others) line rest some is left =
 abbrev pub bytes_result : List ℕ → SessionState → List Bool → LineResult
 bytes_result bytes state refusals = lines_result (lines_of bytes) state refusals
 
--- their first line, and then the others
+-- what comes of bytes that are there: of their first line, and then of the others
 bytes-split : (state : SessionState) (before line rest : List ℕ) → 0 < length before → line ≡ before_first is_line_feed before → rest ≡ after_first is_line_feed before
     → (refusals : List Bool) → bytes_result before state refusals ≡ result_then (line_result state refusals (without_return line)) (bytes_result rest)
 bytes-split state before line rest some is left refusals = ap (λ lines. lines_result lines state refusals) (lines-split before line rest some is left)

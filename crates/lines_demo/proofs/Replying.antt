@@ -129,7 +129,7 @@ answer-below-0 (Some s) item = by_gone (is_gone s.desk.lane) (lag_of s.desk.lane
   by_gone false true = refl
   by_gone false false = grind (arith, nat_tests)
 
--- then nothing changes
+-- where a submit would wait, an offer changes nothing
 pub waits-unchanged : (subscription : Option SubscriptionState) (item : Item) → would_wait subscription ≡ true → option_map (subscription_after_put item) subscription ≡ subscription
 waits-unchanged None item waits = refl
 waits-unchanged (Some s) item waits = ap Some (by_gone (is_gone s.desk.lane) (lag_of s.desk.lane == s.desk.capacity) waits) where

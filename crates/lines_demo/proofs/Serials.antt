@@ -1,6 +1,6 @@
 -- The serial numbers of what a script's subscription accepted rise.
-use Rattle.std.proofs.Common.{◌≡◌, ◌==◌, ℕ, zero, suc, ◌+◌, ◌<◌, Bool, true, false, not, ◌&&◌, ◌||◌, if◌then◌else◌, nat_lt, List, [], ◌∷◌, ◌++◌, length, subst, arith, Option, Some, None, ℤ}
-use Rattle.std.specs.Prelude.{is_some, option_map, ⊤}
+use Rattle.std.proofs.Common.{◌≡◌, ◌==◌, ℕ, zero, suc, ◌+◌, ◌<◌, Bool, true, false, not, ◌&&◌, ◌||◌, if◌then◌else◌, nat_lt, List, [], ◌∷◌, ◌++◌, length, refl, subst, arith, Option, Some, None, ℤ}
+use Rattle.std.specs.Prelude.{is_some, option_map}
 use Rattle.std.proofs.lemmas.List.Elements.{All-nil, All-push, All-weaker}
 use Rattle.std.proofs.lemmas.List.Quantifiers.{all_pairs_push}
 use Rattle.feed_core.specs.Desk.{desk_after_signal}
@@ -12,7 +12,8 @@ use Rattle.lines_demo.specs.Script.Session.{SubscriptionState, SessionState, Com
 use Rattle.lines_demo.specs.Script.Calls.{desk_at_subscribing, sub_result, next_item, subscription_after_put, state_after_publication, publication_unless, publication_result, publication_refusal, submit_refusal, subscription_after_close, close_result, cap_result, request_result, state_at_command, call_result, command_result}
 use Rattle.lines_demo.specs.Script.Turns.{turn_result, turns_result, owes_turn, waiting_items}
 use Rattle.lines_demo.specs.Script.Output.{turns_before, spelled_result, line_result, lines_result}
-use Rattle.lines_demo.specs.Script.Law.{script_state, SerialsRise, HasSerials, SerialsRiseIn}
+use Rattle.lines_demo.specs.Script.Playing.{Answers}
+use Rattle.lines_demo.specs.Script.Law.{script_state, SerialsRise, HasSerials, Numbered, IsNumbered, SerialsRiseIn}
 use Rattle.lines_demo.specs.declared.script.command.Command.{Command}
 use Rattle.lines_demo.specs.declared.script.command.Command.TheVariants.{Cap, Sub, Offer, Submit, Request, Close, Run}
 use Rattle.lines_demo.specs.declared.script.player.TheConstants.{LONGEST_LINE}
@@ -32,7 +33,7 @@ serials-later items serial has = record {
   given_out = All-weaker (λ item. item.serial < serial) (λ item. item.serial < serial + 1) (λ item less. omega arith) items has.given_out;
 }
 
--- it was given to one more item
+-- one more serial number was given out, to an item that was accepted
 serials-more : (items : List Item) (item : Item) → HasSerials items item.serial → HasSerials (items ++ item ∷ []) (item.serial + 1)
 serials-more items item has = record {
   rise = all_pairs_push (λ a b. a.serial < b.serial) items item has.rise (λ k d within. has.given_out k d within);
@@ -40,15 +41,6 @@ serials-more items item has = record {
 }
 
 -- ---- subscriptions
-
--- what the subscription accepted, if there is one, has serial numbers below this one
-abbrev pub Numbered : Option SubscriptionState → ℕ → Type 0
-Numbered None serial = ⊤
-Numbered (Some s) serial = HasSerials s.desk.lane.accepted serial
-
--- where a script stands
-abbrev pub IsNumbered : SessionState → Type 0
-IsNumbered state = Numbered state.subscription state.serial
 
 put-numbered : (desk : DeskState) (item : Item) → HasSerials desk.lane.accepted item.serial → HasSerials (desk_after_put item desk).lane.accepted (item.serial + 1)
 put-numbered desk item has = by (is_gone desk.lane) (lag_of desk.lane == desk.capacity) where
@@ -185,3 +177,8 @@ rise-of subscription serial s is same =
 -- whatever the script is
 pub serials-rise : (stock : ℕ) (refusals : List Bool) (bytes : List ℕ) → SerialsRiseIn (script_state stock refusals bytes)
 serials-rise stock refusals bytes = λ s same. rise-of _ (script_state stock refusals bytes).serial s (lines-numbered (lines_of bytes) (state_at_start stock) refusals tt) same
+
+-- lines that were played keep it
+pub numbered-after : (bytes : List ℕ) (old new : SessionState) (a b : Option (List ℕ)) → Answers true (λ refusals. lines_result (lines_of bytes) old refusals) a b new → IsNumbered old → IsNumbered new
+numbered-after bytes old new a b answers is =
+    subst (λ (result : LineResult). IsNumbered result.state) (answers.whole refl []) (lines-numbered (lines_of bytes) old (answers.used ++ []) is)

@@ -35,7 +35,7 @@ fewer-wait old new told outlook after plain prefix full owed =
     let given : new.lane.given ≡ old.lane.given + taken_in (plain_turn_of old.lane) told = ap (λ (desk : DeskState). desk.lane.given) after in
     omega (arith, waiting, same, gave, given)
 
--- only such a turn leaves another one owed
+-- only the outlook Again leaves another turn owed
 pub owed-again : (old new : DeskState) (told : List Signal) (outlook : Outlook) → new ≡ desk_after_turn old told outlook → IsTrue (owes new) → outlook ≡ Outlook.Again
 owed-again old new told outlook after owed = by outlook (subst (λ (desk : DeskState). IsTrue (owes desk)) after owed) where
   by : (o : Outlook) → IsTrue (owes (desk_after_turn old told o)) → o ≡ Outlook.Again
@@ -107,7 +107,7 @@ turn-answers done a b old new name told outlook makes w =
     ∙ ap (λ n. build n (record old { subscription = Some (subscription_after_turn s told outlook) }) more) makes.named
     ∙ ap (λ state. build name state more) (sym makes.after)) w
 
--- its lines are those of what it told
+-- the lines of a turn are those of the signals that it told
 pub turn-prints : (done : Bool) (a b : Option (List ℕ)) (old new : SessionState) (name : List ℕ) (told : List Signal) (outlook : Outlook) → MakesTurn old new name told outlook
     → Writes done a b (turn_lines name told outlook) → PrintsTurn done old new a b
 turn-prints done a b old new name told outlook makes w =
@@ -139,7 +139,7 @@ turns-owed : (most : ℕ) (state : SessionState) → owes_turn state.subscriptio
     → (refusals : List Bool) → turns_result (suc most) state refusals ≡ result_then (turn_result state state.subscription refusals) (turns_result most)
 turns-owed most state owed refusals = rw owed refl
 
--- where none is owed, there are none
+-- where no turn is owed, there are none
 turns-rested : (most : ℕ) (state : SessionState) → owes_turn state.subscription ≡ false → (refusals : List Bool) → turns_result most state refusals ≡ empty_result state refusals
 turns-rested zero state rested refusals = refl
 turns-rested (suc most) state rested refusals = rw rested refl
@@ -158,7 +158,7 @@ running-more start before after a b c running owed answers fewer = by_left runni
         progress (turns-owed most before owed) answers;
   }
 
--- the turns that may be left are fewer then
+-- after a turn, fewer turns may be left
 pub running-smaller : (before after : SessionState) → owes_turn before.subscription ≡ true → (owes_turn after.subscription ≡ true → waiting_items after.subscription < waiting_items before.subscription)
     → (if owes_turn after.subscription then waiting_items after.subscription + 1 else 0) < (if owes_turn before.subscription then waiting_items before.subscription + 1 else 0)
 running-smaller before after owed fewer = rw owed (by (owes_turn after.subscription) fewer) where

@@ -1,6 +1,7 @@
 -- How bytes are cut into lines.
 use Rattle.std.specs.Prelude.{ℕ, ◌-◌, ◌==◌, Bool, if◌then◌else◌, List, [], ◌∷◌, length, take, slice_index}
 
+-- a line feed
 abbrev pub is_line_feed : ℕ → Bool
 is_line_feed byte = byte == 10
 
@@ -14,6 +15,7 @@ abbrev pub lines_of : List ℕ → List (List ℕ)
 lines_of [] = []
 lines_of (byte ∷ rest) = if is_line_feed byte then [] ∷ lines_of rest else with_first_byte byte (lines_of rest)
 
+-- whether the last byte is a carriage return
 abbrev pub ends_with_return : List ℕ → Bool
 ends_with_return line = slice_index line (length line - 1) == 13
 

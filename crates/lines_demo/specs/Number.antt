@@ -4,9 +4,11 @@ use Rattle.std.specs.List.{list_all}
 use Rattle.lines_demo.specs.Prelude.{UNBOUNDED}
 use Rattle.lines_demo.specs.declared.number.TheConstants.{MOST_DIGITS}
 
+-- an ASCII digit
 abbrev pub is_digit : ℕ → Bool
 is_digit byte = nat_le 48 byte && nat_le byte 57
 
+-- an ASCII digit, as a fact
 abbrev pub IsDigit : ℕ → Type 0
 IsDigit byte = (48 ≤ byte) × (byte ≤ 57)
 

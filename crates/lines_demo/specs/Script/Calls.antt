@@ -25,7 +25,7 @@ cap_result state refusals capacity =
 abbrev pub desk_at_start : ℕ → DeskState
 desk_at_start capacity = record { lane = empty_lane; capacity = capacity; started = true; is_steady = true }
 
--- it is closed at once where the publisher was
+-- what the publisher has of a subscription before it requests anything: it is closed at once where the publisher was
 abbrev pub desk_at_subscribing : Bool → ℕ → DeskState
 desk_at_subscribing true capacity = desk_after_end Ending.Normal (desk_at_start capacity)
 desk_at_subscribing false capacity = desk_at_start capacity
@@ -57,7 +57,7 @@ abbrev pub offer_answer : Item → DeskState → ℤ
 offer_answer item desk =
     if is_gone desk.lane then pos 0 else (if lag_of desk.lane == desk.capacity then negsuc 0 else pos (lag_of (lane_with_item item desk.lane)))
 
--- what it answers where there is a subscription, and where there is none
+-- what an offer to a script's subscription answers, and 0 where there is none
 abbrev pub publication_answer : Option SubscriptionState → Item → ℤ
 publication_answer None item = pos 0
 publication_answer (Some subscription) item = offer_answer item subscription.desk
@@ -88,6 +88,7 @@ publication_unless None reply state refusals text = record {
   refusals = refusals;
 }
 
+-- a publication: a text that is too long is refused, then memory may be, and then the publisher may have a reason
 abbrev pub publication_result : (SessionState → Option Refusal) → (ℤ → Reply) → SessionState → List Bool → List ℕ → CommandResult
 publication_result refusal_of reply state refusals text =
     if nat_lt LONGEST_TEXT (length text) then refused_result state refusals Refusal.LineTooLong
@@ -102,6 +103,7 @@ abbrev pub would_wait : Option SubscriptionState → Bool
 would_wait None = false
 would_wait (Some subscription) = not (is_gone subscription.desk.lane) && (lag_of subscription.desk.lane == subscription.desk.capacity)
 
+-- a refusal, or that the call would wait
 abbrev pub refusal_or_wait : Option Refusal → Bool → Option Refusal
 refusal_or_wait (Some refusal) waits = Some refusal
 refusal_or_wait None true = Some Refusal.WouldWait

@@ -8,6 +8,7 @@ use Rattle.lines_demo.specs.Number.{spelled_number}
 use Rattle.lines_demo.specs.declared.script.command.Command.{Command}
 use Rattle.lines_demo.specs.declared.script.command.Command.TheVariants.{Cap, Sub, Offer, Submit, Request, Close, Run}
 
+-- a space
 abbrev pub is_space : ℕ → Bool
 is_space byte = byte == 32
 
@@ -27,11 +28,12 @@ after_space bytes = after_first is_space bytes
 abbrev pub spelled_name : List ℕ → Option (List ℕ)
 spelled_name bytes = if is_name bytes then Some bytes else None
 
--- a command of a name and a number, if both are there
+-- a command of a number, if it is there
 abbrev pub with_number : (ℕ → Command) → Option ℕ → Option Command
 with_number command None = None
 with_number command (Some number) = Some (command number)
 
+-- a command of a name and a number, if both are there
 abbrev pub with_name : (List ℕ → ℕ → Command) → Option (List ℕ) → Option ℕ → Option Command
 with_name command None number = None
 with_name command (Some name) number = with_number (command name) number

@@ -1,9 +1,9 @@
 -- Where a script stands at its end, and what its subscriber was told by then.
-use Rattle.std.specs.Prelude.{ℕ, ◌<◌, Bool, List, All}
+use Rattle.std.specs.Prelude.{ℕ, ◌<◌, Bool, Option, None, Some, List, All, ⊤}
 use Rattle.std.specs.List.{AllPairs}
 use Rattle.std.specs.Option.{ForSome}
 use Rattle.lines_demo.specs.Prelude.{Item, IsFlow, IsSettled}
-use Rattle.lines_demo.specs.Script.Session.{SessionState}
+use Rattle.lines_demo.specs.Script.Session.{SubscriptionState, SessionState}
 use Rattle.lines_demo.specs.Script.Output.{script_result}
 
 -- where a script stands at its end
@@ -27,6 +27,15 @@ SerialsRise items = AllPairs (λ item later. item.serial < later.serial) items
 pub record HasSerials (items : List Item) (serial : ℕ) : Type 0 where
   pub rise : SerialsRise items
   pub given_out : All (λ item. item.serial < serial) items
+
+-- what the subscription accepted, if there is one, has serial numbers that rise and are below this one
+abbrev pub Numbered : Option SubscriptionState → ℕ → Type 0
+Numbered None serial = ⊤
+Numbered (Some subscription) serial = HasSerials subscription.desk.lane.accepted serial
+
+-- each item that its buffer accepted has a serial number of its own, in the order of the publications
+abbrev pub IsNumbered : SessionState → Type 0
+IsNumbered state = Numbered state.subscription state.serial
 
 -- the serial numbers of what its buffer accepted rise
 abbrev pub SerialsRiseIn : SessionState → Type 0

@@ -47,6 +47,7 @@ pub record TurnParts : Type 0 where
   pub missed : List Signal
   pub refusals : List Bool
 
+-- one more signal is told before the others
 abbrev pub with_signal_told : Signal → TurnParts → TurnParts
 with_signal_told signal parts = record parts { told = signal ∷ parts.told }
 

@@ -1,9 +1,9 @@
 //! The player: it has a session obey the lines of a script, and writes what they are answered.
-ghost use Rattle.std.specs.Prelude.{◌≡◌, ◌<◌, Some, [], true, All, length, is_ok, IsTrue, IfOk, OnOk, false};
+ghost use Rattle.std.specs.Prelude.{◌≡◌, ◌<◌, Some, [], true, All, length, is_ok, IsTrue, IfOk, OnOk, IsFalse};
 ghost use Rattle.lines_demo.specs.Line.{lines_of};
 ghost use Rattle.lines_demo.specs.Writing.{Writes, line_of};
 ghost use Rattle.lines_demo.specs.Script.Command.{IsInRange};
-ghost use Rattle.lines_demo.specs.Script.Law.{IsSettledSession};
+ghost use Rattle.lines_demo.specs.Script.Law.{IsNumbered, IsSettledSession};
 ghost use Rattle.lines_demo.specs.Script.Output.{line_result, lines_result, spelled_result};
 ghost use Rattle.lines_demo.specs.Script.Playing.{Answers, PrintsTurn};
 ghost use Rattle.lines_demo.specs.Script.Reply.{reply_text};
@@ -38,7 +38,8 @@ impl<B: Subscriber> Player<B> {
     pub fn new(alloc: Global, stock: Vec<B>) -> Result<Player<B>, NoMemory>
         requires untold { All (λ b. B.told b ≡ []) stock.items }
         requires steady { All (λ b. B.is_steady b ≡ true) stock.items }
-        ensures { IfOk result (λ player. player.session ≡ state_at_start (length stock.items)) }
+        ensures start { IfOk result (λ player. player.session ≡ state_at_start (length stock.items)) }
+        ensures numbered { IfOk result (λ player. IsNumbered player.session) }
     {
         Ok(Player {
             seen: Seen::new(alloc)?,
@@ -50,8 +51,9 @@ impl<B: Subscriber> Player<B> {
 
     /// Plays the lines of these bytes.
     pub fn play_lines<W: Write>(&mut self, bytes: &[u8], writer: &mut W) -> Result<(), OutputFault>
-        ensures { Answers (is_ok result) (λ refusals. lines_result (lines_of bytes.now) self.old.session refusals)
+        ensures lines { Answers (is_ok result) (λ refusals. lines_result (lines_of bytes.now) self.old.session refusals)
             (W.contents writer.old) (W.contents writer.new) self.new.session }
+        ensures numbered { OnOk result (IsNumbered self.old.session → IsNumbered self.new.session) }
     {
         let mut rest = bytes;
         while !rest.is_empty() {
@@ -100,7 +102,7 @@ impl<B: Subscriber> Player<B> {
     fn play_turns<W: Write>(&mut self, writer: &mut W) -> Result<(), OutputFault>
         ensures turns { Answers (is_ok result) (λ refusals. run_turns self.old.session refusals)
             (W.contents writer.old) (W.contents writer.new) self.new.session }
-        ensures rests { OnOk result (owes_turn self.new.session.subscription ≡ false) }
+        ensures rests { OnOk result (IsFalse (owes_turn self.new.session.subscription)) }
         ensures settled { OnOk result (IsSettledSession self.new.session) }
     {
         while self.session.owes_turn() {

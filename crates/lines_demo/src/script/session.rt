@@ -56,7 +56,7 @@ impl<B: Subscriber> Model for Session<B> {
     ghost invariant = { λ s. All (λ b. B.told b ≡ []) s.stock.items
         × All (λ b. B.is_steady b ≡ true) s.stock.items
         × (0 < s.capacity)
-        × ForSome s.subscription (λ e. length e.desk.lane.accepted ≤ s.serial) };
+        × ForSome s.subscription (λ own. length own.desk.lane.accepted ≤ s.serial) };
 }
 
 impl<B: Subscriber> Session<B> {
@@ -284,7 +284,7 @@ fn subscribed<B: Subscriber>(
 
 /// Offers an item to the subscription, if there is one.
 fn offer_to<B: Subscriber>(subscription: &mut Option<Subscription<B>>, item: Item) -> i64
-    requires { ForSome subscription.old (λ e. length e.desk.lane.accepted < PUBLICATIONS) }
+    requires { ForSome subscription.old (λ own. length own.desk.lane.accepted < PUBLICATIONS) }
     ensures answer { result ≡ publication_answer subscription.old item }
     ensures offered { subscription.new ≡ option_map (subscription_after_put item) subscription.old }
 {

@@ -13,5 +13,5 @@ returns-in_default-clause-plays g c = reading-stopped _ _ _ _ (λ e. cc)
 
 pub returns-clause-plays : goal.returns-clause-plays
 returns-clause-plays g c =
-    let answers = rw (c.as_slice.ensures.value, c.in-Ok.ensures) at c.in_ok-play_lines.ensures in
+    let answers = rw (c.as_slice.ensures.value, c.in-Ok.ensures.start) at c.in_ok-play_lines.ensures.lines in
     script-played (Ok tt) true _ _ _ _ _ _ refl c.in_ok-bytes.ensures.known c.in_ok-bytes.ensures.bounded answers
