@@ -13,8 +13,6 @@
 //! mark away. So between two calls a turn is owed, or the subscriber was told all that its demand and its ending allow. The mark
 //! stays after the end, so that nothing starts the task of a subscription that has ended.
 mod call;
-#[cfg(test)]
-mod tests;
 mod turn;
 
 use crate::cause::Causes;
