@@ -92,9 +92,8 @@ table() {
     }'
 }
 
-names=$(sed -n 's/^\([a-z0-9_]*\)[ :].*/\1/p' crates.txt)
-wanted=" ${*:-$names} "
-for crate in $(for name in $names; do below "$name" | tac; done | awk '!seen[$0]++'); do
+wanted=" ${*:-$(sed -n 's/^\([a-z0-9_]*\)[ :].*/\1/p' crates.txt | tr '\n' ' ')} "
+for crate in $(for name in $wanted; do below "$name" | tac; done | awk '!seen[$0]++'); do
     case $wanted in
     *" $crate "*) measure ;;
     esac

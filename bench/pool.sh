@@ -19,7 +19,7 @@ cat >"$work/crates/pool_bench/src/main.rt" <<'PROGRAM'
 #![tactic(auto)]
 
 ghost use Rattle.std.specs.Prelude.{◌≡◌, ◌<◌};
-ghost use Rattle.async_pool.specs.Pools.{pool_workers};
+ghost use Rattle.async_pool.specs.Pool.{pool_workers};
 
 use async_pool::{Job, Pool, Wide};
 use std::sync::Wait;

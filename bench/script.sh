@@ -2,11 +2,13 @@
 # Measures how long the native program takes to play scripts of 1, 4 and 16 MiB, made of offers, requests and runs, and
 # how much memory it has at its peak, both for each byte of the script, and prints each as a ratio to the script of 1 MiB.
 # It sets no bounds. The subscriber keeps all that it is told, so memory grows with the script.
-# It needs the program, which `rt run` and `rt ci` leave in crates/lines_demo/out, and GNU time or Python 3.
+# It needs the program, which `rt ci` and `./play --build` leave in crates/lines_demo/out, and GNU time or Python 3.
 # Usage: bench/script.sh [RUNS]; each figure is the median of RUNS runs (5).
 set -eu
 cd "$(dirname "$0")/.."
+. tests/program.sh
 program=${PROGRAM:-crates/lines_demo/out/lines_demo}
+need lines_demo "$program"
 runs=${1:-5}
 work=$(mktemp -d)
 trap 'rm -rf "$work"' EXIT

@@ -134,6 +134,8 @@ def sweep(program, hook, file):
             return f"request {number}: {why}"
     else:
         return f"request {MOST} is still met"
+    if number == 1:
+        return "no request was refused: the hook has no effect"
     if (status, output, said) != (0, b"".join(script.full), b""):
         return "no refusal, and yet another output"
     wanted = os.path.splitext(file)[0] + ".expected"

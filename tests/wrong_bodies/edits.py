@@ -24,6 +24,9 @@ class Edit:
     def __init__(self, file, folder):
         self.name = os.path.basename(file).removesuffix(".edit")
         self.texts, self.changes, self.is_refused, self.why = {}, [], False, None
+        if not file.endswith(".edit"):
+            self.why = "its name doesn't end in .edit"
+            return
         try:
             self.read(text_of(file), folder)
         except (OSError, UnicodeDecodeError) as error:

@@ -84,6 +84,7 @@ edit no_such_name 'old: a.min(MOST)' 'new: a.min(LEAST)'
 edit no_single_place 'old: least(' 'new: most('
 edit no_line 'old: a.min(MOST)' 'now: a'
 edit half_a_pair 'old: a.min(MOST)'
+touch "$crate/wrong-bodies/another_end.txt"
 try
 [ "$status" -eq 1 ]
 said 'tiny/a_bug: refused: note: src/lib.rt:'
@@ -95,7 +96,8 @@ said "tiny/no_such_name: it doesn't compile"
 said 'tiny/no_single_place: an `old:` text is in src/lib.rt 4 times'
 said 'tiny/no_line: this line is not in its place: now: a'
 said 'tiny/half_a_pair: it has no pair'
-said '2 passed, 7 failed'
+said "tiny/another_end.txt: its name doesn't end in .edit"
+said '2 passed, 8 failed'
 
 try tiny/no_such_edit
 [ "$status" -eq 1 ]

@@ -26,7 +26,9 @@ sys.path.append(f"{os.path.dirname(os.path.realpath(__file__))}/../lib")
 from edits import Edit, batches, named_by, together
 from verdicts import Check
 
-PARTS = ("src", "specs", "proofs", "out/incremental", "out/rlib")
+# What a check reads of a crate below, and of the crate itself.
+OF_LIBRARY = ("src", "specs", "proofs", "out/rlib")
+OF_CRATE = (*OF_LIBRARY, "out/incremental")
 
 
 def say(text):
@@ -40,7 +42,7 @@ class Crate:
         self.name, self.below, self.folder = name, below, f"{root}/crates/{name}"
         folder = f"{self.folder}/wrong-bodies"
         files = sorted(os.listdir(folder)) if os.path.isdir(folder) else []
-        edits = [Edit(f"{folder}/{it}", self.folder) for it in files if it.endswith(".edit")]
+        edits = [Edit(f"{folder}/{it}", self.folder) for it in files if not it.endswith(".md")]
         is_wanted = lambda edit: not wanted or name in wanted or f"{name}/{edit.name}" in wanted
         self.edits = [it for it in edits if is_wanted(it)]
         self.checks, self.seconds, self.room = 0, 0.0, None
@@ -78,27 +80,29 @@ class Crate:
 
     def try_all(self, known, base, room):
         """Tries all edits in a room of the crate's own, and says what became of each."""
-        copy_crates([*self.below, self.name], base, room)
-        self.room = room
+        copy_crates({**dict.fromkeys(self.below, OF_LIBRARY), self.name: OF_CRATE}, base, room)
+        # From here on the checkout may change.
+        self.folder, self.room = f"{base}/crates/{self.name}", room
         for edit in self.edits:
             if edit.why is None:
                 edit.place(self.name, self.folder, known)
         for batch in batches([it for it in self.edits if it.why is None]):
             self.try_batch(batch)
+        shutil.rmtree(room)
         lines = [f"wrong body {self.name}/{it.name}: {'refused: ' * it.is_refused}{it.why}" for it in self.edits]
         refused = sum(it.is_refused for it in self.edits)
         say("\n".join(lines))
         say(f"{self.name}: {refused} of {len(self.edits)} refused, {self.checks} checks, {self.seconds:.0f} seconds")
 
 
-def copy_crates(names, root, to):
-    """Copies what a check of these crates reads, and what their checks kept."""
-    for name in names:
-        for part in PARTS:
+def copy_crates(parts, root, to):
+    """Copies these parts of each crate, and the lines of crates.txt that name them."""
+    for name in parts:
+        for part in parts[name]:
             if os.path.isdir(f"{root}/crates/{name}/{part}"):
                 shutil.copytree(f"{root}/crates/{name}/{part}", f"{to}/crates/{name}/{part}")
     with open(f"{root}/crates.txt", encoding="utf-8") as it:
-        lines = [line for line in it if line.partition(":")[0].split()[:1] in [[name] for name in names]]
+        lines = [line for line in it if line.partition(":")[0].split()[:1] in [[name] for name in parts]]
     with open(f"{to}/crates.txt", "w", encoding="utf-8") as it:
         it.writelines(lines)
 
@@ -121,7 +125,7 @@ def crates_of(root, wanted):
 
 def prove(crates, root, base, jobs):
     """Proves the crates as they are, over what earlier checks kept, and returns the names of the functions of each; None where one is not proved."""
-    copy_crates(dict.fromkeys(name for it in crates for name in [*it.below, it.name]), root, base)
+    copy_crates({name: OF_CRATE for it in crates for name in [*it.below, it.name]}, root, base)
     known = {}
     for crate in crates:
         crate.room = base

@@ -4,6 +4,7 @@ pub mod Lane
 pub mod LaneCalls
 pub mod PlainTurn
 pub mod Prelude
+pub mod Seen
 pub mod Sound
 pub mod Steps
 pub mod Turn

@@ -1,11 +1,11 @@
 //! A subscriber that keeps what it is told.
 ghost use Rattle.std.specs.Prelude.{◌≡◌, ◌∷◌, ◌++◌, [], IfOk, OnOk, OnErr, Some, None};
 
-use crate::refusal::NoMemory;
 use crate::answer::Answer;
+use crate::item::Item;
+use crate::refusal::NoMemory;
 use crate::signal::{Fault, Signal};
 use crate::subscriber::Subscriber;
-use crate::item::Item;
 use std::alloc::Global;
 use std::marker::Model;
 

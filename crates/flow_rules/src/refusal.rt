@@ -3,8 +3,8 @@ ghost use Rattle.std.specs.Prelude.{◌≡◌, Some, codes};
 ghost use Rattle.std.specs.declared.string.String.{String};
 ghost use Rattle.flow_rules.specs.Refusal.{refusal_number, refusal_word, refusal_line};
 
-use crate::name::Name;
 use crate::ending::Ending;
+use crate::name::Name;
 use std::alloc::{AllocError, AllocFailed};
 use std::error::Error;
 use std::fmt;

@@ -1,8 +1,8 @@
 //! Who is told.
-use crate::refusal::NoMemory;
 use crate::answer::Answer;
-use crate::signal::{Fault, Signal};
 use crate::item::Item;
+use crate::refusal::NoMemory;
+use crate::signal::{Fault, Signal};
 
 /// Who is told (`Flow.Subscriber`). Its meaning is `told`, the list of signals that it was told so far: a callback that
 /// answers Ok has added exactly its own signal, and one that was refused memory has added nothing.

@@ -3,210 +3,225 @@ use Rattle.std.proofs.Common.{◌≡◌, ◌==◌, ℕ, zero, suc, ◌+◌, Bool
 use Rattle.std.specs.Prelude.{is_some, option_map, ⊤}
 use Rattle.std.proofs.lemmas.Bool.Decides.{nat_tests}
 use Rattle.std.proofs.lemmas.List.{append-nil}
-use Rattle.lines_demo.specs.Prelude.{Item, Signal, Ending, Refusal}
-use Rattle.feed_core.specs.LaneCalls.{lane_with_closing, empty_lane, lag_of}
-use Rattle.feed_core.specs.Lane.{LaneState, IsFlow}
+use Rattle.feed_core.specs.Desk.{desk_after_signal}
+use Rattle.feed_core.specs.LaneCalls.{empty_lane, lane_with_item, lane_with_closing}
 use Rattle.feed_core.specs.PlainTurn.{plain_turn_of}
+use Rattle.feed_core.specs.Turn.{lane_after_turn}
+use Rattle.feed_core.proofs.CalmLanes.{IsCalm, calm-owed, calm-lane_with_item, calm-lane_with_demand, calm-lane_with_closing, calm-empty_lane}
+use Rattle.feed_core.proofs.CutTurns.{calm-cut_turn}
 use Rattle.feed_core.proofs.FlowRules.{flow_kept}
-use Rattle.lines_demo.specs.declared.commands.Command.{Command}
-use Rattle.lines_demo.specs.declared.commands.Command.TheVariants.{Cap, Sub, Offer, Submit, Request, Close, Run}
-use Rattle.lines_demo.specs.Command.{command_of, is_word}
-use Rattle.feed_core.specs.LaneCalls.{is_gone}
-use Rattle.lines_demo.specs.Law.{stage_of, script_stage, KeepsFlow}
-use Rattle.lines_demo.specs.Lines.{lines_of, without_return}
-use Rattle.lines_demo.specs.Stage.{Stage, EntryState, Played, unless_refused, start}
-use Rattle.lines_demo.specs.Turns.{Heard, Turned, hear, turn, turned, turns, run_entry}
-use Rattle.lines_demo.specs.Calls.{new_lane, new_entry, subscribe, entry_offered, next_item, published, publish_unless, publish, unpublished, unsubmitted, entry_closed, close, set_size, request_of}
-use Rattle.lines_demo.specs.Script.{begun_by, obeyed, command_played, played}
-use Rattle.lines_demo.proofs.Kept.{Kept, kept-woken, kept-accepting, kept-asking, kept-closed, kept-empty}
-use Rattle.lines_demo.proofs.Greeted.{kept-whole}
-use Rattle.lines_demo.proofs.Missed.{kept-part}
+use Rattle.feed_core.proofs.WholeTurns.{calm-whole_turn}
+use Rattle.lines_demo.specs.Prelude.{Item, Signal, Ending, How, Refusal, LONGEST_TEXT, DeskState, LaneState, capacity_of, desk_after_put, desk_after_end, is_gone, lag_of, owes, IsFlow}
+use Rattle.lines_demo.specs.Line.{lines_of, without_return}
+use Rattle.lines_demo.specs.Script.Command.{command_of, is_word}
+use Rattle.lines_demo.specs.Script.Session.{SubscriptionState, SessionState, CommandResult, LineResult, result_unless_no_memory, state_at_start}
+use Rattle.lines_demo.specs.Script.Calls.{desk_at_subscribing, sub_result, next_item, subscription_after_put, state_after_publication, publication_unless, publication_result, publication_refusal, submit_refusal, subscription_after_close, close_result, cap_result, request_result, state_at_command, call_result, command_result}
+use Rattle.lines_demo.specs.Script.Turns.{parts_of_turn, outlook_where, turn_result, turns_result, owes_turn, waiting_items}
+use Rattle.lines_demo.specs.Script.Output.{turns_before, spelled_result, line_result, lines_result}
+use Rattle.lines_demo.specs.Script.Law.{script_state, KeepsFlow}
+use Rattle.lines_demo.specs.declared.script.command.Command.{Command}
+use Rattle.lines_demo.specs.declared.script.command.Command.TheVariants.{Cap, Sub, Offer, Submit, Request, Close, Run}
+use Rattle.lines_demo.specs.declared.script.player.TheConstants.{LONGEST_LINE}
+use Rattle.lines_demo.specs.declared.script.reply.Reply.{Reply}
+use Rattle.lines_demo.specs.declared.script.reply.Reply.TheVariants.{Offered, Submitted}
 
--- the subscription of a stage, if there is one, keeps what it has to
-abbrev pub IsKept : Option EntryState → Type 0
+-- the lane of a Desk keeps what it has to, whether a turn is owed or not
+abbrev pub DeskKept : DeskState → Type 0
+DeskKept desk = IsCalm desk.lane desk.capacity false
+
+-- the subscription, if there is one, keeps what it has to
+abbrev pub IsKept : Option SubscriptionState → Type 0
 IsKept None = ⊤
-IsKept (Some entry) = Kept entry.lane entry.capacity entry.is_woken
+IsKept (Some subscription) = DeskKept subscription.desk
+
+-- a lane of which nothing is said of turns
+calm : (lane : LaneState) (capacity : ℕ) (owed : Bool) → IsCalm lane capacity owed → IsCalm lane capacity false
+calm lane capacity owed kept = calm-owed lane capacity owed false kept (λ e. cc)
+
+-- a lane that has not ended
+live : (lane : LaneState) (capacity : ℕ) → IsCalm lane capacity false → lane.how ≡ None → IsCalm lane capacity true
+live lane capacity kept unended = calm-owed lane capacity false true kept (λ e. unended)
 
 -- a test keeps it where both of its answers do
-either : (b : Bool) (p q : Played) → IsKept p.stage.entry → IsKept q.stage.entry → IsKept (if b then p else q).stage.entry
+either : (b : Bool) (p q : CommandResult) → IsKept p.state.subscription → IsKept q.state.subscription → IsKept (if b then p else q).state.subscription
 either true p q kept_p kept_q = kept_p
 either false p q kept_p kept_q = kept_q
 
--- so does a point at which memory may be refused
-unless-kept : (stage : Stage) (refusals : List Bool) (call : List Bool → Played) → IsKept stage.entry → ((left : List Bool) → IsKept (call left).stage.entry) → IsKept (unless_refused stage refusals call).stage.entry
-unless-kept stage [] call kept calls = calls []
-unless-kept stage (false ∷ refusals) call kept calls = calls refusals
-unless-kept stage (true ∷ refusals) call kept calls = kept
+either-line : (b : Bool) (p q : LineResult) → (b ≡ true → IsKept p.state.subscription) → IsKept q.state.subscription → IsKept (if b then p else q).state.subscription
+either-line true p q kept_p kept_q = kept_p refl
+either-line false p q kept_p kept_q = kept_q
+
+-- a point at which memory may be refused keeps it where the call does
+unless-kept : (state : SessionState) (refusals : List Bool) (call : List Bool → CommandResult) → IsKept state.subscription → ((left : List Bool) → IsKept (call left).state.subscription)
+    → IsKept (result_unless_no_memory state refusals call).state.subscription
+unless-kept state [] call kept calls = calls []
+unless-kept state (false ∷ refusals) call kept calls = calls refusals
+unless-kept state (true ∷ refusals) call kept calls = kept
 
 -- ---- turns
 
--- what was heard and what was missed is what there was to tell
-hear-parts : (refusals : List Bool) (signals : List Signal) → signals ≡ (hear refusals signals).told ++ (hear refusals signals).missed
-hear-parts refusals [] = refl
-hear-parts [] (signal ∷ signals) = ap (λ t. signal ∷ t) (hear-parts [] signals)
-hear-parts (false ∷ refusals) (signal ∷ signals) = ap (λ t. signal ∷ t) (hear-parts refusals signals)
-hear-parts (true ∷ refusals) (signal ∷ signals) = refl
+-- what was told and what was missed is what there was to tell
+parts-whole : (refusals : List Bool) (signals : List Signal) → signals ≡ (parts_of_turn refusals signals).told ++ (parts_of_turn refusals signals).missed
+parts-whole refusals [] = refl
+parts-whole [] (signal ∷ signals) = ap (λ t. signal ∷ t) (parts-whole [] signals)
+parts-whole (false ∷ refusals) (signal ∷ signals) = ap (λ t. signal ∷ t) (parts-whole refusals signals)
+parts-whole (true ∷ refusals) (signal ∷ signals) = refl
 
-turned-kept : (entry : EntryState) (heard : Heard) (missed : List Signal) → IsKept (Some entry) → entry.is_woken ≡ true → (plain_turn_of entry.lane).told ≡ heard.told ++ missed
-    → IsKept (Some (turned entry (plain_turn_of entry.lane).outlook heard missed).entry)
-turned-kept entry heard [] kept woken parts =
-    let plain = plain_turn_of entry.lane in
-    let lives : entry.lane.how ≡ None = kept.lives woken in
-    let told : plain.told ≡ heard.told = parts ∙ append-nil heard.told in
-    subst (λ t. Kept (turned entry plain.outlook (record heard { told = t }) []).entry.lane entry.capacity (turned entry plain.outlook (record heard { told = t }) []).entry.is_woken) told
-    (kept-whole entry.lane entry.capacity (kept-woken entry.lane entry.capacity entry.is_woken true kept (λ e. lives)))
-turned-kept entry heard (next ∷ rest) kept woken parts =
-    let lives : entry.lane.how ≡ None = kept.lives woken in
-    kept-part entry.lane entry.capacity heard.told next rest (kept-woken entry.lane entry.capacity entry.is_woken true kept (λ e. lives)) parts
+-- a lane after a turn of which this was told
+lane-kept : (lane : LaneState) (capacity : ℕ) (told missed : List Signal) → IsCalm lane capacity true → (plain_turn_of lane).told ≡ told ++ missed
+    → IsCalm (lane_after_turn lane told (outlook_where missed (plain_turn_of lane).outlook)) capacity false
+lane-kept lane capacity told [] kept parts =
+    let plain = plain_turn_of lane in
+    let all : plain.told ≡ told = parts ∙ append-nil told in
+    subst (λ t. IsCalm (lane_after_turn lane t plain.outlook) capacity false) all (calm _ capacity _ (calm-whole_turn lane capacity kept))
+lane-kept lane capacity told (next ∷ rest) kept parts = calm _ capacity _ (calm-cut_turn lane capacity told next rest kept parts)
 
-turn-kept : (entry : EntryState) (refusals : List Bool) → IsKept (Some entry) → entry.is_woken ≡ true → IsKept (Some (turn entry refusals).entry)
-turn-kept entry refusals kept woken =
-    let plain = plain_turn_of entry.lane in
-    let heard = hear refusals plain.told in
-    turned-kept entry heard heard.missed kept woken (hear-parts refusals plain.told)
+-- only what has not ended owes a turn
+owes-lives : (desk : DeskState) → owes desk ≡ true → desk.lane.how ≡ None
+owes-lives desk owed = by desk.started desk.lane.how owed where
+  by : (started : Bool) (how : Option How) → (started && not (is_some how)) ≡ true → how ≡ None
+  by true None e = refl
+  by true (Some how) e = cc
+  by false how e = cc
 
--- the same of turns, where one is due or none is
-if-woken : (woken : Bool) (more rested : Turned) → (woken ≡ true → IsKept (Some more.entry)) → IsKept (Some rested.entry) → IsKept (Some (if woken then more else rested).entry)
-if-woken true more rested kept_more kept_rested = kept_more refl
-if-woken false more rested kept_more kept_rested = kept_rested
+turn-kept : (state : SessionState) (subscription : Option SubscriptionState) (refusals : List Bool) → IsKept state.subscription → IsKept subscription → owes_turn subscription ≡ true
+    → IsKept (turn_result state subscription refusals).state.subscription
+turn-kept state None refusals kept_state kept owed = kept_state
+turn-kept state (Some s) refusals kept_state kept owed =
+    let parts = parts_of_turn refusals (plain_turn_of s.desk.lane).told in
+    lane-kept s.desk.lane s.desk.capacity parts.told parts.missed (live s.desk.lane s.desk.capacity kept (owes-lives s.desk owed)) (parts-whole refusals (plain_turn_of s.desk.lane).told)
 
-turns-kept : (most : ℕ) (entry : EntryState) (refusals : List Bool) → IsKept (Some entry) → IsKept (Some (turns most entry refusals).entry)
-turns-kept zero entry refusals kept = kept
-turns-kept (suc most) entry refusals kept =
-    let first = turn entry refusals in
-    if-woken entry.is_woken _ _ (λ on. turns-kept most first.entry first.refusals (turn-kept entry refusals kept on)) kept
-
-run-kept : (stage : Stage) (entry : Option EntryState) (refusals : List Bool) → IsKept stage.entry → IsKept entry → IsKept (run_entry stage entry refusals).stage.entry
-run-kept stage None refusals kept kept_entry = kept
-run-kept stage (Some entry) refusals kept kept_entry = turns-kept (lag_of entry.lane + 1) entry refusals kept_entry
+turns-kept : (most : ℕ) (state : SessionState) (refusals : List Bool) → IsKept state.subscription → IsKept (turns_result most state refusals).state.subscription
+turns-kept zero state refusals kept = kept
+turns-kept (suc most) state refusals kept =
+    let first = turn_result state state.subscription refusals in
+    either-line (owes_turn state.subscription) _ _ (λ owed. turns-kept most first.state first.refusals (turn-kept state state.subscription refusals kept kept owed)) kept
 
 -- ---- calls
 
-new-lane-kept : (closed : Bool) (capacity : ℕ) → Kept (new_lane closed) capacity true
-new-lane-kept true capacity = kept-closed empty_lane capacity true true (kept-empty capacity) refl (λ e. refl)
-new-lane-kept false capacity = kept-empty capacity
+new-kept : (closed : Bool) (capacity : ℕ) → DeskKept (desk_at_subscribing closed capacity)
+new-kept true capacity = calm-lane_with_closing empty_lane capacity true false (calm-empty_lane capacity) refl (λ e. cc)
+new-kept false capacity = calm empty_lane capacity true (calm-empty_lane capacity)
 
-new-lane-lives : (closed : Bool) → (new_lane closed).how ≡ None
-new-lane-lives true = refl
-new-lane-lives false = refl
-
-subscribe-kept : (stage : Stage) (refusals : List Bool) (name : List ℕ) (number : ℕ) → IsKept stage.entry → IsKept (subscribe stage refusals name number).stage.entry
-subscribe-kept stage refusals name number kept =
-    either (is_some stage.entry || stage.stock == 0) _ _ kept
-    (unless-kept stage refusals _ kept (λ left.
-    kept-asking (new_lane stage.is_closed) (new_entry stage name number).capacity true true number (new-lane-kept stage.is_closed _) (λ e. new-lane-lives stage.is_closed)))
-
--- a lane that takes items has not ended, and has room
-accepting-lives : (lane : LaneState) → is_gone lane ≡ false → lane.how ≡ None
-accepting-lives lane takes = by lane.how refl takes where
-  by : (how : Option _) → lane.how ≡ how → (is_some how || is_some lane.causes.closing) ≡ false → lane.how ≡ None
-  by None e o = e
-  by (Some how) e o = cc
-
--- a subscription that is woken, or was before
-woken-lives : (woken : Bool) {P : Type 0} → (woken ≡ true → P) → (woken || false) ≡ true → P
-woken-lives true lives e = lives refl
-woken-lives false lives e = lives e
+sub-kept : (state : SessionState) (refusals : List Bool) (name : List ℕ) (number : ℕ) → IsKept state.subscription → IsKept (sub_result state refusals name number).state.subscription
+sub-kept state refusals name number kept =
+    either (is_some state.subscription || state.stock == 0) _ _ kept
+    (unless-kept state refusals _ kept (λ left. calm-lane_with_demand _ _ false false number (new-kept state.is_closed (capacity_of state.capacity)) (λ e. cc)))
 
 -- equal numbers are found equal
 full-not : (n m : ℕ) → n ≡ m → (n == m) ≡ false → ⊥
 full-not n m same other = grind (arith, nat_tests)
 
-offered-kept : (entry : EntryState) (item : Item) → IsKept (Some entry) → IsKept (Some (entry_offered entry item))
-offered-kept entry item kept = by (is_gone entry.lane) (lag_of entry.lane == entry.capacity) refl refl where
-  by : (gone full : Bool) → is_gone entry.lane ≡ gone → (lag_of entry.lane == entry.capacity) ≡ full
-      → Kept (if not gone && not full then (record entry.lane { accepted = entry.lane.accepted ++ item ∷ [] }) else entry.lane) entry.capacity (entry.is_woken || (not gone && not full))
-  by true full g f = kept-woken entry.lane entry.capacity entry.is_woken (entry.is_woken || false) kept (woken-lives entry.is_woken kept.lives)
-  by false true g f = kept-woken entry.lane entry.capacity entry.is_woken (entry.is_woken || false) kept (woken-lives entry.is_woken kept.lives)
+-- who takes items has not ended
+accepting-lives : (lane : LaneState) → is_gone lane ≡ false → lane.how ≡ None
+accepting-lives lane takes = by lane.how takes where
+  by : (how : Option How) → (is_some how || is_some lane.causes.closing) ≡ false → how ≡ None
+  by None e = refl
+  by (Some how) e = cc
+
+put-kept : (desk : DeskState) (item : Item) → DeskKept desk → DeskKept (desk_after_put item desk)
+put-kept desk item kept = by (is_gone desk.lane) (lag_of desk.lane == desk.capacity) refl refl where
+  by : (gone full : Bool) → is_gone desk.lane ≡ gone → (lag_of desk.lane == desk.capacity) ≡ full
+      → DeskKept (if not gone && not full then (record desk { lane = lane_with_item item desk.lane; started = true }) else desk)
+  by true full g f = kept
+  by false true g f = kept
   by false false g f =
-      let unended = accepting-lives entry.lane g in
-      let more = kept-accepting entry.lane entry.capacity entry.is_woken item kept unended (λ same. full-not _ _ same f) in
-      kept-woken _ entry.capacity true (entry.is_woken || true) more (λ e. unended)
+      calm _ desk.capacity true (calm-lane_with_item desk.lane desk.capacity false item kept (accepting-lives desk.lane g) (λ same. full-not _ _ same f))
 
-published-kept : (stage : Stage) (text : List ℕ) → IsKept stage.entry → IsKept (published stage text).entry
-published-kept stage text kept = by stage.entry kept where
-  by : (entry : Option EntryState) → IsKept entry → IsKept (option_map (λ e. entry_offered e (next_item stage text)) entry)
+published-kept : (state : SessionState) (text : List ℕ) → IsKept state.subscription → IsKept (state_after_publication state text).subscription
+published-kept state text kept = by state.subscription kept where
+  by : (subscription : Option SubscriptionState) → IsKept subscription → IsKept (option_map (subscription_after_put (next_item state text)) subscription)
   by None kept = tt
-  by (Some entry) kept = offered-kept entry (next_item stage text) kept
+  by (Some s) kept = put-kept s.desk (next_item state text) kept
 
-publish-unless-kept : (why : Option Refusal) (stage : Stage) (refusals : List Bool) (text word : List ℕ) → IsKept stage.entry → IsKept (publish_unless why stage refusals text word).stage.entry
-publish-unless-kept (Some refusal) stage refusals text word kept = kept
-publish-unless-kept None stage refusals text word kept = published-kept stage text kept
+publication-unless-kept : (why : Option Refusal) (reply : _ → Reply) (state : SessionState) (refusals : List Bool) (text : List ℕ) → IsKept state.subscription
+    → IsKept (publication_unless why reply state refusals text).state.subscription
+publication-unless-kept (Some refusal) reply state refusals text kept = kept
+publication-unless-kept None reply state refusals text kept = published-kept state text kept
 
-publish-kept : (why_not : Stage → Option Refusal) (stage : Stage) (refusals : List Bool) (text word : List ℕ) → IsKept stage.entry → IsKept (publish why_not stage refusals text word).stage.entry
-publish-kept why_not stage refusals text word kept =
-    either (nat_lt 4096 (length text)) _ _ kept (unless-kept stage refusals _ kept (λ left. publish-unless-kept (why_not stage) stage left text word kept))
+publication-kept : (refusal_of : SessionState → Option Refusal) (reply : _ → Reply) (state : SessionState) (refusals : List Bool) (text : List ℕ) → IsKept state.subscription
+    → IsKept (publication_result refusal_of reply state refusals text).state.subscription
+publication-kept refusal_of reply state refusals text kept =
+    either (nat_lt LONGEST_TEXT (length text)) _ _ kept (unless-kept state refusals _ kept (λ left. publication-unless-kept (refusal_of state) reply state left text kept))
 
--- a signal wakes a subscription that has not ended
-signalled-lives : (entry : EntryState) → IsKept (Some entry) → (entry.is_woken || not (is_some entry.lane.how)) ≡ true → entry.lane.how ≡ None
-signalled-lives entry kept woken = by entry.is_woken entry.lane.how refl refl woken where
-  by : (w : Bool) (how : Option _) → entry.is_woken ≡ w → entry.lane.how ≡ how → (w || not (is_some how)) ≡ true → entry.lane.how ≡ None
-  by true how e h on = kept.lives e
-  by false None e h on = h
-  by false (Some how) e h on = cc
+request-kept : (state : SessionState) (subscription : Option SubscriptionState) (refusals : List Bool) (name : List ℕ) (number : ℕ) → IsKept state.subscription → IsKept subscription
+    → IsKept (request_result state subscription refusals name number).state.subscription
+request-kept state None refusals name number kept_state kept = kept_state
+request-kept state (Some s) refusals name number kept_state kept =
+    either (is_word s.name name) _ _ (calm-lane_with_demand s.desk.lane s.desk.capacity false false number kept (λ e. cc)) kept_state
 
-request-kept : (stage : Stage) (entry : Option EntryState) (refusals : List Bool) (name : List ℕ) (number : ℕ) → IsKept stage.entry → IsKept entry → IsKept (request_of stage entry refusals name number).stage.entry
-request-kept stage None refusals name number kept kept_entry = kept
-request-kept stage (Some entry) refusals name number kept kept_entry =
-    either (is_word entry.name name) _ _ (kept-asking entry.lane entry.capacity entry.is_woken _ number kept_entry (signalled-lives entry kept_entry)) kept
+end-kept : (desk : DeskState) → DeskKept desk → DeskKept (desk_after_end Ending.Normal desk)
+end-kept desk kept = by desk.lane.causes.closing refl where
+  by : (closing : Option Ending) → desk.lane.causes.closing ≡ closing → DeskKept (if is_some closing then desk else desk_after_signal desk (lane_with_closing Ending.Normal desk.lane))
+  by (Some ending) e = kept
+  by None e = calm-lane_with_closing desk.lane desk.capacity false false kept e (λ e. cc)
 
-close-kept : (stage : Stage) (refusals : List Bool) → IsKept stage.entry → IsKept (close stage refusals).stage.entry
-close-kept stage refusals kept = either stage.is_closed _ _ kept (by stage.entry kept) where
-  one : (entry : EntryState) (closing : Option _) → entry.lane.causes.closing ≡ closing → IsKept (Some entry)
-      → IsKept (Some (if is_some closing then entry else (record entry { lane = lane_with_closing Ending.Normal entry.lane; is_woken = entry.is_woken || not (is_some entry.lane.how) })))
-  one entry (Some ending) e kept = kept
-  one entry None e kept = kept-closed entry.lane entry.capacity entry.is_woken _ kept e (signalled-lives entry kept)
-
-  by : (entry : Option EntryState) → IsKept entry → IsKept (option_map entry_closed entry)
+close-kept : (state : SessionState) (refusals : List Bool) → IsKept state.subscription → IsKept (close_result state refusals).state.subscription
+close-kept state refusals kept = either state.is_closed _ _ kept (by state.subscription kept) where
+  by : (subscription : Option SubscriptionState) → IsKept subscription → IsKept (option_map subscription_after_close subscription)
   by None kept = tt
-  by (Some entry) kept = one entry entry.lane.causes.closing refl kept
+  by (Some s) kept = end-kept s.desk kept
 
-set_size-kept : (stage : Stage) (refusals : List Bool) (size : ℕ) → IsKept stage.entry → IsKept (set_size stage refusals size).stage.entry
-set_size-kept stage refusals size kept =
-    either stage.has_begun _ _ kept (either (size == 0) _ _ kept (unless-kept stage refusals _ kept (λ left. kept)))
+cap-kept : (state : SessionState) (refusals : List Bool) (capacity : ℕ) → IsKept state.subscription → IsKept (cap_result state refusals capacity).state.subscription
+cap-kept state refusals capacity kept =
+    either state.has_begun _ _ kept (either (capacity == 0) _ _ kept (unless-kept state refusals _ kept (λ left. kept)))
 
 -- ---- lines
 
-obeyed-kept : (command : Command) (stage : Stage) (refusals : List Bool) → IsKept stage.entry → IsKept (obeyed command stage refusals).stage.entry
-obeyed-kept (Cap size) stage refusals kept = set_size-kept stage refusals size kept
-obeyed-kept (Sub name number) stage refusals kept = subscribe-kept stage refusals name number kept
-obeyed-kept (Offer text) stage refusals kept = publish-kept unpublished stage refusals text _ kept
-obeyed-kept (Submit text) stage refusals kept = publish-kept unsubmitted stage refusals text _ kept
-obeyed-kept (Request name number) stage refusals kept = request-kept stage stage.entry refusals name number kept kept
-obeyed-kept Close stage refusals kept = close-kept stage refusals kept
-obeyed-kept Run stage refusals kept = run-kept stage stage.entry refusals kept kept
+call-kept : (command : Command) (state : SessionState) (refusals : List Bool) → IsKept state.subscription → IsKept (call_result command state refusals).state.subscription
+call-kept (Cap capacity) state refusals kept = cap-kept state refusals capacity kept
+call-kept (Sub name number) state refusals kept = sub-kept state refusals name number kept
+call-kept (Offer text) state refusals kept = publication-kept publication_refusal Offered state refusals text kept
+call-kept (Submit text) state refusals kept = publication-kept submit_refusal Submitted state refusals text kept
+call-kept (Request name number) state refusals kept = request-kept state state.subscription refusals name number kept kept
+call-kept Close state refusals kept = close-kept state refusals kept
+call-kept Run state refusals kept = kept
 
 -- the end of the time of `cap` changes no subscription
-begun-same : (command : Command) (stage : Stage) → (begun_by command stage).entry ≡ stage.entry
-begun-same (Cap size) stage = refl
-begun-same (Sub name number) stage = refl
-begun-same (Offer text) stage = refl
-begun-same (Submit text) stage = refl
-begun-same (Request name number) stage = refl
-begun-same Close stage = refl
-begun-same Run stage = refl
+begun-same : (command : Command) (state : SessionState) → (state_at_command command state).subscription ≡ state.subscription
+begun-same (Cap capacity) state = refl
+begun-same (Sub name number) state = refl
+begun-same (Offer text) state = refl
+begun-same (Submit text) state = refl
+begun-same (Request name number) state = refl
+begun-same Close state = refl
+begun-same Run state = refl
 
-command-kept : (stage : Stage) (refusals : List Bool) (command : Option Command) → IsKept stage.entry → IsKept (command_played stage refusals command).stage.entry
-command-kept stage refusals None kept = kept
-command-kept stage refusals (Some command) kept = obeyed-kept command (begun_by command stage) refusals (subst IsKept (sym (begun-same command stage)) kept)
+command-kept : (command : Command) (state : SessionState) (refusals : List Bool) → IsKept state.subscription → IsKept (command_result command state refusals).state.subscription
+command-kept command state refusals kept = call-kept command (state_at_command command state) refusals (subst IsKept (sym (begun-same command state)) kept)
 
-played-kept : (stage : Stage) (refusals : List Bool) (line : List ℕ) → IsKept stage.entry → IsKept (played stage refusals line).stage.entry
-unfolding played
-played-kept stage refusals line kept =
-    either (length line == 0) _ _ kept (either (nat_lt 4200 (length line)) _ _ kept (command-kept stage refusals (command_of line) kept))
+turns-before-kept : (command : Command) (state : SessionState) (refusals : List Bool) → IsKept state.subscription → IsKept (turns_before command state refusals).state.subscription
+turns-before-kept (Cap capacity) state refusals kept = kept
+turns-before-kept (Sub name number) state refusals kept = kept
+turns-before-kept (Offer text) state refusals kept = kept
+turns-before-kept (Submit text) state refusals kept = kept
+turns-before-kept (Request name number) state refusals kept = kept
+turns-before-kept Close state refusals kept = kept
+turns-before-kept Run state refusals kept = turns-kept (waiting_items state.subscription + 1) state refusals kept
 
-stage-kept : (lines : List (List ℕ)) (refusals : List Bool) (stage : Stage) → IsKept stage.entry → IsKept (stage_of lines refusals stage).entry
-stage-kept [] refusals stage kept = kept
-stage-kept (line ∷ lines) refusals stage kept =
-    let first = played stage refusals (without_return line) in
-    stage-kept lines first.refusals first.stage (played-kept stage refusals (without_return line) kept)
+spelled-kept : (command : Option Command) (state : SessionState) (refusals : List Bool) → IsKept state.subscription → IsKept (spelled_result command state refusals).state.subscription
+spelled-kept None state refusals kept = kept
+spelled-kept (Some command) state refusals kept =
+    let turns = turns_before command state refusals in
+    command-kept command turns.state turns.refusals (turns-before-kept command state refusals kept)
+
+line-kept : (state : SessionState) (refusals : List Bool) (line : List ℕ) → IsKept state.subscription → IsKept (line_result state refusals line).state.subscription
+unfolding line_result
+line-kept state refusals line kept =
+    either-line (length line == 0) _ _ (λ e. kept) (either-line (nat_lt LONGEST_LINE (length line)) _ _ (λ e. kept) (spelled-kept (command_of line) state refusals kept))
+
+lines-kept : (lines : List (List ℕ)) (state : SessionState) (refusals : List Bool) → IsKept state.subscription → IsKept (lines_result lines state refusals).state.subscription
+lines-kept [] state refusals kept = kept
+lines-kept (line ∷ lines) state refusals kept =
+    let first = line_result state refusals (without_return line) in
+    lines-kept lines first.state first.refusals (line-kept state refusals (without_return line) kept)
 
 -- a subscription that keeps this, keeps the Flow rules
-flow-of : (entry : Option EntryState) (x : EntryState) → IsKept entry → entry ≡ Some x → IsFlow x.lane
-flow-of entry x kept is =
-    let of : Kept x.lane x.capacity x.is_woken = subst IsKept is kept in
+flow-of : (subscription : Option SubscriptionState) (s : SubscriptionState) → IsKept subscription → subscription ≡ Some s → IsFlow s.desk.lane
+flow-of subscription s kept is =
+    let of : DeskKept s.desk = subst IsKept is kept in
     flow_kept of.sound
 
 -- whatever the script is
-pub script-lawful : (stock : ℕ) (refusals : List Bool) (bytes : List ℕ) → KeepsFlow (script_stage stock refusals bytes)
-script-lawful stock refusals bytes = λ x is. flow-of _ x (stage-kept (lines_of bytes) refusals (start stock) tt) is
+pub script-lawful : (stock : ℕ) (refusals : List Bool) (bytes : List ℕ) → KeepsFlow (script_state stock refusals bytes)
+script-lawful stock refusals bytes = λ s is. flow-of _ s (lines-kept (lines_of bytes) (state_at_start stock) refusals tt) is

@@ -2,10 +2,10 @@
 use Rattle.std.proofs.Common.{◌≡◌, ◌==◌, ℕ, ◌+◌, ◌<◌, ◌^◌, false, ◌∷◌, ◌++◌, [], length, length-append, pos, w64, to_z, ap, refl, ◌∙◌, arith, rules}
 use Rattle.std.specs.Prelude.{Option}
 use Rattle.std.proofs.lemmas.Bool.Decides.{nat_tests}
-use Rattle.lines_demo.specs.Prelude.{Item}
-use Rattle.feed_core.specs.Desk.{DeskState, AcceptsItem}
-use Rattle.feed_core.specs.LaneCalls.{lane_with_item, lag_of}
-use Rattle.lines_demo.specs.Lane.{offer_answer}
+use Rattle.feed_core.specs.Desk.{AcceptsItem}
+use Rattle.feed_core.specs.LaneCalls.{lane_with_item}
+use Rattle.lines_demo.specs.Prelude.{Item, DeskState, lag_of}
+use Rattle.lines_demo.specs.Script.Calls.{offer_answer}
 
 -- a small number is itself, signed
 pub small-signed : (n : ℕ) → n < 2 ^ 63 → to_z w64 n ≡ pos n
@@ -13,7 +13,7 @@ small-signed n few = search rules
 
 -- where there is room, the answer is the lag after the item
 pub offer-accepted : (old new : DeskState) (item : Item) (lag : ℕ) (start : Option (Unit {0})) → AcceptsItem old new item lag start → length old.lane.accepted < 2 ^ 62
-    → to_z w64 lag ≡ offer_answer old.capacity old.lane item
+    → to_z w64 lag ≡ offer_answer item old
 offer-accepted old new item lag start took few =
     let now : lag ≡ lag_of (lane_with_item item old.lane) = took.lag_after ∙ ap (λ desk. lag_of desk.lane) took.taken in
     let grown : length (old.lane.accepted ++ (item ∷ [])) ≡ length old.lane.accepted + 1 = length-append old.lane.accepted (item ∷ []) in

@@ -1,12 +1,23 @@
 -- What was read is all that the reader had.
-use Rattle.std.proofs.Common.{◌≡◌, ℕ, ◌<◌, ◌≤◌, List, length, take, refl, sym, ap, ◌∙◌, arith, [], inr, Option, Some, None, Err}
-use Rattle.std.specs.Prelude.{IfSome, option_map}
-use Rattle.std.proofs.lemmas.List.{length-take, take_all}
+use Rattle.std.proofs.Common.{◌≡◌, ℕ, ◌<◌, ◌≤◌, List, length, take, refl, sym, ap, ◌∙◌, arith, [], inl, inr, Option, Some, None, Err, Bool, true, ◌++◌}
+use mathlib.Core.List.{IsPrefix}
+use Rattle.std.specs.Prelude.{IfSome, option_map, Result, Ok, ⊤}
+use Rattle.std.proofs.lemmas.List.{append-nil, length-take, take_all}
 use Rattle.std.proofs.KnownBytes.{Appends-nil}
-use Rattle.lines_demo.specs.declared.faults.ScriptFault.{ScriptFault}
-use Rattle.lines_demo.specs.declared.faults.ScriptFault.TheVariants.{Read, Write, Memory}
-use Rattle.lines_demo.specs.RunScript.{PlaysScript, IsScriptOf, IsAsMuch}
-use Rattle.lines_demo.specs.Script.{script_output}
+use Rattle.lines_demo.specs.declared.script.fault.ScriptFault.{ScriptFault}
+use Rattle.lines_demo.specs.declared.script.fault.ScriptFault.TheVariants.{Read, Write, Memory}
+use Rattle.lines_demo.specs.Script.RunScript.{PlaysScript, IsScriptOf, IsAsMuch}
+use Rattle.lines_demo.specs.Script.Session.{SessionState, LineResult}
+use Rattle.lines_demo.specs.Script.Playing.{Answers}
+use Rattle.lines_demo.specs.declared.script.run.TheConstants.{LONGEST_SCRIPT}
+use Rattle.lines_demo.specs.Script.Output.{script_output, script_result}
+
+-- the result of a script of which all lines were played, or the writing failed
+abbrev pub IsPlayed : Result (Unit {0}) ScriptFault → Bool → Type 0
+IsPlayed (Ok _) done = done ≡ true
+IsPlayed (Err Read) done = ⊥
+IsPlayed (Err Write) done = ⊤
+IsPlayed (Err Memory) done = ⊤
 
 -- a read that stopped short of its limit has taken all
 pub all-read : (known : Option (List ℕ)) (limit : ℕ) (items : List ℕ) → IfSome (option_map (take limit) known) (λ xs. items ≡ xs) → length items < limit → IfSome known (λ all. all ≡ items)
@@ -35,5 +46,40 @@ reading-stopped fault stock known a no_write = record {
 
   nothing : (fault : ScriptFault) → IsAsMuch (Err fault) [] (script_output stock [] [])
   nothing Read = refl
-  nothing Write = (_, refl)
-  nothing Memory = (_, refl)
+  nothing Write = (script_output stock [] [], refl)
+  nothing Memory = (script_output stock [] [], refl)
+
+-- all lines were played, or the writing failed within them
+pub script-played : (result : Result (Unit {0}) ScriptFault) (done : Bool) (stock : ℕ) (bytes : List ℕ) (state : SessionState) (known a b : Option (List ℕ)) → IsPlayed result done
+    → IfSome known (λ all. all ≡ bytes) → length bytes ≤ LONGEST_SCRIPT → Answers done (λ refusals. script_result stock refusals bytes) a b state → PlaysScript result stock known a b
+script-played result done stock bytes state known a b played given short answers = record {
+  bytes = bytes;
+  refusals = answers.used;
+  written = answers.written;
+  given = by_known known given;
+  bounded = short;
+  appended = answers.appended;
+  as_much = by_result result done played answers.prefix answers.whole;
+} where
+  by_known : (known : Option (List ℕ)) → IfSome known (λ all. all ≡ bytes) → IfSome known (λ all. IsScriptOf result all bytes answers.written)
+  by_known None given = tt
+  by_known (Some all) given = script result played given where
+    script : (r : Result (Unit {0}) ScriptFault) → IsPlayed r done → all ≡ bytes → IsScriptOf r all bytes answers.written
+    script (Ok _) played e = e
+    script (Err Read) played e = absurd played
+    script (Err Write) played e = e
+    script (Err Memory) played e = inl e
+
+  all-written : (done : Bool) → done ≡ true → (done ≡ true → (more : List Bool) → script_result stock (answers.used ++ more) bytes ≡ record { output = answers.written; state = state; refusals = more })
+      → answers.written ≡ script_output stock answers.used bytes
+  all-written done all whole =
+      let bytes_of : LineResult → List ℕ = λ result. result.output in
+      sym (ap (λ refusals. script_output stock refusals bytes) (sym (append-nil answers.used)) ∙ ap bytes_of (whole all []))
+
+  by_result : (r : Result (Unit {0}) ScriptFault) (done : Bool) → IsPlayed r done → IsPrefix answers.written (script_output stock answers.used bytes)
+      → (done ≡ true → (more : List Bool) → script_result stock (answers.used ++ more) bytes ≡ record { output = answers.written; state = state; refusals = more })
+      → IsAsMuch r answers.written (script_output stock answers.used bytes)
+  by_result (Ok _) done played prefix whole = all-written done played whole
+  by_result (Err Read) done played prefix whole = absurd played
+  by_result (Err Write) done played prefix whole = prefix
+  by_result (Err Memory) done played prefix whole = prefix

@@ -5,8 +5,8 @@ use Rattle.std.proofs.lemmas.Bool.Decides.{nat_tests}
 use Rattle.std.specs.Io.KnownBytes.{Appends, Keeps}
 use Rattle.std.proofs.KnownBytes.{Appends-nil, Appends-trans}
 use Rattle.lines_demo.specs.Prelude.{Signal}
-use Rattle.lines_demo.specs.Report.{signal_line, signal_lines}
 use Rattle.lines_demo.specs.Writing.{Writes}
+use Rattle.lines_demo.specs.Script.Turns.{signal_line, signal_lines}
 
 -- what is kept has what was appended before
 pub Appends-kept : (a b c : Option (List ℕ)) (bs : List ℕ) → Appends a b bs → Keeps b c → Appends a c bs
@@ -17,15 +17,15 @@ Appends-kept (Some x) (Some y) (Some z) bs p q = q ∙ p
 
 -- nothing was written
 pub writes-none : (a : Option (List ℕ)) (bytes : List ℕ) → Writes false a a bytes
-writes-none a bytes = record { written = []; appended = Appends-nil a; front = (bytes, refl); whole = λ e. cc }
+writes-none a bytes = record { written = []; appended = Appends-nil a; prefix = (bytes, refl); whole = λ e. cc }
 
 -- all was written
 pub writes-all : (a b : Option (List ℕ)) (bytes : List ℕ) → Appends a b bytes → Writes true a b bytes
-writes-all a b bytes p = record { written = bytes; appended = p; front = ([], sym (append-nil bytes)); whole = λ _. refl }
+writes-all a b bytes p = record { written = bytes; appended = p; prefix = ([], append-nil bytes); whole = λ _. refl }
 
--- a front was written
-pub writes-front : (a b : Option (List ℕ)) (written rest bytes : List ℕ) → Appends a b written → bytes ≡ written ++ rest → Writes false a b bytes
-writes-front a b written rest bytes p e = record { written = written; appended = p; front = (rest, e); whole = λ f. cc }
+-- a prefix was written
+pub writes-prefix : (a b : Option (List ℕ)) (written rest bytes : List ℕ) → Appends a b written → bytes ≡ written ++ rest → Writes false a b bytes
+writes-prefix a b written rest bytes p e = record { written = written; appended = p; prefix = (rest, sym e); whole = λ f. cc }
 
 -- where all was written, it was appended
 pub writes-done : (a b : Option (List ℕ)) (bytes : List ℕ) → Writes true a b bytes → Appends a b bytes
@@ -36,14 +36,14 @@ pub writes-after : (done : Bool) (a b c : Option (List ℕ)) (before bytes : Lis
 writes-after done a b c before bytes p w = record {
   written = before ++ w.written;
   appended = Appends-trans a b c before w.written p w.appended;
-  front = (w.front.0, ap (λ x. before ++ x) w.front.1 ∙ sym (append_assoc before w.written w.front.0));
+  prefix = (w.prefix.0, append_assoc before w.written w.prefix.0 ∙ ap (λ x. before ++ x) w.prefix.1);
   whole = λ e. ap (λ x. before ++ x) (w.whole e);
 }
 
--- what was not written whole is a front of more, too
+-- what was not written whole is a prefix of more
 pub writes-less : (a b : Option (List ℕ)) (bytes more : List ℕ) → Writes false a b bytes → Writes false a b (bytes ++ more)
 writes-less a b bytes more w =
-    writes-front a b w.written (w.front.0 ++ more) (bytes ++ more) w.appended (ap (λ x. x ++ more) w.front.1 ∙ append_assoc w.written w.front.0 more)
+    writes-prefix a b w.written (w.prefix.0 ++ more) (bytes ++ more) w.appended (ap (λ x. x ++ more) (sym w.prefix.1) ∙ append_assoc w.written w.prefix.0 more)
 
 -- one more write of what was left
 pub writes-more : (a b c : Option (List ℕ)) (n : ℕ) (written rest bytes : List ℕ) → Appends a b written → bytes ≡ written ++ rest → Appends b c (take n rest)

@@ -1,15 +1,5 @@
-pub mod Calls
-pub mod Command
-pub mod Faults
-pub mod Lane
-pub mod Law
-pub mod Lines
+pub mod Line
 pub mod Number
-pub mod Playing
 pub mod Prelude
-pub mod Report
-pub mod RunScript
 pub mod Script
-pub mod Stage
-pub mod Turns
 pub mod Writing

@@ -1,5 +1,4 @@
--- What most files import: the types, their variants (those of `Ending`, `How` and `Refusal` under the name of the type), and the words of clauses.
-pub use Rattle.flow_rules.specs.declared.answer.Answer.{Answer}
+-- What most files import: the types of the crates below, and their variants (those of `Ending`, `How`, `Outlook` and `Refusal` under the name of the type).
 pub use Rattle.flow_rules.specs.declared.demand.TheConstants.{UNBOUNDED}
 pub use Rattle.flow_rules.specs.declared.ending.Ending.{Ending}
 pub use Rattle.flow_rules.specs.declared.ending.Ending.TheVariants as Ending
@@ -12,7 +11,11 @@ pub use Rattle.flow_rules.specs.declared.signal.Fault.{Fault}
 pub use Rattle.flow_rules.specs.declared.signal.Fault.TheVariants.{Published, IllegalArgument, IllegalState}
 pub use Rattle.flow_rules.specs.declared.signal.Signal.{Signal}
 pub use Rattle.flow_rules.specs.declared.signal.Signal.TheVariants.{Subscribed, Next, Complete, Error}
-pub use Rattle.flow_rules.specs.Capacity.{capacity_of, IsCapacityOf}
-pub use Rattle.flow_rules.specs.Demand.{total_after}
-pub use Rattle.flow_rules.specs.Put.{IfAccepted, IfFull, IfGone}
-pub use Rattle.flow_rules.specs.Signals.{IsTerminalPart, IsFlowText, items_of}
+pub use Rattle.flow_rules.specs.declared.text.TheConstants.Text.{LONGEST as LONGEST_TEXT}
+pub use Rattle.flow_rules.specs.Capacity.{capacity_of}
+pub use Rattle.flow_rules.specs.Signals.{items_of}
+pub use Rattle.feed_core.specs.declared.turn.outlook.Outlook.{Outlook}
+pub use Rattle.feed_core.specs.declared.turn.outlook.Outlook.TheVariants as Outlook
+pub use Rattle.feed_core.specs.Desk.{DeskState, owes, desk_after_put, desk_after_end, desk_after_request, desk_after_turn}
+pub use Rattle.feed_core.specs.Lane.{LaneState, IsFlow, IsSettled}
+pub use Rattle.feed_core.specs.LaneCalls.{is_gone, lag_of}

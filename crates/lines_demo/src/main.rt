@@ -1,37 +1,40 @@
-//! `lines_demo script` plays a script on a publisher's subscription: it reads commands from standard input, one a line, and
-//! answers each on standard output.
+//! The command line: `lines_demo script` plays a script on a publisher's subscription. It reads commands from standard input, one a
+//! line, and answers each on standard output.
 #![tactic(auto)]
-
-ghost use Rattle.std.specs.Prelude.{◌≡◌, [], true, All, IfOk};
 
 use clap::Command;
 use clap::error::ErrorKind;
-use faults::ScriptFault;
-use flow_rules::{Collector, Subscriber};
-use scripts::run_script;
+use script::{ScriptFault, play_standard_input};
 use std::alloc::{AllocError, Global};
-use std::io::{BufWriter, Write};
 use std::process::ExitCode;
 use std::rt::Env;
 use std::{env, io};
 
-mod commands;
-mod entries;
-mod faults;
-mod laws;
-mod lines;
-mod numbers;
-mod outputs;
-mod scripts;
-mod sessions;
-#[cfg(test)]
-mod tests;
-
-/// How many subscribers a script may use.
-const STOCK: usize = 1024;
+mod line;
+mod number;
+mod script;
+mod writing;
 
 /// The exit status of a wrong command line.
 const WRONG_USE: u8 = 2;
+
+/// What `--version` prints after the name.
+const VERSION: &str = "0.1.0";
+
+/// What `--help` says of scripts.
+const SCRIPTS: &str = "Commands of a script, one a line, and their answers:
+  cap N           cap C     asks for a capacity of the buffer, before any other command
+  sub NAME N      sub NAME  subscribes, and requests N items
+  offer TEXT      offer R   publishes; R is the lag, -1 where there was no room, 0 where nobody takes it
+  submit TEXT     submit R  publishes, and is refused where it would wait for room
+  request NAME N  ok        requests N items more, at least 1
+  close           ok        closes the publisher
+  run             idle      makes turns until none is owed, after a line for each signal that they tell:
+                            NAME subscribed, NAME next TEXT, NAME complete, NAME memory
+A command that does nothing is answered `refused N WORD`.
+
+All of standard input is read before the first command is obeyed. A script has 16,777,216 bytes at most, a line 4,200, a text
+4,096 and a name 32. A number has 19 digits at most, and is 9,223,372,036,854,775,807 at most.";
 
 fn main(rt: HostRuntime) -> ExitCode {
     match run(&rt) {
@@ -45,14 +48,14 @@ fn main(rt: HostRuntime) -> ExitCode {
 
 /// Does what the command line asks for.
 fn run<R: Input + Print + Eprint + Env + AllocGlobal>(rt: &R) -> Result<ExitCode, ScriptFault> {
-    let words = env::args(rt)
-        .map_err(|_| ScriptFault::Memory)?
-        .collect::<Vec<String>>(rt.alloc())
-        .map_err(|_| ScriptFault::Memory)?;
+    let Some(words) = command_words(rt)? else {
+        let _ = eprintln!(rt; "lines_demo: an argument is not UTF-8");
+        return Ok(ExitCode::from(WRONG_USE));
+    };
     let command = command_line(rt.alloc()).map_err(|_| ScriptFault::Memory)?;
     let error = match command.try_get_matches_from(words.as_slice()) {
         Ok(_) => {
-            play(rt)?;
+            play_standard_input(rt)?;
             return Ok(ExitCode::SUCCESS);
         }
         Err(error) => error,
@@ -68,41 +71,29 @@ fn run<R: Input + Print + Eprint + Env + AllocGlobal>(rt: &R) -> Result<ExitCode
     }
 }
 
+/// The words of the command line, or `None` where one of them is not UTF-8.
+fn command_words<R: Env + AllocGlobal>(rt: &R) -> Result<Option<Vec<String>>, ScriptFault> {
+    match env::args(rt) {
+        Ok(words) => match words.collect::<Vec<String>>(rt.alloc()) {
+            Ok(words) => Ok(Some(words)),
+            Err(_) => Err(ScriptFault::Memory),
+        },
+        Err(error) => match error.kind() {
+            io::ErrorKind::OutOfMemory => Err(ScriptFault::Memory),
+            _ => Ok(None),
+        },
+    }
+}
+
 /// The command line: one subcommand.
 fn command_line<'a>(alloc: Global) -> Result<Command<'a>, AllocError> {
+    let script = Command::new(alloc, "script")
+        .about("Plays the script on standard input")
+        .after_help(SCRIPTS);
     Command::new(alloc, "lines_demo")
         .about("Publishes lines to subscribers")
+        .version(VERSION)
+        .after_help(SCRIPTS)
         .subcommand_required(true)
-        .subcommand(Command::new(alloc, "script").about("Plays the script on standard input"))
-}
-
-/// Plays the script on standard input.
-fn play<R: Input + Print + AllocGlobal>(rt: &R) -> Result<(), ScriptFault> {
-    let alloc = rt.alloc();
-    let mut collectors: Vec<Box<dyn Subscriber>> = Vec::new(alloc);
-    for _ in 0..STOCK {
-        let collector = Box::new(alloc, Collector::new(alloc)).map_err(|_| ScriptFault::Memory)?;
-        collectors.push(collector).map_err(|_| ScriptFault::Memory)?;
-    }
-    let stock = fresh(alloc, collectors)?;
-    let mut reader = rt.reader();
-    let mut writer = BufWriter::new(rt.alloc(), io::writer(rt)).map_err(|_| ScriptFault::Memory)?;
-    let played = run_script(rt.alloc(), &mut reader, &mut writer, stock);
-    let flushed = writer.flush();
-    played?;
-    flushed.map_err(|_| ScriptFault::Write)
-}
-
-/// Those of the subscribers that are steady and were told nothing, as a script needs them.
-fn fresh<B: Subscriber>(alloc: Global, subscribers: Vec<B>) -> Result<Vec<B>, ScriptFault>
-    ensures untold { IfOk result (λ stock. All (λ b. B.told b ≡ []) stock.items) }
-    ensures steady { IfOk result (λ stock. All (λ b. B.is_steady b ≡ true) stock.items) }
-{
-    let mut stock = Vec::new(alloc);
-    for subscriber in subscribers {
-        if subscriber.steady() && subscriber.told().is_empty() {
-            stock.push(subscriber).map_err(|_| ScriptFault::Memory)?;
-        }
-    }
-    Ok(stock)
+        .subcommand(script)
 }

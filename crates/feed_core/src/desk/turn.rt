@@ -23,21 +23,22 @@ impl<B: Subscriber> Desk<B> {
         requires steady { self.old.is_steady ≡ true }
 
         // What it tells, and what it changes: the lane by what it told, the mark of the task, and nothing else.
-        ensures plain { MeetsPlainTurn (plain_turn_of self.old.lane) seen.new result }
-        ensures after { self.new ≡ desk_after_turn self.old seen.new result }
+        ensures plain { MeetsPlainTurn (plain_turn_of self.old.lane) seen.new.signals result }
+        ensures after { self.new ≡ desk_after_turn self.old seen.new.signals result }
 
         // The Flow rules: the next items that were accepted, in order, and the lane as a whole.
-        ensures in_order { IsPrefix (items_of seen.new) (drop self.old.lane.given self.old.lane.accepted) }
+        ensures in_order { IsPrefix (items_of seen.new.signals) (drop self.old.lane.given self.old.lane.accepted) }
         ensures flow { IsFlow self.new.lane }
 
         // Its bounds.
         ensures at_most { self.new.lane.given ≤ self.old.lane.given + ITEMS_IN_A_TURN }
-        ensures few { length seen.new ≤ SIGNALS_IN_A_TURN }
+        ensures few { length seen.new.signals ≤ SIGNALS_IN_A_TURN }
+        ensures room { seen.new.room ≡ seen.old.room }
 
         // What it answers.
-        ensures again { result ≡ Again → length (items_of seen.new) ≡ ITEMS_IN_A_TURN }
-        ensures completed { EndsIn seen.new Complete ↔ (result ≡ Ended How.Completed) }
-        ensures errored { (fault : Fault) → EndsIn seen.new (Error fault) ↔ (result ≡ Ended (How.Errored fault)) }
+        ensures again { result ≡ Again → length (items_of seen.new.signals) ≡ ITEMS_IN_A_TURN }
+        ensures completed { EndsIn seen.new.signals Complete ↔ (result ≡ Ended How.Completed) }
+        ensures errored { (fault : Fault) → EndsIn seen.new.signals (Error fault) ↔ (result ≡ Ended (How.Errored fault)) }
     {
         seen.clear();
         if let Err(NoMemory) = self.greet(seen) {
@@ -56,9 +57,10 @@ impl<B: Subscriber> Desk<B> {
     fn greet(&mut self, seen: &mut Seen) -> Result<(), NoMemory>
         requires owed { Owes self.old }
         requires steady { self.old.is_steady ≡ true }
-        requires room { length seen.old < SIGNALS_IN_A_TURN }
-        ensures ok { OnOk result (Greets self.old self.new seen.old seen.new) }
-        ensures err { OnErr result ((self.new ≡ self.old) × (seen.new ≡ seen.old) × (self.old.lane.told ≡ [])) }
+        requires room { length seen.old.signals < SIGNALS_IN_A_TURN }
+        ensures ok { OnOk result (Greets self.old self.new seen.old.signals seen.new.signals) }
+        ensures err { OnErr result ((self.new ≡ self.old) × (seen.new.signals ≡ seen.old.signals) × (self.old.lane.told ≡ [])) }
+        ensures room { seen.new.room ≡ seen.old.room }
     {
         if self.subscriber.told().is_empty() {
             let _ = tell_subscribed(&mut self.subscriber, seen)?;
@@ -69,8 +71,9 @@ impl<B: Subscriber> Desk<B> {
     /// Looks at the causes, and does what they allow: the end, one item, or rest.
     fn look(&mut self, seen: &mut Seen) -> Outlook
         requires mid_turn { IsMidTurn self.old }
-        requires room { length seen.old < SIGNALS_IN_A_TURN }
-        ensures { Looks self.old self.new seen.old seen.new result }
+        requires room { length seen.old.signals < SIGNALS_IN_A_TURN }
+        ensures looks { Looks self.old self.new seen.old.signals seen.new.signals result }
+        ensures room { seen.new.room ≡ seen.old.room }
     {
         if let Some(how) = self.causes.stops() {
             return self.finish(how, seen);
@@ -90,8 +93,9 @@ impl<B: Subscriber> Desk<B> {
         requires unstopped { stops self.old.lane.causes ≡ None }
         requires waits { self.old.lane.given < length self.old.lane.accepted }
         requires requested { self.old.lane.given < self.old.lane.asked }
-        requires room { length seen.old < SIGNALS_IN_A_TURN }
-        ensures { Looks self.old self.new seen.old seen.new result }
+        requires room { length seen.old.signals < SIGNALS_IN_A_TURN }
+        ensures looks { Looks self.old self.new seen.old.signals seen.new.signals result }
+        ensures room { seen.new.room ≡ seen.old.room }
     {
         let item = self.held.pop_front().unwrap();
         self.given += 1;
@@ -108,8 +112,9 @@ impl<B: Subscriber> Desk<B> {
     fn finish(&mut self, how: How, seen: &mut Seen) -> Outlook
         requires mid_turn { IsMidTurn self.old }
         requires owed { OwesEnd self.old.lane how }
-        requires room { length seen.old < SIGNALS_IN_A_TURN }
-        ensures { Looks self.old self.new seen.old seen.new result }
+        requires room { length seen.old.signals < SIGNALS_IN_A_TURN }
+        ensures looks { Looks self.old self.new seen.old.signals seen.new.signals result }
+        ensures room { seen.new.room ≡ seen.old.room }
     {
         let how = match tell_terminal(&mut self.subscriber, how, seen) {
             Ok(()) => how,

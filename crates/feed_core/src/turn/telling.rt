@@ -3,6 +3,7 @@ ghost use Rattle.std.specs.Prelude.{◌≡◌, ◌<◌, ◌∷◌, ◌++◌, [],
 ghost use Rattle.flow_rules.specs.declared.answer.Answer.TheVariants.{Go};
 ghost use Rattle.feed_core.specs.Prelude.{Subscribed, Next};
 ghost use Rattle.feed_core.specs.PlainTurn.{terminal_of};
+ghost use Rattle.feed_core.specs.Seen.{seen_with};
 ghost use Rattle.feed_core.specs.Steps.{HasTerminal};
 
 use crate::turn::{SIGNALS_IN_A_TURN, Seen};
@@ -13,9 +14,9 @@ pub(crate) fn tell_subscribed<B: Subscriber>(
     subscriber: &mut B,
     seen: &mut Seen,
 ) -> Result<Answer, NoMemory>
-    requires room { length seen.old < SIGNALS_IN_A_TURN }
+    requires room { length seen.old.signals < SIGNALS_IN_A_TURN }
     ensures told { OnOk result (B.told subscriber.new ≡ B.told subscriber.old ++ Subscribed ∷ []) }
-    ensures seen { OnOk result (seen.new ≡ seen.old ++ Subscribed ∷ []) }
+    ensures seen { OnOk result (seen.new ≡ seen_with (Subscribed ∷ []) seen.old) }
     ensures err { OnErr result ((B.told subscriber.new ≡ B.told subscriber.old) × (seen.new ≡ seen.old)) }
     ensures steady { B.is_steady subscriber.old ≡ true → B.is_steady subscriber.new ≡ true }
     ensures goes_on { B.is_steady subscriber.old ≡ true → IfOk result (λ answer. answer ≡ Go) }
@@ -31,9 +32,9 @@ pub(crate) fn tell_next<B: Subscriber>(
     item: Item,
     seen: &mut Seen,
 ) -> Result<Answer, Item>
-    requires room { length seen.old < SIGNALS_IN_A_TURN }
+    requires room { length seen.old.signals < SIGNALS_IN_A_TURN }
     ensures told { OnOk result (B.told subscriber.new ≡ B.told subscriber.old ++ Next item ∷ []) }
-    ensures seen { OnOk result (seen.new ≡ seen.old ++ Next item ∷ []) }
+    ensures seen { OnOk result (seen.new ≡ seen_with (Next item ∷ []) seen.old) }
     ensures err { OnErr result ((B.told subscriber.new ≡ B.told subscriber.old) × (seen.new ≡ seen.old)) }
     ensures back { IfErr result (λ back. back ≡ item) }
     ensures steady { B.is_steady subscriber.old ≡ true → B.is_steady subscriber.new ≡ true }
@@ -54,9 +55,9 @@ pub(crate) fn tell_terminal<B: Subscriber>(
     how: How,
     seen: &mut Seen,
 ) -> Result<(), NoMemory>
-    requires room { length seen.old < SIGNALS_IN_A_TURN }
+    requires room { length seen.old.signals < SIGNALS_IN_A_TURN }
     ensures told { OnOk result (B.told subscriber.new ≡ B.told subscriber.old ++ terminal_of how) }
-    ensures seen { OnOk result (seen.new ≡ seen.old ++ terminal_of how) }
+    ensures seen { OnOk result (seen.new ≡ seen_with (terminal_of how) seen.old) }
     ensures err { OnErr result ((B.told subscriber.new ≡ B.told subscriber.old) × (seen.new ≡ seen.old)) }
     ensures missed { OnErr result (HasTerminal how) }
     ensures steady { B.is_steady subscriber.old ≡ true → B.is_steady subscriber.new ≡ true }

@@ -3,6 +3,7 @@ use Rattle.std.proofs.Common.{◌++◌, length, ap, sym, ◌∙◌, subst}
 use Rattle.std.proofs.lemmas.List.{append-nil}
 use Rattle.feed_core.specs.Prelude.{How}
 use Rattle.feed_core.specs.Desk.{DeskState}
+use Rattle.feed_core.specs.Seen.{SeenState}
 use Rattle.feed_core.specs.Steps.{IsMidTurn, OwesEnd}
 use Rattle.feed_core.proofs.DeskSteps.{ended_items, in_order_owed, in_order_ended}
 use Rattle.feed_core.proofs.Looks.{looks_ended, looks_missed}
@@ -31,16 +32,16 @@ invariant_of-self g c =
           })
     ]
 
-pub returns : goal.returns
-returns g c =
+pub returns-clause-looks : goal.returns-clause-looks
+returns-clause-looks g c =
     let mid = subst (λ (desk : DeskState). IsMidTurn desk) (sym c.self.view_is) c.requires.mid_turn in
     let owed = subst (λ (desk : DeskState). OwesEnd desk.lane c.args.how) (sym c.self.view_is) c.requires.owed in
     elim c.match-tell_terminal.branch [
       | in-Ok w ↦
           rw (← c.self.view_is, c.end_as.ensures.causes, c.end_as.ensures.ended, c.end_as.ensures.value, w.how-is)
-          (looks_ended c.self.invariant.in_order mid.owed.1 mid.owed.0 mid.begun c.args.how owed c.tell_terminal.ensures.steady w.in-Ok.ensures.told w.in-Ok.ensures.seen)
+          (looks_ended c.self.invariant.in_order mid.owed.1 mid.owed.0 mid.begun c.args.how owed c.tell_terminal.ensures.steady w.in-Ok.ensures.told (ap (λ (seen : SeenState). seen.signals) w.in-Ok.ensures.seen))
       | in-Err w ↦
           let err = w.in-Err.ensures.err in
           rw (← c.self.view_is, c.end_as.ensures.causes, c.end_as.ensures.ended, c.end_as.ensures.value, w.how-is)
-          (looks_missed c.self.invariant.in_order mid.owed.1 mid.owed.0 mid.begun c.args.how owed c.tell_terminal.ensures.steady err.0 err.1 w.in-Err.ensures.missed)
+          (looks_missed c.self.invariant.in_order mid.owed.1 mid.owed.0 mid.begun c.args.how owed c.tell_terminal.ensures.steady err.0 (ap (λ (seen : SeenState). seen.signals) err.1) w.in-Err.ensures.missed)
     ]

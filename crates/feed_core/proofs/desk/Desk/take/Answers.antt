@@ -3,6 +3,7 @@ use Rattle.std.proofs.Common.{◌≡◌, ◌<◌, ◌≤◌, ◌∷◌, length, 
 use Rattle.feed_core.specs.Prelude.{Item}
 use Rattle.feed_core.specs.Cause.{stops}
 use Rattle.feed_core.specs.Desk.{DeskState}
+use Rattle.feed_core.specs.Seen.{SeenState}
 use Rattle.feed_core.specs.Steps.{IsMidTurn, MovesNext}
 use Rattle.feed_core.proofs.DeskSteps.{accepted_kept, in_order_given}
 use Rattle.feed_core.proofs.Looks.{looks_given, looks_lost}
@@ -12,25 +13,25 @@ pub invariant_of-self : goal.invariant_of-self
 invariant_of-self g c =
     let mid = subst (λ (desk : DeskState). IsMidTurn desk) (sym c.self.view_is) c.requires.mid_turn in
     let requested = subst (λ (desk : DeskState). desk.lane.given < desk.lane.asked) (sym c.self.view_is) c.requires.requested in
-    let moves : MovesNext _ _ c.self.inside.held.items c.pop_front.new.self.items c.args.seen.now c.tell_next.new.seen =
-    record { item = c.unwrap-item.result; waited = rw c.unwrap-item.ensures at c.pop_front.ensures.items; told_after = c.in-Ok.ensures.told; seen_after = c.in-Ok.ensures.seen } in
+    let moves : MovesNext _ _ c.self.inside.held.items c.pop_front.new.self.items c.args.seen.now.signals c.tell_next.new.seen.signals =
+    record { item = c.unwrap-item.result; waited = rw c.unwrap-item.ensures at c.pop_front.ensures.items; told_after = c.in-Ok.ensures.told; seen_after = ap (λ (seen : SeenState). seen.signals) c.in-Ok.ensures.seen } in
     record {
       in_order = in_order_given c.self.invariant.in_order mid.owed.1 mid.owed.0 mid.begun moves requested;
       counted = ap length (accepted_kept c.self.invariant.in_order mid.owed.1 mid.owed.0 mid.begun moves) ∙ c.self.invariant.counted;
       roomy = subst (λ room. c.self.inside.capacity ≤ room) (sym c.pop_front.ensures.capacity) c.self.invariant.roomy;
     }
 
-pub returns-in-Ok : goal.returns-in-Ok
-returns-in-Ok g c =
+pub returns-in-Ok-clause-looks : goal.returns-in-Ok-clause-looks
+returns-in-Ok-clause-looks g c =
     let mid = subst (λ (desk : DeskState). IsMidTurn desk) (sym c.self.view_is) c.requires.mid_turn in
     let unstopped = ap (λ (desk : DeskState). stops desk.lane.causes) c.self.view_is ∙ c.requires.unstopped in
     let requested = subst (λ (desk : DeskState). desk.lane.given < desk.lane.asked) (sym c.self.view_is) c.requires.requested in
-    let moves : MovesNext _ _ c.self.inside.held.items c.pop_front.new.self.items c.args.seen.now c.tell_next.new.seen =
-    record { item = c.unwrap-item.result; waited = rw c.unwrap-item.ensures at c.pop_front.ensures.items; told_after = c.in-Ok.ensures.told; seen_after = c.in-Ok.ensures.seen } in
+    let moves : MovesNext _ _ c.self.inside.held.items c.pop_front.new.self.items c.args.seen.now.signals c.tell_next.new.seen.signals =
+    record { item = c.unwrap-item.result; waited = rw c.unwrap-item.ensures at c.pop_front.ensures.items; told_after = c.in-Ok.ensures.told; seen_after = ap (λ (seen : SeenState). seen.signals) c.in-Ok.ensures.seen } in
     rw (← c.self.view_is) (looks_given c.self.invariant.in_order mid.owed.1 mid.owed.0 mid.begun moves unstopped requested c.tell_next.ensures.steady)
 
-pub returns-in-Err : goal.returns-in-Err
-returns-in-Err g c =
+pub returns-in-Err-clause-looks : goal.returns-in-Err-clause-looks
+returns-in-Err-clause-looks g c =
     let mid = subst (λ (desk : DeskState). IsMidTurn desk) (sym c.self.view_is) c.requires.mid_turn in
     let unstopped = ap (λ (desk : DeskState). stops desk.lane.causes) c.self.view_is ∙ c.requires.unstopped in
     let waits = subst (λ (desk : DeskState). desk.lane.given < length desk.lane.accepted) (sym c.self.view_is) c.requires.waits in
@@ -39,4 +40,4 @@ returns-in-Err g c =
     let waited : c.self.inside.held.items ≡ c.unwrap-item.result ∷ c.pop_front.new.self.items = rw c.unwrap-item.ensures at c.pop_front.ensures.items in
     let back : c.push_front_reserved.new.self.items ≡ c.self.inside.held.items =
     c.push_front_reserved.ensures.items ∙ ap (λ (item : Item). item ∷ c.pop_front.new.self.items) c.in-Err.ensures.back ∙ sym waited in
-    rw (← c.self.view_is, c.end_as.ensures.causes, c.end_as.ensures.ended, c.end_as.ensures.value) (looks_lost c.self.invariant.in_order mid.owed.1 mid.owed.0 mid.begun err.0 back err.1 unstopped waits requested c.tell_next.ensures.steady)
+    rw (← c.self.view_is, c.end_as.ensures.causes, c.end_as.ensures.ended, c.end_as.ensures.value) (looks_lost c.self.invariant.in_order mid.owed.1 mid.owed.0 mid.begun err.0 back (ap (λ (seen : SeenState). seen.signals) err.1) unstopped waits requested c.tell_next.ensures.steady)

@@ -1,5 +1,0 @@
-use Rattle.lines_demo.proofs.Lawful.{script-lawful}
-use Rattle.lines_demo.proofs.laws.scripts_keep_the_flow_rules.Goals as goal
-
-pub returns : goal.returns
-returns c = script-lawful

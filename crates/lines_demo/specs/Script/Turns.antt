@@ -1,0 +1,102 @@
+-- The turns that a `run` makes, and their lines.
+use Rattle.std.specs.Prelude.{ℕ, zero, suc, ◌+◌, Bool, true, false, if◌then◌else◌, Option, Some, None, List, [], ◌∷◌, ◌++◌, codes, decimal}
+use Rattle.feed_core.specs.PlainTurn.{plain_turn_of}
+use Rattle.feed_core.specs.Turn.{how_after}
+use Rattle.lines_demo.specs.Prelude.{Signal, Subscribed, Next, Complete, Error, Fault, Published, IllegalArgument, IllegalState, How, Outlook, owes, desk_after_turn, lag_of}
+use Rattle.lines_demo.specs.Writing.{line_of}
+use Rattle.lines_demo.specs.Script.Session.{SubscriptionState, SessionState, LineResult, empty_result, result_then}
+
+-- what is said of a fault
+abbrev pub fault_text : Fault → List ℕ
+fault_text (Published code) = codes " error published " ++ decimal code
+fault_text IllegalArgument = codes " error argument"
+fault_text IllegalState = codes " error state"
+
+-- what is said of a signal
+abbrev pub signal_text : Signal → List ℕ
+signal_text Subscribed = codes " subscribed"
+signal_text (Next item) = codes " next " ++ item.text
+signal_text Complete = codes " complete"
+signal_text (Error fault) = fault_text fault
+
+-- the line of a signal that the subscriber of this name was told
+abbrev pub signal_line : List ℕ → Signal → List ℕ
+signal_line name signal = line_of (name ++ signal_text signal)
+
+-- the lines of several signals
+abbrev pub signal_lines : List ℕ → List Signal → List ℕ
+signal_lines name [] = []
+signal_lines name (signal ∷ signals) = signal_line name signal ++ signal_lines name signals
+
+-- the line of an end of which the subscriber was told nothing, if there is one: that it met want of memory
+abbrev pub untold_end_line : List ℕ → Option How → List ℕ
+untold_end_line name None = []
+untold_end_line name (Some How.OutOfMemory) = line_of (name ++ codes " memory")
+untold_end_line name (Some How.Completed) = []
+untold_end_line name (Some (How.Errored _)) = []
+untold_end_line name (Some How.Cancelled) = []
+untold_end_line name (Some (How.Failed _)) = []
+
+-- the lines of a turn: what was told, and then want of memory
+abbrev pub turn_lines : List ℕ → List Signal → Outlook → List ℕ
+turn_lines name told outlook = signal_lines name told ++ untold_end_line name (how_after outlook)
+
+-- which of the signals of a turn are told, and which are missed since memory is refused to a callback
+pub record TurnParts : Type 0 where
+  pub told : List Signal
+  pub missed : List Signal
+  pub refusals : List Bool
+
+abbrev pub with_signal_told : Signal → TurnParts → TurnParts
+with_signal_told signal parts = record parts { told = signal ∷ parts.told }
+
+-- each callback is a point at which memory may be refused
+abbrev pub parts_of_turn : List Bool → List Signal → TurnParts
+parts_of_turn refusals [] = record { told = []; missed = []; refusals = refusals }
+parts_of_turn [] (signal ∷ signals) = with_signal_told signal (parts_of_turn [] signals)
+parts_of_turn (false ∷ refusals) (signal ∷ signals) = with_signal_told signal (parts_of_turn refusals signals)
+parts_of_turn (true ∷ refusals) (signal ∷ signals) = record { told = []; missed = signal ∷ signals; refusals = refusals }
+
+-- a callback that is refused memory ends the subscription
+abbrev pub outlook_where : List Signal → Outlook → Outlook
+outlook_where [] outlook = outlook
+outlook_where (_ ∷ _) outlook = Outlook.Ended How.OutOfMemory
+
+-- the subscription after a turn that told these signals, and had this outlook
+abbrev pub subscription_after_turn : SubscriptionState → List Signal → Outlook → SubscriptionState
+subscription_after_turn subscription told outlook = record subscription { desk = desk_after_turn subscription.desk told outlook }
+
+-- one turn, if there is a subscription
+abbrev pub turn_result : SessionState → Option SubscriptionState → List Bool → LineResult
+turn_result state None refusals = empty_result state refusals
+turn_result state (Some subscription) refusals =
+    let plain = plain_turn_of subscription.desk.lane in
+    let parts = parts_of_turn refusals plain.told in
+    let outlook = outlook_where parts.missed plain.outlook in
+    record {
+      output = turn_lines subscription.name parts.told outlook;
+      state = record state { subscription = Some (subscription_after_turn subscription parts.told outlook) };
+      refusals = parts.refusals;
+    }
+
+-- whether a turn is owed
+abbrev pub owes_turn : Option SubscriptionState → Bool
+owes_turn None = false
+owes_turn (Some subscription) = owes subscription.desk
+
+-- how many items wait
+abbrev pub waiting_items : Option SubscriptionState → ℕ
+waiting_items None = 0
+waiting_items (Some subscription) = lag_of subscription.desk.lane
+
+-- turns as long as one is owed, and at most so many
+abbrev pub turns_result : ℕ → SessionState → List Bool → LineResult
+turns_result zero state refusals = empty_result state refusals
+turns_result (suc most) state refusals =
+    if owes_turn state.subscription
+    then result_then (turn_result state state.subscription refusals) (turns_result most)
+    else empty_result state refusals
+
+-- all turns that are owed: each but the last gives an item that waits, so there are at most as many as items, and one more
+abbrev pub run_turns : SessionState → List Bool → LineResult
+run_turns state refusals = turns_result (waiting_items state.subscription + 1) state refusals

@@ -1,0 +1,54 @@
+//! Numbers: how bytes spell one.
+ghost use Rattle.std.specs.Prelude.{◌≡◌, ◌≤◌, length, IsTrue, IfSome, All};
+ghost use Rattle.std.specs.List.{list_all};
+ghost use Rattle.lines_demo.specs.Number.{is_digit, is_number, value_of_digits, spelled_number, IsDigit};
+
+use flow_rules::UNBOUNDED;
+
+/// The most digits of a number.
+pub const MOST_DIGITS: usize = 19;
+
+/// The number that the bytes spell: 1 to 19 digits, up to 2^63-1.
+#[tactic(auto, unfolding(crate::specs::Number::spelled_number))]
+pub fn parse_number(bytes: &[u8]) -> Option<u64>
+    ensures value { result ≡ spelled_number bytes.now }
+    ensures bounded { IfSome result (λ n. n ≤ UNBOUNDED) }
+{
+    if !is_number(bytes) {
+        return None;
+    }
+    let value = value_of(bytes);
+    if value <= UNBOUNDED {
+        Some(value)
+    } else {
+        None
+    }
+}
+
+fn is_number(bytes: &[u8]) -> bool
+    ensures value { result ≡ is_number bytes.now }
+    ensures short { IsTrue result → length bytes.now ≤ MOST_DIGITS }
+    ensures digits { IsTrue result → All IsDigit bytes.now }
+{
+    1 <= bytes.len() && bytes.len() <= MOST_DIGITS && are_digits(bytes)
+}
+
+fn are_digits(bytes: &[u8]) -> bool
+    ensures value { result ≡ list_all is_digit bytes.now }
+    ensures digits { IsTrue result → All IsDigit bytes.now }
+{
+    bytes.iter().all(|byte| *byte >= b'0' && *byte <= b'9')
+}
+
+#[tactic(auto, using(crate::proofs::Digits::more_digits))]
+fn value_of(digits: &[u8]) -> u64
+    requires short { length digits.now ≤ MOST_DIGITS }
+    requires digits { All IsDigit digits.now }
+    ensures { result ≡ value_of_digits digits.now }
+{
+    let mut value = 0;
+    for digit in digits {
+        value = 10 * value + u64::from(*digit - b'0');
+    }
+    value
+}

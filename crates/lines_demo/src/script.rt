@@ -1,0 +1,16 @@
+//! A script: commands, one a line, that are played on a publisher's one subscription, and what they are answered.
+mod command;
+mod fault;
+mod law;
+mod player;
+mod reply;
+mod run;
+mod session;
+mod standard_input;
+mod subscription;
+mod text_bytes;
+mod turn_lines;
+
+pub use fault::ScriptFault;
+pub use run::run_script;
+pub use standard_input::{play_standard_input, steady_and_untold};

@@ -1,0 +1,92 @@
+//! The commands of a script, and how a line spells one.
+ghost use Rattle.std.specs.Prelude.{◌≡◌, ◌≤◌, Some, IfSome};
+ghost use Rattle.lines_demo.specs.Script.Command.{first_word, after_space, positive, spelled_text};
+
+use super::text_bytes::TextBytes;
+use crate::line::split_at_byte;
+use crate::number::parse_number;
+use flow_rules::Name;
+
+/// A command of a script.
+#[derive(Debug, Drop)]
+pub enum Command<'a> {
+    /// `cap N`: the capacity of the buffers, before any other command.
+    Cap(u64),
+    /// `sub NAME N`: the next subscriber of the stock subscribes with this name and requests N items.
+    Sub(Name, u64),
+    /// `offer TEXT`: drops the text where there is no room.
+    Offer(TextBytes<'a>),
+    /// `submit TEXT`: is refused where there is no room.
+    Submit(TextBytes<'a>),
+    /// `request NAME N`, N at least 1
+    Request(Name, u64),
+    /// `close`
+    Close,
+    /// `run`: turns until none is owed.
+    Run,
+}
+
+impl<'a> Command<'a> {
+    ghost use Rattle.std.specs.Prelude.{◌≡◌, IfSome};
+    ghost use Rattle.lines_demo.specs.Script.Command.{command_of, IsInRange};
+
+    /// The command that a line spells, or `None` where its form is wrong.
+    #[tactic(auto, unfolding(crate::specs::Script::Command::command_of))]
+    pub fn parse(line: &'a [u8]) -> Option<Command<'a>>
+        ensures value { result ≡ command_of line.entry.now }
+        ensures in_range { IfSome result IsInRange }
+    {
+        if line == b"run".as_slice() {
+            return Some(Command::Run);
+        }
+        if line == b"close".as_slice() {
+            return Some(Command::Close);
+        }
+        let (word, rest) = split_word(line);
+        if word == b"offer".as_slice() {
+            return Some(Command::Offer(parse_text(rest)?));
+        }
+        if word == b"submit".as_slice() {
+            return Some(Command::Submit(parse_text(rest)?));
+        }
+        if word == b"cap".as_slice() {
+            return Some(Command::Cap(parse_number(rest)?));
+        }
+        if word == b"sub".as_slice() {
+            let (name, digits) = split_word(rest);
+            return Some(Command::Sub(Name::new(name)?, parse_number(digits)?));
+        }
+        if word == b"request".as_slice() {
+            let (name, digits) = split_word(rest);
+            return Some(Command::Request(Name::new(name)?, positive(parse_number(digits)?)?));
+        }
+        None
+    }
+}
+
+/// The first word and what follows the space after it.
+fn split_word(bytes: &[u8]) -> (&[u8], &[u8])
+    ensures word { result.0.now ≡ first_word bytes.now }
+    ensures rest { result.1.now ≡ after_space bytes.now }
+{
+    split_at_byte(bytes, b' ')
+}
+
+/// The text, if it has at least one byte.
+fn parse_text(bytes: &[u8]) -> Option<TextBytes<'_>>
+    ensures { result ≡ spelled_text bytes.entry.now }
+{
+    if bytes.is_empty() {
+        None
+    } else {
+        Some(TextBytes::new(bytes))
+    }
+}
+
+/// The number, if it is at least 1.
+fn positive(number: u64) -> Option<u64>
+    ensures value { result ≡ positive (Some number) }
+    ensures positive { IfSome result (λ n. (1 ≤ n) × (n ≡ number)) }
+{
+    if number == 0 { None } else { Some(number) }
+}

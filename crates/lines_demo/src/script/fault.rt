@@ -1,0 +1,31 @@
+//! Why a script stops before its end.
+use crate::writing::OutputFault;
+use thiserror::Error;
+
+/// Why a script stopped. What was written before stays.
+#[derive(Clone, Copy, Debug, PartialEq, Eq, Error)]
+pub enum ScriptFault {
+    /// The reader failed, or the script is longer than it may be.
+    #[error("read fault")]
+    Read,
+    /// The writer failed, or took no more bytes.
+    #[error("write fault")]
+    Write,
+    /// Memory was refused where no answer can say so.
+    #[error("memory")]
+    Memory,
+}
+
+impl From<OutputFault> for ScriptFault {
+    ghost use Rattle.std.specs.Prelude.{◌≡◌};
+    ghost use Rattle.lines_demo.specs.Script.Fault.{script_fault};
+
+    ghost from_gives = { λ fault result. result ≡ script_fault fault };
+
+    fn from(fault: OutputFault) -> ScriptFault {
+        match fault {
+            OutputFault::Write => ScriptFault::Write,
+            OutputFault::Memory => ScriptFault::Memory,
+        }
+    }
+}

@@ -1,0 +1,138 @@
+//! The player: it has a session obey the lines of a script, and writes what they are answered.
+ghost use Rattle.std.specs.Prelude.{◌≡◌, ◌<◌, Some, [], true, All, length, is_ok, IsTrue, IfOk, OnOk, false};
+ghost use Rattle.lines_demo.specs.Line.{lines_of};
+ghost use Rattle.lines_demo.specs.Writing.{Writes, line_of};
+ghost use Rattle.lines_demo.specs.Script.Command.{IsInRange};
+ghost use Rattle.lines_demo.specs.Script.Law.{IsSettledSession};
+ghost use Rattle.lines_demo.specs.Script.Output.{line_result, lines_result, spelled_result};
+ghost use Rattle.lines_demo.specs.Script.Playing.{Answers, PrintsTurn};
+ghost use Rattle.lines_demo.specs.Script.Reply.{reply_text};
+ghost use Rattle.lines_demo.specs.Script.Session.{state_at_start};
+ghost use Rattle.lines_demo.specs.Script.Turns.{owes_turn, run_turns, turn_result, waiting_items};
+
+use super::command::Command;
+use super::reply::Reply;
+use super::session::Session;
+use super::turn_lines::write_turn;
+use crate::line::{split_line, strip_return};
+use crate::writing::{OutputFault, write_line};
+use feed_core::Seen;
+use flow_rules::{NoMemory, Refusal, Subscriber};
+use std::alloc::Global;
+use std::io::Write;
+
+/// The most bytes of a line, without its line feed and the carriage return before it.
+pub const LONGEST_LINE: usize = 4200;
+
+/// A session, and the room for its turns and its lines, which is used again for each.
+#[derive(Drop)]
+pub struct Player<B: Subscriber> {
+    pub session: Session<B>,
+    alloc: Global,
+    seen: Seen,
+    buffer: Vec<u8>,
+}
+
+impl<B: Subscriber> Player<B> {
+    /// The start of a script, with these subscribers to take from. They are steady and were told nothing.
+    pub fn new(alloc: Global, stock: Vec<B>) -> Result<Player<B>, NoMemory>
+        requires untold { All (λ b. B.told b ≡ []) stock.items }
+        requires steady { All (λ b. B.is_steady b ≡ true) stock.items }
+        ensures { IfOk result (λ player. player.session ≡ state_at_start (length stock.items)) }
+    {
+        Ok(Player {
+            seen: Seen::new(alloc)?,
+            session: Session::new(stock),
+            alloc,
+            buffer: Vec::new(alloc),
+        })
+    }
+
+    /// Plays the lines of these bytes.
+    pub fn play_lines<W: Write>(&mut self, bytes: &[u8], writer: &mut W) -> Result<(), OutputFault>
+        ensures { Answers (is_ok result) (λ refusals. lines_result (lines_of bytes.now) self.old.session refusals)
+            (W.contents writer.old) (W.contents writer.new) self.new.session }
+    {
+        let mut rest = bytes;
+        while !rest.is_empty() {
+            let (line, after) = split_line(rest);
+            self.play_line(strip_return(line), writer)?;
+            rest = after;
+        }
+        Ok(())
+    }
+
+    /// Plays a line: nothing where it is empty, and a refusal where it is too long or spells no command.
+    fn play_line<W: Write>(&mut self, line: &[u8], writer: &mut W) -> Result<(), OutputFault>
+        ensures { Answers (is_ok result) (λ refusals. line_result self.old.session refusals line.now)
+            (W.contents writer.old) (W.contents writer.new) self.new.session }
+    {
+        if line.is_empty() {
+            return Ok(());
+        }
+        if line.len() > LONGEST_LINE {
+            return self.answer(Reply::Refused(Refusal::LineTooLong), writer);
+        }
+        match Command::parse(line) {
+            Some(command) => self.play_command(command, writer),
+            None => self.answer(Reply::Refused(Refusal::BadCommand), writer),
+        }
+    }
+
+    /// Plays a command: the turns of a `run`, and then what the session answers.
+    fn play_command<W: Write>(
+        &mut self,
+        command: Command<'_>,
+        writer: &mut W,
+    ) -> Result<(), OutputFault>
+        requires { IsInRange command }
+        ensures { Answers (is_ok result) (λ refusals. spelled_result (Some command.entry) self.old.session refusals)
+            (W.contents writer.old) (W.contents writer.new) self.new.session }
+    {
+        if matches!(command, Command::Run) {
+            self.play_turns(writer)?;
+        }
+        let reply = self.session.obey(self.alloc, command);
+        self.answer(reply, writer)
+    }
+
+    /// Makes turns until none is owed, and writes the lines of each.
+    fn play_turns<W: Write>(&mut self, writer: &mut W) -> Result<(), OutputFault>
+        ensures turns { Answers (is_ok result) (λ refusals. run_turns self.old.session refusals)
+            (W.contents writer.old) (W.contents writer.new) self.new.session }
+        ensures rests { OnOk result (owes_turn self.new.session.subscription ≡ false) }
+        ensures settled { OnOk result (IsSettledSession self.new.session) }
+    {
+        while self.session.owes_turn() {
+            self.play_turn(writer)?;
+        }
+        Ok(())
+    }
+
+    /// Makes a turn, and writes its lines.
+    fn play_turn<W: Write>(&mut self, writer: &mut W) -> Result<(), OutputFault>
+        requires { IsTrue (owes_turn self.old.session.subscription) }
+        ensures turn { Answers (is_ok result) (λ refusals. turn_result self.old.session self.old.session.subscription refusals)
+            (W.contents writer.old) (W.contents writer.new) self.new.session }
+        ensures prints { PrintsTurn (is_ok result) self.old.session self.new.session (W.contents writer.old) (W.contents writer.new) }
+        ensures fewer { IsTrue (owes_turn self.new.session.subscription)
+            → waiting_items self.new.session.subscription < waiting_items self.old.session.subscription }
+    {
+        let (name, outlook) = self.session.turn(&mut self.seen);
+        write_turn(
+            writer,
+            &mut self.buffer,
+            &name,
+            self.seen.as_slice(),
+            outlook,
+        )
+    }
+
+    /// Writes a reply.
+    fn answer<W: Write>(&mut self, reply: Reply, writer: &mut W) -> Result<(), OutputFault>
+        ensures line { Writes (is_ok result) (W.contents writer.old) (W.contents writer.new) (line_of (reply_text reply)) }
+        ensures kept { self.new.session ≡ self.old.session }
+    {
+        write_line(writer, &mut self.buffer, reply)
+    }
+}

@@ -1,0 +1,41 @@
+//! What a command is answered.
+ghost use Rattle.std.specs.Prelude.{Some};
+ghost use Rattle.lines_demo.specs.Script.Reply.{reply_text};
+
+use flow_rules::{Name, Refusal};
+use std::fmt;
+
+/// The answer to a command of a script. It prints as its line, without the line feed.
+#[derive(Debug, Drop)]
+pub enum Reply {
+    /// `cap C`: the capacity that is enforced.
+    Capacity(usize),
+    /// `sub NAME`: the name of the new subscription.
+    Name(Name),
+    /// `offer R`: the lag, -1 where the item was dropped for want of room, or 0 where nobody takes it.
+    Offered(i64),
+    /// `submit R`: the lag, or 0 where nobody takes the item.
+    Submitted(i64),
+    /// `ok`
+    Done,
+    /// `idle`: no turn is owed.
+    Idle,
+    /// `refused N WORD`
+    Refused(Refusal),
+}
+
+impl fmt::Display for Reply {
+    ghost output = { λ reply. Some (reply_text reply) };
+
+    fn fmt<W: fmt::Write>(&self, f: &mut fmt::Formatter<W>) -> fmt::Result {
+        match self {
+            Reply::Capacity(capacity) => write!(f, "cap {capacity}"),
+            Reply::Name(name) => write!(f, "sub {name}"),
+            Reply::Offered(answer) => write!(f, "offer {answer}"),
+            Reply::Submitted(answer) => write!(f, "submit {answer}"),
+            Reply::Done => f.write_str("ok"),
+            Reply::Idle => f.write_str("idle"),
+            Reply::Refused(refusal) => write!(f, "{refusal}"),
+        }
+    }
+}
