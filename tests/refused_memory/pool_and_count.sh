@@ -1,16 +1,14 @@
 #!/bin/sh
-# Runs native tests of close_count and async_pool with the Nth request for memory refused, for N from 1 up to a run
+# Runs native tests of counts and pools with the Nth request for memory refused, for N from 1 up to a run
 # that meets none. Each run has to end by itself, within a minute, either well or with the error that a refusal gives.
 #
 # It fails, too, where a run does not say that its test was run, and where no request of a test was refused, as when the
 # library that refuses is not loaded.
 #
-# It needs the native tests, which `rt test` leaves in crates/NAME/out, and gcc. COUNT_TESTS and POOL_TESTS name other
-# programs.
+# It needs the native tests, which `rt test` leaves in crates/call_tests/out, and gcc. TESTS names another program.
 set -eu
 cd "$(dirname "$0")/../.."
-count_tests=${COUNT_TESTS:-crates/close_count/out/close_count_tests}
-pool_tests=${POOL_TESTS:-crates/async_pool/out/async_pool_tests}
+tests=${TESTS:-crates/call_tests/out/call_tests_tests}
 work=$(mktemp -d)
 trap 'rm -rf "$work"' EXIT
 gcc -shared -fPIC -O1 -Wall -Werror -o "$work/refuse.so" tests/refused_memory/refuse.c
@@ -73,12 +71,12 @@ each() {
 }
 
 for name in a_refusal_is_answered the_last_of_three_is_true no_two_of_one_count_are_the_last of_all_one_is_the_last; do
-    each "$count_tests" "tests::$name"
+    each "$tests" "tests::count::$name"
 done
 for name in alone::a_refusal_is_answered alone::a_full_pool_gives_the_job_back alone::a_shut_pool_gives_the_job_back \
     alone::stop_gives_the_jobs_left_in_order threads::each_job_of_two_workers_ran_twice \
     threads::a_job_need_not_be_sync sleepers::a_shut_ends_both_that_sleep; do
-    each "$pool_tests" "tests::$name"
+    each "$tests" "tests::pool::$name"
 done
 echo "$tried tests, $failures failed"
 [ "$tried" -gt 0 ] && [ "$failures" -eq 0 ]

@@ -19,8 +19,6 @@ mod inbox;
 mod job;
 mod pool;
 mod sleepers;
-#[cfg(test)]
-mod tests;
 mod yard;
 
 pub use crew::MOST_WORKERS;

@@ -19,8 +19,6 @@ mod laws;
 mod opening;
 mod rule;
 mod spent;
-#[cfg(test)]
-mod tests;
 mod ticket;
 
 pub use count::Count;

@@ -14,8 +14,6 @@
 //! stays after the end, so that nothing starts the task of a subscription that has ended.
 mod buffer;
 mod call;
-#[cfg(test)]
-mod tests;
 mod turn;
 
 use crate::cause::Causes;

@@ -15,8 +15,6 @@ mod name;
 mod refusal;
 mod signal;
 mod subscriber;
-#[cfg(test)]
-mod tests;
 mod text;
 
 pub use answer::Answer;

@@ -3,8 +3,8 @@ ghost use Rattle.std.specs.Prelude.{◌<◌};
 ghost use Rattle.std.specs.Arc.{arc_value};
 ghost use Rattle.async_pool.specs.Pool.{pool_workers};
 
-use super::{Numbered, hand_in, job_of, no_runs};
-use crate::{Pool, Wide};
+use super::{Numbered, hand_in, no_runs, wait_until};
+use async_pool::{Gate, Pool, Wide};
 use std::alloc::{AllocError, Global};
 use std::sync::atomic::AtomicU64;
 use std::sync::atomic::Ordering::SeqCst;
@@ -27,11 +27,12 @@ type Shared = Arc<Pool<Numbered>, Global>;
 type Counter = Arc<AtomicU64, Global>;
 
 // A thread that runs the loop of one worker, and then counts itself among those that have ended.
-fn start_worker<R: Threads + Wait + Send + Copy + 'static>(
+fn start_worker<R: Threads + Wait + Send + Copy + 'static, G: Gate + Send + Drop + 'static>(
     rt: R,
     pool: &Shared,
     ended: &Counter,
     worker: usize,
+    gate: G,
 ) -> Result<JoinHandle<u64>, AllocError>
     requires { worker < pool_workers (arc_value pool.now) }
 {
@@ -43,7 +44,7 @@ fn start_worker<R: Threads + Wait + Send + Copy + 'static>(
             requires { worker < pool_workers (arc_value pool) }
         {
             let mut ran = 0;
-            pool.worker_loop(&rt, worker, &Wide, &mut ran);
+            pool.worker_loop(&rt, worker, &gate, &mut ran);
             ended.fetch_add(1, SeqCst);
             ran
         },
@@ -83,8 +84,8 @@ fn is_late(rt: &impl Clock, start: &Instant) -> bool {
 fn a_shut_ends_both_that_sleep(rt: HostRuntime) -> Result<(), Fail> {
     let pool = Arc::new(rt.alloc(), Pool::new(rt.alloc(), 2)?)?;
     let ended = Arc::new(rt.alloc(), AtomicU64::new(0))?;
-    let one = start_worker(rt, &pool, &ended, 0)?;
-    let other = start_worker(rt, &pool, &ended, 1)?;
+    let one = start_worker(rt, &pool, &ended, 0, Wide)?;
+    let other = start_worker(rt, &pool, &ended, 1, Wide)?;
     let_them_sleep(&rt);
     assert!(rt; ended.load(SeqCst) == 0);
     pool.shut(&rt);
@@ -98,8 +99,8 @@ fn a_sleeper_that_finds_nothing_sleeps_on(rt: HostRuntime) -> Result<(), Fail> {
     let runs = no_runs(rt.alloc(), 1)?;
     let pool = Arc::new(rt.alloc(), Pool::new(rt.alloc(), 2)?)?;
     let ended = Arc::new(rt.alloc(), AtomicU64::new(0))?;
-    let one = start_worker(rt, &pool, &ended, 0)?;
-    let other = start_worker(rt, &pool, &ended, 1)?;
+    let one = start_worker(rt, &pool, &ended, 0, Wide)?;
+    let other = start_worker(rt, &pool, &ended, 1, Wide)?;
     let_them_sleep(&rt);
     let mut handed_in: u64 = 0;
     let mut taken: u64 = 0;
@@ -125,20 +126,61 @@ fn a_sleeper_that_finds_nothing_sleeps_on(rt: HostRuntime) -> Result<(), Fail> {
 
 #[test]
 fn a_worker_that_sleeps_is_woken(rt: HostRuntime) -> Result<(), Fail> {
-    let runs = no_runs(rt.alloc(), 2)?;
+    let runs = no_runs(rt.alloc(), 1)?;
     let pool = Arc::new(rt.alloc(), Pool::new(rt.alloc(), 1)?)?;
     let ended = Arc::new(rt.alloc(), AtomicU64::new(0))?;
-    let worker = start_worker(rt, &pool, &ended, 0)?;
-    let_them_sleep(&rt);
-    assert!(rt; hand_in(&rt, &pool, 1, 0, &runs)?);
-    assert!(rt; runs.first().is_some_and(|run| comes_to(&rt, run, 1)));
-    // It sleeps again. This thread runs a job, and the worker runs it the second time.
-    let_them_sleep(&rt);
-    let mut here = 0;
-    pool.run(&rt, job_of(1, 1, &runs)?, &mut here);
-    assert!(rt; runs.last().is_some_and(|run| comes_to(&rt, run, 2)));
+    let worker = start_worker(rt, &pool, &ended, 0, Wide)?;
+    for round in 1..3 {
+        let_them_sleep(&rt);
+        assert!(rt; hand_in(&rt, &pool, 1, 0, &runs)?);
+        assert!(rt; runs.first().is_some_and(|run| comes_to(&rt, run, round)));
+    }
     pool.shut(&rt);
     assert!(rt; comes_to(&rt, &ended, 1));
-    assert!(rt; here == 1 && worker.join(&rt) == 2);
+    assert!(rt; worker.join(&rt) == 2);
     Ok(())
+}
+
+// A gate that each of two workers passes once, and that then holds whoever comes until it is opened.
+#[derive(Drop)]
+struct Once {
+    passes: Counter,
+    open: Counter,
+}
+
+impl Gate for Once {
+    fn pass(&self, _worker: usize) {
+        if self.passes.fetch_add(1, SeqCst) >= 2 {
+            wait_until(|| self.open.load(SeqCst) > 0);
+        }
+    }
+}
+
+// The worker that puts the job back is held, so the other one has to be woken for it.
+#[test]
+fn a_job_put_back_wakes_a_sleeper(rt: HostRuntime) -> Result<(), Fail> {
+    let runs = no_runs(rt.alloc(), 1)?;
+    let pool = Arc::new(rt.alloc(), Pool::new(rt.alloc(), 2)?)?;
+    let ended = Arc::new(rt.alloc(), AtomicU64::new(0))?;
+    let gate = Once {
+        passes: Arc::new(rt.alloc(), AtomicU64::new(0))?,
+        open: Arc::new(rt.alloc(), AtomicU64::new(0))?,
+    };
+    let one = start_worker(rt, &pool, &ended, 0, again(&gate)?)?;
+    let other = start_worker(rt, &pool, &ended, 1, again(&gate)?)?;
+    let_them_sleep(&rt);
+    assert!(rt; hand_in(&rt, &pool, 1, 1, &runs)?);
+    assert!(rt; runs.first().is_some_and(|run| comes_to(&rt, run, 2)));
+    gate.open.store(1, SeqCst);
+    pool.shut(&rt);
+    assert!(rt; comes_to(&rt, &ended, 2));
+    assert!(rt; one.join(&rt) == 1 && other.join(&rt) == 1);
+    Ok(())
+}
+
+fn again(gate: &Once) -> Result<Once, AllocError> {
+    Ok(Once {
+        passes: Arc::try_clone(&gate.passes)?,
+        open: Arc::try_clone(&gate.open)?,
+    })
 }

@@ -1,4 +1,5 @@
-use crate::{Count, last_once, none_left, none_open, one_of_all_is_last};
+//! Counts: what their tickets answer, alone and between threads.
+use close_count::{Count, last_once, none_left, none_open, one_of_all_is_last};
 use std::test::Fail;
 use std::thread;
 

@@ -1,13 +1,17 @@
-//! What no clause can say: what happens behind the lock, and between threads.
+//! Pools: what happens behind the lock, and between threads.
 mod alone;
 mod sleepers;
 mod threads;
 
-use crate::{Job, Pool};
+use async_pool::{Job, Pool};
 use std::alloc::{AllocError, Global};
 use std::sync::atomic::AtomicU64;
 use std::sync::atomic::Ordering::SeqCst;
 use std::sync::{Arc, Wait};
+use std::thread;
+
+// How often a thread looks for what another one does before it gives up.
+const MOST_LOOKS: u64 = 10_000_000;
 
 type Runs = Arc<Vec<AtomicU64>, Global>;
 
@@ -65,4 +69,17 @@ fn hand_in<R: Wait>(
         }
     }
     Ok(true)
+}
+
+// Waits for what another thread does, but not for ever.
+fn wait_until<F: Fn() -> bool + Drop>(is_done: F) -> bool
+    requires { F.IsAlwaysCallable is_done }
+{
+    for _ in 0..MOST_LOOKS {
+        if is_done() {
+            return true;
+        }
+        thread::yield_now();
+    }
+    false
 }

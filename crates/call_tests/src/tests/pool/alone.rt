@@ -1,6 +1,6 @@
 //! What one thread sees of a pool.
 use super::{Numbered, hand_in, job_of, no_runs};
-use crate::{CAPACITY, Job, MOST_WORKERS, Pool, Wide};
+use async_pool::{CAPACITY, Job, MOST_WORKERS, Pool, Wide};
 use flow_rules::Refusal;
 use std::test::Fail;
 
@@ -50,17 +50,6 @@ fn stop_gives_the_jobs_left_in_order(rt: HostRuntime) -> Result<(), Fail> {
                 }
         );
     }
-    Ok(())
-}
-
-#[test]
-fn a_job_is_run_on_where_the_list_is_full(rt: HostRuntime) -> Result<(), Fail> {
-    let runs = no_runs(rt.alloc(), 2000)?;
-    let pool = Pool::new(rt.alloc(), 1)?;
-    assert!(rt; hand_in(&rt, &pool, CAPACITY, 0, &runs)?);
-    let mut ran = 0;
-    pool.run(&rt, job_of(1500, 4, &runs)?, &mut ran);
-    assert!(rt; ran == 5 && pool.stop(&rt).len() == CAPACITY);
     Ok(())
 }
 

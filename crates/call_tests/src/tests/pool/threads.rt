@@ -3,17 +3,15 @@ ghost use Rattle.std.specs.Prelude.{◌<◌};
 ghost use Rattle.std.specs.Arc.{arc_value};
 ghost use Rattle.async_pool.specs.Pool.{pool_workers};
 
-use super::{Numbered, Runs, hand_in, no_runs};
-use crate::{Gate, Job, MOST_WORKERS, Pool, Wide};
+use super::{Numbered, Runs, hand_in, no_runs, wait_until};
+use async_pool::{CAPACITY, Gate, Job, MOST_WORKERS, Pool, Wide};
+use std::alloc::Global;
 use std::cell::Cell;
-use std::sync::atomic::AtomicBool;
 use std::sync::atomic::Ordering::SeqCst;
+use std::sync::atomic::{AtomicBool, AtomicU64};
 use std::sync::{Arc, Wait};
 use std::test::Fail;
 use std::thread;
-
-// How often a test looks for what another thread does before it gives up.
-const PATIENCE: u64 = 10_000_000;
 
 #[test]
 fn each_job_of_two_workers_ran_twice(rt: HostRuntime) -> Result<(), Fail> {
@@ -109,24 +107,18 @@ fn the_gate_is_passed_once_for_each_job(rt: HostRuntime) -> Result<(), Fail> {
     Ok(())
 }
 
-// A gate that holds a worker until it is opened.
+// What holds a worker until it is opened, as a gate or in a job.
 #[derive(Drop)]
 struct Held {
     reached: AtomicBool,
     open: AtomicBool,
 }
 
-// Waits for what another thread does, but not for ever.
-fn wait_until<F: Fn() -> bool + Drop>(is_done: F) -> bool
-    requires { F.IsAlwaysCallable is_done }
-{
-    for _ in 0..PATIENCE {
-        if is_done() {
-            return true;
-        }
-        thread::yield_now();
+fn new_held() -> Held {
+    Held {
+        reached: AtomicBool::new(false),
+        open: AtomicBool::new(false),
     }
-    false
 }
 
 impl Gate for Held {
@@ -140,10 +132,7 @@ impl Gate for Held {
 fn a_second_loop_of_a_number_returns_at_once(rt: HostRuntime) -> Result<(), Fail> {
     let pool = Pool::<Numbered>::new(rt.alloc(), 2)?;
     pool.shut(&rt);
-    let held = Held {
-        reached: AtomicBool::new(false),
-        open: AtomicBool::new(false),
-    };
+    let held = new_held();
     let gate = Keeping(no_runs(rt.alloc(), 2)?);
     let (mut first, mut second) = (0, 0);
     let mut one = || pool.worker_loop(&rt, 0, &held, &mut first);
@@ -161,5 +150,69 @@ fn a_second_loop_of_a_number_returns_at_once(rt: HostRuntime) -> Result<(), Fail
     let mut third = 0;
     pool.worker_loop(&rt, 0, &gate, &mut third);
     assert!(rt; gate.passes_of(0) == Some(1));
+    Ok(())
+}
+
+// A job that runs once, or one that is held in its first run, and keeps how many jobs its worker has run at its end.
+#[derive(Drop)]
+enum Mixed {
+    Short,
+    Long {
+        again: u64,
+        held: Arc<Held, Global>,
+        ran: Arc<AtomicU64, Global>,
+    },
+}
+
+impl Job for Mixed {
+    type Context = u64;
+
+    fn run<R: Wait>(self, _rt: &R, context: &mut u64) -> Option<Mixed> {
+        *context = context.saturating_add(1);
+        let Mixed::Long { again, held, ran } = self else {
+            return None;
+        };
+        held.pass(0);
+        if again == 0 {
+            ran.store(*context, SeqCst);
+            return None;
+        }
+        let again = again - 1;
+        Some(Mixed::Long { again, held, ran })
+    }
+}
+
+// Hands in as many jobs as the list holds, and one that comes back.
+fn fill<R: Wait>(rt: &R, pool: &Pool<Mixed>) -> bool {
+    for _ in 0..CAPACITY {
+        if pool.execute(rt, Mixed::Short).is_err() {
+            return false;
+        }
+    }
+    pool.execute(rt, Mixed::Short).is_err()
+}
+
+#[test]
+fn a_job_is_run_on_where_the_list_is_full(rt: HostRuntime) -> Result<(), Fail> {
+    let pool = Pool::new(rt.alloc(), 1)?;
+    let held = Arc::new(rt.alloc(), new_held())?;
+    let ran_then = Arc::new(rt.alloc(), AtomicU64::new(0))?;
+    let long = Mixed::Long {
+        again: 4,
+        held: Arc::try_clone(&held)?,
+        ran: Arc::try_clone(&ran_then)?,
+    };
+    assert!(rt; pool.execute(&rt, long).is_ok());
+    let mut ran = 0;
+    let mut is_full = false;
+    let mut one = || pool.worker_loop(&rt, 0, &Wide, &mut ran);
+    let mut other = || {
+        is_full = wait_until(|| held.reached.load(SeqCst)) && fill(&rt, &pool);
+        held.open.store(true, SeqCst);
+        pool.shut(&rt);
+    };
+    thread::join_mut(&rt, &mut one, &mut other);
+    assert!(rt; is_full && ran_then.load(SeqCst) == 5);
+    assert!(rt; ran == 5 + CAPACITY as u64 && pool.stop(&rt).is_empty());
     Ok(())
 }

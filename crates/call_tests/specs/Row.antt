@@ -1,0 +1,28 @@
+-- What a row says of a Desk.
+use Rattle.std.specs.Prelude.{◌≡◌, ◌↔◌, unsigned_abs, Option, IsSome, IsTrue, List, [], ◌∷◌, length}
+use Rattle.feed_core.specs.Prelude.{Signal, Ending}
+use Rattle.feed_core.specs.Desk.{DeskState, AcceptsItem, IsFull, Rests, Owes, desk_after_request, desk_after_end, desk_after_turn}
+use Rattle.feed_core.specs.declared.turn.outlook.Outlook.{Outlook}
+use Rattle.feed_core.specs.LaneCalls.{is_gone, lag_of}
+use Rattle.call_tests.specs.Letters.{lettered_item}
+use Rattle.call_tests.specs.declared.row.Row.{Row}
+use Rattle.call_tests.specs.declared.row.Row.TheVariants.{Accepted, Full, Gone, Request, Close, Turn, Capacity, Counts, Lag, Ended}
+
+-- a turn was owed, and it changed the Desk as a turn does that tells some signals and has some outlook
+abbrev pub MakesTurn : DeskState → DeskState → Type 0
+MakesTurn old new = Owes old × ((seen : List Signal) × ((outlook : Outlook) × (new ≡ desk_after_turn old seen outlook)))
+
+-- what is so of a Desk before and after a call that was answered as the row says
+abbrev pub Fits : Row → DeskState → DeskState → Type 0
+Fits (Accepted letter lag starts) old new =
+    (start : Option Unit) × AcceptsItem old new (lettered_item (letter ∷ [])) lag start × (IsTrue starts ↔ IsSome start)
+Fits (Full _) old new = IsFull old × (new ≡ old)
+Fits (Gone _) old new = IsTrue (is_gone old.lane) × (new ≡ old)
+Fits (Request n starts) old new = (new ≡ desk_after_request (unsigned_abs n) old) × (IsTrue starts ↔ Rests old)
+Fits (Close starts) old new = new ≡ desk_after_end Ending.Normal old
+Fits (Turn _ _) old new = MakesTurn old new
+Fits (Capacity enforced) old new = (new ≡ old) × (old.capacity ≡ enforced)
+Fits (Counts accepted given asked) old new =
+    (new ≡ old) × (length old.lane.accepted ≡ accepted) × (old.lane.given ≡ given) × (old.lane.asked ≡ asked)
+Fits (Lag lag) old new = (new ≡ old) × (lag_of old.lane ≡ lag)
+Fits (Ended how) old new = (new ≡ old) × (old.lane.how ≡ how)

@@ -1,0 +1,153 @@
+//! The calls of a Desk as rows: what is called, and what has to be answered.
+ghost use Rattle.std.specs.Prelude.{◌≡◌, [], IsTrue, IsFalse, IfOk, OnErr};
+ghost use Rattle.flow_rules.specs.Capacity.{capacity_of};
+ghost use Rattle.feed_core.specs.Desk.{IsNew};
+ghost use Rattle.feed_core.specs.Lane.{IsFlow};
+ghost use Rattle.call_tests.specs.declared.row.Row.TheVariants as Row;
+ghost use Rattle.call_tests.specs.Row.{Fits, MakesTurn};
+
+use crate::letters::{item_with, signals};
+use feed_core::{Desk, Outlook, Seen, desks_keep_the_flow_rules};
+use flow_rules::{Ending, How, NoMemory, Put, Refusal, Subscriber, capacity};
+use std::alloc::Global;
+
+/// A Desk that accepted as many items as this takes no more rows.
+const MOST_ITEMS: u64 = 1 << 62;
+
+/// A call of a Desk, and what it has to answer.
+#[derive(Clone, Copy, Debug)]
+pub enum Row<'a> {
+    /// An item with this letter as its text is accepted, with this lag, and the task is to be started or not.
+    Accepted(u8, u64, bool),
+    /// An item with this letter as its text comes back from a full buffer.
+    Full(u8),
+    /// An item with this letter as its text comes back, since the subscription has ended or was closed.
+    Gone(u8),
+    /// So many items are requested, and the task is to be started or not.
+    Request(i64, bool),
+    /// The publisher is closed, and the task is to be started or not.
+    Close(bool),
+    /// A turn is owed. It tells what these letters write, and has this outlook.
+    Turn(&'a [u8], Outlook),
+    /// The buffer has this capacity.
+    Capacity(usize),
+    /// So many items were accepted, given and requested.
+    Counts(u64, u64, u64),
+    /// So many accepted items were not given.
+    Lag(u64),
+    /// The subscription has ended in this way, or has not ended.
+    Ended(Option<How>),
+}
+
+/// A Desk whose buffer has the capacity that is enforced where this one is asked for.
+pub fn desk_of<B: Subscriber>(
+    alloc: Global,
+    asked: usize,
+    subscriber: B,
+) -> Result<Desk<B>, Refusal>
+    requires { B.told subscriber ≡ [] }
+    ensures { IfOk result (IsNew (capacity_of asked) (B.is_steady subscriber)) }
+{
+    let enforced = capacity(asked)?;
+    match Desk::new(alloc, enforced, subscriber) {
+        Ok(desk) => Ok(desk),
+        Err((refused, _)) => Err(refused.into()),
+    }
+}
+
+/// Whether a Desk answers a row's call as the row says. A call that may not be made is not answered so: a turn that is not
+/// owed, and a request of a number that is not positive.
+pub fn answers<B: Subscriber>(
+    alloc: Global,
+    desk: &mut Desk<B>,
+    row: Row<'_>,
+) -> Result<bool, NoMemory>
+    ensures fits { IfOk result (λ is_answered. IsTrue is_answered → Fits row.entry desk.old desk.new) }
+    ensures flow { IsFlow desk.new.lane }
+    ensures err { OnErr result (desk.new ≡ desk.old) }
+{
+    desks_keep_the_flow_rules(desk);
+    Ok(match row {
+        Row::Accepted(letter, lag, starts) => is_accepted(alloc, desk, letter, (lag, starts))?,
+        Row::Full(letter) => comes_back(alloc, desk, letter, false)?,
+        Row::Gone(letter) => comes_back(alloc, desk, letter, true)?,
+        Row::Request(n, starts) => n > 0 && desk.request(n).is_some() == starts,
+        Row::Close(starts) => desk.end(Ending::Normal).is_some() == starts,
+        Row::Turn(letters, outlook) => turns(alloc, desk, letters, outlook)?,
+        Row::Capacity(enforced) => desk.capacity() == enforced,
+        Row::Counts(accepted, given, asked) => {
+            (desk.accepted(), desk.given(), desk.asked()) == (accepted, given, asked)
+        }
+        Row::Lag(lag) => desk.lag() == lag,
+        Row::Ended(how) => desk.how() == how,
+    })
+}
+
+/// Whether an item with this letter is accepted so: with this lag, and the task is to be started or not.
+fn is_accepted<B: Subscriber>(
+    alloc: Global,
+    desk: &mut Desk<B>,
+    letter: u8,
+    want: (u64, bool),
+) -> Result<bool, NoMemory>
+    ensures fits { IfOk result (λ is_answered. IsTrue is_answered → Fits (Row.Accepted letter want.0 want.1) desk.old desk.new) }
+    ensures flow { IsFlow desk.old.lane → IsFlow desk.new.lane }
+    ensures err { OnErr result (desk.new ≡ desk.old) }
+{
+    let item = item_with(alloc, &[letter])?;
+    if desk.accepted() >= MOST_ITEMS {
+        return Ok(false);
+    }
+    Ok(match desk.put(item) {
+        Put::Accepted { lag, start } => (lag, start.is_some()) == want,
+        Put::Full(_) | Put::Gone(_) => false,
+    })
+}
+
+/// Whether an item with this letter comes back: from a full buffer, or since the subscription is gone.
+fn comes_back<B: Subscriber>(
+    alloc: Global,
+    desk: &mut Desk<B>,
+    letter: u8,
+    from_gone: bool,
+) -> Result<bool, NoMemory>
+    ensures full { IfOk result (λ is_answered. IsTrue is_answered → IsFalse from_gone → Fits (Row.Full letter) desk.old desk.new) }
+    ensures gone { IfOk result (λ is_answered. IsTrue is_answered → IsTrue from_gone → Fits (Row.Gone letter) desk.old desk.new) }
+    ensures flow { IsFlow desk.old.lane → IsFlow desk.new.lane }
+    ensures err { OnErr result (desk.new ≡ desk.old) }
+{
+    let item = item_with(alloc, &[letter])?;
+    let twin = item.share()?;
+    if desk.accepted() >= MOST_ITEMS {
+        return Ok(false);
+    }
+    Ok(match desk.put(item) {
+        Put::Accepted { .. } => false,
+        Put::Full(back) => !from_gone && back == twin,
+        Put::Gone(back) => from_gone && back == twin,
+    })
+}
+
+/// Whether a turn is owed, tells what these letters write, and has this outlook.
+fn turns<B: Subscriber>(
+    alloc: Global,
+    desk: &mut Desk<B>,
+    letters: &[u8],
+    outlook: Outlook,
+) -> Result<bool, NoMemory>
+    ensures fits { IfOk result (λ is_answered. IsTrue is_answered → MakesTurn desk.old desk.new) }
+    ensures flow { IsFlow desk.old.lane → IsFlow desk.new.lane }
+    ensures err { OnErr result (desk.new ≡ desk.old) }
+{
+    let wanted = signals(alloc, letters)?;
+    let mut seen = Seen::new(alloc)?;
+    if !desk.owes() || !desk.subscriber().steady() {
+        return Ok(false);
+    }
+    let found = desk.turn(&mut seen);
+    let is_owed = outlook == Outlook::Again;
+    if seen.len() != letters.len() {
+        return Ok(false);
+    }
+    Ok(found == outlook && desk.owes() == is_owed && seen.as_slice() == wanted.as_slice())
+}

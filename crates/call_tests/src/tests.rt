@@ -1,0 +1,9 @@
+//! Tests of the public calls, one subject a file: what no clause can say.
+mod count;
+mod desks;
+mod names;
+mod numbers;
+mod pool;
+mod refusals;
+mod subscribers;
+mod texts;

@@ -1,0 +1,163 @@
+//! The calls of a Desk, as rows: on subscribers of their own types, and on boxes of two kinds.
+use crate::{Refused, Row, answers, desk_of, signals};
+use feed_core::{Outlook, desks_keep_the_flow_rules};
+use flow_rules::{Collector, How, Subscriber, UNBOUNDED, audit};
+use std::alloc::Global;
+use std::process::Abort;
+use std::test::Fail;
+
+/// More callbacks than the rows make.
+const MANY: u32 = 1000;
+
+const DEMAND: [Row<'static>; 14] = [
+    Row::Capacity(4),
+    Row::Ended(None),
+    Row::Request(2, false),
+    Row::Turn(b"s", Outlook::Resting),
+    Row::Accepted(b'x', 1, true),
+    Row::Accepted(b'y', 2, false),
+    Row::Accepted(b'z', 3, false),
+    Row::Lag(3),
+    Row::Turn(b"xy", Outlook::Resting),
+    Row::Counts(3, 2, 2),
+    Row::Lag(1),
+    Row::Request(1, true),
+    Row::Request(1, false),
+    Row::Turn(b"z", Outlook::Resting),
+];
+
+const FULL_BUFFER: [Row<'static>; 8] = [
+    Row::Turn(b"s", Outlook::Resting),
+    Row::Accepted(b'p', 1, true),
+    Row::Accepted(b'q', 2, false),
+    Row::Full(b'r'),
+    Row::Request(9, false),
+    Row::Turn(b"pq", Outlook::Resting),
+    Row::Accepted(b'r', 1, true),
+    Row::Turn(b"r", Outlook::Resting),
+];
+
+const COMPLETION: [Row<'static>; 11] = [
+    Row::Accepted(b'x', 1, false),
+    Row::Close(false),
+    Row::Turn(b"s", Outlook::Resting),
+    Row::Close(false),
+    Row::Gone(b'y'),
+    Row::Request(1, true),
+    Row::Turn(b"xc", Outlook::Ended(How::Completed)),
+    Row::Request(1, false),
+    Row::Ended(Some(How::Completed)),
+    Row::Counts(1, 1, 2),
+    Row::Gone(b'z'),
+];
+
+const UNBOUNDED_DEMAND: [Row<'static>; 7] = [
+    Row::Turn(b"s", Outlook::Resting),
+    Row::Request(i64::MAX, true),
+    Row::Request(i64::MAX, false),
+    Row::Counts(0, 0, UNBOUNDED),
+    Row::Accepted(b'x', 1, false),
+    Row::Accepted(b'y', 2, false),
+    Row::Turn(b"xy", Outlook::Resting),
+];
+
+/// Makes the calls on a Desk of this subscriber, for which this capacity is asked, compares each with its row, and takes
+/// out what the subscriber was told.
+fn play<B: Subscriber>(
+    rt: &impl Abort,
+    alloc: Global,
+    subscriber: B,
+    asked: usize,
+    rows: &[Row<'_>],
+    told: &[u8],
+) -> Result<(), Fail> {
+    assert!(rt; subscriber.told().is_empty());
+    let mut desk = desk_of(alloc, asked, subscriber)?;
+    for row in rows {
+        assert!(rt; answers(alloc, &mut desk, *row)?, "at {row:?}");
+    }
+    desks_keep_the_flow_rules(&desk);
+    let told = signals(alloc, told)?;
+    assert_eq!(rt; desk.subscriber().told(), told.as_slice());
+    let subscriber = desk.into_subscriber();
+    assert_eq!(rt; subscriber.told(), told.as_slice());
+    assert!(rt; audit(subscriber.told()));
+    Ok(())
+}
+
+/// Plays rows on subscribers that are refused nothing: one of its own type, and boxes of two kinds.
+fn play_on_all(
+    rt: &impl Abort,
+    alloc: Global,
+    asked: usize,
+    rows: &[Row<'_>],
+    told: &[u8],
+) -> Result<(), Fail> {
+    play(rt, alloc, Collector::new(alloc), asked, rows, told)?;
+    let boxed: Box<dyn Subscriber> = Box::new(alloc, Collector::new(alloc))?;
+    play(rt, alloc, boxed, asked, rows, told)?;
+    let boxed: Box<dyn Subscriber> = Box::new(alloc, Refused::after(alloc, MANY))?;
+    play(rt, alloc, boxed, asked, rows, told)
+}
+
+#[test]
+fn demand_is_respected(rt: HostRuntime) -> Result<(), Fail> {
+    play_on_all(&rt, rt.alloc(), 3, &DEMAND, b"sxyz")
+}
+
+#[test]
+fn a_full_buffer_gives_the_item_back(rt: HostRuntime) -> Result<(), Fail> {
+    play_on_all(&rt, rt.alloc(), 2, &FULL_BUFFER, b"spqr")
+}
+
+#[test]
+fn completion_comes_after_the_items(rt: HostRuntime) -> Result<(), Fail> {
+    play_on_all(&rt, rt.alloc(), 4, &COMPLETION, b"sxc")
+}
+
+#[test]
+fn demand_stays_unbounded(rt: HostRuntime) -> Result<(), Fail> {
+    play_on_all(&rt, rt.alloc(), 4, &UNBOUNDED_DEMAND, b"sxy")
+}
+
+#[test]
+fn a_turn_gives_64_items(rt: HostRuntime) -> Result<(), Fail> {
+    let mut rows = Vec::new(rt.alloc());
+    rows.push(Row::Turn(b"s", Outlook::Resting))?;
+    rows.push(Row::Request(65, true))?;
+    for lag in 1..66 {
+        rows.push(Row::Accepted(b'x', lag, false))?;
+    }
+    rows.push(Row::Turn(&[b'x'; 64], Outlook::Again))?;
+    rows.push(Row::Close(false))?;
+    rows.push(Row::Turn(b"xc", Outlook::Ended(How::Completed)))?;
+    rows.push(Row::Counts(65, 65, 65))?;
+    let mut told = [b'x'; 67];
+    told[0] = b's';
+    told[66] = b'c';
+    play_on_all(&rt, rt.alloc(), 65, rows.as_slice(), &told)
+}
+
+#[test]
+fn a_refused_callback_ends_it(rt: HostRuntime) -> Result<(), Fail> {
+    let alloc = rt.alloc();
+    // The callbacks that are answered, what they tell, and how many items are given.
+    let rows: [(u32, &[u8], u64); 4] = [(0, b"", 0), (1, b"s", 1), (2, b"sx", 2), (3, b"sxy", 2)];
+    for (callbacks, told, given) in rows {
+        let rows = [
+            Row::Request(9, false),
+            Row::Accepted(b'x', 1, false),
+            Row::Accepted(b'y', 2, false),
+            Row::Close(false),
+            Row::Turn(told, Outlook::Ended(How::OutOfMemory)),
+            Row::Counts(2, given, 9),
+            Row::Ended(Some(How::OutOfMemory)),
+            Row::Request(1, false),
+            Row::Gone(b'z'),
+        ];
+        play(&rt, alloc, Refused::after(alloc, callbacks), 4, &rows, told)?;
+        let boxed: Box<dyn Subscriber> = Box::new(alloc, Refused::after(alloc, callbacks))?;
+        play(&rt, alloc, boxed, 4, &rows, told)?;
+    }
+    Ok(())
+}
