@@ -8,11 +8,8 @@ ghost use Rattle.call_tests.specs.Row.{Fits, MakesTurn};
 
 use crate::letters::{item_with, signals};
 use feed_core::{Desk, Outlook, Seen, desks_keep_the_flow_rules};
-use flow_rules::{Ending, How, NoMemory, Put, Refusal, Subscriber, capacity};
+use flow_rules::{Ending, How, NoMemory, PUBLICATIONS, Put, Refusal, Subscriber, capacity};
 use std::alloc::Global;
-
-/// A Desk that accepted as many items as this takes no more rows.
-const MOST_ITEMS: u64 = 1 << 62;
 
 /// A call of a Desk, and what it has to answer.
 #[derive(Clone, Copy, Debug)]
@@ -95,7 +92,7 @@ fn is_accepted<B: Subscriber>(
     ensures err { OnErr result (desk.new ≡ desk.old) }
 {
     let item = item_with(alloc, &[letter])?;
-    if desk.accepted() >= MOST_ITEMS {
+    if desk.accepted() >= PUBLICATIONS {
         return Ok(false);
     }
     Ok(match desk.put(item) {
@@ -118,7 +115,7 @@ fn comes_back<B: Subscriber>(
 {
     let item = item_with(alloc, &[letter])?;
     let twin = item.share()?;
-    if desk.accepted() >= MOST_ITEMS {
+    if desk.accepted() >= PUBLICATIONS {
         return Ok(false);
     }
     Ok(match desk.put(item) {

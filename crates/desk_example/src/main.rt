@@ -5,7 +5,7 @@ ghost use Rattle.std.specs.Prelude.{◌≡◌, []};
 
 use feed_core::{Desk, Seen};
 use flow_rules::{
-    Answer, Collector, Fault, Item, NoMemory, Put, Signal, Subscriber, Text, capacity,
+    Answer, Collector, Fault, Item, NoMemory, PUBLICATIONS, Put, Signal, Subscriber, Text, capacity,
 };
 use std::alloc::Global;
 
@@ -72,7 +72,7 @@ fn offer<B: Subscriber>(
     number: u64,
     text: &[u8],
 ) -> anyhow::Result<Option<u64>> {
-    if text.len() > Text::LONGEST || desk.accepted() >= 1 << 62 {
+    if text.len() > Text::LONGEST || desk.accepted() >= PUBLICATIONS {
         return Ok(None);
     }
     let item = Item {

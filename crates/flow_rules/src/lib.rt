@@ -25,7 +25,7 @@ pub use demand::{Demand, IllegalArgument, UNBOUNDED};
 pub use ending::Ending;
 pub use feed::Put;
 pub use how::How;
-pub use item::Item;
+pub use item::{Item, PUBLICATIONS};
 pub use name::Name;
 pub use refusal::{BadCapacity, NoMemory, Refusal};
 pub use signal::{Fault, Signal};

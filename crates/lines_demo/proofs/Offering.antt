@@ -4,7 +4,7 @@ use Rattle.std.specs.Prelude.{Option}
 use Rattle.std.proofs.lemmas.Bool.Decides.{nat_tests}
 use Rattle.feed_core.specs.Desk.{AcceptsItem}
 use Rattle.feed_core.specs.LaneCalls.{lane_with_item}
-use Rattle.lines_demo.specs.Prelude.{Item, DeskState, lag_of}
+use Rattle.lines_demo.specs.Prelude.{PUBLICATIONS, Item, DeskState, lag_of}
 use Rattle.lines_demo.specs.Script.Calls.{offer_answer}
 
 -- a small number is itself, signed
@@ -12,7 +12,7 @@ pub small-signed : (n : ℕ) → n < 2 ^ 63 → to_z w64 n ≡ pos n
 small-signed n few = search rules
 
 -- where there is room, the answer is the lag after the item
-pub offer-accepted : (old new : DeskState) (item : Item) (lag : ℕ) (start : Option (Unit {0})) → AcceptsItem old new item lag start → length old.lane.accepted < 2 ^ 62
+pub offer-accepted : (old new : DeskState) (item : Item) (lag : ℕ) (start : Option (Unit {0})) → AcceptsItem old new item lag start → length old.lane.accepted < PUBLICATIONS
     → to_z w64 lag ≡ offer_answer item old
 offer-accepted old new item lag start took few =
     let now : lag ≡ lag_of (lane_with_item item old.lane) = took.lag_after ∙ ap (λ desk. lag_of desk.lane) took.taken in

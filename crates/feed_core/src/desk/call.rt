@@ -1,6 +1,6 @@
 //! What a publisher and the owner of a subscription call.
-ghost use Rattle.std.specs.Prelude.{◌≡◌, ◌↔◌, ◌⊎◌, ◌^◌, ◌<◌, ◌<ℤ◌, pos, length, unsigned_abs, None, Some, true, false, IsSome, IsTrue};
-ghost use Rattle.feed_core.specs.Prelude.{Ending, total_after, IfAccepted, IfFull, IfGone};
+ghost use Rattle.std.specs.Prelude.{◌≡◌, ◌↔◌, ◌<◌, ◌<ℤ◌, pos, length, unsigned_abs, None, Some, true, false, IsSome, IsTrue};
+ghost use Rattle.feed_core.specs.Prelude.{PUBLICATIONS, Ending, total_after, IfAccepted, IfFull, IfGone};
 ghost use Rattle.feed_core.specs.Desk.{AcceptsItem, GivesBack, IsFull, Rests, desk_after_signal};
 ghost use Rattle.feed_core.specs.Lane.{IsFlow};
 ghost use Rattle.feed_core.specs.LaneCalls.{is_gone, lane_with_closing, lane_with_demand};
@@ -14,7 +14,7 @@ impl<B: Subscriber> Desk<B> {
     ///
     /// Where the buffer is full, or the subscription has ended or was closed, the item comes back and nothing changes.
     pub fn put(&mut self, item: Item) -> Put<()>
-        requires few { length self.old.lane.accepted < 2 ^ 62 }
+        requires few { length self.old.lane.accepted < PUBLICATIONS }
         ensures accepted { IfAccepted result (AcceptsItem self.old self.new item) }
         ensures full { IfFull result (λ back. IsFull self.old × GivesBack self.old self.new item back) }
         ensures gone { IfGone result (λ back. IsTrue (is_gone self.old.lane) × GivesBack self.old self.new item back) }

@@ -1,14 +1,13 @@
 -- What each command but `run` changes, and what it is answered.
 use Rattle.std.specs.Prelude.{ℕ, ◌+◌, ◌-◌, ◌==◌, ℤ, pos, negsuc, Bool, true, false, ◌&&◌, ◌||◌, not, if◌then◌else◌, nat_le, nat_lt, Option, Some, None, is_some, option_map, List, length}
 use Rattle.feed_core.specs.LaneCalls.{empty_lane, lane_with_item}
-use Rattle.lines_demo.specs.Prelude.{Item, Ending, Refusal, capacity_of, LONGEST_TEXT, DeskState, desk_after_put, desk_after_end, desk_after_request, is_gone, lag_of}
+use Rattle.lines_demo.specs.Prelude.{PUBLICATIONS, Item, Ending, Refusal, capacity_of, LONGEST_TEXT, DeskState, desk_after_put, desk_after_end, desk_after_request, is_gone, lag_of}
 use Rattle.lines_demo.specs.Script.Command.{is_word}
 use Rattle.lines_demo.specs.Script.Session.{SubscriptionState, SessionState, CommandResult, unchanged_result, refused_result, result_unless_no_memory}
 use Rattle.lines_demo.specs.declared.script.command.Command.{Command}
 use Rattle.lines_demo.specs.declared.script.command.Command.TheVariants.{Cap, Sub, Offer, Submit, Request, Close, Run}
 use Rattle.lines_demo.specs.declared.script.reply.Reply.{Reply}
 use Rattle.lines_demo.specs.declared.script.reply.Reply.TheVariants.{Capacity, Name, Offered, Submitted, Done, Idle}
-use Rattle.lines_demo.specs.declared.script.session.TheConstants.{PUBLICATIONS}
 
 -- `cap N`: the capacity may be asked for as long as no other command was read
 abbrev pub cap_result : SessionState → List Bool → ℕ → CommandResult

@@ -2,7 +2,7 @@
 ghost use Rattle.std.specs.Prelude.{◌≡◌, ◌<◌, ◌≤◌, ◌^◌, [], true, All, length, IsTrue, IsFalse, IfOk, IfErr, option_map};
 ghost use Rattle.std.specs.Option.{ForSome};
 ghost use Rattle.feed_core.specs.LaneCalls.{IsCapacity};
-ghost use Rattle.lines_demo.specs.Prelude.{UNBOUNDED};
+ghost use Rattle.lines_demo.specs.Prelude.{PUBLICATIONS, UNBOUNDED};
 ghost use Rattle.lines_demo.specs.Script.Calls.{command_result, cap_result, sub_result, offer_result, submit_result, request_result, close_result, call_result, state_at_command, desk_at_subscribing, publication_answer, subscription_after_put};
 ghost use Rattle.lines_demo.specs.Script.Command.{IsInRange};
 ghost use Rattle.lines_demo.specs.Script.Law.{KeepsFlow, IsSettledSession};
@@ -15,13 +15,10 @@ use super::command::Command;
 use super::reply::Reply;
 use super::subscription::Subscription;
 use feed_core::{Desk, Outlook, Seen};
-use flow_rules::{Ending, Item, Name, NoMemory, Refusal, Subscriber, Text, capacity};
+use flow_rules::{Ending, Item, Name, NoMemory, PUBLICATIONS, Refusal, Subscriber, Text, capacity};
 use std::alloc::Global;
 use std::collections::VecDeque;
 use std::marker::Model;
-
-/// How many publications there may be.
-pub const PUBLICATIONS: u64 = 1 << 62;
 
 /// The capacity of the buffers where none is asked for (`Flow.defaultBufferSize`, Java SE 17).
 pub const DEFAULT_CAPACITY: usize = 256;

@@ -1,8 +1,8 @@
 //! The subscription of a script.
-ghost use Rattle.std.specs.Prelude.{◌≡◌, ◌<◌, ◌^◌, ◌<ℤ◌, pos, unsigned_abs, true, length, IsTrue, IsFalse};
+ghost use Rattle.std.specs.Prelude.{◌≡◌, ◌<◌, ◌<ℤ◌, pos, unsigned_abs, true, length, IsTrue, IsFalse};
 ghost use Rattle.feed_core.specs.PlainTurn.{plain_turn_of};
 ghost use Rattle.feed_core.specs.Turn.{MeetsPlainTurn};
-ghost use Rattle.lines_demo.specs.Prelude.{owes, lag_of, IsFlow, IsSettled};
+ghost use Rattle.lines_demo.specs.Prelude.{PUBLICATIONS, owes, lag_of, IsFlow, IsSettled};
 ghost use Rattle.lines_demo.specs.Script.Calls.{offer_answer, subscription_after_put, subscription_after_request, subscription_after_close};
 ghost use Rattle.lines_demo.specs.Script.Turns.{subscription_after_turn};
 
@@ -46,7 +46,7 @@ impl<B: Subscriber> Subscription<B> {
 
     /// Offers an item. The answer is the lag after it, -1 where there is no room, or 0 where it takes no items any more.
     pub fn offer(&mut self, item: Item) -> i64
-        requires { length self.old.desk.lane.accepted < 2 ^ 62 }
+        requires { length self.old.desk.lane.accepted < PUBLICATIONS }
         ensures answer { result ≡ offer_answer item self.old.desk }
         ensures after { self.new ≡ subscription_after_put item self.old }
     {
