@@ -1,6 +1,7 @@
 #!/bin/sh
 # Measures how long the native program takes to play scripts of 1, 4 and 16 MiB, made of offers, requests and runs, and
 # how much memory it has at its peak, both for each byte of the script, and prints each as a ratio to the script of 1 MiB.
+# Then the kinds of script that cost most a byte, at 1 MiB each: a run a line, lines of two bytes, offers with CR LF.
 # It sets no bounds. The subscriber keeps all that it is told, so memory grows with the script.
 # It needs the program, which `rt ci` and `./play --build` leave in crates/lines_demo/out, and GNU time or Python 3.
 # Usage: bench/script.sh [RUNS]; each figure is the median of RUNS runs (5).
@@ -27,6 +28,15 @@ make() {
             if (size > most) exit
             printf "%s", text
         }
+    }'
+}
+
+# lines LINE: 1 MiB of this line, as printf writes it, after a subscriber that asks for more than there is.
+lines() {
+    printf 'sub a 9000000\n'
+    awk -v line="$(printf "$1.")" 'BEGIN {
+        line = substr(line, 1, length(line) - 1)
+        for (size = 16; size + length(line) <= 1048576; size += length(line)) printf "%s", line
     }'
 }
 
@@ -63,20 +73,31 @@ median() {
     done | sort -n | sed -n "$(((runs + 1) / 2))p"
 }
 
-printf 'MiB    bytes seconds ns_per_byte ratio peak_KiB peak_bytes_per_byte ratio\n'
-first=
-for size in 1 4 16; do
-    make "$size" >"$work/script"
+# figures NAME: a row of the script in $work/script, beside the first one.
+figures() {
     bytes=$(wc -c <"$work/script")
     time=$(median spent "$work/script")
     memory=$(median peak "$work/script")
     first=${first:-"$bytes $time $memory"}
-    echo "$first $bytes $time $memory" | awk -v size="$size" '{
+    echo "$first $bytes $time $memory" | awk -v name="$1" '{
         base_time = $2 / $1
         base_memory = $3 * 1024 / $1
         time = $5 / $4
         memory = $6 * 1024 / $4
-        printf "%3d %8d %7.3f %11.1f %5.2f %8d %19.2f %5.2f\n",
-            size, $4, $5 / 1e9, time, time / base_time, $6, memory, memory / base_memory
+        printf "%-8s %8d %7.3f %11.1f %5.2f %8d %19.2f %5.2f\n",
+            name, $4, $5 / 1e9, time, time / base_time, $6, memory, memory / base_memory
     }'
+}
+
+printf 'script      bytes seconds ns_per_byte ratio peak_KiB peak_bytes_per_byte ratio\n'
+first=
+for size in 1 4 16; do
+    make "$size" >"$work/script"
+    figures "${size}MiB"
 done
+lines 'run\n' >"$work/script"
+figures runs
+lines 'x\n' >"$work/script"
+figures short
+lines 'offer x\r\n' >"$work/script"
+figures crlf
