@@ -12,7 +12,7 @@ use flow_rules::{Ending, How, NoMemory, PUBLICATIONS, Put, Refusal, Subscriber, 
 use std::alloc::Global;
 
 /// A call of a Desk, and what it has to answer.
-#[derive(Clone, Copy, Debug)]
+#[derive(Clone, Copy)]
 pub enum Row<'a> {
     /// An item with this letter as its text is accepted, with this lag, and the task is to be started or not.
     Accepted(u8, u64, bool),
@@ -71,13 +71,23 @@ pub fn answers<B: Subscriber>(
         Row::Request(n, starts) => n > 0 && desk.request(n).is_some() == starts,
         Row::Close(starts) => desk.end(Ending::Normal).is_some() == starts,
         Row::Turn(letters, outlook) => turns(alloc, desk, letters, outlook)?,
+        shown => shows(desk, shown),
+    })
+}
+
+/// Whether a Desk shows what a row says that it shows.
+fn shows<B: Subscriber>(desk: &Desk<B>, row: Row<'_>) -> bool
+    ensures { IsTrue result → Fits row.entry desk.now desk.now }
+{
+    match row {
         Row::Capacity(enforced) => desk.capacity() == enforced,
         Row::Counts(accepted, given, asked) => {
             (desk.accepted(), desk.given(), desk.asked()) == (accepted, given, asked)
         }
         Row::Lag(lag) => desk.lag() == lag,
         Row::Ended(how) => desk.how() == how,
-    })
+        _ => false,
+    }
 }
 
 /// Whether an item with this letter is accepted so: with this lag, and the task is to be started or not.

@@ -73,8 +73,8 @@ fn play<B: Subscriber>(
 ) -> Result<(), Fail> {
     assert!(rt; subscriber.told().is_empty());
     let mut desk = desk_of(alloc, asked, subscriber)?;
-    for row in rows {
-        assert!(rt; answers(alloc, &mut desk, *row)?, "at {row:?}");
+    for (place, row) in rows.iter().enumerate() {
+        assert!(rt; answers(alloc, &mut desk, *row)?, "row {place}");
     }
     desks_keep_the_flow_rules(&desk);
     let told = signals(alloc, told)?;

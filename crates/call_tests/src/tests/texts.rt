@@ -22,70 +22,48 @@ fn a_text_holds_its_bytes(rt: HostRuntime) -> Result<(), Fail> {
     Ok(())
 }
 
-/// Items of which each differs from the last one in one part.
-fn items(alloc: Global) -> Result<[Item; 5], NoMemory> {
-    let one = item_with(alloc, b"x")?;
-    Ok([
-        Item {
-            source: 0,
-            ..one.share()?
-        },
-        Item {
-            seq: 0,
-            ..one.share()?
-        },
-        Item {
-            serial: 0,
-            ..one.share()?
-        },
-        item_with(alloc, b"y")?,
-        one,
-    ])
-}
-
 #[test]
 fn items_are_equal_where_all_four_parts_are(rt: HostRuntime) -> Result<(), Fail> {
-    let others = items(rt.alloc())?;
-    for (place, item) in items(rt.alloc())?.iter().enumerate() {
-        assert!(rt; is_only(&others, item, place), "item {place}");
+    let one = item_with(rt.alloc(), b"x")?;
+    let rows = [
+        (1, 2, 3, b"x", true),
+        (0, 2, 3, b"x", false),
+        (1, 0, 3, b"x", false),
+        (1, 2, 0, b"x", false),
+        (1, 2, 3, b"y", false),
+    ];
+    for (source, seq, serial, bytes, are_equal) in rows {
+        let text = Text::new(rt.alloc(), bytes)?;
+        let other = Item {
+            source,
+            seq,
+            serial,
+            text,
+        };
+        assert_eq!(rt; one == other, are_equal, "{other:?}");
     }
     Ok(())
 }
 
-/// Whether of the values the one at that place alone is equal to this one.
-fn is_only<T: PartialEq>(values: &[T], wanted: &T, place: usize) -> bool {
-    values
-        .iter()
-        .enumerate()
-        .all(|(at, value)| (value == wanted) == (at == place))
-}
-
 /// What may become of an item.
-fn puts(alloc: Global) -> Result<[Put<()>; 6], NoMemory> {
-    Ok([
-        Put::Full(item_with(alloc, b"x")?),
-        Put::Gone(item_with(alloc, b"x")?),
-        Put::Full(item_with(alloc, b"y")?),
-        Put::Accepted {
-            lag: 1,
-            start: Some(()),
-        },
-        Put::Accepted {
-            lag: 1,
-            start: None,
-        },
-        Put::Accepted {
-            lag: 2,
-            start: Some(()),
-        },
-    ])
+fn puts(alloc: Global) -> Result<Vec<Put<()>>, NoMemory> {
+    let mut puts = Vec::new(alloc);
+    puts.push(Put::Full(item_with(alloc, b"x")?))?;
+    puts.push(Put::Full(item_with(alloc, b"y")?))?;
+    puts.push(Put::Gone(item_with(alloc, b"x")?))?;
+    for (lag, start) in [(1, Some(())), (1, None), (2, Some(()))] {
+        puts.push(Put::Accepted { lag, start })?;
+    }
+    Ok(puts)
 }
 
 #[test]
 fn puts_are_equal_where_their_parts_are(rt: HostRuntime) -> Result<(), Fail> {
     let others = puts(rt.alloc())?;
     for (place, put) in puts(rt.alloc())?.iter().enumerate() {
-        assert!(rt; is_only(&others, put, place), "put {place}");
+        let mut equal = others.iter().enumerate().filter(|other| other.1 == put);
+        assert_eq!(rt; equal.next().map(|other| other.0), Some(place));
+        assert!(rt; equal.next().is_none(), "put {place}");
     }
     Ok(())
 }
