@@ -21,11 +21,11 @@ newer_source() (
 # need CRATE FILE: ends the test where FILE, a native program made from the crate, isn't there or is older than its sources.
 need() {
     if [ ! -x "$2" ]; then
-        echo "$2 isn't there: run .ci/run, or ./play --build"
+        echo "$2 isn't there: run .ci/run"
         exit 1
     fi
     if [ -n "$(newer_source "$1" "$2")" ]; then
-        echo "$2 is older than $(newer_source "$1" "$2"): remove it, and run .ci/run, or ./play --build"
+        echo "$2 is older than $(newer_source "$1" "$2"): remove it, and run .ci/run"
         exit 1
     fi
 }

@@ -8,7 +8,9 @@
 # It needs the native tests, which `rt test` leaves in crates/call_tests/out, and gcc. TESTS names another program.
 set -eu
 cd "$(dirname "$0")/../.."
+. tests/program.sh
 tests=${TESTS:-crates/call_tests/out/call_tests_tests}
+need call_tests "$tests"
 work=$(mktemp -d)
 trap 'rm -rf "$work"' EXIT
 gcc -shared -fPIC -O1 -Wall -Werror -o "$work/refuse.so" tests/refused_memory/refuse.c
