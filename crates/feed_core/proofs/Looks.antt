@@ -11,7 +11,7 @@ use Rattle.feed_core.specs.Turn.{taken_in}
 use Rattle.feed_core.specs.Lane.{LaneState, IsFlow}
 use Rattle.feed_core.specs.PlainTurn.{Turn, terminal_of, end_by, turn_at_rest, close_or_rest, signals_then}
 use Rattle.feed_core.specs.Sound.{is_begun, lane_of, IsInOrder}
-use Rattle.feed_core.specs.Steps.{HasTerminal, OwesEnd, Looks, MovesNext, rest_of_turn, turn_within}
+use Rattle.feed_core.specs.Steps.{AfterTurn, HasTerminal, OwesEnd, Looks, MovesNext, rest_of_turn, turn_within}
 use Rattle.feed_core.proofs.FlowRules.{all_counted, flow_kept}
 use Rattle.feed_core.proofs.DeskSteps.{accepted_kept, ended_items, one_more, in_order_owed, in_order_ended, in_order_given, in_order_lost, waiting_held}
 use Rattle.feed_core.proofs.PlainTurns.{gives, pauses, stopped}
@@ -89,6 +89,22 @@ no_item_missed How.OutOfMemory = refl
 
 module _ {told : List Signal} {held : List Item} {given asked capacity : ℕ} {causes : Causes} {how : Option How} {started : Bool}
     (kept : IsInOrder (lane_of told held given asked causes how) held capacity started) (unended : how ≡ None) (runs : started ≡ true) (begun : is_begun told ≡ true) where
+  -- a subscription that ended is changed by what it was told, and by its end
+  ended_after : {told' last : List Signal} {given' : ℕ} {steady steady' : Bool} (held' : List Item) (end : How)
+      → told' ≡ told ++ last → items_of told' ++ held' ≡ items_of told ++ held → (steady ≡ true → steady' ≡ true)
+      → AfterTurn (desk_of (lane_of told held given asked causes how) capacity started steady)
+      (desk_of (lane_of told' held' given' asked (with_cause_of end causes) (Some end)) capacity started steady') last (Ended end)
+  ended_after held' end recorded accepted stays = record {
+    recorded = recorded;
+    accepted = accepted;
+    asked = refl;
+    causes = refl;
+    how = refl;
+    started = runs;
+    capacity = refl;
+    steady = stays;
+  }
+
   -- an item was taken and told
   pub looks_given : {told' : List Signal} {held' : List Item} {seen seen' : List Signal} {steady steady' : Bool}
       → MovesNext told told' held held' seen seen' → stops causes ≡ None → given < asked
@@ -136,16 +152,8 @@ module _ {told : List Signal} {held : List Item} {given asked capacity : ℕ} {c
     last = [];
     shape = refl;
     seen_after = same_seen ∙ sym (append-nil seen);
-    turned = record {
-      recorded = same_told ∙ sym (append-nil told);
-      accepted = ap (λ text. items_of text ++ held') same_told ∙ ap (λ rest. items_of told ++ rest) same_held;
-      asked = refl;
-      causes = refl;
-      how = refl;
-      started = runs;
-      capacity = refl;
-      steady = stays;
-    };
+    turned = ended_after _ How.OutOfMemory (same_told ∙ sym (append-nil told))
+        (ap (λ text. items_of text ++ held') same_told ∙ ap (λ rest. items_of told ++ rest) same_held) stays;
     few = omega arith;
     flow = flow_kept (in_order_lost kept unended runs begun same_told same_held waits requested).sound;
     again = λ e. cc;
@@ -179,16 +187,7 @@ module _ {told : List Signal} {held : List Item} {given asked capacity : ℕ} {c
           last = terminal_of end;
           shape = refl;
           seen_after = seen_grows;
-          turned = record {
-            recorded = grows;
-            accepted = ap (λ items. items ++ held) same;
-            asked = refl;
-            causes = refl;
-            how = refl;
-            started = runs;
-            capacity = refl;
-            steady = stays;
-          };
+          turned = ended_after _ end grows (ap (λ items. items ++ held) same) stays;
           few = omega arith;
           flow = flow_kept (in_order_owed kept unended runs begun end owed grows).sound;
           again = λ e. cc;
@@ -209,16 +208,7 @@ module _ {told : List Signal} {held : List Item} {given asked capacity : ℕ} {c
       last = [];
       shape = refl;
       seen_after = same_seen ∙ sym (append-nil seen);
-      turned = record {
-        recorded = same_told ∙ sym (append-nil told);
-        accepted = ap (λ text. items_of text ++ held) same_told;
-        asked = refl;
-        causes = refl;
-        how = refl;
-        started = runs;
-        capacity = refl;
-        steady = stays;
-      };
+      turned = ended_after _ How.OutOfMemory (same_told ∙ sym (append-nil told)) (ap (λ text. items_of text ++ held) same_told) stays;
       few = omega arith;
       flow = flow_kept (in_order_ended kept unended runs begun How.OutOfMemory tt (same_told ∙ sym (append-nil told))).sound;
       again = λ e. cc;
