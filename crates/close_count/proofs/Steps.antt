@@ -11,10 +11,10 @@ use Rattle.close_count.specs.declared.rule.View.{View}
 use Rattle.close_count.specs.Tickets.{Moment, KeepsCount, Completes, count_word, total_spent, one_if, made_count, room_count, held_count, earlier_count, last_count, view_after_add, view_after_hand_out, view_after_complete, view_together, empty_view, ticket_view, IsStepOfAdd, IsStepOfComplete, IsStepOfLook}
 
 -- a sum after one view was replaced
-pub sum_by-set_view : (f : View → ℕ) (l : List View) (i : ℕ) (v w : View) → get_elem? l i ≡ some v → sum_by f (set l i w) + f v ≡ sum_by f l + f w
-sum_by-set_view f [] i v w e = absurd (some-ne-none v (sym e))
-sum_by-set_view f (x ∷ xs) zero v w e = let is : f x ≡ f v = ap f (some-injective x v e) in omega (arith, sum_by-cons f x xs, sum_by-cons f w xs, is)
-sum_by-set_view f (x ∷ xs) (suc i) v w e = omega (arith, sum_by-cons f x xs, sum_by-cons f x (set xs i w), sum_by-set_view f xs i v w e)
+pub sum_by_set_view : (f : View → ℕ) (l : List View) (i : ℕ) (v w : View) → get_elem? l i ≡ some v → sum_by f (set l i w) + f v ≡ sum_by f l + f w
+sum_by_set_view f [] i v w e = absurd (some-ne-none v (sym e))
+sum_by_set_view f (x ∷ xs) zero v w e = let is : f x ≡ f v = ap f (some-injective x v e) in omega (arith, sum_by-cons f x xs, sum_by-cons f w xs, is)
+sum_by_set_view f (x ∷ xs) (suc i) v w e = omega (arith, sum_by-cons f x xs, sum_by-cons f x (set xs i w), sum_by_set_view f xs i v w e)
 
 -- one view's part of a sum
 pub part_below_sum : (f : View → ℕ) (l : List View) (i : ℕ) (v : View) → get_elem? l i ≡ some v → f v ≤ sum_by f l
@@ -33,11 +33,11 @@ record Balances (x n : ℕ) (v w : View) : Type 0 where
 balance_keeps_rule : (s : Moment) → KeepsCount s → (id n : ℕ) (v w : View) → get_elem? s.views id ≡ some v → Balances (count_word s) n v w → KeepsCount (record s { words = set s.words 0 n; views = set s.views id w })
 balance_keeps_rule s r id n v w at b =
     let here : get_or (set s.words 0 n) 0 0 ≡ n = get_or-set_same s.words 0 n 0 (let l = r.one_word in omega arith) in
-    let made = sum_by-set_view made_count s.views id v w at in
-    let room = sum_by-set_view room_count s.views id v w at in
-    let held = sum_by-set_view held_count s.views id v w at in
-    let earlier = sum_by-set_view earlier_count s.views id v w at in
-    let last = sum_by-set_view last_count s.views id v w at in
+    let made = sum_by_set_view made_count s.views id v w at in
+    let room = sum_by_set_view room_count s.views id v w at in
+    let held = sum_by_set_view held_count s.views id v w at in
+    let earlier = sum_by_set_view earlier_count s.views id v w at in
+    let last = sum_by_set_view last_count s.views id v w at in
     let unspent_was = r.unspent in
     let held_was = r.held in
     let once_was = r.once in
@@ -79,8 +79,8 @@ step_completes s r id v w at some_left made spent after =
       rule_after = after;
       word_before = refl;
       word_after = ap (λ (k : ℕ). k + 1) here ∙ omega (arith, some_left);
-      made = omega (arith, sum_by-set_view made_count s.views id v w at, made);
-      spent = omega (arith, sum_by-set_view earlier_count s.views id v w at, sum_by-set_view last_count s.views id v w at, spent);
+      made = omega (arith, sum_by_set_view made_count s.views id v w at, made);
+      spent = omega (arith, sum_by_set_view earlier_count s.views id v w at, sum_by_set_view last_count s.views id v w at, spent);
     }
 
 -- a step that spends one ticket
@@ -121,11 +121,11 @@ adds slots id me may holds s r _ at small =
 pub hands_out : (id : ℕ) (v : View) → 1 ≤ v.held → Splits KeepsCount id v (view_after_hand_out v) ticket_view
 hands_out id v holds s r at =
     let rest : List View = set s.views id (view_after_hand_out v) in
-    let made = sum_by-set_view made_count s.views id v (view_after_hand_out v) at in
-    let room = sum_by-set_view room_count s.views id v (view_after_hand_out v) at in
-    let held = sum_by-set_view held_count s.views id v (view_after_hand_out v) at in
-    let earlier = sum_by-set_view earlier_count s.views id v (view_after_hand_out v) at in
-    let last = sum_by-set_view last_count s.views id v (view_after_hand_out v) at in
+    let made = sum_by_set_view made_count s.views id v (view_after_hand_out v) at in
+    let room = sum_by_set_view room_count s.views id v (view_after_hand_out v) at in
+    let held = sum_by_set_view held_count s.views id v (view_after_hand_out v) at in
+    let earlier = sum_by_set_view earlier_count s.views id v (view_after_hand_out v) at in
+    let last = sum_by_set_view last_count s.views id v (view_after_hand_out v) at in
     let unspent_was = r.unspent in
     let held_was = r.held in
     let once_was = r.once in
@@ -142,21 +142,21 @@ hands_out id v holds s r at =
 pub gathers : (id : ℕ) (v : View) (other : ℕ) (w : View) → Joins KeepsCount id v other w (view_together v w) empty_view
 gathers id v other w s r at apart there =
     let mid : List View = set s.views id (view_together v w) in
-    let made = sum_by-set_view made_count s.views id v (view_together v w) at in
-    let room = sum_by-set_view room_count s.views id v (view_together v w) at in
-    let held = sum_by-set_view held_count s.views id v (view_together v w) at in
-    let earlier = sum_by-set_view earlier_count s.views id v (view_together v w) at in
-    let last = sum_by-set_view last_count s.views id v (view_together v w) at in
+    let made = sum_by_set_view made_count s.views id v (view_together v w) at in
+    let room = sum_by_set_view room_count s.views id v (view_together v w) at in
+    let held = sum_by_set_view held_count s.views id v (view_together v w) at in
+    let earlier = sum_by_set_view earlier_count s.views id v (view_together v w) at in
+    let last = sum_by_set_view last_count s.views id v (view_together v w) at in
     let unspent_was = r.unspent in
     let held_was = r.held in
     let once_was = r.once in
     let bounded_was = r.bounded in
     record {
       one_word = r.one_word;
-      unspent = omega (arith, sum_by-set_view made_count mid other w empty_view there, sum_by-set_view earlier_count mid other w empty_view there, sum_by-set_view last_count mid other w empty_view there);
-      held = omega (arith, sum_by-set_view held_count mid other w empty_view there);
-      once = omega (arith, sum_by-set_view last_count mid other w empty_view there);
-      bounded = omega (arith, sum_by-set_view made_count mid other w empty_view there, sum_by-set_view room_count mid other w empty_view there);
+      unspent = omega (arith, sum_by_set_view made_count mid other w empty_view there, sum_by_set_view earlier_count mid other w empty_view there, sum_by_set_view last_count mid other w empty_view there);
+      held = omega (arith, sum_by_set_view held_count mid other w empty_view there);
+      once = omega (arith, sum_by_set_view last_count mid other w empty_view there);
+      bounded = omega (arith, sum_by_set_view made_count mid other w empty_view there, sum_by_set_view room_count mid other w empty_view there);
     }
 
 -- a load by which a seat learns what the rule says of it

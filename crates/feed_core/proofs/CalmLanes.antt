@@ -6,7 +6,7 @@ use Rattle.feed_core.specs.Lane.{LaneState}
 use Rattle.feed_core.specs.LaneCalls.{lag_of, empty_lane, lane_with_item, lane_with_closing, lane_with_demand}
 use Rattle.feed_core.specs.Sound.{IsSound}
 use Rattle.feed_core.proofs.DeskSteps.{no_cause}
-use Rattle.feed_core.proofs.SoundLanes.{sound-asked, sound-lane_with_item, sound-lane_with_closing}
+use Rattle.feed_core.proofs.SoundLanes.{sound_asked, sound_lane_with_item, sound_lane_with_closing}
 
 -- a sound lane in its bounds that nothing ends at once, and that has not ended where a turn is owed
 pub record IsCalm (lane : LaneState) (capacity : ℕ) (owed : Bool) : Type 0 where
@@ -17,29 +17,29 @@ pub record IsCalm (lane : LaneState) (capacity : ℕ) (owed : Bool) : Type 0 whe
   pub lives : owed ≡ true → lane.how ≡ None
 
 -- whether a turn is owed may change as long as the lane has not ended
-pub calm-owed : (lane : LaneState) (capacity : ℕ) (owed owed' : Bool) → IsCalm lane capacity owed → (owed' ≡ true → lane.how ≡ None) → IsCalm lane capacity owed'
-calm-owed lane capacity owed owed' calm lives = record { sound = calm.sound; fits = calm.fits; bounded = calm.bounded; calm = calm.calm; lives = lives }
+pub calm_owed : (lane : LaneState) (capacity : ℕ) (owed owed' : Bool) → IsCalm lane capacity owed → (owed' ≡ true → lane.how ≡ None) → IsCalm lane capacity owed'
+calm_owed lane capacity owed owed' calm lives = record { sound = calm.sound; fits = calm.fits; bounded = calm.bounded; calm = calm.calm; lives = lives }
 
 -- a lane stays calm when one more item is accepted
-pub calm-lane_with_item : (lane : LaneState) (capacity : ℕ) (owed : Bool) (item : Item) → IsCalm lane capacity owed → lane.how ≡ None → (lag_of lane ≡ capacity → ⊥)
+pub calm_lane_with_item : (lane : LaneState) (capacity : ℕ) (owed : Bool) (item : Item) → IsCalm lane capacity owed → lane.how ≡ None → (lag_of lane ≡ capacity → ⊥)
     → IsCalm (lane_with_item item lane) capacity true
-calm-lane_with_item lane capacity owed item calm unended room =
+calm_lane_with_item lane capacity owed item calm unended room =
     let grown = length-append lane.accepted (item ∷ []) in
     let taken = calm.sound.counts.taken in
     let fits = calm.fits in
-    record { sound = sound-lane_with_item lane item calm.sound unended; fits = grind (arith, grown); bounded = calm.bounded; calm = calm.calm; lives = λ e. unended }
+    record { sound = sound_lane_with_item lane item calm.sound unended; fits = grind (arith, grown); bounded = calm.bounded; calm = calm.calm; lives = λ e. unended }
 
 -- a lane stays calm when more is requested
-pub calm-lane_with_demand : (lane : LaneState) (capacity : ℕ) (owed owed' : Bool) (n : ℕ) → IsCalm lane capacity owed → (owed' ≡ true → lane.how ≡ None)
+pub calm_lane_with_demand : (lane : LaneState) (capacity : ℕ) (owed owed' : Bool) (n : ℕ) → IsCalm lane capacity owed → (owed' ≡ true → lane.how ≡ None)
     → IsCalm (lane_with_demand n lane) capacity owed'
-calm-lane_with_demand lane capacity owed owed' n calm lives =
+calm_lane_with_demand lane capacity owed owed' n calm lives =
     let asked = calm.sound.counts.requested in
     let bounded = calm.bounded in
-    record { sound = sound-asked lane (total_after lane.asked n) calm.sound (omega arith); fits = calm.fits; bounded = omega arith; calm = calm.calm; lives = lives }
+    record { sound = sound_asked lane (total_after lane.asked n) calm.sound (omega arith); fits = calm.fits; bounded = omega arith; calm = calm.calm; lives = lives }
 
 -- a normal close ends nothing at once
-stops-closed : (causes : Causes) → stops causes ≡ None → stops (record causes { closing = Some Ending.Normal }) ≡ None
-stops-closed causes calm = by causes.cancel causes.argument causes.state calm where
+stops_closed : (causes : Causes) → stops causes ≡ None → stops (record causes { closing = Some Ending.Normal }) ≡ None
+stops_closed causes calm = by causes.cancel causes.argument causes.state calm where
   by : (cancel argument state : Bool) → end_where cancel How.Cancelled (end_where argument (How.Errored IllegalArgument) (end_where state (How.Errored IllegalState) (closing_error causes.closing))) ≡ None
       → end_where cancel How.Cancelled (end_where argument (How.Errored IllegalArgument) (end_where state (How.Errored IllegalState) None)) ≡ None
   by true argument state e = e
@@ -48,19 +48,19 @@ stops-closed causes calm = by causes.cancel causes.argument causes.state calm wh
   by false false false e = refl
 
 -- a lane stays calm when it is closed normally
-pub calm-lane_with_closing : (lane : LaneState) (capacity : ℕ) (owed owed' : Bool) → IsCalm lane capacity owed → lane.causes.closing ≡ None → (owed' ≡ true → lane.how ≡ None)
+pub calm_lane_with_closing : (lane : LaneState) (capacity : ℕ) (owed owed' : Bool) → IsCalm lane capacity owed → lane.causes.closing ≡ None → (owed' ≡ true → lane.how ≡ None)
     → IsCalm (lane_with_closing Ending.Normal lane) capacity owed'
-calm-lane_with_closing lane capacity owed owed' calm unclosed lives = record {
-  sound = sound-lane_with_closing lane Ending.Normal calm.sound unclosed;
+calm_lane_with_closing lane capacity owed owed' calm unclosed lives = record {
+  sound = sound_lane_with_closing lane Ending.Normal calm.sound unclosed;
   fits = calm.fits;
   bounded = calm.bounded;
-  calm = stops-closed lane.causes calm.calm;
+  calm = stops_closed lane.causes calm.calm;
   lives = lives;
 }
 
 -- a new lane is calm
-pub calm-empty_lane : (capacity : ℕ) → IsCalm empty_lane capacity true
-calm-empty_lane capacity = record {
+pub calm_empty_lane : (capacity : ℕ) → IsCalm empty_lane capacity true
+calm_empty_lane capacity = record {
   sound = record {
     told_is = refl;
     in_order = ([], refl);

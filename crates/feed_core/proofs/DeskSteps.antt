@@ -10,25 +10,25 @@ use Rattle.feed_core.specs.PlainTurn.{terminal_of}
 use Rattle.feed_core.specs.Sound.{is_begun, opening, terminal_part, signals_of, lane_of, loss_of, HasCause, IsInOrder, IsSound}
 use Rattle.feed_core.specs.Steps.{OwesEnd, MovesNext}
 use Rattle.feed_core.proofs.FlowRules.{all_counted, told_open}
-use Rattle.feed_core.proofs.SignalLists.{items_of-append}
+use Rattle.feed_core.proofs.SignalLists.{items_of_append}
 
 -- a list that was begun stays so when it grows
-pub is_begun-append : (told more : List Signal) → is_begun told ≡ true → is_begun (told ++ more) ≡ true
-is_begun-append [] more h = cc
-is_begun-append (s ∷ told) more h = refl
+pub is_begun_append : (told more : List Signal) → is_begun told ≡ true → is_begun (told ++ more) ≡ true
+is_begun_append [] more h = cc
+is_begun_append (s ∷ told) more h = refl
 
 -- a terminal signal is no item
-pub items_of-terminal : (how : How) → items_of (terminal_of how) ≡ []
-items_of-terminal How.Completed = refl
-items_of-terminal (How.Errored _) = refl
-items_of-terminal How.Cancelled = refl
-items_of-terminal (How.Failed _) = refl
-items_of-terminal How.OutOfMemory = refl
+pub items_of_terminal : (how : How) → items_of (terminal_of how) ≡ []
+items_of_terminal How.Completed = refl
+items_of_terminal (How.Errored _) = refl
+items_of_terminal How.Cancelled = refl
+items_of_terminal (How.Failed _) = refl
+items_of_terminal How.OutOfMemory = refl
 
 -- a terminal signal adds no items to a list
 pub ended_items : (told told' : List Signal) (end : How) → told' ≡ told ++ terminal_of end → items_of told' ≡ items_of told
 ended_items told told' end grows =
-    ap items_of grows ∙ items_of-append told (terminal_of end) ∙ ap (λ items. items_of told ++ items) (items_of-terminal end) ∙ append-nil (items_of told)
+    ap items_of grows ∙ items_of_append told (terminal_of end) ∙ ap (λ items. items_of told ++ items) (items_of_terminal end) ∙ append-nil (items_of told)
 
 -- what has to hold before a lane may end so
 abbrev pub MayEnd : LaneState → How → Type 0
@@ -166,7 +166,7 @@ module _ {told : List Signal} {held : List Item} {given asked capacity : ℕ} {c
     module _ {told' : List Signal} {held' : List Item} {seen seen' : List Signal} (moves : MovesNext told told' held held' seen seen') where
       -- one more item was told
       items_after : items_of told' ≡ items_of told ++ moves.item ∷ []
-      items_after = ap items_of moves.told_after ∙ items_of-append told (Next moves.item ∷ [])
+      items_after = ap items_of moves.told_after ∙ items_of_append told (Next moves.item ∷ [])
 
       -- an item that is told moves from the held ones to the told ones
       pub accepted_kept : items_of told' ++ held' ≡ items_of told ++ held

@@ -8,7 +8,7 @@ use Rattle.feed_core.specs.Cause.{IsFaultOf}
 use Rattle.feed_core.specs.Lane.{LaneState, IsFlow, IsIdle, IsSettled, IsSettledAs, HasNoTerminal}
 use Rattle.feed_core.specs.PlainTurn.{terminal_of}
 use Rattle.feed_core.specs.Sound.{is_begun, terminal_part, signals_of, loss_of, IsAtRest, IsSound}
-use Rattle.feed_core.proofs.SignalLists.{terminal-last, complete-ending, error-ending, is_terminal_part}
+use Rattle.feed_core.proofs.SignalLists.{terminal_last, complete_ending, error_ending, is_terminal_part}
 
 -- the signals of items and an end are a list that the rules allow
 allowed : (told : List Signal) (items : List Item) (how : Option How) → told ≡ signals_of (is_begun told) items how → IsFlowText told
@@ -33,13 +33,13 @@ module _ {lane : LaneState} (sound : IsSound lane) where
   complete_told : Contains lane.told Complete → lane.how ≡ Some How.Completed
   complete_told h =
       let inside = subst (λ told. Contains told Complete) sound.told_is h in
-      complete-ending lane.how (terminal-last (is_begun lane.told) (items_of lane.told) (terminal_part lane.how) Complete tt inside)
+      complete_ending lane.how (terminal_last (is_begun lane.told) (items_of lane.told) (terminal_part lane.how) Complete tt inside)
 
   -- onError was told only where it ended with that error
   error_told : (fault : Fault) → Contains lane.told (Error fault) → lane.how ≡ Some (How.Errored fault)
   error_told fault h =
       let inside = subst (λ told. Contains told (Error fault)) sound.told_is h in
-      error-ending lane.how fault (terminal-last (is_begun lane.told) (items_of lane.told) (terminal_part lane.how) (Error fault) tt inside)
+      error_ending lane.how fault (terminal_last (is_begun lane.told) (items_of lane.told) (terminal_part lane.how) (Error fault) tt inside)
 
   -- where as many items were told as accepted, they are the accepted ones
   whole : length (items_of lane.told) ≡ length lane.accepted → items_of lane.told ≡ lane.accepted

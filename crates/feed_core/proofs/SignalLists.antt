@@ -6,17 +6,17 @@ use Rattle.feed_core.specs.PlainTurn.{terminal_of}
 use Rattle.feed_core.specs.Sound.{terminal_part, opening}
 
 -- the items of two lists, one after the other
-pub items_of-append : (s t : List Signal) → items_of (s ++ t) ≡ items_of s ++ items_of t
-items_of-append [] t = refl
-items_of-append (Subscribed ∷ s) t = items_of-append s t
-items_of-append (Next item ∷ s) t = ap (λ items. item ∷ items) (items_of-append s t)
-items_of-append (Complete ∷ s) t = items_of-append s t
-items_of-append (Error _ ∷ s) t = items_of-append s t
+pub items_of_append : (s t : List Signal) → items_of (s ++ t) ≡ items_of s ++ items_of t
+items_of_append [] t = refl
+items_of_append (Subscribed ∷ s) t = items_of_append s t
+items_of_append (Next item ∷ s) t = ap (λ items. item ∷ items) (items_of_append s t)
+items_of_append (Complete ∷ s) t = items_of_append s t
+items_of_append (Error _ ∷ s) t = items_of_append s t
 
 -- the items of onNexts
-pub items_of-nexts : (items : List Item) → items_of (map Next items) ≡ items
-items_of-nexts [] = refl
-items_of-nexts (item ∷ items) = ap (λ rest. item ∷ rest) (items_of-nexts items)
+pub items_of_nexts : (items : List Item) → items_of (map Next items) ≡ items
+items_of_nexts [] = refl
+items_of_nexts (item ∷ items) = ap (λ rest. item ∷ rest) (items_of_nexts items)
 
 -- onComplete and onError are terminal signals, the others are not
 abbrev pub IsTerminal : Signal → Type 0
@@ -35,64 +35,64 @@ open_at (item ∷ items) (Error _) zero last lt is = cc
 open_at (item ∷ items) s (suc k) last lt is = open_at items s k last (omega arith) is
 
 -- no onNext is a terminal signal
-pub nexts-open : (items : List Item) (s : Signal) → IsTerminal s → Contains (map Next items) s → ⊥
-nexts-open items s last h = open_at items s h.0 last h.1 h.2
+pub nexts_open : (items : List Item) (s : Signal) → IsTerminal s → Contains (map Next items) s → ⊥
+nexts_open items s last h = open_at items s h.0 last h.1 h.2
 
 -- a list of one element contains no other
-pub Contains-one : (s x : Signal) → Contains (s ∷ []) x → s ≡ x
-Contains-one s x h = by h.0 h.1 h.2 where
+pub contains_one : (s x : Signal) → Contains (s ∷ []) x → s ≡ x
+contains_one s x h = by h.0 h.1 h.2 where
   by : (k : ℕ) → k < 1 → slice_index_or (s ∷ []) k x ≡ x → s ≡ x
   by zero lt is = is
   by (suc k) lt is = absurd (omega arith)
 
 -- an empty list contains nothing
-pub Contains-none : (s : Signal) → Contains [] s → ⊥
-Contains-none s h = let lt : h.0 < 0 = h.1 in omega arith
+pub contains_none : (s : Signal) → Contains [] s → ⊥
+contains_none s h = let lt : h.0 < 0 = h.1 in omega arith
 
 -- no onSubscribe is a terminal signal
-pub opening-open : (begun : Bool) (s : Signal) → IsTerminal s → Contains (opening begun) s → ⊥
-opening-open false s last h = Contains-none s h
-opening-open true Subscribed last h = last
-opening-open true (Next _) last h = last
-opening-open true Complete last h = let e = Contains-one Subscribed Complete h in cc
-opening-open true (Error f) last h = let e = Contains-one Subscribed (Error f) h in cc
+pub opening_open : (begun : Bool) (s : Signal) → IsTerminal s → Contains (opening begun) s → ⊥
+opening_open false s last h = contains_none s h
+opening_open true Subscribed last h = last
+opening_open true (Next _) last h = last
+opening_open true Complete last h = let e = contains_one Subscribed Complete h in cc
+opening_open true (Error f) last h = let e = contains_one Subscribed (Error f) h in cc
 
 -- a terminal signal is in a list only as its last one
-pub terminal-last : (begun : Bool) (items : List Item) (ending : List Signal) (s : Signal) → IsTerminal s
+pub terminal_last : (begun : Bool) (items : List Item) (ending : List Signal) (s : Signal) → IsTerminal s
     → Contains (opening begun ++ (map Next items ++ ending)) s → Contains ending s
-terminal-last begun items ending s last h =
+terminal_last begun items ending s last h =
     elim (Contains-append_cases (opening begun) (map Next items ++ ending) s h) [
-      | inl first ↦ absurd (opening-open begun s last first)
+      | inl first ↦ absurd (opening_open begun s last first)
       | inr later ↦ elim (Contains-append_cases (map Next items) ending s later) [
-        | inl inside ↦ absurd (nexts-open items s last inside)
+        | inl inside ↦ absurd (nexts_open items s last inside)
         | inr ends ↦ ends
       ]
     ]
 
 -- onComplete is the terminal signal of a completed subscription alone
-pub complete-last : (how : How) → Contains (terminal_of how) Complete → how ≡ How.Completed
-complete-last How.Completed h = refl
-complete-last (How.Errored f) h = let e = Contains-one (Error f) Complete h in cc
-complete-last How.Cancelled h = absurd (Contains-none Complete h)
-complete-last (How.Failed _) h = absurd (Contains-none Complete h)
-complete-last How.OutOfMemory h = absurd (Contains-none Complete h)
+pub complete_last : (how : How) → Contains (terminal_of how) Complete → how ≡ How.Completed
+complete_last How.Completed h = refl
+complete_last (How.Errored f) h = let e = contains_one (Error f) Complete h in cc
+complete_last How.Cancelled h = absurd (contains_none Complete h)
+complete_last (How.Failed _) h = absurd (contains_none Complete h)
+complete_last How.OutOfMemory h = absurd (contains_none Complete h)
 
 -- onError is the terminal signal of a subscription that ended with that error alone
-pub error-last : (how : How) (fault : Fault) → Contains (terminal_of how) (Error fault) → how ≡ How.Errored fault
-error-last How.Completed fault h = let e = Contains-one Complete (Error fault) h in cc
-error-last (How.Errored f) fault h = let e = Contains-one (Error f) (Error fault) h in cc
-error-last How.Cancelled fault h = absurd (Contains-none (Error fault) h)
-error-last (How.Failed _) fault h = absurd (Contains-none (Error fault) h)
-error-last How.OutOfMemory fault h = absurd (Contains-none (Error fault) h)
+pub error_last : (how : How) (fault : Fault) → Contains (terminal_of how) (Error fault) → how ≡ How.Errored fault
+error_last How.Completed fault h = let e = contains_one Complete (Error fault) h in cc
+error_last (How.Errored f) fault h = let e = contains_one (Error f) (Error fault) h in cc
+error_last How.Cancelled fault h = absurd (contains_none (Error fault) h)
+error_last (How.Failed _) fault h = absurd (contains_none (Error fault) h)
+error_last How.OutOfMemory fault h = absurd (contains_none (Error fault) h)
 
 -- onComplete is the terminal signal of a completed lane alone
-pub complete-ending : (how : Option How) → Contains (terminal_part how) Complete → how ≡ Some How.Completed
-complete-ending None h = absurd (Contains-none Complete h)
-complete-ending (Some how) h = ap Some (complete-last how h)
+pub complete_ending : (how : Option How) → Contains (terminal_part how) Complete → how ≡ Some How.Completed
+complete_ending None h = absurd (contains_none Complete h)
+complete_ending (Some how) h = ap Some (complete_last how h)
 
-pub error-ending : (how : Option How) (fault : Fault) → Contains (terminal_part how) (Error fault) → how ≡ Some (How.Errored fault)
-error-ending None fault h = absurd (Contains-none (Error fault) h)
-error-ending (Some how) fault h = ap Some (error-last how fault h)
+pub error_ending : (how : Option How) (fault : Fault) → Contains (terminal_part how) (Error fault) → how ≡ Some (How.Errored fault)
+error_ending None fault h = absurd (contains_none (Error fault) h)
+error_ending (Some how) fault h = ap Some (error_last how fault h)
 
 -- the terminal part of a lane is none, one onComplete or one onError
 pub is_terminal_part : (how : Option How) → IsTerminalPart (terminal_part how)

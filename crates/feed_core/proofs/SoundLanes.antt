@@ -7,8 +7,8 @@ use Rattle.feed_core.specs.Sound.{IsSound}
 use Rattle.feed_core.proofs.DeskSteps.{no_cause}
 
 -- a lane that has not ended stays sound when one more item is accepted
-pub sound-lane_with_item : (lane : LaneState) (item : Item) → IsSound lane → lane.how ≡ None → IsSound (lane_with_item item lane)
-sound-lane_with_item lane item sound unended =
+pub sound_lane_with_item : (lane : LaneState) (item : Item) → IsSound lane → lane.how ≡ None → IsSound (lane_with_item item lane)
+sound_lane_with_item lane item sound unended =
     let grown = length-append lane.accepted (item ∷ []) in
     let counts = sound.counts in
     let taken = counts.taken in
@@ -22,8 +22,8 @@ sound-lane_with_item lane item sound unended =
     }
 
 -- a lane stays sound when another total is asked, which is not below what was given
-pub sound-asked : (lane : LaneState) (asked : ℕ) → IsSound lane → lane.given ≤ asked → IsSound (record lane { asked = asked })
-sound-asked lane asked sound requested =
+pub sound_asked : (lane : LaneState) (asked : ℕ) → IsSound lane → lane.given ≤ asked → IsSound (record lane { asked = asked })
+sound_asked lane asked sound requested =
     let counts = sound.counts in
     let cause = sound.cause in
     record {
@@ -36,8 +36,8 @@ sound-asked lane asked sound requested =
     }
 
 -- a lane stays sound when it is closed for the first time
-pub sound-lane_with_closing : (lane : LaneState) (ending : Ending) → IsSound lane → lane.causes.closing ≡ None → IsSound (lane_with_closing ending lane)
-sound-lane_with_closing lane ending sound unclosed =
+pub sound_lane_with_closing : (lane : LaneState) (ending : Ending) → IsSound lane → lane.causes.closing ≡ None → IsSound (lane_with_closing ending lane)
+sound_lane_with_closing lane ending sound unclosed =
     let counts = sound.counts in
     let cause = sound.cause in
     record {

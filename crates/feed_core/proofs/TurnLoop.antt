@@ -12,8 +12,8 @@ use Rattle.feed_core.specs.Lane.{LaneState, IsFlow}
 use Rattle.feed_core.specs.PlainTurn.{Turn, another_turn, greeting, terminal_of, plain_turn_of, signals_then}
 use Rattle.feed_core.specs.Sound.{is_begun}
 use Rattle.feed_core.specs.Steps.{AfterTurn, Greets, IsToldBy, Looks, lane_after_end, rest_of_turn, turn_within}
-use Rattle.feed_core.proofs.DeskSteps.{is_begun-append, items_of-terminal}
-use Rattle.feed_core.proofs.SignalLists.{IsTerminal, complete-last, error-last, items_of-append, items_of-nexts, nexts-open, opening-open, Contains-none, Contains-one}
+use Rattle.feed_core.proofs.DeskSteps.{is_begun_append, items_of_terminal}
+use Rattle.feed_core.proofs.SignalLists.{IsTerminal, complete_last, error_last, items_of_append, items_of_nexts, nexts_open, opening_open, contains_none, contains_one}
 use Rattle.feed_core.proofs.PlainTurns.{full, gives}
 
 -- so many items were given since the turn began, and the rest of the plain turn is left
@@ -111,8 +111,8 @@ after_then old mid new seen more outlook first second = record {
 }
 
 -- signals told in two parts
-telling-telling : (seen more : List Signal) (turn : Turn) → signals_then seen (signals_then more turn) ≡ signals_then (seen ++ more) turn
-telling-telling seen more turn = ap (λ told. record { told = told; outlook = turn.outlook }) (sym (append_assoc seen more turn.told))
+telling_telling : (seen more : List Signal) (turn : Turn) → signals_then seen (signals_then more turn) ≡ signals_then (seen ++ more) turn
+telling_telling seen more turn = ap (λ told. record { told = told; outlook = turn.outlook }) (sym (append_assoc seen more turn.told))
 
 module _ {count : ℕ} {old mid new : DeskState} {seen seen' : List Signal} (so_far : TurnSoFar count old mid seen) where
   -- the turn as a whole, where one more look was its last or was followed by others
@@ -136,65 +136,65 @@ module _ {count : ℕ} {old mid new : DeskState} {seen seen' : List Signal} (so_
       ∙ ap (λ causes. signals_then (Next item ∷ []) (turn_within m causes (drop new.lane.given new.lane.accepted) (new.lane.asked - new.lane.given))) (sym looks.turned.causes) in
       record {
         turned = after_look looks;
-        begun = ap is_begun looks.turned.recorded ∙ is_begun-append mid.lane.told looks.last so_far.begun;
+        begun = ap is_begun looks.turned.recorded ∙ is_begun_append mid.lane.told looks.last so_far.begun;
         items = so_far.items ++ item ∷ [];
         seen_is = seen_after ∙ ap (λ text. text ++ Next item ∷ []) so_far.seen_is ∙ append_assoc (greeting old.lane.told) (map Next so_far.items) (Next item ∷ [])
             ∙ ap (λ text. greeting old.lane.told ++ text) (sym (map-append Next so_far.items (item ∷ [])));
         counted = length-append so_far.items (item ∷ []) ∙ ap (λ n. n + 1) so_far.counted;
         given = omega (arith, so_far.given, goes.counted);
         waited = so_far.waited ∙ ap (λ rest. so_far.items ++ rest) goes.waited ∙ sym (append_assoc so_far.items (item ∷ []) (drop new.lane.given new.lane.accepted));
-        left = so_far.left ∙ ap (signals_then seen) step ∙ telling-telling seen (Next item ∷ []) (rest_of_turn m new.lane) ∙ ap (λ text. signals_then text (rest_of_turn m new.lane)) (sym seen_after);
+        left = so_far.left ∙ ap (signals_then seen) step ∙ telling_telling seen (Next item ∷ []) (rest_of_turn m new.lane) ∙ ap (λ text. signals_then text (rest_of_turn m new.lane)) (sym seen_after);
         unstopped = λ some. ap stops looks.turned.causes ∙ goes.unstopped;
         flow = λ some. looks.flow;
       }
 
 -- the greeting has no terminal signal
-greeting-open : (told : List Signal) (s : Signal) → IsTerminal s → Contains (greeting told) s → ⊥
-greeting-open [] s last h = opening-open true s last h
-greeting-open (_ ∷ _) s last h = opening-open false s last h
+greeting_open : (told : List Signal) (s : Signal) → IsTerminal s → Contains (greeting told) s → ⊥
+greeting_open [] s last h = opening_open true s last h
+greeting_open (_ ∷ _) s last h = opening_open false s last h
 
 -- the greeting is no item
-items_of-greeting : (told : List Signal) → items_of (greeting told) ≡ []
-items_of-greeting [] = refl
-items_of-greeting (_ ∷ _) = refl
+items_of_greeting : (told : List Signal) → items_of (greeting told) ≡ []
+items_of_greeting [] = refl
+items_of_greeting (_ ∷ _) = refl
 
 -- the greeting is one signal at most
-length-greeting : (told : List Signal) → length (greeting told) ≤ 1
-length-greeting [] = omega arith
-length-greeting (_ ∷ _) = omega arith
+length_greeting : (told : List Signal) → length (greeting told) ≤ 1
+length_greeting [] = omega arith
+length_greeting (_ ∷ _) = omega arith
 
 -- an end has one terminal signal at most
-length-terminal : (how : How) → length (terminal_of how) ≤ 1
-length-terminal How.Completed = omega arith
-length-terminal (How.Errored _) = omega arith
-length-terminal How.Cancelled = omega arith
-length-terminal (How.Failed _) = omega arith
-length-terminal How.OutOfMemory = omega arith
+length_terminal : (how : How) → length (terminal_of how) ≤ 1
+length_terminal How.Completed = omega arith
+length_terminal (How.Errored _) = omega arith
+length_terminal How.Cancelled = omega arith
+length_terminal (How.Failed _) = omega arith
+length_terminal How.OutOfMemory = omega arith
 
 -- one look tells one signal at most
-length-told : (outlook : Outlook) (last : List Signal) → IsToldBy outlook last → length last ≤ 1
-length-told Again last shape = let one : length last ≡ 1 = ap length shape.1 in omega arith
-length-told Resting last shape = let none : length last ≡ 0 = ap length shape in omega arith
-length-told (Ended how) last shape = subst (λ text. length text ≤ 1) (sym shape) (length-terminal how)
+length_told : (outlook : Outlook) (last : List Signal) → IsToldBy outlook last → length last ≤ 1
+length_told Again last shape = let one : length last ≡ 1 = ap length shape.1 in omega arith
+length_told Resting last shape = let none : length last ≡ 0 = ap length shape in omega arith
+length_told (Ended how) last shape = subst (λ text. length text ≤ 1) (sym shape) (length_terminal how)
 
 -- the last look of a turn tells no item
-items_of-told : (outlook : Outlook) (last : List Signal) → (outlook ≡ Again → ⊥) → IsToldBy outlook last → items_of last ≡ []
-items_of-told Again last other shape = absurd (other refl)
-items_of-told Resting last other shape = ap items_of shape
-items_of-told (Ended how) last other shape = ap items_of shape ∙ items_of-terminal how
+items_of_told : (outlook : Outlook) (last : List Signal) → (outlook ≡ Again → ⊥) → IsToldBy outlook last → items_of last ≡ []
+items_of_told Again last other shape = absurd (other refl)
+items_of_told Resting last other shape = ap items_of shape
+items_of_told (Ended how) last other shape = ap items_of shape ∙ items_of_terminal how
 
 -- the last look tells onComplete only where it completed the subscription
 complete_told : (outlook : Outlook) (last : List Signal) → IsToldBy outlook last → Contains last Complete → outlook ≡ Ended How.Completed
-complete_told Again last shape h = let e = Contains-one (Next shape.0) Complete (subst (λ text. Contains text Complete) shape.1 h) in cc
-complete_told Resting last shape h = absurd (Contains-none Complete (subst (λ text. Contains text Complete) shape h))
-complete_told (Ended how) last shape h = ap Ended (complete-last how (subst (λ text. Contains text Complete) shape h))
+complete_told Again last shape h = let e = contains_one (Next shape.0) Complete (subst (λ text. Contains text Complete) shape.1 h) in cc
+complete_told Resting last shape h = absurd (contains_none Complete (subst (λ text. Contains text Complete) shape h))
+complete_told (Ended how) last shape h = ap Ended (complete_last how (subst (λ text. Contains text Complete) shape h))
 
 -- the last look tells an onError only where it ended with that error
 error_told : (outlook : Outlook) (last : List Signal) (fault : Fault) → IsToldBy outlook last
     → Contains last (Error fault) → outlook ≡ Ended (How.Errored fault)
-error_told Again last fault shape h = let e = Contains-one (Next shape.0) (Error fault) (subst (λ text. Contains text (Error fault)) shape.1 h) in cc
-error_told Resting last fault shape h = absurd (Contains-none (Error fault) (subst (λ text. Contains text (Error fault)) shape h))
-error_told (Ended how) last fault shape h = ap Ended (error-last how fault (subst (λ text. Contains text (Error fault)) shape h))
+error_told Again last fault shape h = let e = contains_one (Next shape.0) (Error fault) (subst (λ text. Contains text (Error fault)) shape.1 h) in cc
+error_told Resting last fault shape h = absurd (contains_none (Error fault) (subst (λ text. Contains text (Error fault)) shape h))
+error_told (Ended how) last fault shape h = ap Ended (error_last how fault (subst (λ text. Contains text (Error fault)) shape h))
 
 -- the last signal of a list is in it
 last_contained : (text : List Signal) (s : Signal) → EndsIn text s → Contains text s
@@ -204,18 +204,18 @@ module _ {count : ℕ} {old mid : DeskState} {seen : List Signal} (so_far : Turn
   -- no terminal signal was told yet
   so_far-open : (s : Signal) → IsTerminal s → Contains seen s → ⊥
   so_far-open s last h = elim (Contains-append_cases (greeting old.lane.told) (map Next so_far.items) s (subst (λ text. Contains text s) so_far.seen_is h)) [
-    | inl first ↦ greeting-open old.lane.told s last first
-    | inr later ↦ nexts-open so_far.items s last later
+    | inl first ↦ greeting_open old.lane.told s last first
+    | inr later ↦ nexts_open so_far.items s last later
   ]
 
   -- the items so far
   pub items_of-so_far : items_of seen ≡ so_far.items
-  items_of-so_far = ap items_of so_far.seen_is ∙ items_of-append (greeting old.lane.told) (map Next so_far.items) ∙ ap (λ items. items ++ items_of (map Next so_far.items)) (items_of-greeting old.lane.told) ∙ items_of-nexts so_far.items
+  items_of-so_far = ap items_of so_far.seen_is ∙ items_of_append (greeting old.lane.told) (map Next so_far.items) ∙ ap (λ items. items ++ items_of (map Next so_far.items)) (items_of_greeting old.lane.told) ∙ items_of_nexts so_far.items
 
   -- a signal for each item, and one for the greeting
   pub length-so_far : length seen ≤ count + 1
   length-so_far =
-      let greeted = length-greeting old.lane.told in
+      let greeted = length_greeting old.lane.told in
       let long : length seen ≡ length (greeting old.lane.told) + length (map Next so_far.items) = ap length so_far.seen_is ∙ length-append (greeting old.lane.told) (map Next so_far.items) in
       omega (arith, long, length-map so_far.items Next, so_far.counted)
 
@@ -250,7 +250,7 @@ module _ {count : ℕ} {old mid : DeskState} {seen : List Signal} (so_far : Turn
       ap (λ t. items_of (take (length (seen ++ last) + 1) t.told)) whole
       ∙ ap (λ n. items_of (take n (seen ++ turn.told))) long
       ∙ ap items_of (take-append-add seen turn.told (length last + 1))
-      ∙ items_of-append seen (take (length last + 1) turn.told)
+      ∙ items_of_append seen (take (length last + 1) turn.told)
       ∙ ap (λ items. items ++ items_of (take (length last + 1) turn.told)) items_of-so_far in
       ap length same ∙ length-append so_far.items (items_of (take (length last + 1) turn.told)) ∙ ap (λ n. n + length (items_of (take (length last + 1) turn.told))) counted
 
@@ -263,7 +263,7 @@ module _ {count : ℕ} {old mid : DeskState} {seen : List Signal} (so_far : Turn
   module _ {new : DeskState} {seen' : List Signal} {outlook : Outlook} (looks : Looks mid new seen seen' outlook) (other : outlook ≡ Again → ⊥) where
     -- the last look adds no item
     items_after : items_of seen' ≡ so_far.items
-    items_after = ap items_of looks.seen_after ∙ items_of-append seen looks.last ∙ ap (λ items. items_of seen ++ items) (items_of-told outlook looks.last other looks.shape) ∙ append-nil (items_of seen) ∙ items_of-so_far
+    items_after = ap items_of looks.seen_after ∙ items_of_append seen looks.last ∙ ap (λ items. items_of seen ++ items) (items_of_told outlook looks.last other looks.shape) ∙ append-nil (items_of seen) ∙ items_of-so_far
 
     -- the items of the turn are the next accepted ones
     pub in_order : IsPrefix (items_of seen') (drop old.lane.given old.lane.accepted)
@@ -272,7 +272,7 @@ module _ {count : ℕ} {old mid : DeskState} {seen : List Signal} (so_far : Turn
     -- the signals of the turn fit the list of a turn's signals
     pub few_signals : count < 64 → length seen' ≤ 66
     few_signals room =
-        let one = length-told outlook looks.last looks.shape in
+        let one = length_told outlook looks.last looks.shape in
         let long : length seen' ≡ length seen + length looks.last = ap length looks.seen_after ∙ length-append seen looks.last in
         let before = length-so_far in
         omega arith

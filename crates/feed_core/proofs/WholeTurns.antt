@@ -8,64 +8,64 @@ use Rattle.feed_core.specs.PlainTurn.{Turn, another_turn, greeting, signals_then
 use Rattle.feed_core.specs.Sound.{IsSound, HasCause, is_begun, terminal_part, signals_of, loss_of}
 use Rattle.feed_core.specs.Turn.{is_again, lane_after_turn, taken_in}
 use Rattle.feed_core.proofs.CalmLanes.{IsCalm}
-use Rattle.feed_core.proofs.DeskSteps.{items_of-terminal, no_cause}
+use Rattle.feed_core.proofs.DeskSteps.{items_of_terminal, no_cause}
 use Rattle.feed_core.proofs.FlowRules.{all_counted, told_and_waiting, told_open}
-use Rattle.feed_core.proofs.SignalLists.{items_of-append, items_of-nexts}
+use Rattle.feed_core.proofs.SignalLists.{items_of_append, items_of_nexts}
 
 -- the terminal part of a lane is no item
-items_of-terminal_part : (how : Option How) → items_of (terminal_part how) ≡ []
-items_of-terminal_part None = refl
-items_of-terminal_part (Some how) = items_of-terminal how
+items_of_terminal_part : (how : Option How) → items_of (terminal_part how) ≡ []
+items_of_terminal_part None = refl
+items_of_terminal_part (Some how) = items_of_terminal how
 
 -- the items of onNexts and a last signal that is none
-items_of-nexts_then : (items : List Item) (ending : List Signal) → items_of ending ≡ [] → items_of (map Next items ++ ending) ≡ items
-items_of-nexts_then items ending quiet =
-    items_of-append (map Next items) ending ∙ ap (λ more. items_of (map Next items) ++ more) quiet ∙ append-nil (items_of (map Next items)) ∙ items_of-nexts items
+items_of_nexts_then : (items : List Item) (ending : List Signal) → items_of ending ≡ [] → items_of (map Next items ++ ending) ≡ items
+items_of_nexts_then items ending quiet =
+    items_of_append (map Next items) ending ∙ ap (λ more. items_of (map Next items) ++ more) quiet ∙ append-nil (items_of (map Next items)) ∙ items_of_nexts items
 
 -- onSubscribe, onNexts and a terminal part are the signals of their own items
-signals_of-own : (items : List Item) (how : Option How) (signals : List Signal) → signals ≡ Subscribed ∷ (map Next items ++ terminal_part how) → signals ≡ signals_of (is_begun signals) (items_of signals) how
-signals_of-own items how signals e =
+signals_of_own : (items : List Item) (how : Option How) (signals : List Signal) → signals ≡ Subscribed ∷ (map Next items ++ terminal_part how) → signals ≡ signals_of (is_begun signals) (items_of signals) how
+signals_of_own items how signals e =
     subst (λ t. t ≡ signals_of (is_begun t) (items_of t) how) (sym e)
-    (ap (λ i. Subscribed ∷ (map Next i ++ terminal_part how)) (sym (items_of-nexts_then items (terminal_part how) (items_of-terminal_part how))))
+    (ap (λ i. Subscribed ∷ (map Next i ++ terminal_part how)) (sym (items_of_nexts_then items (terminal_part how) (items_of_terminal_part how))))
 
 -- nothing was told yet, or onSubscribe and onNexts
 abbrev pub IsOpenList : List Signal → Type 0
 IsOpenList told = (told ≡ []) ⊎ (told ≡ Subscribed ∷ map Next (items_of told))
 
-pub told-open : (lane : LaneState) → IsSound lane → lane.how ≡ None → IsOpenList lane.told
-told-open lane sound unended = by lane.told refl where
+pub told_is_open : (lane : LaneState) → IsSound lane → lane.how ≡ None → IsOpenList lane.told
+told_is_open lane sound unended = by lane.told refl where
   by : (told : List Signal) → lane.told ≡ told → IsOpenList lane.told
   by [] e = inl e
   by (s ∷ told) e = inr (told_open sound unended (ap is_begun e))
 
 -- an open list, a greeting where it has none, more onNexts and a terminal part are the signals of their own items
-pub told-grown : (told : List Signal) (items : List Item) (how : Option How) → IsOpenList told
+pub grown_told : (told : List Signal) (items : List Item) (how : Option How) → IsOpenList told
     → told ++ (greeting told ++ (map Next items ++ terminal_part how)) ≡ signals_of (is_begun (told ++ (greeting told ++ (map Next items ++ terminal_part how)))) (items_of (told ++ (greeting told ++ (map Next items ++ terminal_part how)))) how
-told-grown told items how (inl e) =
-    signals_of-own items how _ (ap (λ t. t ++ (greeting t ++ (map Next items ++ terminal_part how))) e)
-told-grown told items how (inr e) =
+grown_told told items how (inl e) =
+    signals_of_own items how _ (ap (λ t. t ++ (greeting t ++ (map Next items ++ terminal_part how))) e)
+grown_told told items how (inr e) =
     let before = items_of told in
     let greeted : greeting told ≡ [] = ap greeting e in
     let joined : map Next before ++ (map Next items ++ terminal_part how) ≡ map Next (before ++ items) ++ terminal_part how =
     sym (append_assoc (map Next before) (map Next items) (terminal_part how)) ∙ ap (λ t. t ++ terminal_part how) (sym (map-append Next before items)) in
-    signals_of-own (before ++ items) how _
+    signals_of_own (before ++ items) how _
     (ap (λ g. told ++ (g ++ (map Next items ++ terminal_part how))) greeted ∙ ap (λ t. t ++ (map Next items ++ terminal_part how)) e ∙ ap (λ t. Subscribed ∷ t) joined)
 
 -- the items of a greeting, onNexts and a last signal that is none
-pub items_of-greeted : (told : List Signal) (items : List Item) (ending : List Signal) → items_of ending ≡ [] → items_of (greeting told ++ (map Next items ++ ending)) ≡ items
-items_of-greeted [] items ending quiet = items_of-nexts_then items ending quiet
-items_of-greeted (_ ∷ _) items ending quiet = items_of-nexts_then items ending quiet
+pub items_of_greeted : (told : List Signal) (items : List Item) (ending : List Signal) → items_of ending ≡ [] → items_of (greeting told ++ (map Next items ++ ending)) ≡ items
+items_of_greeted [] items ending quiet = items_of_nexts_then items ending quiet
+items_of_greeted (_ ∷ _) items ending quiet = items_of_nexts_then items ending quiet
 
 -- a lane is sound once some of the waiting items were told
-pub sound-after : (lane : LaneState) (told_items left : List Item) (told : List Signal) (given : ℕ) (causes : Causes) (how : Option How)
+pub sound_after : (lane : LaneState) (told_items left : List Item) (told : List Signal) (given : ℕ) (causes : Causes) (how : Option How)
     → IsSound lane → lane.how ≡ None → drop lane.given lane.accepted ≡ told_items ++ left → items_of told ≡ told_items
     → lane.told ++ told ≡ signals_of (is_begun (lane.told ++ told)) (items_of (lane.told ++ told)) how
     → lane.given + length told_items ≤ given → given ≤ lane.given + length told_items + loss_of how → given ≤ lane.given + (length told_items + length left) → given ≤ lane.asked
     → HasCause (record { accepted = lane.accepted; given = given; asked = lane.asked; causes = causes; how = how; told = lane.told ++ told })
     → (how ≡ None → causes.failed ≡ None) → (how ≡ None → causes.memory ≡ false)
     → IsSound (record { accepted = lane.accepted; given = given; asked = lane.asked; causes = causes; how = how; told = lane.told ++ told })
-sound-after lane told_items left told given causes how sound unended parts is told_is at_least at_most waited asked cause unfailed remembered =
-    let items : items_of (lane.told ++ told) ≡ items_of lane.told ++ told_items = items_of-append lane.told told ∙ ap (λ t. items_of lane.told ++ t) is in
+sound_after lane told_items left told given causes how sound unended parts is told_is at_least at_most waited asked cause unfailed remembered =
+    let items : items_of (lane.told ++ told) ≡ items_of lane.told ++ told_items = items_of_append lane.told told ∙ ap (λ t. items_of lane.told ++ t) is in
     let as_many = all_counted sound unended in
     let long : length (items_of (lane.told ++ told)) ≡ length (items_of lane.told) + length told_items = ap length items ∙ length-append (items_of lane.told) told_items in
     let split : lane.accepted ≡ items_of lane.told ++ (told_items ++ left) = told_and_waiting sound unended ∙ ap (λ rest. items_of lane.told ++ rest) parts in
@@ -87,9 +87,9 @@ EndsSo causes left turn =
     ⊎ ((turn.told ≡ Complete ∷ []) × (turn.outlook ≡ Ended How.Completed) × (causes.closing ≡ Some Ending.Normal) × (left ≡ []))
 
 -- a turn ends so whether it gave as many items as it may or fewer
-ends-so : (causes : Causes) (left : List Item) (full : Bool) → EndsSo causes left (if full then another_turn else close_or_rest (closes causes) left)
-ends-so causes left true = inl (refl, inl refl)
-ends-so causes left false = by causes.closing refl left where
+ends_so : (causes : Causes) (left : List Item) (full : Bool) → EndsSo causes left (if full then another_turn else close_or_rest (closes causes) left)
+ends_so causes left true = inl (refl, inl refl)
+ends_so causes left false = by causes.closing refl left where
   by : (closing : Option Ending) → causes.closing ≡ closing → (rest : List Item) → EndsSo causes rest (close_or_rest (completion closing) rest)
   by None e rest = inl (refl, inr refl)
   by (Some (Ending.Failed code)) e rest = inl (refl, inr refl)
@@ -119,27 +119,27 @@ turn_parts lane sound calm =
       parts = sym (take-append-drop most waiting);
       requested = (let few = length-take most waiting in omega (arith, few));
       plain = ap (λ how. signals_then (greeting lane.told) (stop_or_turn how (items_turn lane.causes waiting (lane.asked - lane.given)))) calm;
-      ends = ends-so lane.causes (drop most waiting) (most == ITEMS_IN_A_TURN);
+      ends = ends_so lane.causes (drop most waiting) (most == ITEMS_IN_A_TURN);
     }
 
 -- what is taken where all of a turn was told
-taken-all : (turn : Turn) → taken_in turn turn.told ≡ length (items_of turn.told)
-taken-all turn = ap (λ t. length (items_of t)) (take_all (length turn.told + 1) turn.told (omega arith))
+taken_all : (turn : Turn) → taken_in turn turn.told ≡ length (items_of turn.told)
+taken_all turn = ap (λ t. length (items_of t)) (take_all (length turn.told + 1) turn.told (omega arith))
 
 -- a lane stays calm after items that do not end it
-calm-items : (lane : LaneState) (capacity : ℕ) (owed : Bool) (calm : IsCalm lane capacity true) (t : TurnParts lane) → t.end.told ≡ []
+calm_items : (lane : LaneState) (capacity : ℕ) (owed : Bool) (calm : IsCalm lane capacity true) (t : TurnParts lane) → t.end.told ≡ []
     → IsCalm (record { accepted = lane.accepted; given = lane.given + taken_in (plain_turn_of lane) (plain_turn_of lane).told; asked = lane.asked; causes = lane.causes; how = None; told = lane.told ++ (plain_turn_of lane).told }) capacity owed
-calm-items lane capacity owed calm t quiet =
+calm_items lane capacity owed calm t quiet =
     let unended = calm.lives refl in
     let plain = (plain_turn_of lane).told in
     let said : plain ≡ greeting lane.told ++ (map Next t.items ++ terminal_part None) = ap (λ turn. turn.told) t.plain ∙ ap (λ more. greeting lane.told ++ (map Next t.items ++ more)) quiet in
-    let items : items_of plain ≡ t.items = ap items_of said ∙ items_of-greeted lane.told t.items [] refl in
-    let taken : taken_in (plain_turn_of lane) plain ≡ length t.items = taken-all (plain_turn_of lane) ∙ ap length items in
-    let told_is = subst (λ p. lane.told ++ p ≡ signals_of (is_begun (lane.told ++ p)) (items_of (lane.told ++ p)) None) (sym said) (told-grown lane.told t.items None (told-open lane calm.sound unended)) in
+    let items : items_of plain ≡ t.items = ap items_of said ∙ items_of_greeted lane.told t.items [] refl in
+    let taken : taken_in (plain_turn_of lane) plain ≡ length t.items = taken_all (plain_turn_of lane) ∙ ap length items in
+    let told_is = subst (λ p. lane.told ++ p ≡ signals_of (is_begun (lane.told ++ p)) (items_of (lane.told ++ p)) None) (sym said) (grown_told lane.told t.items None (told_is_open lane calm.sound unended)) in
     let requested = t.requested in
     let fits = calm.fits in
     record {
-      sound = sound-after lane t.items t.left plain (lane.given + taken_in (plain_turn_of lane) plain) lane.causes None calm.sound unended t.parts items told_is
+      sound = sound_after lane t.items t.left plain (lane.given + taken_in (plain_turn_of lane) plain) lane.causes None calm.sound unended t.parts items told_is
           (omega (arith, taken)) (omega (arith, taken)) (omega (arith, taken)) (omega (arith, taken))
           (no_cause _ refl) (λ e. calm.sound.unfailed unended) (λ e. calm.sound.remembered unended);
       fits = omega arith;
@@ -149,15 +149,15 @@ calm-items lane capacity owed calm t quiet =
     }
 
 -- a lane stays calm after its last item and onComplete
-calm-completed : (lane : LaneState) (capacity : ℕ) (calm : IsCalm lane capacity true) (t : TurnParts lane) → t.end.told ≡ Complete ∷ [] → lane.causes.closing ≡ Some Ending.Normal → t.left ≡ []
+calm_completed : (lane : LaneState) (capacity : ℕ) (calm : IsCalm lane capacity true) (t : TurnParts lane) → t.end.told ≡ Complete ∷ [] → lane.causes.closing ≡ Some Ending.Normal → t.left ≡ []
     → IsCalm (record { accepted = lane.accepted; given = lane.given + taken_in (plain_turn_of lane) (plain_turn_of lane).told; asked = lane.asked; causes = lane.causes; how = Some How.Completed; told = lane.told ++ (plain_turn_of lane).told }) capacity false
-calm-completed lane capacity calm t last closing none_left =
+calm_completed lane capacity calm t last closing none_left =
     let unended = calm.lives refl in
     let plain = (plain_turn_of lane).told in
     let said : plain ≡ greeting lane.told ++ (map Next t.items ++ terminal_part (Some How.Completed)) = ap (λ turn. turn.told) t.plain ∙ ap (λ more. greeting lane.told ++ (map Next t.items ++ more)) last in
-    let items : items_of plain ≡ t.items = ap items_of said ∙ items_of-greeted lane.told t.items (Complete ∷ []) refl in
-    let taken : taken_in (plain_turn_of lane) plain ≡ length t.items = taken-all (plain_turn_of lane) ∙ ap length items in
-    let told_is = subst (λ p. lane.told ++ p ≡ signals_of (is_begun (lane.told ++ p)) (items_of (lane.told ++ p)) (Some How.Completed)) (sym said) (told-grown lane.told t.items (Some How.Completed) (told-open lane calm.sound unended)) in
+    let items : items_of plain ≡ t.items = ap items_of said ∙ items_of_greeted lane.told t.items (Complete ∷ []) refl in
+    let taken : taken_in (plain_turn_of lane) plain ≡ length t.items = taken_all (plain_turn_of lane) ∙ ap length items in
+    let told_is = subst (λ p. lane.told ++ p ≡ signals_of (is_begun (lane.told ++ p)) (items_of (lane.told ++ p)) (Some How.Completed)) (sym said) (grown_told lane.told t.items (Some How.Completed) (told_is_open lane calm.sound unended)) in
     let waiting : length (drop lane.given lane.accepted) ≡ length t.items + length t.left = ap length t.parts ∙ length-append t.items t.left in
     let nothing : length t.left ≡ 0 = ap length none_left in
     let dropped = length-drop lane.given lane.accepted in
@@ -166,7 +166,7 @@ calm-completed lane capacity calm t last closing none_left =
     let fits = calm.fits in
     let all : lane.given + taken_in (plain_turn_of lane) plain ≡ length lane.accepted = omega (arith, taken, waiting, nothing, dropped) in
     record {
-      sound = sound-after lane t.items t.left plain (lane.given + taken_in (plain_turn_of lane) plain) lane.causes (Some How.Completed) calm.sound unended t.parts items told_is
+      sound = sound_after lane t.items t.left plain (lane.given + taken_in (plain_turn_of lane) plain) lane.causes (Some How.Completed) calm.sound unended t.parts items told_is
           (omega (arith, taken)) (omega (arith, taken)) (omega (arith, taken)) (omega (arith, taken))
           (record { completed = λ e. closing; whole = λ e. all; published = λ code e. cc; argument = λ e. cc; state = λ e. cc; cancelled = λ e. cc; failed = λ code e. cc; refused = λ e. cc })
           (λ e. cc) (λ e. cc);
@@ -177,16 +177,16 @@ calm-completed lane capacity calm t last closing none_left =
     }
 
 -- a lane stays calm after a turn in which all of the plain turn was told
-pub calm-whole_turn : (lane : LaneState) (capacity : ℕ) → IsCalm lane capacity true
+pub calm_whole_turn : (lane : LaneState) (capacity : ℕ) → IsCalm lane capacity true
     → IsCalm (lane_after_turn lane (plain_turn_of lane).told (plain_turn_of lane).outlook) capacity (is_again (plain_turn_of lane).outlook)
-calm-whole_turn lane capacity calm =
+calm_whole_turn lane capacity calm =
     let t = turn_parts lane calm.sound calm.calm in
     let outlook : (plain_turn_of lane).outlook ≡ t.end.outlook = ap (λ turn. turn.outlook) t.plain in
     let P : Outlook → Type 0 = λ o. IsCalm (lane_after_turn lane (plain_turn_of lane).told o) capacity (is_again o) in
     elim t.ends [
       | inl going ↦ (elim going.1 [
-        | inl e ↦ subst P (sym (outlook ∙ e)) (calm-items lane capacity true calm t going.0)
-        | inr e ↦ subst P (sym (outlook ∙ e)) (calm-items lane capacity false calm t going.0)
+        | inl e ↦ subst P (sym (outlook ∙ e)) (calm_items lane capacity true calm t going.0)
+        | inr e ↦ subst P (sym (outlook ∙ e)) (calm_items lane capacity false calm t going.0)
       ])
-      | inr done ↦ subst P (sym (outlook ∙ done.1)) (calm-completed lane capacity calm t done.0 done.2 done.3)
+      | inr done ↦ subst P (sym (outlook ∙ done.1)) (calm_completed lane capacity calm t done.0 done.2 done.3)
     ]

@@ -25,36 +25,36 @@ abbrev Follows : List Signal → Type 0
 Follows signals = (items : List Item) × (last : List Signal) × (signals ≡ map Next items ++ last) × IsTerminalPart last
 
 -- nothing follows a terminal signal
-ended-passes : (signals : List Signal) → IsTrue (passes Ended signals) → signals ≡ []
-ended-passes [] h = refl
-ended-passes (s ∷ signals) h = cc
+ended_passes : (signals : List Signal) → IsTrue (passes Ended signals) → signals ≡ []
+ended_passes [] h = refl
+ended_passes (s ∷ signals) h = cc
 
 -- what passes once a list is open may follow
-opened-passes : (signals : List Signal) → IsTrue (passes Opened signals) → Follows signals
-opened-passes [] h = ([], [], refl, inl refl)
-opened-passes (Subscribed ∷ signals) h = cc
-opened-passes (Next item ∷ signals) h =
-    let rest = opened-passes signals h in
+opened_passes : (signals : List Signal) → IsTrue (passes Opened signals) → Follows signals
+opened_passes [] h = ([], [], refl, inl refl)
+opened_passes (Subscribed ∷ signals) h = cc
+opened_passes (Next item ∷ signals) h =
+    let rest = opened_passes signals h in
     (item ∷ rest.0, rest.1, ap (λ t. Next item ∷ t) rest.2, rest.3)
-opened-passes (Complete ∷ signals) h =
-    ([], Complete ∷ signals, refl, inr (inl (ap (λ t. Complete ∷ t) (ended-passes signals h))))
-opened-passes (Error fault ∷ signals) h =
-    ([], Error fault ∷ signals, refl, inr (inr (fault, ap (λ t. Error fault ∷ t) (ended-passes signals h))))
+opened_passes (Complete ∷ signals) h =
+    ([], Complete ∷ signals, refl, inr (inl (ap (λ t. Complete ∷ t) (ended_passes signals h))))
+opened_passes (Error fault ∷ signals) h =
+    ([], Error fault ∷ signals, refl, inr (inr (fault, ap (λ t. Error fault ∷ t) (ended_passes signals h))))
 
 -- what may follow once a list is open passes
-opened-follows : (items : List Item) (last : List Signal) → IsTerminalPart last → IsTrue (passes Opened (map Next items ++ last))
-opened-follows [] last (inl e) = rw e refl
-opened-follows [] last (inr (inl e)) = rw e refl
-opened-follows [] last (inr (inr f)) = rw f.1 refl
-opened-follows (item ∷ items) last h = opened-follows items last h
+opened_follows : (items : List Item) (last : List Signal) → IsTerminalPart last → IsTrue (passes Opened (map Next items ++ last))
+opened_follows [] last (inl e) = rw e refl
+opened_follows [] last (inr (inl e)) = rw e refl
+opened_follows [] last (inr (inr f)) = rw f.1 refl
+opened_follows (item ∷ items) last h = opened_follows items last h
 
 -- the machine goes through exactly the lists that the rules allow
-pub passes-iff : (signals : List Signal) → IsTrue (passes Fresh signals) ↔ IsFlowText signals
-passes-iff signals = (allowed signals, passed signals) where
+pub passes_iff : (signals : List Signal) → IsTrue (passes Fresh signals) ↔ IsFlowText signals
+passes_iff signals = (allowed signals, passed signals) where
   allowed : (signals : List Signal) → IsTrue (passes Fresh signals) → IsFlowText signals
   allowed [] h = inl refl
   allowed (Subscribed ∷ signals) h =
-      let rest = opened-passes signals h in
+      let rest = opened_passes signals h in
       inr (rest.0, rest.1, ap (λ t. Subscribed ∷ t) rest.2, rest.3)
   allowed (Next _ ∷ signals) h = cc
   allowed (Complete ∷ signals) h = cc
@@ -62,24 +62,24 @@ passes-iff signals = (allowed signals, passed signals) where
 
   passed : (signals : List Signal) → IsFlowText signals → IsTrue (passes Fresh signals)
   passed signals (inl e) = rw e refl
-  passed signals (inr h) = rw h.2 (opened-follows h.0 h.1 h.3)
+  passed signals (inr h) = rw h.2 (opened_follows h.0 h.1 h.3)
 
 -- no stage has signals left to refuse at the end of the list
-pub passes-end : (stage : Stage) (signals : List Signal) → signals ≡ [] → passes stage signals ≡ true
-passes-end Fresh signals e = rw e refl
-passes-end Opened signals e = rw e refl
-passes-end Ended signals e = rw e refl
+pub passes_end : (stage : Stage) (signals : List Signal) → signals ≡ [] → passes stage signals ≡ true
+passes_end Fresh signals e = rw e refl
+passes_end Opened signals e = rw e refl
+passes_end Ended signals e = rw e refl
 
 -- where the machine stops at a signal, the list is not allowed
 pub stopped : (signals : List Signal) (stage : Stage) (i : ℕ) (s : Signal) → passes Fresh signals ≡ passes stage (drop i signals) → i < length signals → s ≡ get_or signals i s → ((rest : List Signal) → passes stage (s ∷ rest) ≡ false) → (IsTrue false → IsFlowText signals) × (IsFlowText signals → IsTrue false)
 stopped signals stage i s so_far more at stuck =
     let next : drop i signals ≡ s ∷ drop (suc i) signals = drop-cons signals i s more ∙ ap (λ x. x ∷ drop (suc i) signals) (sym at) in
     let refused : passes Fresh signals ≡ false = so_far ∙ ap (passes stage) next ∙ stuck (drop (suc i) signals) in
-    (λ accepted. cc, λ allowed. let accepted : IsTrue (passes Fresh signals) = (passes-iff signals).1 allowed in cc)
+    (λ accepted. cc, λ allowed. let accepted : IsTrue (passes Fresh signals) = (passes_iff signals).1 allowed in cc)
 
 -- at the first stage only onSubscribe may come
-pub only-subscribed : (s : Signal) → (s ≡ Subscribed → ⊥) → (rest : List Signal) → passes Fresh (s ∷ rest) ≡ false
-only-subscribed Subscribed other rest = absurd (other refl)
-only-subscribed (Next _) other rest = refl
-only-subscribed Complete other rest = refl
-only-subscribed (Error _) other rest = refl
+pub only_subscribed : (s : Signal) → (s ≡ Subscribed → ⊥) → (rest : List Signal) → passes Fresh (s ∷ rest) ≡ false
+only_subscribed Subscribed other rest = absurd (other refl)
+only_subscribed (Next _) other rest = refl
+only_subscribed Complete other rest = refl
+only_subscribed (Error _) other rest = refl

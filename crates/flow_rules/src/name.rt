@@ -19,7 +19,7 @@ pub struct Name {
 impl Model for Name {
     ghost use Rattle.std.specs.Prelude.{List, ℕ, take, length};
     ghost use Rattle.flow_rules.specs.Name.{IsPadded, padded};
-    ghost use Rattle.flow_rules.specs.Padding.{padded-take};
+    ghost use Rattle.flow_rules.specs.Padding.{padded_take};
 
     ghost Value = { List ℕ };
 
@@ -29,7 +29,7 @@ impl Model for Name {
 
     ghost inverse = { λ name. record { bytes = padded name; len = length name } };
 
-    ghost inverse_ok = { λ n kept. padded-take n kept };
+    ghost inverse_ok = { λ n kept. padded_take n kept };
 }
 
 impl Name {

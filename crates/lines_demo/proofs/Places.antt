@@ -6,8 +6,8 @@ use Rattle.std.proofs.lemmas.Bool.Decides.{nat_tests}
 use Rattle.std.proofs.lemmas.List.Sums.{prefix_len-le-length}
 
 -- where no element passes, the place is the length
-pub unwrap_or-position : {X : Type 0} (p : X → Bool) (xs : List X) → unwrap_or (position p xs) (length xs) ≡ position_or_len p xs
-unwrap_or-position p xs =
+pub unwrap_or_position : {X : Type 0} (p : X → Bool) (xs : List X) → unwrap_or (position p xs) (length xs) ≡ position_or_len p xs
+unwrap_or_position p xs =
     let place = position_or_len p xs in
     let within : place ≤ length xs = prefix_len-le-length (λ x. not (p x)) xs in
     elim (nat_lt place (length xs)) as (λ b. nat_lt place (length xs) ≡ b → unwrap_or (cond b (Some place) None) (length xs) ≡ place) [

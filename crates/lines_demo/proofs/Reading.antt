@@ -20,16 +20,16 @@ IsPlayed (Err Write) done = ⊤
 IsPlayed (Err Memory) done = ⊤
 
 -- a read that stopped short of its limit has taken all
-pub all-read : (known : Option (List ℕ)) (limit : ℕ) (items : List ℕ) → IfSome (option_map (take limit) known) (λ xs. items ≡ xs) → length items < limit → IfSome known (λ all. all ≡ items)
-all-read None limit items read short = tt
-all-read (Some all) limit items read short =
+pub all_read : (known : Option (List ℕ)) (limit : ℕ) (items : List ℕ) → IfSome (option_map (take limit) known) (λ xs. items ≡ xs) → length items < limit → IfSome known (λ all. all ≡ items)
+all_read None limit items read short = tt
+all_read (Some all) limit items read short =
     let cut : length items ≡ length (take limit all) = ap length read in
     let whole : length all ≤ limit = omega (arith, cut, length-take limit all) in
     sym (read ∙ take_all limit all whole)
 
 -- the reading stopped: nothing was written
-pub reading-stopped : (fault : ScriptFault) (stock : ℕ) (known a : Option (List ℕ)) → (fault ≡ Write → ⊥) → PlaysScript (Err fault) stock known a a
-reading-stopped fault stock known a no_write = record {
+pub reading_stopped : (fault : ScriptFault) (stock : ℕ) (known a : Option (List ℕ)) → (fault ≡ Write → ⊥) → PlaysScript (Err fault) stock known a a
+reading_stopped fault stock known a no_write = record {
   bytes = [];
   refusals = [];
   written = [];
@@ -50,9 +50,9 @@ reading-stopped fault stock known a no_write = record {
   nothing Memory = (script_output stock [] [], refl)
 
 -- all lines were played, or the writing failed within them
-pub script-played : (result : Result (Unit {0}) ScriptFault) (done : Bool) (stock : ℕ) (bytes : List ℕ) (state : SessionState) (known a b : Option (List ℕ)) → IsPlayed result done
+pub script_played : (result : Result (Unit {0}) ScriptFault) (done : Bool) (stock : ℕ) (bytes : List ℕ) (state : SessionState) (known a b : Option (List ℕ)) → IsPlayed result done
     → IfSome known (λ all. all ≡ bytes) → length bytes ≤ LONGEST_SCRIPT → Answers done (λ refusals. script_result stock refusals bytes) a b state → PlaysScript result stock known a b
-script-played result done stock bytes state known a b played given short answers = record {
+script_played result done stock bytes state known a b played given short answers = record {
   bytes = bytes;
   refusals = answers.used;
   written = answers.written;

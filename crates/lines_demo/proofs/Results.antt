@@ -13,9 +13,9 @@ use Rattle.lines_demo.specs.declared.script.reply.Reply.{Reply}
 -- ---- one result
 
 -- under these refusals this is the output, and it was written
-pub answers-known : (done : Bool) (results : List Bool → LineResult) (output : List ℕ) (state : SessionState) (used : List Bool) (a b : Option (List ℕ))
+pub answers_known : (done : Bool) (results : List Bool → LineResult) (output : List ℕ) (state : SessionState) (used : List Bool) (a b : Option (List ℕ))
     → ((more : List Bool) → results (used ++ more) ≡ record { output = output; state = state; refusals = more }) → Writes done a b output → Answers done results a b state
-answers-known done results output state used a b known w =
+answers_known done results output state used a b known w =
     let alone : results used ≡ record { output = output; state = state; refusals = [] } = ap results (sym (append-nil used)) ∙ known [] in
     let bytes_of : LineResult → List ℕ = λ result. result.output in
     record {
@@ -29,19 +29,19 @@ answers-known done results output state used a b known w =
     }
 
 -- a reply was written
-pub answers-reply : (done : Bool) (results : List Bool → CommandResult) (reply : Reply) (state : SessionState) (a b : Option (List ℕ)) → Replies results reply state
+pub answers_reply : (done : Bool) (results : List Bool → CommandResult) (reply : Reply) (state : SessionState) (a b : Option (List ℕ)) → Replies results reply state
     → Writes done a b (line_of (reply_text reply)) → Answers done (λ refusals. reply_result (results refusals)) a b state
-answers-reply done results reply state a b replies w =
-    answers-known done (λ refusals. reply_result (results refusals)) (line_of (reply_text reply)) state replies.used a b (λ more. ap reply_result (replies.replies more)) w
+answers_reply done results reply state a b replies w =
+    answers_known done (λ refusals. reply_result (results refusals)) (line_of (reply_text reply)) state replies.used a b (λ more. ap reply_result (replies.replies more)) w
 
 -- nothing is to be written
-pub answers-empty : (state : SessionState) (a : Option (List ℕ)) → Answers true (empty_result state) a a state
-answers-empty state a = record { used = []; written = []; appended = Appends-nil a; prefix = ([], refl); whole = λ all more. refl }
+pub answers_empty : (state : SessionState) (a : Option (List ℕ)) → Answers true (empty_result state) a a state
+answers_empty state a = record { used = []; written = []; appended = Appends-nil a; prefix = ([], refl); whole = λ all more. refl }
 
 -- two ways to state a result
-pub answers-same : (done : Bool) (f g : List Bool → LineResult) (a b : Option (List ℕ)) (state : SessionState) → ((refusals : List Bool) → f refusals ≡ g refusals)
+pub answers_same : (done : Bool) (f g : List Bool → LineResult) (a b : Option (List ℕ)) (state : SessionState) → ((refusals : List Bool) → f refusals ≡ g refusals)
     → Answers done g a b state → Answers done f a b state
-answers-same done f g a b state same answers =
+answers_same done f g a b state same answers =
     let bytes_of : LineResult → List ℕ = λ result. result.output in
     record {
       used = answers.used;
@@ -52,9 +52,9 @@ answers-same done f g a b state same answers =
     }
 
 -- the writing failed within the first of two results
-pub answers-cut : (first results : List Bool → LineResult) (later : SessionState → List Bool → LineResult) (a b : Option (List ℕ)) (state state' : SessionState)
+pub answers_cut : (first results : List Bool → LineResult) (later : SessionState → List Bool → LineResult) (a b : Option (List ℕ)) (state state' : SessionState)
     → ((refusals : List Bool) → results refusals ≡ result_then (first refusals) later) → Answers false first a b state → Answers false results a b state'
-answers-cut first results later a b state state' two answers =
+answers_cut first results later a b state state' two answers =
     let bytes_of : LineResult → List ℕ = λ result. result.output in
     let tail = (later (first answers.used).state (first answers.used).refusals).output in
     record {
@@ -78,13 +78,13 @@ pub record Progress (whole rest : List Bool → LineResult) (old new : Option (L
   pub so_far : (more : List Bool) → whole (used ++ more) ≡ result_after_bytes written (rest more)
 
 -- nothing was written yet
-pub progress-start : (whole : List Bool → LineResult) (a : Option (List ℕ)) → Progress whole whole a a
-progress-start whole a = record { used = []; written = []; appended = Appends-nil a; so_far = λ more. refl }
+pub progress_start : (whole : List Bool → LineResult) (a : Option (List ℕ)) → Progress whole whole a a
+progress_start whole a = record { used = []; written = []; appended = Appends-nil a; so_far = λ more. refl }
 
 -- the first of the results that were left was written
-pub progress-more : (whole rest first : List Bool → LineResult) (later : SessionState → List Bool → LineResult) (state : SessionState) (a b c : Option (List ℕ))
+pub progress_more : (whole rest first : List Bool → LineResult) (later : SessionState → List Bool → LineResult) (state : SessionState) (a b c : Option (List ℕ))
     → Progress whole rest a b → ((refusals : List Bool) → rest refusals ≡ result_then (first refusals) later) → Answers true first b c state → Progress whole (later state) a c
-progress-more whole rest first later state a b c progress two answers =
+progress_more whole rest first later state a b c progress two answers =
     let u = progress.used in
     let v = answers.used in
     let w = progress.written in
@@ -102,8 +102,8 @@ progress-more whole rest first later state a b c progress two answers =
     }
 
 -- what was left was written, or a prefix of it
-pub progress-last : (done : Bool) (whole rest : List Bool → LineResult) (state : SessionState) (a b c : Option (List ℕ)) → Progress whole rest a b → Answers done rest b c state → Answers done whole a c state
-progress-last done whole rest state a b c progress answers =
+pub progress_last : (done : Bool) (whole rest : List Bool → LineResult) (state : SessionState) (a b c : Option (List ℕ)) → Progress whole rest a b → Answers done rest b c state → Answers done whole a c state
+progress_last done whole rest state a b c progress answers =
     let u = progress.used in
     let v = answers.used in
     let w = progress.written in
@@ -120,9 +120,9 @@ progress-last done whole rest state a b c progress answers =
     }
 
 -- nothing is left
-pub progress-end : (whole rest : List Bool → LineResult) (state : SessionState) (a b : Option (List ℕ)) → Progress whole rest a b
+pub progress_end : (whole rest : List Bool → LineResult) (state : SessionState) (a b : Option (List ℕ)) → Progress whole rest a b
     → ((refusals : List Bool) → rest refusals ≡ empty_result state refusals) → Answers true whole a b state
-progress-end whole rest state a b progress ends =
-    progress-plus (answers-same true rest (empty_result state) b b state ends (answers-empty state b)) where
+progress_end whole rest state a b progress ends =
+    progress-plus (answers_same true rest (empty_result state) b b state ends (answers_empty state b)) where
       progress-plus : Answers true rest b b state → Answers true whole a b state
-      progress-plus last = progress-last true whole rest state a b b progress last
+      progress-plus last = progress_last true whole rest state a b b progress last

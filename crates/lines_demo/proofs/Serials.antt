@@ -23,34 +23,34 @@ use Rattle.lines_demo.specs.declared.script.reply.Reply.TheVariants.{Offered, Su
 -- ---- items
 
 -- no item has a serial number at all
-serials-none : (serial : ℕ) → HasSerials [] serial
-serials-none serial = record { rise = λ i j d less within. absurd (omega arith); given_out = All-nil (λ item. item.serial < serial) }
+serials_none : (serial : ℕ) → HasSerials [] serial
+serials_none serial = record { rise = λ i j d less within. absurd (omega arith); given_out = All-nil (λ item. item.serial < serial) }
 
 -- one more serial number was given out
-serials-later : (items : List Item) (serial : ℕ) → HasSerials items serial → HasSerials items (serial + 1)
-serials-later items serial has = record {
+serials_later : (items : List Item) (serial : ℕ) → HasSerials items serial → HasSerials items (serial + 1)
+serials_later items serial has = record {
   rise = has.rise;
   given_out = All-weaker (λ item. item.serial < serial) (λ item. item.serial < serial + 1) (λ item less. omega arith) items has.given_out;
 }
 
 -- one more serial number was given out, to an item that was accepted
-serials-more : (items : List Item) (item : Item) → HasSerials items item.serial → HasSerials (items ++ item ∷ []) (item.serial + 1)
-serials-more items item has = record {
+serials_more : (items : List Item) (item : Item) → HasSerials items item.serial → HasSerials (items ++ item ∷ []) (item.serial + 1)
+serials_more items item has = record {
   rise = all_pairs_push (λ a b. a.serial < b.serial) items item has.rise (λ k d within. has.given_out k d within);
-  given_out = All-push (λ other. other.serial < item.serial + 1) items item (serials-later items item.serial has).given_out (omega arith);
+  given_out = All-push (λ other. other.serial < item.serial + 1) items item (serials_later items item.serial has).given_out (omega arith);
 }
 
 -- ---- subscriptions
 
-put-numbered : (desk : DeskState) (item : Item) → HasSerials desk.lane.accepted item.serial → HasSerials (desk_after_put item desk).lane.accepted (item.serial + 1)
-put-numbered desk item has = by (is_gone desk.lane) (lag_of desk.lane == desk.capacity) where
+put_numbered : (desk : DeskState) (item : Item) → HasSerials desk.lane.accepted item.serial → HasSerials (desk_after_put item desk).lane.accepted (item.serial + 1)
+put_numbered desk item has = by (is_gone desk.lane) (lag_of desk.lane == desk.capacity) where
   by : (gone full : Bool) → HasSerials (if not gone && not full then desk_after_signal desk (lane_with_item item desk.lane) else desk).lane.accepted (item.serial + 1)
-  by true full = serials-later desk.lane.accepted item.serial has
-  by false true = serials-later desk.lane.accepted item.serial has
-  by false false = serials-more desk.lane.accepted item has
+  by true full = serials_later desk.lane.accepted item.serial has
+  by false true = serials_later desk.lane.accepted item.serial has
+  by false false = serials_more desk.lane.accepted item has
 
-end-numbered : (desk : DeskState) (serial : ℕ) → HasSerials desk.lane.accepted serial → HasSerials (desk_after_end Ending.Normal desk).lane.accepted serial
-end-numbered desk serial has = by (is_some desk.lane.causes.closing) where
+end_numbered : (desk : DeskState) (serial : ℕ) → HasSerials desk.lane.accepted serial → HasSerials (desk_after_end Ending.Normal desk).lane.accepted serial
+end_numbered desk serial has = by (is_some desk.lane.causes.closing) where
   by : (closed : Bool) → HasSerials (if closed then desk else desk_after_signal desk (lane_with_closing Ending.Normal desk.lane)).lane.accepted serial
   by true = has
   by false = has
@@ -62,65 +62,65 @@ either : (b : Bool) (p q : CommandResult) → IsNumbered p.state → IsNumbered 
 either true p q is_p is_q = is_p
 either false p q is_p is_q = is_q
 
-either-line : (b : Bool) (p q : LineResult) → IsNumbered p.state → IsNumbered q.state → IsNumbered (if b then p else q).state
-either-line true p q is_p is_q = is_p
-either-line false p q is_p is_q = is_q
+either_line : (b : Bool) (p q : LineResult) → IsNumbered p.state → IsNumbered q.state → IsNumbered (if b then p else q).state
+either_line true p q is_p is_q = is_p
+either_line false p q is_p is_q = is_q
 
 -- a point at which memory may be refused keeps what the call keeps
-unless-numbered : (state : SessionState) (refusals : List Bool) (call : List Bool → CommandResult) → IsNumbered state → ((left : List Bool) → IsNumbered (call left).state)
+unless_numbered : (state : SessionState) (refusals : List Bool) (call : List Bool → CommandResult) → IsNumbered state → ((left : List Bool) → IsNumbered (call left).state)
     → IsNumbered (result_unless_no_memory state refusals call).state
-unless-numbered state [] call is calls = calls []
-unless-numbered state (false ∷ refusals) call is calls = calls refusals
-unless-numbered state (true ∷ refusals) call is calls = is
+unless_numbered state [] call is calls = calls []
+unless_numbered state (false ∷ refusals) call is calls = calls refusals
+unless_numbered state (true ∷ refusals) call is calls = is
 
-sub-numbered : (state : SessionState) (refusals : List Bool) (name : List ℕ) (number : ℕ) → IsNumbered state → IsNumbered (sub_result state refusals name number).state
-sub-numbered state refusals name number is =
-    either (is_some state.subscription || state.stock == 0) _ _ is (unless-numbered state refusals _ is (λ left. by state.is_closed)) where
+sub_numbered : (state : SessionState) (refusals : List Bool) (name : List ℕ) (number : ℕ) → IsNumbered state → IsNumbered (sub_result state refusals name number).state
+sub_numbered state refusals name number is =
+    either (is_some state.subscription || state.stock == 0) _ _ is (unless_numbered state refusals _ is (λ left. by state.is_closed)) where
       by : (closed : Bool) → HasSerials (desk_at_subscribing closed (capacity_of state.capacity)).lane.accepted state.serial
-      by true = serials-none state.serial
-      by false = serials-none state.serial
+      by true = serials_none state.serial
+      by false = serials_none state.serial
 
-publication-numbered : (state : SessionState) (text : List ℕ) → IsNumbered state → IsNumbered (state_after_publication state text)
-publication-numbered state text is = by state.subscription is where
+publication_numbered : (state : SessionState) (text : List ℕ) → IsNumbered state → IsNumbered (state_after_publication state text)
+publication_numbered state text is = by state.subscription is where
   by : (subscription : Option SubscriptionState) → Numbered subscription state.serial → Numbered (option_map (subscription_after_put (next_item state text)) subscription) (state.serial + 1)
   by None is = tt
-  by (Some s) is = put-numbered s.desk (next_item state text) is
+  by (Some s) is = put_numbered s.desk (next_item state text) is
 
-unless-refused-numbered : (why : Option Refusal) (reply : ℤ → Reply) (state : SessionState) (refusals : List Bool) (text : List ℕ) → IsNumbered state
+unless_refused_numbered : (why : Option Refusal) (reply : ℤ → Reply) (state : SessionState) (refusals : List Bool) (text : List ℕ) → IsNumbered state
     → IsNumbered (publication_unless why reply state refusals text).state
-unless-refused-numbered (Some refusal) reply state refusals text is = is
-unless-refused-numbered None reply state refusals text is = publication-numbered state text is
+unless_refused_numbered (Some refusal) reply state refusals text is = is
+unless_refused_numbered None reply state refusals text is = publication_numbered state text is
 
-publish-numbered : (refusal_of : SessionState → Option Refusal) (reply : ℤ → Reply) (state : SessionState) (refusals : List Bool) (text : List ℕ) → IsNumbered state
+publish_numbered : (refusal_of : SessionState → Option Refusal) (reply : ℤ → Reply) (state : SessionState) (refusals : List Bool) (text : List ℕ) → IsNumbered state
     → IsNumbered (publication_result refusal_of reply state refusals text).state
-publish-numbered refusal_of reply state refusals text is =
-    either (nat_lt LONGEST_TEXT (length text)) _ _ is (unless-numbered state refusals _ is (λ left. unless-refused-numbered (refusal_of state) reply state left text is))
+publish_numbered refusal_of reply state refusals text is =
+    either (nat_lt LONGEST_TEXT (length text)) _ _ is (unless_numbered state refusals _ is (λ left. unless_refused_numbered (refusal_of state) reply state left text is))
 
-request-numbered : (state : SessionState) (subscription : Option SubscriptionState) (refusals : List Bool) (name : List ℕ) (number : ℕ) → IsNumbered state → Numbered subscription state.serial
+request_numbered : (state : SessionState) (subscription : Option SubscriptionState) (refusals : List Bool) (name : List ℕ) (number : ℕ) → IsNumbered state → Numbered subscription state.serial
     → IsNumbered (request_result state subscription refusals name number).state
-request-numbered state None refusals name number is has = is
-request-numbered state (Some s) refusals name number is has = either (is_word s.name name) _ _ has is
+request_numbered state None refusals name number is has = is
+request_numbered state (Some s) refusals name number is has = either (is_word s.name name) _ _ has is
 
-close-numbered : (state : SessionState) (refusals : List Bool) → IsNumbered state → IsNumbered (close_result state refusals).state
-close-numbered state refusals is = either state.is_closed _ _ is (by state.subscription is) where
+close_numbered : (state : SessionState) (refusals : List Bool) → IsNumbered state → IsNumbered (close_result state refusals).state
+close_numbered state refusals is = either state.is_closed _ _ is (by state.subscription is) where
   by : (subscription : Option SubscriptionState) → Numbered subscription state.serial → Numbered (option_map subscription_after_close subscription) state.serial
   by None is = tt
-  by (Some s) is = end-numbered s.desk state.serial is
+  by (Some s) is = end_numbered s.desk state.serial is
 
-cap-numbered : (state : SessionState) (refusals : List Bool) (capacity : ℕ) → IsNumbered state → IsNumbered (cap_result state refusals capacity).state
-cap-numbered state refusals capacity is = either state.has_begun _ _ is (either (capacity == 0) _ _ is (unless-numbered state refusals _ is (λ left. is)))
+cap_numbered : (state : SessionState) (refusals : List Bool) (capacity : ℕ) → IsNumbered state → IsNumbered (cap_result state refusals capacity).state
+cap_numbered state refusals capacity is = either state.has_begun _ _ is (either (capacity == 0) _ _ is (unless_numbered state refusals _ is (λ left. is)))
 
-call-numbered : (command : Command) (state : SessionState) (refusals : List Bool) → IsNumbered state → IsNumbered (call_result command state refusals).state
-call-numbered (Cap capacity) state refusals is = cap-numbered state refusals capacity is
-call-numbered (Sub name number) state refusals is = sub-numbered state refusals name number is
-call-numbered (Offer text) state refusals is = publish-numbered publication_refusal Offered state refusals text is
-call-numbered (Submit text) state refusals is = publish-numbered submit_refusal Submitted state refusals text is
-call-numbered (Request name number) state refusals is = request-numbered state state.subscription refusals name number is is
-call-numbered Close state refusals is = close-numbered state refusals is
-call-numbered Run state refusals is = is
+call_numbered : (command : Command) (state : SessionState) (refusals : List Bool) → IsNumbered state → IsNumbered (call_result command state refusals).state
+call_numbered (Cap capacity) state refusals is = cap_numbered state refusals capacity is
+call_numbered (Sub name number) state refusals is = sub_numbered state refusals name number is
+call_numbered (Offer text) state refusals is = publish_numbered publication_refusal Offered state refusals text is
+call_numbered (Submit text) state refusals is = publish_numbered submit_refusal Submitted state refusals text is
+call_numbered (Request name number) state refusals is = request_numbered state state.subscription refusals name number is is
+call_numbered Close state refusals is = close_numbered state refusals is
+call_numbered Run state refusals is = is
 
-command-numbered : (command : Command) (state : SessionState) (refusals : List Bool) → IsNumbered state → IsNumbered (command_result command state refusals).state
-command-numbered command state refusals is = call-numbered command (state_at_command command state) refusals (begun command is) where
+command_numbered : (command : Command) (state : SessionState) (refusals : List Bool) → IsNumbered state → IsNumbered (command_result command state refusals).state
+command_numbered command state refusals is = call_numbered command (state_at_command command state) refusals (begun command is) where
   begun : (c : Command) → IsNumbered state → IsNumbered (state_at_command c state)
   begun (Cap capacity) is = is
   begun (Sub name number) is = is
@@ -132,53 +132,53 @@ command-numbered command state refusals is = call-numbered command (state_at_com
 
 -- ---- turns and lines
 
-turn-numbered : (state : SessionState) (subscription : Option SubscriptionState) (refusals : List Bool) → IsNumbered state → Numbered subscription state.serial
+turn_numbered : (state : SessionState) (subscription : Option SubscriptionState) (refusals : List Bool) → IsNumbered state → Numbered subscription state.serial
     → IsNumbered (turn_result state subscription refusals).state
-turn-numbered state None refusals is has = is
-turn-numbered state (Some s) refusals is has = has
+turn_numbered state None refusals is has = is
+turn_numbered state (Some s) refusals is has = has
 
-turns-numbered : (most : ℕ) (state : SessionState) (refusals : List Bool) → IsNumbered state → IsNumbered (turns_result most state refusals).state
-turns-numbered zero state refusals is = is
-turns-numbered (suc most) state refusals is =
+turns_numbered : (most : ℕ) (state : SessionState) (refusals : List Bool) → IsNumbered state → IsNumbered (turns_result most state refusals).state
+turns_numbered zero state refusals is = is
+turns_numbered (suc most) state refusals is =
     let first = turn_result state state.subscription refusals in
-    either-line (owes_turn state.subscription) _ _ (turns-numbered most first.state first.refusals (turn-numbered state state.subscription refusals is is)) is
+    either_line (owes_turn state.subscription) _ _ (turns_numbered most first.state first.refusals (turn_numbered state state.subscription refusals is is)) is
 
-turns-before-numbered : (command : Command) (state : SessionState) (refusals : List Bool) → IsNumbered state → IsNumbered (turns_before command state refusals).state
-turns-before-numbered (Cap capacity) state refusals is = is
-turns-before-numbered (Sub name number) state refusals is = is
-turns-before-numbered (Offer text) state refusals is = is
-turns-before-numbered (Submit text) state refusals is = is
-turns-before-numbered (Request name number) state refusals is = is
-turns-before-numbered Close state refusals is = is
-turns-before-numbered Run state refusals is = turns-numbered (waiting_items state.subscription + 1) state refusals is
+turns_before_numbered : (command : Command) (state : SessionState) (refusals : List Bool) → IsNumbered state → IsNumbered (turns_before command state refusals).state
+turns_before_numbered (Cap capacity) state refusals is = is
+turns_before_numbered (Sub name number) state refusals is = is
+turns_before_numbered (Offer text) state refusals is = is
+turns_before_numbered (Submit text) state refusals is = is
+turns_before_numbered (Request name number) state refusals is = is
+turns_before_numbered Close state refusals is = is
+turns_before_numbered Run state refusals is = turns_numbered (waiting_items state.subscription + 1) state refusals is
 
-spelled-numbered : (command : Option Command) (state : SessionState) (refusals : List Bool) → IsNumbered state → IsNumbered (spelled_result command state refusals).state
-spelled-numbered None state refusals is = is
-spelled-numbered (Some command) state refusals is =
+spelled_numbered : (command : Option Command) (state : SessionState) (refusals : List Bool) → IsNumbered state → IsNumbered (spelled_result command state refusals).state
+spelled_numbered None state refusals is = is
+spelled_numbered (Some command) state refusals is =
     let turns = turns_before command state refusals in
-    command-numbered command turns.state turns.refusals (turns-before-numbered command state refusals is)
+    command_numbered command turns.state turns.refusals (turns_before_numbered command state refusals is)
 
-line-numbered : (state : SessionState) (refusals : List Bool) (line : List ℕ) → IsNumbered state → IsNumbered (line_result state refusals line).state
+line_numbered : (state : SessionState) (refusals : List Bool) (line : List ℕ) → IsNumbered state → IsNumbered (line_result state refusals line).state
 unfolding line_result
-line-numbered state refusals line is =
-    either-line (length line == 0) _ _ is (either-line (nat_lt LONGEST_LINE (length line)) _ _ is (spelled-numbered (command_of line) state refusals is))
+line_numbered state refusals line is =
+    either_line (length line == 0) _ _ is (either_line (nat_lt LONGEST_LINE (length line)) _ _ is (spelled_numbered (command_of line) state refusals is))
 
-lines-numbered : (lines : List (List ℕ)) (state : SessionState) (refusals : List Bool) → IsNumbered state → IsNumbered (lines_result lines state refusals).state
-lines-numbered [] state refusals is = is
-lines-numbered (line ∷ lines) state refusals is =
+lines_numbered : (lines : List (List ℕ)) (state : SessionState) (refusals : List Bool) → IsNumbered state → IsNumbered (lines_result lines state refusals).state
+lines_numbered [] state refusals is = is
+lines_numbered (line ∷ lines) state refusals is =
     let first = line_result state refusals (without_return line) in
-    lines-numbered lines first.state first.refusals (line-numbered state refusals (without_return line) is)
+    lines_numbered lines first.state first.refusals (line_numbered state refusals (without_return line) is)
 
-rise-of : (subscription : Option SubscriptionState) (serial : ℕ) (s : SubscriptionState) → Numbered subscription serial → subscription ≡ Some s → SerialsRise s.desk.lane.accepted
-rise-of subscription serial s is same =
+rise_of : (subscription : Option SubscriptionState) (serial : ℕ) (s : SubscriptionState) → Numbered subscription serial → subscription ≡ Some s → SerialsRise s.desk.lane.accepted
+rise_of subscription serial s is same =
     let has : HasSerials s.desk.lane.accepted serial = subst (λ o. Numbered o serial) same is in
     has.rise
 
 -- whatever the script is
-pub serials-rise : (stock : ℕ) (refusals : List Bool) (bytes : List ℕ) → SerialsRiseIn (script_state stock refusals bytes)
-serials-rise stock refusals bytes = λ s same. rise-of _ (script_state stock refusals bytes).serial s (lines-numbered (lines_of bytes) (state_at_start stock) refusals tt) same
+pub serials_rise : (stock : ℕ) (refusals : List Bool) (bytes : List ℕ) → SerialsRiseIn (script_state stock refusals bytes)
+serials_rise stock refusals bytes = λ s same. rise_of _ (script_state stock refusals bytes).serial s (lines_numbered (lines_of bytes) (state_at_start stock) refusals tt) same
 
 -- lines that were played keep it
-pub numbered-after : (bytes : List ℕ) (old new : SessionState) (a b : Option (List ℕ)) → Answers true (λ refusals. lines_result (lines_of bytes) old refusals) a b new → IsNumbered old → IsNumbered new
-numbered-after bytes old new a b answers is =
-    subst (λ (result : LineResult). IsNumbered result.state) (answers.whole refl []) (lines-numbered (lines_of bytes) old (answers.used ++ []) is)
+pub numbered_after : (bytes : List ℕ) (old new : SessionState) (a b : Option (List ℕ)) → Answers true (λ refusals. lines_result (lines_of bytes) old refusals) a b new → IsNumbered old → IsNumbered new
+numbered_after bytes old new a b answers is =
+    subst (λ (result : LineResult). IsNumbered result.state) (answers.whole refl []) (lines_numbered (lines_of bytes) old (answers.used ++ []) is)

@@ -9,31 +9,31 @@ use Rattle.lines_demo.specs.Writing.{Writes}
 use Rattle.lines_demo.specs.Script.Turns.{signal_line, signal_lines}
 
 -- what is kept has what was appended before
-pub Appends-kept : (a b c : Option (List ℕ)) (bs : List ℕ) → Appends a b bs → Keeps b c → Appends a c bs
-Appends-kept None b c bs p q = tt
-Appends-kept (Some x) None c bs p q = absurd p
-Appends-kept (Some x) (Some y) None bs p q = absurd q
-Appends-kept (Some x) (Some y) (Some z) bs p q = q ∙ p
+pub appends_kept : (a b c : Option (List ℕ)) (bs : List ℕ) → Appends a b bs → Keeps b c → Appends a c bs
+appends_kept None b c bs p q = tt
+appends_kept (Some x) None c bs p q = absurd p
+appends_kept (Some x) (Some y) None bs p q = absurd q
+appends_kept (Some x) (Some y) (Some z) bs p q = q ∙ p
 
 -- nothing was written
-pub writes-none : (a : Option (List ℕ)) (bytes : List ℕ) → Writes false a a bytes
-writes-none a bytes = record { written = []; appended = Appends-nil a; prefix = (bytes, refl); whole = λ e. cc }
+pub writes_none : (a : Option (List ℕ)) (bytes : List ℕ) → Writes false a a bytes
+writes_none a bytes = record { written = []; appended = Appends-nil a; prefix = (bytes, refl); whole = λ e. cc }
 
 -- all was written
-pub writes-all : (a b : Option (List ℕ)) (bytes : List ℕ) → Appends a b bytes → Writes true a b bytes
-writes-all a b bytes p = record { written = bytes; appended = p; prefix = ([], append-nil bytes); whole = λ _. refl }
+pub writes_all : (a b : Option (List ℕ)) (bytes : List ℕ) → Appends a b bytes → Writes true a b bytes
+writes_all a b bytes p = record { written = bytes; appended = p; prefix = ([], append-nil bytes); whole = λ _. refl }
 
 -- a prefix was written
-pub writes-prefix : (a b : Option (List ℕ)) (written rest bytes : List ℕ) → Appends a b written → bytes ≡ written ++ rest → Writes false a b bytes
-writes-prefix a b written rest bytes p e = record { written = written; appended = p; prefix = (rest, sym e); whole = λ f. cc }
+pub writes_prefix : (a b : Option (List ℕ)) (written rest bytes : List ℕ) → Appends a b written → bytes ≡ written ++ rest → Writes false a b bytes
+writes_prefix a b written rest bytes p e = record { written = written; appended = p; prefix = (rest, sym e); whole = λ f. cc }
 
 -- where all was written, it was appended
-pub writes-done : (a b : Option (List ℕ)) (bytes : List ℕ) → Writes true a b bytes → Appends a b bytes
-writes-done a b bytes w = let P : List ℕ → Type 0 = λ x. Appends a b x in subst P (w.whole refl) w.appended
+pub writes_done : (a b : Option (List ℕ)) (bytes : List ℕ) → Writes true a b bytes → Appends a b bytes
+writes_done a b bytes w = let P : List ℕ → Type 0 = λ x. Appends a b x in subst P (w.whole refl) w.appended
 
 -- a piece after what was appended before
-pub writes-after : (done : Bool) (a b c : Option (List ℕ)) (before bytes : List ℕ) → Appends a b before → Writes done b c bytes → Writes done a c (before ++ bytes)
-writes-after done a b c before bytes p w = record {
+pub writes_after : (done : Bool) (a b c : Option (List ℕ)) (before bytes : List ℕ) → Appends a b before → Writes done b c bytes → Writes done a c (before ++ bytes)
+writes_after done a b c before bytes p w = record {
   written = before ++ w.written;
   appended = Appends-trans a b c before w.written p w.appended;
   prefix = (w.prefix.0, append_assoc before w.written w.prefix.0 ∙ ap (λ x. before ++ x) w.prefix.1);
@@ -41,39 +41,39 @@ writes-after done a b c before bytes p w = record {
 }
 
 -- what was not written whole is a prefix of more
-pub writes-less : (a b : Option (List ℕ)) (bytes more : List ℕ) → Writes false a b bytes → Writes false a b (bytes ++ more)
-writes-less a b bytes more w =
-    writes-prefix a b w.written (w.prefix.0 ++ more) (bytes ++ more) w.appended (ap (λ x. x ++ more) (sym w.prefix.1) ∙ append_assoc w.written w.prefix.0 more)
+pub writes_less : (a b : Option (List ℕ)) (bytes more : List ℕ) → Writes false a b bytes → Writes false a b (bytes ++ more)
+writes_less a b bytes more w =
+    writes_prefix a b w.written (w.prefix.0 ++ more) (bytes ++ more) w.appended (ap (λ x. x ++ more) (sym w.prefix.1) ∙ append_assoc w.written w.prefix.0 more)
 
 -- one more write of what was left
-pub writes-more : (a b c : Option (List ℕ)) (n : ℕ) (written rest bytes : List ℕ) → Appends a b written → bytes ≡ written ++ rest → Appends b c (take n rest)
+pub writes_more : (a b c : Option (List ℕ)) (n : ℕ) (written rest bytes : List ℕ) → Appends a b written → bytes ≡ written ++ rest → Appends b c (take n rest)
     → (written' : List ℕ) × Appends a c written' × (bytes ≡ written' ++ drop n rest)
-writes-more a b c n written rest bytes p e q = (
+writes_more a b c n written rest bytes p e q = (
   written ++ take n rest,
   Appends-trans a b c written (take n rest) p q,
   e ∙ ap (λ x. written ++ x) (sym (take-append-drop n rest)) ∙ sym (append_assoc written (take n rest) (drop n rest)),
 )
 
 -- the lines of some signals and of one more
-pub signal_lines-append : (name : List ℕ) (s t : List Signal) → signal_lines name (s ++ t) ≡ signal_lines name s ++ signal_lines name t
-signal_lines-append name [] t = refl
-signal_lines-append name (x ∷ s) t = ap (λ r. signal_line name x ++ r) (signal_lines-append name s t) ∙ sym (append_assoc (signal_line name x) (signal_lines name s) (signal_lines name t))
+pub signal_lines_append : (name : List ℕ) (s t : List Signal) → signal_lines name (s ++ t) ≡ signal_lines name s ++ signal_lines name t
+signal_lines_append name [] t = refl
+signal_lines_append name (x ∷ s) t = ap (λ r. signal_line name x ++ r) (signal_lines_append name s t) ∙ sym (append_assoc (signal_line name x) (signal_lines name s) (signal_lines name t))
 
 -- the lines of the first signals, and of the next one
-pub signal_lines-more : (name : List ℕ) (signals : List Signal) (i : ℕ) (signal : Signal) → i < length signals → signal ≡ get_or signals i signal → signal_lines name (take (i + 1) signals) ≡ signal_lines name (take i signals) ++ signal_line name signal
-signal_lines-more name signals i signal more at =
+pub signal_lines_more : (name : List ℕ) (signals : List Signal) (i : ℕ) (signal : Signal) → i < length signals → signal ≡ get_or signals i signal → signal_lines name (take (i + 1) signals) ≡ signal_lines name (take i signals) ++ signal_line name signal
+signal_lines_more name signals i signal more at =
     ap (λ s. signal_lines name s) (take_more signals i signal more)
-    ∙ signal_lines-append name (take i signals) (get_or signals i signal ∷ [])
+    ∙ signal_lines_append name (take i signals) (get_or signals i signal ∷ [])
     ∙ ap (λ s. signal_lines name (take i signals) ++ s) (append-nil (signal_line name (get_or signals i signal)))
     ∙ ap (λ s. signal_lines name (take i signals) ++ signal_line name s) (sym at)
 
 -- a list of no elements is empty
-pub empty-is : (xs : List ℕ) → true ≡ (length xs == 0) → xs ≡ []
-empty-is [] e = refl
-empty-is (x ∷ xs) e =
+pub empty_is : (xs : List ℕ) → true ≡ (length xs == 0) → xs ≡ []
+empty_is [] e = refl
+empty_is (x ∷ xs) e =
     let none : length (x ∷ xs) ≡ 0 = grind (arith, nat_tests) in
     absurd (omega arith)
 
 -- the lines of all signals, cut at a place
-pub signal_lines-rest : (name : List ℕ) (signals : List Signal) (i : ℕ) → signal_lines name signals ≡ signal_lines name (take i signals) ++ signal_lines name (drop i signals)
-signal_lines-rest name signals i = ap (λ s. signal_lines name s) (sym (take-append-drop i signals)) ∙ signal_lines-append name (take i signals) (drop i signals)
+pub signal_lines_rest : (name : List ℕ) (signals : List Signal) (i : ℕ) → signal_lines name signals ≡ signal_lines name (take i signals) ++ signal_lines name (drop i signals)
+signal_lines_rest name signals i = ap (λ s. signal_lines name s) (sym (take-append-drop i signals)) ∙ signal_lines_append name (take i signals) (drop i signals)

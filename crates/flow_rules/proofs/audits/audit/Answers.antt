@@ -3,13 +3,13 @@ use Rattle.std.proofs.Common.{◌≡◌, ◌∷◌, [], List, IsTrue, refl, arit
 use Rattle.std.proofs.lemmas.List.{drop_all}
 use Rattle.flow_rules.specs.declared.signal.Signal.{Signal}
 use Rattle.flow_rules.specs.declared.audits.Stage.TheVariants.{Fresh}
-use Rattle.flow_rules.proofs.Machine.{passes, passes-iff, passes-end, stopped, only-subscribed}
+use Rattle.flow_rules.proofs.Machine.{passes, passes_iff, passes_end, stopped, only_subscribed}
 use Rattle.flow_rules.proofs.audits.audit.Goals as goal
 
 pub returns-in_default : goal.returns-in_default
 returns-in_default c =
     let stuck : (rest : List Signal) → passes c.loop-signal.stage (c.signal-item.result ∷ rest) ≡ false =
-    λ rest. rw c.in_default.is-0 (only-subscribed c.signal-item.result c.in_default.not-Subscribed-1 rest) in
+    λ rest. rw c.in_default.is-0 (only_subscribed c.signal-item.result c.in_default.not-Subscribed-1 rest) in
     stopped _ _ _ _ c.loop-signal.invariant c.loop-signal-test.true c.signal-item.is stuck
 
 pub returns-in_default-2 : goal.returns-in_default-2
@@ -27,5 +27,5 @@ returns-in_default-3 c =
 pub returns : goal.returns
 returns c =
     let all : drop c.loop-signal.signal-index c.args.signals.now ≡ [] = drop_all c.loop-signal.signal-index c.args.signals.now (omega arith) in
-    let accepted : IsTrue (passes Fresh c.args.signals.now) = c.loop-signal.invariant ∙ passes-end _ _ all in
-    (λ _. (passes-iff c.args.signals.now).0 accepted, λ _. refl)
+    let accepted : IsTrue (passes Fresh c.args.signals.now) = c.loop-signal.invariant ∙ passes_end _ _ all in
+    (λ _. (passes_iff c.args.signals.now).0 accepted, λ _. refl)

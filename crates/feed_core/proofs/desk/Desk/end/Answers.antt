@@ -4,7 +4,7 @@ use Rattle.feed_core.specs.Desk.{DeskState}
 use Rattle.feed_core.specs.Lane.{LaneState, IsFlow}
 use Rattle.feed_core.specs.Sound.{lane_of}
 use Rattle.feed_core.proofs.FlowRules.{flow_kept}
-use Rattle.feed_core.proofs.SoundLanes.{sound-lane_with_closing}
+use Rattle.feed_core.proofs.SoundLanes.{sound_lane_with_closing}
 use Rattle.feed_core.proofs.desk.Desk.end.Goals as goal
 
 pub returns-then-is_some-clause-flow : goal.returns-then-is_some-clause-flow
@@ -15,4 +15,4 @@ returns-clause-flow g c =
     let s = c.self.inside in
     let lane : LaneState = lane_of (g.B.Subscriber.told s.subscriber) s.held.items s.given s.asked s.causes s.how in
     let unclosed : lane.causes.closing ≡ None = search rules in
-    flow_kept (sound-lane_with_closing lane c.args.ending c.self.invariant.in_order.sound unclosed)
+    flow_kept (sound_lane_with_closing lane c.args.ending c.self.invariant.in_order.sound unclosed)

@@ -6,7 +6,7 @@ use Rattle.feed_core.specs.Desk.{DeskState}
 use Rattle.feed_core.specs.Lane.{LaneState, IsFlow}
 use Rattle.feed_core.specs.Sound.{lane_of}
 use Rattle.feed_core.proofs.FlowRules.{flow_kept}
-use Rattle.feed_core.proofs.SoundLanes.{sound-lane_with_item}
+use Rattle.feed_core.proofs.SoundLanes.{sound_lane_with_item}
 use Rattle.feed_core.proofs.desk.Desk.put.Goals as goal
 
 pub returns-then-is_some-clause-flow : goal.returns-then-is_some-clause-flow
@@ -23,4 +23,4 @@ returns-clause-flow g c =
     let unended : lane.how ≡ None = search rules in
     let grown : (items_of told ++ s.held.items) ++ (c.args.item ∷ []) ≡ items_of told ++ c.put.new.self.items =
     append_assoc (items_of told) s.held.items (c.args.item ∷ []) ∙ ap (λ (held : List Item). items_of told ++ held) (sym (ap (λ (buffer : BufferState). buffer.items) c.put.ensures)) in
-    subst (λ (accepted : List Item). IsFlow (record lane { accepted = accepted })) grown (flow_kept (sound-lane_with_item lane c.args.item c.self.invariant.in_order.sound unended))
+    subst (λ (accepted : List Item). IsFlow (record lane { accepted = accepted })) grown (flow_kept (sound_lane_with_item lane c.args.item c.self.invariant.in_order.sound unended))

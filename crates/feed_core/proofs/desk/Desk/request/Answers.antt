@@ -3,7 +3,7 @@ use Rattle.std.proofs.Common.{◌≤◌, rules}
 use Rattle.feed_core.specs.Lane.{LaneState}
 use Rattle.feed_core.specs.Sound.{lane_of}
 use Rattle.feed_core.proofs.FlowRules.{flow_kept}
-use Rattle.feed_core.proofs.SoundLanes.{sound-asked}
+use Rattle.feed_core.proofs.SoundLanes.{sound_asked}
 use Rattle.feed_core.proofs.desk.Desk.request.Goals as goal
 
 pub returns-clause-flow : goal.returns-clause-flow
@@ -12,4 +12,4 @@ returns-clause-flow g c =
     let lane : LaneState = lane_of (g.B.Subscriber.told s.subscriber) s.held.items s.given s.asked s.causes s.how in
     let before = c.self.invariant.in_order.sound.counts.requested in
     let requested : lane.given ≤ c.add.new.self = search rules in
-    flow_kept (sound-asked lane c.add.new.self c.self.invariant.in_order.sound requested)
+    flow_kept (sound_asked lane c.add.new.self c.self.invariant.in_order.sound requested)

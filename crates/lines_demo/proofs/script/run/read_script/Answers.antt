@@ -1,9 +1,9 @@
 use Rattle.std.proofs.Common.{◌<◌, length, rules}
-use Rattle.lines_demo.proofs.Reading.{all-read}
+use Rattle.lines_demo.proofs.Reading.{all_read}
 use Rattle.lines_demo.proofs.script.run.read_script.Goals as goal
 
 pub returns-clause-known : goal.returns-clause-known
 returns-clause-known g c =
     let read = rw (c.take.ensures.limit, c.take.ensures.inner, c.new-bytes.ensures.items) at c.in-Ok.ensures.bytes in
     let short : length c.read_to_end.new.buf.items < 16777217 = search rules in
-    all-read (g.R.Read.remaining c.args.reader.now) 16777217 c.read_to_end.new.buf.items read short
+    all_read (g.R.Read.remaining c.args.reader.now) 16777217 c.read_to_end.new.buf.items read short

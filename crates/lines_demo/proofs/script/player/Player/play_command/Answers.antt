@@ -1,7 +1,7 @@
 use Rattle.std.proofs.Common.{◌≡◌, true, false, sym, ◌∙◌}
 use Rattle.std.proofs.lemmas.Result.{err_from_is_err_and}
 use Rattle.lines_demo.specs.declared.script.command.Command.TheVariants.{Run}
-use Rattle.lines_demo.proofs.Lines.{command-called, run-called, run-fault}
+use Rattle.lines_demo.proofs.Lines.{command_called, run_called, run_fault}
 use Rattle.lines_demo.proofs.script.player.Player.play_command.Goals as goal
 use Rattle.lines_demo.proofs.script.player.Player.play_command.Goals.{in-Run, in_default, then-matches+in_ok-play_turns, else-matches}
 
@@ -12,7 +12,7 @@ returns-in_err-play_turns g c =
       | in-Run m ↦ m.in-Run.is
       | in_default m ↦ (let never : true ≡ false = sym c.if-matches.true ∙ m.matches-is in cc)
     ] in
-    rw (failed.1, run) (run-fault c.args.self.now.session c.play_turns.new.self.session c.play_turns.new.self.session _ _ c.in_err-play_turns.ensures.turns)
+    rw (failed.1, run) (run_fault c.args.self.now.session c.play_turns.new.self.session c.play_turns.new.self.session _ _ c.in_err-play_turns.ensures.turns)
 
 pub returns : goal.returns
 returns g c =
@@ -24,7 +24,7 @@ returns g c =
           ] in
           let replies = rw (w.self-is, run) at c.obey-reply.ensures in
           let line = rw w.writer-is at c.answer.ensures.line in
-          rw (run, c.answer.ensures.kept) (run-called c.args.self.now.session w.play_turns.new.self.session c.obey-reply.new.self c.obey-reply.result _ _ _ _ w.in_ok-play_turns.ensures.turns replies line)
+          rw (run, c.answer.ensures.kept) (run_called c.args.self.now.session w.play_turns.new.self.session c.obey-reply.new.self c.obey-reply.result _ _ _ _ w.in_ok-play_turns.ensures.turns replies line)
       | else-matches w ↦
           let other : c.args.command ≡ Run → ⊥ = elim c.match-matches.branch [
             | in-Run m ↦ λ e. (let never : true ≡ false = sym m.matches-is ∙ w.if-matches.false in cc)
@@ -32,5 +32,5 @@ returns g c =
           ] in
           let replies = rw w.self-is at c.obey-reply.ensures in
           let line = rw w.writer-is at c.answer.ensures.line in
-          rw c.answer.ensures.kept (command-called c.args.command c.args.self.now.session c.obey-reply.new.self c.obey-reply.result _ _ _ other replies line)
+          rw c.answer.ensures.kept (command_called c.args.command c.args.self.now.session c.obey-reply.new.self c.obey-reply.result _ _ _ other replies line)
     ]

@@ -1,8 +1,8 @@
-use Rattle.lines_demo.proofs.Turns.{turn-answers, turn-prints}
+use Rattle.lines_demo.proofs.Turns.{turn_answers, turn_prints}
 use Rattle.lines_demo.proofs.script.player.Player.play_turn.Goals as goal
 
 pub returns-clause-turn : goal.returns-clause-turn
-returns-clause-turn g c = turn-answers _ _ _ _ _ _ _ _ c.turn-name.ensures.turn (rw c.as_slice.ensures at c.write_turn.ensures)
+returns-clause-turn g c = turn_answers _ _ _ _ _ _ _ _ c.turn-name.ensures.turn (rw c.as_slice.ensures at c.write_turn.ensures)
 
 pub returns-clause-prints : goal.returns-clause-prints
-returns-clause-prints g c = turn-prints _ _ _ _ _ _ _ _ c.turn-name.ensures.turn (rw c.as_slice.ensures at c.write_turn.ensures)
+returns-clause-prints g c = turn_prints _ _ _ _ _ _ _ _ c.turn-name.ensures.turn (rw c.as_slice.ensures at c.write_turn.ensures)

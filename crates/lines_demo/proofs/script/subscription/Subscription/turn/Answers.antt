@@ -1,7 +1,7 @@
 use Rattle.std.proofs.Common.{ap}
 use Rattle.lines_demo.specs.Prelude.{DeskState}
 use Rattle.lines_demo.specs.Script.Session.{SubscriptionState}
-use Rattle.lines_demo.proofs.Turns.{fewer-wait, owed-again}
+use Rattle.lines_demo.proofs.Turns.{fewer_wait, owed_again}
 use Rattle.lines_demo.proofs.script.subscription.Subscription.turn.Goals as goal
 
 pub returns : goal.returns
@@ -12,5 +12,5 @@ returns g c =
     record {
       after = rw (← c.self.view_is) (ap named turn.after);
       plain = rw (← c.self.view_is) turn.plain;
-      fewer = λ owed. rw (← c.self.view_is) (fewer-wait desk _ _ _ turn.after turn.plain turn.in_order turn.again (owed-again desk _ _ _ turn.after owed));
+      fewer = λ owed. rw (← c.self.view_is) (fewer_wait desk _ _ _ turn.after turn.plain turn.in_order turn.again (owed_again desk _ _ _ turn.after owed));
     }
