@@ -1,16 +1,18 @@
-//! Tests of the public calls of the libraries below, and what they share: the letters that write signals, a subscriber
-//! that is refused memory, and the calls of a Desk as rows.
+//! Tests of the public calls of the libraries below, and what they share: the letters that write signals, a listener that is
+//! refused memory, one that gives each of the answers, and the calls of a Desk as rows.
 //!
 //! The tests compare with values from outside: they show that calls with ample memory succeed, that the clauses mean
 //! what the rules of Flow say, and what is printed.
 #![tactic(auto)]
 
+mod answering;
 mod letters;
 mod refused;
 mod row;
 #[cfg(test)]
 mod tests;
 
+pub use answering::Answering;
 pub use letters::{item_with, signals};
 pub use refused::Refused;
 pub use row::{Row, answers, desk_of};

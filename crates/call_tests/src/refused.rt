@@ -1,87 +1,78 @@
-//! A subscriber that is refused memory at a callback.
-ghost use Rattle.std.specs.Prelude.{◌≡◌, ◌+◌, ◌↔◌, [], IsErr, OnOk, OnErr};
+//! A listener that is refused memory at a callback.
+ghost use Rattle.std.specs.Prelude.{◌≡◌, ◌+◌, ◌↔◌, IsErr, OnOk, OnErr};
 
-use flow_rules::{Answer, Collector, Fault, Item, NoMemory, Signal, Subscriber};
-use std::alloc::Global;
+use flow_rules::{Answer, Fault, Item, Listener, NoMemory};
 use std::marker::Model;
 
-/// A steady subscriber that keeps what it is told, and that is refused memory from some callback on.
+/// A listener that answers as another does, and that is refused memory from some callback on.
 #[derive(Debug, Drop)]
-pub struct Refused {
-    collector: Collector,
+pub struct Refused<B: Listener> {
+    listener: B,
     callbacks_before: u32,
 }
 
-impl Model for Refused {
-    ghost use Rattle.std.specs.Prelude.{◌≡◌, None};
+impl<B: Listener> Model for Refused<B> {
     ghost use Rattle.call_tests.specs.Refusing.{Refusing};
 
     ghost Value = { Refusing };
 
-    ghost view = { λ r. record { told = r.collector.told; callbacks_before = r.callbacks_before } };
-
-    ghost invariant = { λ r. r.collector.requests ≡ None };
+    ghost view = { λ r. record { told = B.told r.listener; is_steady = B.is_steady r.listener; callbacks_before = r.callbacks_before } };
 }
 
-impl Refused {
-    /// A subscriber that was told nothing, and that is refused memory after so many callbacks.
-    pub fn after(alloc: Global, callbacks: u32) -> Refused
-        ensures untold { result.told ≡ [] }
-        ensures callbacks { result.callbacks_before ≡ callbacks }
+impl<B: Listener> Refused<B> {
+    /// One that is refused memory after so many callbacks.
+    pub fn after(listener: B, callbacks: u32) -> Refused<B>
+        ensures { result ≡ record { told = B.told listener; is_steady = B.is_steady listener; callbacks_before = callbacks } }
     {
         Refused {
-            collector: Collector::new(alloc),
+            listener,
             callbacks_before: callbacks,
         }
     }
 
-    /// Counts a callback, which is refused where as many were made as it answers.
-    fn call(&mut self) -> Result<(), NoMemory>
-        ensures refused { IsErr result ↔ (self.old.callbacks_before ≡ 0) }
-        ensures counted { OnOk result (self.new.callbacks_before + 1 ≡ self.old.callbacks_before) }
-        ensures unchanged { OnErr result (self.new ≡ self.old) }
-        ensures told { self.new.told ≡ self.old.told }
+    /// The one that it answers as.
+    pub fn listener(&self) -> &B
+        ensures { B.told result.now ≡ self.now.told }
     {
-        if self.callbacks_before == 0 {
-            return Err(NoMemory);
-        }
-        self.callbacks_before -= 1;
-        Ok(())
+        &self.listener
     }
 }
 
-impl Subscriber for Refused {
-    ghost use Rattle.std.specs.Prelude.{true};
+/// Counts a callback, which is refused where none is left.
+fn count(callbacks_before: &mut u32) -> Result<(), NoMemory>
+    ensures refused { IsErr result ↔ (callbacks_before.old ≡ 0) }
+    ensures counted { OnOk result (callbacks_before.new + 1 ≡ callbacks_before.old) }
+    ensures unchanged { OnErr result (callbacks_before.new ≡ callbacks_before.old) }
+{
+    if *callbacks_before == 0 {
+        return Err(NoMemory);
+    }
+    *callbacks_before -= 1;
+    Ok(())
+}
 
+impl<B: Listener> Listener for Refused<B> {
     ghost told = { λ r. r.told };
 
-    ghost is_steady = { λ _. true };
-
-    fn told(&self) -> &[Signal] {
-        self.collector.told()
-    }
-
-    fn steady(&self) -> bool {
-        self.collector.steady()
-    }
+    ghost is_steady = { λ r. r.is_steady };
 
     fn on_subscribe(&mut self) -> Result<Answer, NoMemory> {
-        self.call()?;
-        self.collector.on_subscribe()
+        count(&mut self.callbacks_before)?;
+        self.listener.on_subscribe()
     }
 
     fn on_next(&mut self, item: &Item) -> Result<Answer, NoMemory> {
-        self.call()?;
-        self.collector.on_next(item)
+        count(&mut self.callbacks_before)?;
+        self.listener.on_next(item)
     }
 
     fn on_error(&mut self, fault: Fault) -> Result<Answer, NoMemory> {
-        self.call()?;
-        self.collector.on_error(fault)
+        count(&mut self.callbacks_before)?;
+        self.listener.on_error(fault)
     }
 
     fn on_complete(&mut self) -> Result<Answer, NoMemory> {
-        self.call()?;
-        self.collector.on_complete()
+        count(&mut self.callbacks_before)?;
+        self.listener.on_complete()
     }
 }

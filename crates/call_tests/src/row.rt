@@ -1,5 +1,5 @@
 //! The calls of a Desk as rows: what is called, and what has to be answered.
-ghost use Rattle.std.specs.Prelude.{◌≡◌, [], IsTrue, IsFalse, IfOk, OnErr};
+ghost use Rattle.std.specs.Prelude.{◌≡◌, [], true, IsTrue, IsFalse, IfOk, OnErr};
 ghost use Rattle.flow_rules.specs.Capacity.{capacity_of};
 ghost use Rattle.feed_core.specs.Desk.{IsNew};
 ghost use Rattle.feed_core.specs.Lane.{IsFlow};
@@ -8,7 +8,7 @@ ghost use Rattle.call_tests.specs.Row.{Fits, MakesTurn};
 
 use crate::letters::{item_with, signals};
 use feed_core::{Desk, Outlook, Seen, desks_keep_the_flow_rules};
-use flow_rules::{Ending, How, NoMemory, PUBLICATIONS, Put, Refusal, Subscriber, capacity};
+use flow_rules::{Ending, How, Listener, NoMemory, PUBLICATIONS, Put, Refusal, capacity};
 use std::alloc::Global;
 
 /// A call of a Desk, and what it has to answer.
@@ -37,7 +37,7 @@ pub enum Row<'a> {
 }
 
 /// A Desk whose buffer has the capacity that is enforced where this one is asked for.
-pub fn desk_of<B: Subscriber>(
+pub fn desk_of<B: Listener>(
     alloc: Global,
     asked: usize,
     subscriber: B,
@@ -52,13 +52,15 @@ pub fn desk_of<B: Subscriber>(
     }
 }
 
-/// Whether a Desk answers a row's call as the row says. A call that may not be made is not answered so: a turn that is not
-/// owed, and a request of a number that is not positive.
-pub fn answers<B: Subscriber>(
+/// Whether a Desk of a steady listener answers a row's call as the row says. A call that may not be made is not answered so: a turn
+/// that is not owed, and a request of a number that is not positive.
+pub fn answers<B: Listener>(
     alloc: Global,
     desk: &mut Desk<B>,
     row: Row<'_>,
 ) -> Result<bool, NoMemory>
+    requires { desk.old.is_steady ≡ true }
+    ensures steady { desk.new.is_steady ≡ true }
     ensures fits { IfOk result (λ is_answered. IsTrue is_answered → Fits row.entry desk.old desk.new) }
     ensures flow { IsFlow desk.new.lane }
     ensures err { OnErr result (desk.new ≡ desk.old) }
@@ -76,7 +78,7 @@ pub fn answers<B: Subscriber>(
 }
 
 /// Whether a Desk shows what a row says that it shows.
-fn shows<B: Subscriber>(desk: &Desk<B>, row: Row<'_>) -> bool
+fn shows<B: Listener>(desk: &Desk<B>, row: Row<'_>) -> bool
     ensures { IsTrue result → Fits row.entry desk.now desk.now }
 {
     match row {
@@ -91,12 +93,13 @@ fn shows<B: Subscriber>(desk: &Desk<B>, row: Row<'_>) -> bool
 }
 
 /// Whether an item with this letter is accepted so: with this lag, and the task is to be started or not.
-fn is_accepted<B: Subscriber>(
+fn is_accepted<B: Listener>(
     alloc: Global,
     desk: &mut Desk<B>,
     letter: u8,
     want: (u64, bool),
 ) -> Result<bool, NoMemory>
+    ensures steady { desk.new.is_steady ≡ desk.old.is_steady }
     ensures fits { IfOk result (λ is_answered. IsTrue is_answered → Fits (Row.Accepted letter want.0 want.1) desk.old desk.new) }
     ensures flow { IsFlow desk.old.lane → IsFlow desk.new.lane }
     ensures err { OnErr result (desk.new ≡ desk.old) }
@@ -112,12 +115,13 @@ fn is_accepted<B: Subscriber>(
 }
 
 /// Whether an item with this letter comes back: from a full buffer, or since the subscription is gone.
-fn comes_back<B: Subscriber>(
+fn comes_back<B: Listener>(
     alloc: Global,
     desk: &mut Desk<B>,
     letter: u8,
     from_gone: bool,
 ) -> Result<bool, NoMemory>
+    ensures steady { desk.new.is_steady ≡ desk.old.is_steady }
     ensures full { IfOk result (λ is_answered. IsTrue is_answered → IsFalse from_gone → Fits (Row.Full letter) desk.old desk.new) }
     ensures gone { IfOk result (λ is_answered. IsTrue is_answered → IsTrue from_gone → Fits (Row.Gone letter) desk.old desk.new) }
     ensures flow { IsFlow desk.old.lane → IsFlow desk.new.lane }
@@ -136,19 +140,21 @@ fn comes_back<B: Subscriber>(
 }
 
 /// Whether a turn is owed, tells what these letters write, and has this outlook.
-fn turns<B: Subscriber>(
+fn turns<B: Listener>(
     alloc: Global,
     desk: &mut Desk<B>,
     letters: &[u8],
     outlook: Outlook,
 ) -> Result<bool, NoMemory>
+    requires { desk.old.is_steady ≡ true }
+    ensures steady { desk.new.is_steady ≡ true }
     ensures fits { IfOk result (λ is_answered. IsTrue is_answered → MakesTurn desk.old desk.new) }
     ensures flow { IsFlow desk.old.lane → IsFlow desk.new.lane }
     ensures err { OnErr result (desk.new ≡ desk.old) }
 {
     let wanted = signals(alloc, letters)?;
     let mut seen = Seen::new(alloc)?;
-    if !desk.owes() || !desk.subscriber().steady() {
+    if !desk.owes() {
         return Ok(false);
     }
     let found = desk.turn(&mut seen);

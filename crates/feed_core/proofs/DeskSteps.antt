@@ -17,6 +17,10 @@ pub is_begun_append : (told more : List Signal) → is_begun told ≡ true → i
 is_begun_append [] more h = cc
 is_begun_append (s ∷ told) more h = refl
 
+-- a subscriber that was greeted stays so when it is told more
+pub still_greeted : (told told' more : List Signal) (greeted : Bool) → greeted ≡ is_begun told → is_begun told ≡ true → told' ≡ told ++ more → greeted ≡ is_begun told'
+still_greeted told told' more greeted known begun grows = known ∙ begun ∙ sym (ap is_begun grows ∙ is_begun_append told more begun)
+
 -- a terminal signal is no item
 pub items_of_terminal : (how : How) → items_of (terminal_of how) ≡ []
 items_of_terminal How.Completed = refl

@@ -83,8 +83,10 @@ pub record IsInOrder (lane : LaneState) (held : List Item) (capacity : ℕ) (sta
   pub fits : length lane.accepted ≤ lane.given + capacity
   pub rests : started ≡ false → IsAtRest lane
 
--- a Desk is in order, it counts the accepted items, and there is room for all that its buffer may hold
-pub record IsStored (lane : LaneState) (held : List Item) (accepted capacity room : ℕ) (started : Bool) : Type 0 where
+-- a Desk is in order, it counts the accepted items, there is room for all that its buffer may hold, and it knows whether anything
+-- was told
+pub record IsStored (lane : LaneState) (held : List Item) (accepted capacity room : ℕ) (begun started : Bool) : Type 0 where
   pub in_order : IsInOrder lane held capacity started
   pub counted : length lane.accepted ≡ accepted
   pub roomy : capacity ≤ room
+  pub greeted : begun ≡ is_begun lane.told

@@ -18,16 +18,18 @@ mod turn;
 
 use crate::cause::Causes;
 use buffer::Buffer;
-use flow_rules::{Demand, How, NoMemory, Subscriber};
+use flow_rules::{Demand, How, Listener, NoMemory};
 use std::alloc::Global;
 use std::marker::Model;
 
 /// One subscription: the buffer of its items, what was requested, why it may end, and its subscriber (`Flow.Subscription`, and the
 /// buffer that `SubmissionPublisher` keeps for it, Java SE 17).
 #[derive(Drop)]
-pub struct Desk<B: Subscriber> {
+pub struct Desk<B: Listener> {
     /// Who is told.
     subscriber: B,
+    /// Whether `onSubscribe` was told.
+    begun: bool,
     /// The accepted items that were not told yet, in order.
     held: Buffer,
     /// How many items it holds at most, a value of [`capacity`](flow_rules::capacity).
@@ -46,7 +48,7 @@ pub struct Desk<B: Subscriber> {
     started: bool,
 }
 
-impl<B: Subscriber> Model for Desk<B> {
+impl<B: Listener> Model for Desk<B> {
     ghost use Rattle.feed_core.specs.Desk.{DeskState};
     ghost use Rattle.feed_core.specs.Sound.{lane_of, IsStored};
 
@@ -61,10 +63,10 @@ impl<B: Subscriber> Model for Desk<B> {
 
     ghost invariant = { λ d. IsStored
         (lane_of (B.told d.subscriber) d.held.items d.given d.asked d.causes d.how)
-        d.held.items d.accepted d.capacity d.held.room d.started };
+        d.held.items d.accepted d.capacity d.held.room d.begun d.started };
 }
 
-impl<B: Subscriber> Desk<B> {
+impl<B: Listener> Desk<B> {
     ghost use Rattle.std.specs.Prelude.{◌≡◌, ◌≤◌, ◌+◌, ◌↔◌, [], true, length, IsTrue, IsFalse, IfOk, IfErr};
     ghost use Rattle.feed_core.specs.Desk.{IsNew, Owes};
     ghost use Rattle.feed_core.specs.LaneCalls.{IsCapacity, lag_of};
@@ -84,6 +86,7 @@ impl<B: Subscriber> Desk<B> {
         };
         Ok(Desk {
             subscriber,
+            begun: false,
             held,
             capacity,
             accepted: 0,
@@ -135,7 +138,7 @@ impl<B: Subscriber> Desk<B> {
         self.asked.total()
     }
 
-    /// Its subscriber, which shows what it was told.
+    /// Its subscriber.
     pub fn subscriber(&self) -> &B
         ensures told { B.told result.now ≡ self.now.lane.told }
         ensures steady { B.is_steady result.now ≡ self.now.is_steady }

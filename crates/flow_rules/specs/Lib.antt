@@ -1,8 +1,10 @@
+pub mod Callback
 pub mod Capacity
 pub mod Collected
 pub mod Demand
 pub mod Name
 pub mod Padding
+pub mod Printed
 pub mod Put
 pub mod Refusal
 pub mod Signals

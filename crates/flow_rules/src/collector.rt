@@ -3,6 +3,7 @@ ghost use Rattle.std.specs.Prelude.{◌≡◌, ◌∷◌, ◌++◌, [], IfOk, On
 
 use crate::answer::Answer;
 use crate::item::Item;
+use crate::listener::Listener;
 use crate::refusal::NoMemory;
 use crate::signal::{Fault, Signal};
 use crate::subscriber::Subscriber;
@@ -94,5 +95,29 @@ impl Subscriber for Collector {
 
     fn on_complete(&mut self) -> Result<Answer, NoMemory> {
         self.hear(Signal::Complete)
+    }
+}
+
+impl Listener for Collector {
+    ghost use Rattle.std.specs.Prelude.{is_none};
+
+    ghost told = { λ c. c.told };
+
+    ghost is_steady = { λ c. is_none c.requests };
+
+    fn on_subscribe(&mut self) -> Result<Answer, NoMemory> {
+        Subscriber::on_subscribe(self)
+    }
+
+    fn on_next(&mut self, item: &Item) -> Result<Answer, NoMemory> {
+        Subscriber::on_next(self, item)
+    }
+
+    fn on_error(&mut self, fault: Fault) -> Result<Answer, NoMemory> {
+        Subscriber::on_error(self, fault)
+    }
+
+    fn on_complete(&mut self) -> Result<Answer, NoMemory> {
+        Subscriber::on_complete(self)
     }
 }

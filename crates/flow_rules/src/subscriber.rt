@@ -1,4 +1,4 @@
-//! Who is told.
+//! A subscriber that keeps what it is told.
 use crate::answer::Answer;
 use crate::item::Item;
 use crate::refusal::NoMemory;
@@ -7,10 +7,10 @@ use crate::signal::{Fault, Signal};
 /// Who is told (`Flow.Subscriber`). Its meaning is `told`, the list of signals that it was told so far: a callback that
 /// answers Ok has added exactly its own signal, and one that was refused memory has added nothing.
 pub trait Subscriber: Send + Drop {
-    ghost use Rattle.std.specs.Prelude.{◌≡◌, List, Bool, ◌∷◌, ◌++◌, [], true, IfOk, OnOk, OnErr};
+    ghost use Rattle.std.specs.Prelude.{◌≡◌, List, Bool};
+    ghost use Rattle.flow_rules.specs.Callback.{Tells, StaysSteady};
     ghost use Rattle.flow_rules.specs.declared.signal.Signal.{Signal};
     ghost use Rattle.flow_rules.specs.declared.signal.Signal.TheVariants.{Subscribed, Next, Complete, Error};
-    ghost use Rattle.flow_rules.specs.declared.answer.Answer.TheVariants.{Go};
 
     ghost told: { Self → List Signal };
 
@@ -26,31 +26,23 @@ pub trait Subscriber: Send + Drop {
 
     /// `Flow.Subscriber.onSubscribe`
     fn on_subscribe(&mut self) -> Result<Answer, NoMemory>
-        ensures ok { OnOk result (told self.new ≡ told self.old ++ Subscribed ∷ []) }
-        ensures err { OnErr result (told self.new ≡ told self.old) }
-        ensures steady_stays { is_steady self.old ≡ true → is_steady self.new ≡ true }
-        ensures steady_goes { is_steady self.old ≡ true → IfOk result (λ answer. answer ≡ Go) };
+        ensures told { Tells Subscribed result (told self.old) (told self.new) }
+        ensures steady { StaysSteady result (is_steady self.old) (is_steady self.new) };
 
     /// `Flow.Subscriber.onNext`
     fn on_next(&mut self, item: &Item) -> Result<Answer, NoMemory>
-        ensures ok { OnOk result (told self.new ≡ told self.old ++ Next item.now ∷ []) }
-        ensures err { OnErr result (told self.new ≡ told self.old) }
-        ensures steady_stays { is_steady self.old ≡ true → is_steady self.new ≡ true }
-        ensures steady_goes { is_steady self.old ≡ true → IfOk result (λ answer. answer ≡ Go) };
+        ensures told { Tells (Next item.now) result (told self.old) (told self.new) }
+        ensures steady { StaysSteady result (is_steady self.old) (is_steady self.new) };
 
     /// `Flow.Subscriber.onError`. What it answers is not obeyed.
     fn on_error(&mut self, fault: Fault) -> Result<Answer, NoMemory>
-        ensures ok { OnOk result (told self.new ≡ told self.old ++ Error fault ∷ []) }
-        ensures err { OnErr result (told self.new ≡ told self.old) }
-        ensures steady_stays { is_steady self.old ≡ true → is_steady self.new ≡ true }
-        ensures steady_goes { is_steady self.old ≡ true → IfOk result (λ answer. answer ≡ Go) };
+        ensures told { Tells (Error fault) result (told self.old) (told self.new) }
+        ensures steady { StaysSteady result (is_steady self.old) (is_steady self.new) };
 
     /// `Flow.Subscriber.onComplete`. What it answers is not obeyed.
     fn on_complete(&mut self) -> Result<Answer, NoMemory>
-        ensures ok { OnOk result (told self.new ≡ told self.old ++ Complete ∷ []) }
-        ensures err { OnErr result (told self.new ≡ told self.old) }
-        ensures steady_stays { is_steady self.old ≡ true → is_steady self.new ≡ true }
-        ensures steady_goes { is_steady self.old ≡ true → IfOk result (λ answer. answer ≡ Go) };
+        ensures told { Tells Complete result (told self.old) (told self.new) }
+        ensures steady { StaysSteady result (is_steady self.old) (is_steady self.new) };
 }
 
 impl Subscriber for Box<dyn Subscriber> {

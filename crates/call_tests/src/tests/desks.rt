@@ -1,13 +1,12 @@
-//! The calls of a Desk, as rows: on subscribers of their own types, and on boxes of two kinds.
+//! The calls of a Desk, as rows, on listeners of each kind.
+ghost use Rattle.std.specs.Prelude.{◌≡◌, [], true};
+
 use crate::{Refused, Row, answers, desk_of, signals};
 use feed_core::{Outlook, desks_keep_the_flow_rules};
-use flow_rules::{Collector, How, Subscriber, UNBOUNDED, audit};
+use flow_rules::{Collector, How, Listener, Shown, Subscriber, Tally, UNBOUNDED, audit};
 use std::alloc::Global;
 use std::process::Abort;
 use std::test::Fail;
-
-/// More callbacks than the rows make.
-const MANY: u32 = 1000;
 
 const DEMAND: [Row<'static>; 14] = [
     Row::Capacity(4),
@@ -61,31 +60,38 @@ const UNBOUNDED_DEMAND: [Row<'static>; 7] = [
     Row::Turn(b"xy", Outlook::Resting),
 ];
 
-/// Makes the calls on a Desk of this subscriber, for which this capacity is asked, compares each with its row, and takes
-/// out what the subscriber was told.
-fn play<B: Subscriber>(
+/// Makes the calls on a Desk of this listener, for which this capacity is asked, and compares each with its row.
+fn play<B: Listener>(
     rt: &impl Abort,
     alloc: Global,
-    subscriber: B,
+    listener: B,
     asked: usize,
     rows: &[Row<'_>],
-    told: &[u8],
-) -> Result<(), Fail> {
-    assert!(rt; subscriber.told().is_empty());
-    let mut desk = desk_of(alloc, asked, subscriber)?;
+) -> Result<B, Fail>
+    requires untold { B.told listener ≡ [] }
+    requires steady { B.is_steady listener ≡ true }
+{
+    let mut desk = desk_of(alloc, asked, listener)?;
     for (place, row) in rows.iter().enumerate() {
         assert!(rt; answers(alloc, &mut desk, *row)?, "row {place}");
     }
     desks_keep_the_flow_rules(&desk);
-    let told = signals(alloc, told)?;
-    assert_eq!(rt; desk.subscriber().told(), told.as_slice());
-    let subscriber = desk.into_subscriber();
-    assert_eq!(rt; subscriber.told(), told.as_slice());
+    Ok(desk.into_subscriber())
+}
+
+/// Compares what a subscriber was told.
+fn shows<S: Subscriber>(
+    rt: &impl Abort,
+    alloc: Global,
+    subscriber: &S,
+    told: &[u8],
+) -> Result<(), Fail> {
+    assert_eq!(rt; subscriber.told(), signals(alloc, told)?.as_slice());
     assert!(rt; audit(subscriber.told()));
     Ok(())
 }
 
-/// Plays rows on subscribers that are refused nothing: one of its own type, and boxes of two kinds.
+/// Plays rows on listeners of each kind that are refused nothing, and compares what those were told that show it.
 fn play_on_all(
     rt: &impl Abort,
     alloc: Global,
@@ -93,11 +99,15 @@ fn play_on_all(
     rows: &[Row<'_>],
     told: &[u8],
 ) -> Result<(), Fail> {
-    play(rt, alloc, Collector::new(alloc), asked, rows, told)?;
+    let collector = play(rt, alloc, Collector::new(alloc), asked, rows)?;
+    shows(rt, alloc, &collector, told)?;
+    let shown = play(rt, alloc, Shown(Collector::new(alloc)), asked, rows)?;
+    shows(rt, alloc, &shown.0, told)?;
     let boxed: Box<dyn Subscriber> = Box::new(alloc, Collector::new(alloc))?;
-    play(rt, alloc, boxed, asked, rows, told)?;
-    let boxed: Box<dyn Subscriber> = Box::new(alloc, Refused::after(alloc, MANY))?;
-    play(rt, alloc, boxed, asked, rows, told)
+    shows(rt, alloc, &play(rt, alloc, boxed, asked, rows)?, told)?;
+    let boxed: Box<dyn Listener> = Box::new(alloc, Tally::new())?;
+    let _ = play(rt, alloc, boxed, asked, rows)?;
+    Ok(())
 }
 
 #[test]
@@ -155,9 +165,9 @@ fn a_refused_callback_ends_it(rt: HostRuntime) -> Result<(), Fail> {
             Row::Request(1, false),
             Row::Gone(b'z'),
         ];
-        play(&rt, alloc, Refused::after(alloc, callbacks), 4, &rows, told)?;
-        let boxed: Box<dyn Subscriber> = Box::new(alloc, Refused::after(alloc, callbacks))?;
-        play(&rt, alloc, boxed, 4, &rows, told)?;
+        let refused = Refused::after(Collector::new(alloc), callbacks);
+        let refused = play(&rt, alloc, refused, 4, &rows)?;
+        shows(&rt, alloc, refused.listener(), told)?;
     }
     Ok(())
 }

@@ -1,5 +1,5 @@
 //! What subscribers are told, and which lists of signals the Flow rules allow.
-use crate::{Refused, item_with, signals};
+use crate::{item_with, signals};
 use flow_rules::{Answer, Collector, Fault, Subscriber, audit};
 use std::alloc::Global;
 use std::process::Abort;
@@ -87,47 +87,5 @@ fn a_box_passes_each_call_on(rt: HostRuntime) -> Result<(), Fail> {
     tell(&rt, alloc, &mut boxed, Answer::Go)?;
     let mut boxed: Box<dyn Subscriber> = Box::new(alloc, Collector::asking(alloc, 5))?;
     tell(&rt, alloc, &mut boxed, Answer::Request(5))?;
-    Ok(())
-}
-
-/// How many of five callbacks the subscriber answers before it is refused memory.
-fn answered<B: Subscriber>(alloc: Global, subscriber: &mut B) -> Result<usize, Fail> {
-    let item = item_with(alloc, b"x")?;
-    let answers = [
-        subscriber.on_subscribe(),
-        subscriber.on_next(&item),
-        subscriber.on_next(&item),
-        subscriber.on_complete(),
-        subscriber.on_error(Fault::Published(7)),
-    ];
-    Ok(
-        answers
-            .iter()
-            .filter(|answer| **answer == Ok(Answer::Go))
-            .count(),
-    )
-}
-
-#[test]
-fn a_refused_one_keeps_what_it_answered(rt: HostRuntime) -> Result<(), Fail> {
-    let rows: [(u32, &[u8]); 6] = [
-        (0, b""),
-        (1, b"s"),
-        (2, b"sx"),
-        (3, b"sxx"),
-        (4, b"sxxc"),
-        (9, b"sxxce"),
-    ];
-    for (callbacks, told) in rows {
-        let mut subscriber = Refused::after(rt.alloc(), callbacks);
-        assert!(rt; subscriber.steady());
-        let answered = answered(rt.alloc(), &mut subscriber)?;
-        assert_eq!(rt; answered, told.len(), "after {callbacks}");
-        assert_eq!(rt;
-            subscriber.told(),
-            signals(rt.alloc(), told)?.as_slice(),
-            "after {callbacks}"
-        );
-    }
     Ok(())
 }

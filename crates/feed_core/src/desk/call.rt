@@ -6,10 +6,10 @@ ghost use Rattle.feed_core.specs.Lane.{IsFlow};
 ghost use Rattle.feed_core.specs.LaneCalls.{is_gone, lane_with_closing, lane_with_demand};
 
 use super::Desk;
-use flow_rules::{Ending, Item, Put, Subscriber};
+use flow_rules::{Ending, Item, Listener, Put};
 use std::mem;
 
-impl<B: Subscriber> Desk<B> {
+impl<B: Listener> Desk<B> {
     /// Offers an item to the buffer, which neither waits nor takes memory (`SubmissionPublisher.offer`, one try).
     ///
     /// Where the buffer is full, or the subscription has ended or was closed, the item comes back and nothing changes.

@@ -12,9 +12,9 @@ ghost use Rattle.feed_core.specs.Turn.{EndsIn, MeetsPlainTurn};
 use super::Desk;
 use crate::cause::Causes;
 use crate::turn::{ITEMS_IN_A_TURN, Outlook, Seen, tell_next, tell_subscribed, tell_terminal};
-use flow_rules::{How, NoMemory, Subscriber};
+use flow_rules::{How, Listener, NoMemory};
 
-impl<B: Subscriber> Desk<B> {
+impl<B: Listener> Desk<B> {
     /// Tells the subscriber what is owed: `onSubscribe` first of all, then items below the demand, 64 at most, then the
     /// terminal signal. What it was told is what `seen` then holds (`Flow.Subscriber`; Reactive Streams 1.0, rules 1.1, 1.3,
     /// 1.5, 1.7 and 1.9). A callback that is refused memory ends the subscription.
@@ -62,8 +62,9 @@ impl<B: Subscriber> Desk<B> {
         ensures err { OnErr result ((self.new ≡ self.old) × (seen.new.signals ≡ seen.old.signals) × (self.old.lane.told ≡ [])) }
         ensures room { seen.new.room ≡ seen.old.room }
     {
-        if self.subscriber.told().is_empty() {
+        if !self.begun {
             let _ = tell_subscribed(&mut self.subscriber, seen)?;
+            self.begun = true;
         }
         Ok(())
     }

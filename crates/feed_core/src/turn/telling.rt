@@ -7,10 +7,10 @@ ghost use Rattle.feed_core.specs.Seen.{seen_with};
 ghost use Rattle.feed_core.specs.Steps.{HasTerminal};
 
 use crate::turn::{SIGNALS_IN_A_TURN, Seen};
-use flow_rules::{Answer, How, Item, NoMemory, Signal, Subscriber};
+use flow_rules::{Answer, How, Item, Listener, NoMemory, Signal};
 
 /// Tells `onSubscribe`.
-pub(crate) fn tell_subscribed<B: Subscriber>(
+pub(crate) fn tell_subscribed<B: Listener>(
     subscriber: &mut B,
     seen: &mut Seen,
 ) -> Result<Answer, NoMemory>
@@ -27,7 +27,7 @@ pub(crate) fn tell_subscribed<B: Subscriber>(
 }
 
 /// Tells an item, and moves it to what was seen. Where the callback is refused memory, the item comes back.
-pub(crate) fn tell_next<B: Subscriber>(
+pub(crate) fn tell_next<B: Listener>(
     subscriber: &mut B,
     item: Item,
     seen: &mut Seen,
@@ -50,7 +50,7 @@ pub(crate) fn tell_next<B: Subscriber>(
 }
 
 /// Tells the terminal signal of an end, if it has one. What its callback answers is not obeyed.
-pub(crate) fn tell_terminal<B: Subscriber>(
+pub(crate) fn tell_terminal<B: Listener>(
     subscriber: &mut B,
     how: How,
     seen: &mut Seen,

@@ -17,7 +17,7 @@ use super::turn_lines::write_turn;
 use crate::line::{split_line, strip_return};
 use crate::writing::{OutputFault, write_line};
 use feed_core::Seen;
-use flow_rules::{NoMemory, Refusal, Subscriber};
+use flow_rules::{Listener, NoMemory, Refusal};
 use std::alloc::Global;
 use std::io::Write;
 
@@ -26,14 +26,14 @@ pub const LONGEST_LINE: usize = 4200;
 
 /// A session, and the room for its turns and its lines, which is used again for each.
 #[derive(Drop)]
-pub struct Player<B: Subscriber> {
+pub struct Player<B: Listener> {
     pub session: Session<B>,
     alloc: Global,
     seen: Seen,
     buffer: Vec<u8>,
 }
 
-impl<B: Subscriber> Player<B> {
+impl<B: Listener> Player<B> {
     /// The start of a script, with these subscribers to take from. They are steady and were told nothing.
     pub fn new(alloc: Global, stock: Vec<B>) -> Result<Player<B>, NoMemory>
         requires untold { All (λ b. B.told b ≡ []) stock.items }

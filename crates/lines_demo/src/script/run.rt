@@ -4,7 +4,7 @@ ghost use Rattle.lines_demo.specs.Script.RunScript.{PlaysScript, StopsReading};
 
 use super::fault::ScriptFault;
 use super::player::Player;
-use flow_rules::Subscriber;
+use flow_rules::{Listener, Subscriber};
 use std::alloc::Global;
 use std::io::{ErrorKind, Read, Write};
 
@@ -32,7 +32,7 @@ pub fn run_script<R: Read, W: Write>(
 }
 
 /// Plays the script that the reader gives on subscribers of one kind.
-fn play_script<R: Read, W: Write, B: Subscriber>(
+pub fn play_script<R: Read, W: Write, B: Listener>(
     alloc: Global,
     reader: &mut R,
     writer: &mut W,

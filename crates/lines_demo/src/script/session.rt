@@ -15,7 +15,7 @@ use super::command::Command;
 use super::reply::Reply;
 use super::subscription::Subscription;
 use feed_core::{Desk, Outlook, Seen};
-use flow_rules::{Ending, Item, Name, NoMemory, PUBLICATIONS, Refusal, Subscriber, Text, capacity};
+use flow_rules::{Ending, Item, Listener, Name, NoMemory, PUBLICATIONS, Refusal, Text, capacity};
 use std::alloc::Global;
 use std::collections::VecDeque;
 use std::marker::Model;
@@ -25,7 +25,7 @@ pub const DEFAULT_CAPACITY: usize = 256;
 
 /// Where a script stands: the subscribers that are left, the subscription, and what the publisher knows.
 #[derive(Drop)]
-pub struct Session<B: Subscriber> {
+pub struct Session<B: Listener> {
     stock: VecDeque<B>,
     subscription: Option<Subscription<B>>,
     capacity: usize,
@@ -34,7 +34,7 @@ pub struct Session<B: Subscriber> {
     serial: u64,
 }
 
-impl<B: Subscriber> Model for Session<B> {
+impl<B: Listener> Model for Session<B> {
     ghost use Rattle.std.specs.Prelude.{◌≡◌, ◌<◌, ◌≤◌, [], true, length, All};
     ghost use Rattle.std.specs.Option.{ForSome};
     ghost use Rattle.lines_demo.specs.Script.Session.{SessionState};
@@ -56,7 +56,7 @@ impl<B: Subscriber> Model for Session<B> {
         × ForSome s.subscription (λ own. length own.desk.lane.accepted ≤ s.serial) };
 }
 
-impl<B: Subscriber> Session<B> {
+impl<B: Listener> Session<B> {
     /// The start of a script, with these subscribers to take from. They are steady and were told nothing.
     pub fn new(stock: Vec<B>) -> Session<B>
         requires untold { All (λ b. B.told b ≡ []) stock.items }
@@ -254,7 +254,7 @@ impl<B: Subscriber> Session<B> {
 
 /// A subscription of this name that has requested nothing yet, and is closed at once where the publisher was. Where memory is
 /// refused, the subscriber comes back.
-fn subscribed<B: Subscriber>(
+fn subscribed<B: Listener>(
     alloc: Global,
     name: Name,
     capacity: usize,
@@ -280,7 +280,7 @@ fn subscribed<B: Subscriber>(
 }
 
 /// Offers an item to the subscription, if there is one.
-fn offer_to<B: Subscriber>(subscription: &mut Option<Subscription<B>>, item: Item) -> i64
+fn offer_to<B: Listener>(subscription: &mut Option<Subscription<B>>, item: Item) -> i64
     requires { ForSome subscription.old (λ own. length own.desk.lane.accepted < PUBLICATIONS) }
     ensures answer { result ≡ publication_answer subscription.old item }
     ensures offered { subscription.new ≡ option_map (subscription_after_put item) subscription.old }

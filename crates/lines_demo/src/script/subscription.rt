@@ -7,17 +7,17 @@ ghost use Rattle.lines_demo.specs.Script.Calls.{offer_answer, subscription_after
 ghost use Rattle.lines_demo.specs.Script.Turns.{subscription_after_turn};
 
 use feed_core::{Desk, Outlook, Seen};
-use flow_rules::{Ending, Item, Name, Put, Subscriber};
+use flow_rules::{Ending, Item, Listener, Name, Put};
 use std::marker::Model;
 
 /// A subscription of a script: its name, and what the publisher has of it. Its subscriber is steady.
 #[derive(Drop)]
-pub struct Subscription<B: Subscriber> {
+pub struct Subscription<B: Listener> {
     name: Name,
     desk: Desk<B>,
 }
 
-impl<B: Subscriber> Model for Subscription<B> {
+impl<B: Listener> Model for Subscription<B> {
     ghost use Rattle.std.specs.Prelude.{◌≡◌, true};
     ghost use Rattle.lines_demo.specs.Script.Session.{SubscriptionState};
 
@@ -28,7 +28,7 @@ impl<B: Subscriber> Model for Subscription<B> {
     ghost invariant = { λ s. s.desk.is_steady ≡ true };
 }
 
-impl<B: Subscriber> Subscription<B> {
+impl<B: Listener> Subscription<B> {
     /// A subscription of this name.
     pub fn new(name: Name, desk: Desk<B>) -> Subscription<B>
         requires steady { desk.is_steady ≡ true }

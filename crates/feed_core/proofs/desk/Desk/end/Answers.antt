@@ -13,6 +13,6 @@ returns-then-is_some-clause-flow g c = subst (λ (desk : DeskState). IsFlow desk
 pub returns-clause-flow : goal.returns-clause-flow
 returns-clause-flow g c =
     let s = c.self.inside in
-    let lane : LaneState = lane_of (g.B.Subscriber.told s.subscriber) s.held.items s.given s.asked s.causes s.how in
+    let lane : LaneState = lane_of (g.B.Listener.told s.subscriber) s.held.items s.given s.asked s.causes s.how in
     let unclosed : lane.causes.closing ≡ None = search rules in
     flow_kept (sound_lane_with_closing lane c.args.ending c.self.invariant.in_order.sound unclosed)

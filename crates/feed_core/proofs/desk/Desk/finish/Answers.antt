@@ -5,7 +5,7 @@ use Rattle.feed_core.specs.Prelude.{How}
 use Rattle.feed_core.specs.Desk.{DeskState}
 use Rattle.feed_core.specs.Seen.{SeenState}
 use Rattle.feed_core.specs.Steps.{IsMidTurn, OwesEnd}
-use Rattle.feed_core.proofs.DeskSteps.{ended_items, in_order_owed, in_order_ended}
+use Rattle.feed_core.proofs.DeskSteps.{ended_items, in_order_owed, in_order_ended, still_greeted}
 use Rattle.feed_core.proofs.Looks.{looks_ended, looks_missed}
 use Rattle.feed_core.proofs.desk.Desk.finish.Goals as goal
 use Rattle.feed_core.proofs.desk.Desk.finish.Goals.{in-Ok, in-Err}
@@ -22,6 +22,7 @@ invariant_of-self g c =
             in_order = in_order_owed c.self.invariant.in_order mid.owed.1 mid.owed.0 mid.begun c.args.how owed grows;
             counted = ap (λ items. length (items ++ held)) (ended_items _ _ c.args.how grows) ∙ c.self.invariant.counted;
             roomy = c.self.invariant.roomy;
+            greeted = still_greeted _ _ _ _ c.self.invariant.greeted mid.begun grows;
           })
       | in-Err w ↦
           let grows = w.in-Err.ensures.err.0 ∙ sym (append-nil _) in
@@ -29,6 +30,7 @@ invariant_of-self g c =
             in_order = in_order_ended c.self.invariant.in_order mid.owed.1 mid.owed.0 mid.begun How.OutOfMemory tt grows;
             counted = ap (λ items. length (items ++ held)) (ended_items _ _ How.OutOfMemory grows) ∙ c.self.invariant.counted;
             roomy = c.self.invariant.roomy;
+            greeted = still_greeted _ _ _ _ c.self.invariant.greeted mid.begun grows;
           })
     ]
 

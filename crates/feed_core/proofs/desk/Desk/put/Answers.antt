@@ -18,7 +18,7 @@ returns-then-lag-self-clause-flow g c = subst (λ (desk : DeskState). IsFlow des
 pub returns-clause-flow : goal.returns-clause-flow
 returns-clause-flow g c =
     let s = c.self.inside in
-    let told = g.B.Subscriber.told s.subscriber in
+    let told = g.B.Listener.told s.subscriber in
     let lane : LaneState = lane_of told s.held.items s.given s.asked s.causes s.how in
     let unended : lane.how ≡ None = search rules in
     let grown : (items_of told ++ s.held.items) ++ (c.args.item ∷ []) ≡ items_of told ++ c.put.new.self.items =

@@ -9,7 +9,7 @@ use Rattle.feed_core.proofs.desk.Desk.request.Goals as goal
 pub returns-clause-flow : goal.returns-clause-flow
 returns-clause-flow g c =
     let s = c.self.inside in
-    let lane : LaneState = lane_of (g.B.Subscriber.told s.subscriber) s.held.items s.given s.asked s.causes s.how in
+    let lane : LaneState = lane_of (g.B.Listener.told s.subscriber) s.held.items s.given s.asked s.causes s.how in
     let before = c.self.invariant.in_order.sound.counts.requested in
     let requested : lane.given ≤ c.add.new.self = search rules in
     flow_kept (sound_asked lane c.add.new.self c.self.invariant.in_order.sound requested)

@@ -6,7 +6,7 @@ use Rattle.feed_core.specs.Cause.{stops}
 use Rattle.feed_core.specs.Desk.{DeskState}
 use Rattle.feed_core.specs.Seen.{SeenState}
 use Rattle.feed_core.specs.Steps.{IsMidTurn, MovesNext}
-use Rattle.feed_core.proofs.DeskSteps.{accepted_kept, in_order_given}
+use Rattle.feed_core.proofs.DeskSteps.{accepted_kept, in_order_given, still_greeted}
 use Rattle.feed_core.proofs.Looks.{looks_given, looks_lost}
 use Rattle.feed_core.proofs.desk.Desk.take.Goals as goal
 
@@ -20,6 +20,7 @@ invariant_of-self g c =
       in_order = in_order_given c.self.invariant.in_order mid.owed.1 mid.owed.0 mid.begun moves requested;
       counted = ap length (accepted_kept c.self.invariant.in_order mid.owed.1 mid.owed.0 mid.begun moves) ∙ c.self.invariant.counted;
       roomy = subst (λ room. c.self.inside.capacity ≤ room) (sym c.take-item.ensures.room) c.self.invariant.roomy;
+      greeted = still_greeted _ _ _ _ c.self.invariant.greeted mid.begun moves.told_after;
     }
 
 pub returns-in-Ok-clause-looks : goal.returns-in-Ok-clause-looks

@@ -29,16 +29,16 @@ pub invariant_of-self-in-Ok : goal.invariant_of-self-in-Ok
 invariant_of-self-in-Ok g c =
     let state : SessionState = state_inside c.self.inside in
     let none : length c.if-number-gt0.subscription.desk.lane.accepted ≡ 0 = ap (λ (e : SubscriptionState). length e.desk.lane.accepted) (subscription_made g c) ∙ new_empty state c.args.name c.args.number in (
-      All-rest (λ b. g.B.Subscriber.told b ≡ []) _ _ _ c.in-Some.ensures.items c.self.invariant.0,
-      All-rest (λ b. g.B.Subscriber.is_steady b ≡ true) _ _ _ c.in-Some.ensures.items c.self.invariant.1,
+      All-rest (λ b. g.B.Listener.told b ≡ []) _ _ _ c.in-Some.ensures.items c.self.invariant.0,
+      All-rest (λ b. g.B.Listener.is_steady b ≡ true) _ _ _ c.in-Some.ensures.items c.self.invariant.1,
       c.self.invariant.2,
       some_only (λ e. length e.desk.lane.accepted ≤ c.self.inside.serial) c.if-number-gt0.subscription (omega (arith, none)),
     )
 
 pub invariant_of-self-in-Err : goal.invariant_of-self-in-Err
 invariant_of-self-in-Err g c =
-    let untold : g.row.B.Denot → Type 0 = λ b. g.B.Subscriber.told b ≡ [] in
-    let steady : g.row.B.Denot → Type 0 = λ b. g.B.Subscriber.is_steady b ≡ true in
+    let untold : g.row.B.Denot → Type 0 = λ b. g.B.Listener.told b ≡ [] in
+    let steady : g.row.B.Denot → Type 0 = λ b. g.B.Listener.is_steady b ≡ true in
     let cut = c.in-Some.ensures.items in
     let untold_first = All-head untold _ _ (All-same untold _ _ (sym cut) c.self.invariant.0) in
     let steady_first = All-head steady _ _ (All-same steady _ _ (sym cut) c.self.invariant.1) in

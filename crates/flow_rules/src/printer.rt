@@ -1,0 +1,154 @@
+//! A listener that writes.
+ghost use Rattle.std.specs.Prelude.{◌≡◌, ◌∷◌, ◌++◌, [], true, false};
+ghost use Rattle.std.specs.Io.KnownBytes.{Appends};
+ghost use Rattle.flow_rules.specs.Printed.{IsPrinted};
+
+use crate::answer::Answer;
+use crate::item::Item;
+use crate::listener::Listener;
+use crate::refusal::NoMemory;
+use crate::signal::{Fault, Signal};
+use crate::text::Text;
+use crate::told::Told;
+use std::io::Write;
+use std::marker::Model;
+use std::snapshot::Snapshot;
+
+/// A listener that hands each text that it is told to a writer, on a line of its own, and keeps none. After a write that failed it
+/// writes nothing more. A terminal signal flushes the writer.
+#[derive(Drop)]
+pub struct Printer<W: Write> {
+    told: Told,
+    writer: W,
+    /// The writer as it was at first. It has no bytes, and is there for the proof.
+    before: Snapshot<W>,
+    /// Whether a write or a flush failed.
+    has_failed: bool,
+    /// Whether it goes on after a write that failed, and doesn't cancel.
+    goes_on: bool,
+}
+
+impl<W: Write> Model for Printer<W> {
+    ghost use Rattle.flow_rules.specs.Printed.{Printed, IsPrinted};
+
+    ghost Value = { Printed };
+
+    ghost view = { λ p. record {
+      told = p.told;
+      before = W.contents p.before.value;
+      contents = W.contents p.writer;
+      has_failed = p.has_failed;
+      goes_on = p.goes_on;
+    } };
+
+    ghost invariant = { λ p. IsPrinted p.told (W.contents p.before.value) (W.contents p.writer) p.has_failed };
+}
+
+impl<W: Write> Printer<W> {
+    /// One that was told nothing, and that cancels its subscription after a write that failed.
+    pub fn new(writer: W) -> Printer<W>
+        ensures untold { result.told ≡ [] }
+        ensures before { result.before ≡ W.contents writer }
+        ensures unfailed { result.has_failed ≡ false }
+        ensures cancels { result.goes_on ≡ false }
+    {
+        Printer {
+            told: Told::new(),
+            before: Snapshot::of(&writer),
+            writer,
+            has_failed: false,
+            goes_on: false,
+        }
+    }
+
+    /// One that was told nothing, and that goes on after a write that failed: it is told what comes, and writes none of it.
+    pub fn going_on(writer: W) -> Printer<W>
+        ensures untold { result.told ≡ [] }
+        ensures before { result.before ≡ W.contents writer }
+        ensures unfailed { result.has_failed ≡ false }
+        ensures goes_on { result.goes_on ≡ true }
+    {
+        Printer {
+            goes_on: true,
+            ..Printer::new(writer)
+        }
+    }
+
+    /// Whether a write or a flush failed. Where none did, the writer got the texts of all items that it was told, in order, each
+    /// on a line of its own.
+    pub fn has_failed(&self) -> bool
+        ensures value { result ≡ self.now.has_failed }
+        ensures written { IsPrinted self.now.told self.now.before self.now.contents result }
+    {
+        self.has_failed
+    }
+
+    /// The writer, taken out.
+    pub fn into_writer(self) -> W
+        ensures { W.contents result ≡ self.contents }
+    {
+        self.writer
+    }
+
+    /// Has the writer hand on what it holds back, unless a write failed before.
+    fn flush(&mut self)
+        ensures told { self.new.told ≡ self.old.told }
+        ensures goes_on { self.new.goes_on ≡ self.old.goes_on }
+    {
+        if !self.has_failed {
+            self.has_failed = self.writer.flush().is_err();
+        }
+    }
+
+    /// What it answers to a callback.
+    fn answer(&self) -> Answer
+        ensures { self.now.goes_on ≡ true → result ≡ Answer.Go }
+    {
+        if self.has_failed && !self.goes_on {
+            Answer::Cancel
+        } else {
+            Answer::Go
+        }
+    }
+}
+
+impl<W: Write + Send + Drop> Listener for Printer<W> {
+    ghost told = { λ p. p.told };
+
+    ghost is_steady = { λ p. p.goes_on };
+
+    #[tactic(auto, using(crate::proofs::Items::subscribed_no_item))]
+    fn on_subscribe(&mut self) -> Result<Answer, NoMemory> {
+        self.told.tell(&Signal::Subscribed);
+        Ok(self.answer())
+    }
+
+    fn on_next(&mut self, item: &Item) -> Result<Answer, NoMemory> {
+        if !self.has_failed {
+            self.has_failed = fails_to_print(&mut self.writer, &item.text);
+        }
+        self.told.tell_next(item);
+        Ok(self.answer())
+    }
+
+    #[tactic(auto, using(crate::proofs::Items::error_no_item))]
+    fn on_error(&mut self, fault: Fault) -> Result<Answer, NoMemory> {
+        self.flush();
+        self.told.tell(&Signal::Error(fault));
+        Ok(self.answer())
+    }
+
+    #[tactic(auto, using(crate::proofs::Items::complete_no_item))]
+    fn on_complete(&mut self) -> Result<Answer, NoMemory> {
+        self.flush();
+        self.told.tell(&Signal::Complete);
+        Ok(self.answer())
+    }
+}
+
+/// Writes a text on a line of its own, and answers whether that failed.
+fn fails_to_print<W: Write>(writer: &mut W, text: &Text) -> bool
+    ensures { result ≡ false → Appends (W.contents writer.old) (W.contents writer.new) (text.now ++ 10 ∷ []) }
+{
+    writer.write_all(text.as_bytes()).is_err() || writer.write_all(b"\n").is_err()
+}

@@ -1,0 +1,82 @@
+//! A listener that counts.
+ghost use Rattle.std.specs.Prelude.{◌≡◌, [], length, min, ◌-◌, ◌^◌};
+ghost use Rattle.flow_rules.specs.Signals.{items_of};
+
+use crate::answer::Answer;
+use crate::item::Item;
+use crate::listener::Listener;
+use crate::refusal::NoMemory;
+use crate::signal::{Fault, Signal};
+use crate::told::Told;
+use std::marker::Model;
+
+/// A listener that counts the items that it is told, and keeps none. It is steady, and no callback of it is refused memory.
+#[derive(Drop)]
+pub struct Tally {
+    told: Told,
+    items: u64,
+}
+
+impl Model for Tally {
+    ghost use Rattle.std.specs.Prelude.{◌≡◌, List, length, min, ◌-◌, ◌^◌};
+    ghost use Rattle.flow_rules.specs.declared.signal.Signal.{Signal};
+    ghost use Rattle.flow_rules.specs.Signals.{items_of};
+
+    ghost Value = { List Signal };
+
+    ghost view = { λ t. t.told };
+
+    ghost invariant = { λ t. t.items ≡ min (length (items_of t.told)) (2 ^ 64 - 1) };
+}
+
+impl Tally {
+    /// One that was told nothing.
+    pub fn new() -> Tally
+        ensures untold { result ≡ [] }
+    {
+        Tally {
+            told: Told::new(),
+            items: 0,
+        }
+    }
+
+    /// How many items it was told, or 2^64 - 1 where they were more.
+    pub fn items(&self) -> u64
+        ensures { result ≡ min (length (items_of self.now)) (2 ^ 64 - 1) }
+    {
+        self.items
+    }
+}
+
+impl Listener for Tally {
+    ghost use Rattle.std.specs.Prelude.{true};
+
+    ghost told = { λ t. t };
+
+    ghost is_steady = { λ _. true };
+
+    #[tactic(auto, using(crate::proofs::Items::subscribed_no_item))]
+    fn on_subscribe(&mut self) -> Result<Answer, NoMemory> {
+        self.told.tell(&Signal::Subscribed);
+        Ok(Answer::Go)
+    }
+
+    #[tactic(auto, using(crate::proofs::Items::one_item_more))]
+    fn on_next(&mut self, item: &Item) -> Result<Answer, NoMemory> {
+        self.told.tell_next(item);
+        self.items = self.items.saturating_add(1);
+        Ok(Answer::Go)
+    }
+
+    #[tactic(auto, using(crate::proofs::Items::error_no_item))]
+    fn on_error(&mut self, fault: Fault) -> Result<Answer, NoMemory> {
+        self.told.tell(&Signal::Error(fault));
+        Ok(Answer::Go)
+    }
+
+    #[tactic(auto, using(crate::proofs::Items::complete_no_item))]
+    fn on_complete(&mut self) -> Result<Answer, NoMemory> {
+        self.told.tell(&Signal::Complete);
+        Ok(Answer::Go)
+    }
+}
