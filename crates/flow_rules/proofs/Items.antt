@@ -6,7 +6,7 @@ use Rattle.flow_rules.specs.declared.item.Item.{Item}
 use Rattle.flow_rules.specs.declared.signal.Fault.{Fault}
 use Rattle.flow_rules.specs.declared.signal.Signal.{Signal}
 use Rattle.flow_rules.specs.declared.signal.Signal.TheVariants.{Subscribed, Next, Complete, Error}
-use Rattle.flow_rules.specs.Printed.{printed_lines}
+use Rattle.flow_rules.specs.Printed.{contents_of, numbers_of, printed_lines}
 use Rattle.flow_rules.specs.Signals.{items_of}
 
 -- the items of two lists, one after the other
@@ -52,3 +52,8 @@ pub printed_more : (told : List Signal) (item : Item) (before now after : Option
     → Appends now after (item.text ++ 10 ∷ []) → Appends before after (printed_lines (items_of (told ++ Next item ∷ [])))
 printed_more told item before now after printed more =
     subst (λ bytes. Appends before after bytes) (sym (lines_grow told item)) (appended_twice before now after _ _ printed more)
+
+-- a tag keeps what a writer holds
+pub contents_kept : (contents : Option (List ℕ)) → contents_of (numbers_of contents) ≡ contents
+contents_kept None = refl
+contents_kept (Some bytes) = refl

@@ -1,5 +1,5 @@
 -- What a `Printer` holds, and what it writes.
-use Rattle.std.specs.Prelude.{◌≡◌, ℕ, Bool, false, Option, List, [], ◌∷◌, ◌++◌}
+use Rattle.std.specs.Prelude.{◌≡◌, ℕ, Bool, false, Option, None, Some, List, [], ◌∷◌, ◌++◌}
 use Rattle.std.specs.Io.KnownBytes.{Appends}
 use Rattle.flow_rules.specs.declared.item.Item.{Item}
 use Rattle.flow_rules.specs.declared.signal.Signal.{Signal}
@@ -10,14 +10,22 @@ abbrev pub printed_lines : List Item → List ℕ
 printed_lines [] = []
 printed_lines (item ∷ items) = item.text ++ (10 ∷ printed_lines items)
 
--- a printer: what it was told, what its writer held at first and holds, where that is known, whether a write failed, and whether
--- it goes on then
+-- what a writer holds, as numbers that a tag keeps: none where it isn't known
+abbrev pub numbers_of : Option (List ℕ) → List ℕ
+numbers_of None = []
+numbers_of (Some bytes) = 0 ∷ bytes
+
+-- what a writer held, off those numbers
+abbrev pub contents_of : List ℕ → Option (List ℕ)
+contents_of [] = None
+contents_of (_ ∷ bytes) = Some bytes
+
+-- a printer: what it was told, what its writer held at first and holds, where that is known, and whether a write failed
 pub record Printed : Type 0 where
   pub told : List Signal
   pub before : Option (List ℕ)
   pub contents : Option (List ℕ)
   pub has_failed : Bool
-  pub goes_on : Bool
 
 -- where no write failed, its writer got the texts of all items that were told, in order, each on a line of its own
 abbrev pub IsPrinted : List Signal → Option (List ℕ) → Option (List ℕ) → Bool → Type 0

@@ -30,7 +30,7 @@ pub use ending::Ending;
 pub use feed::Put;
 pub use how::How;
 pub use item::{Item, PUBLICATIONS};
-pub use listener::{Listener, Shown};
+pub use listener::{GoesOn, Listener, Shown};
 pub use name::Name;
 pub use printer::Printer;
 pub use refusal::{BadCapacity, NoMemory, Refusal};

@@ -112,3 +112,31 @@ impl<S: Subscriber> Listener for Shown<S> {
         self.0.on_complete()
     }
 }
+
+/// A listener that answers `Go` to each callback, whatever the one in it answers. So it is steady.
+#[derive(Debug, Drop)]
+pub struct GoesOn<B: Listener>(pub B);
+
+impl<B: Listener> Listener for GoesOn<B> {
+    ghost use Rattle.std.specs.Prelude.{true};
+
+    ghost told = { λ listener. B.told listener.0 };
+
+    ghost is_steady = { λ _. true };
+
+    fn on_subscribe(&mut self) -> Result<Answer, NoMemory> {
+        self.0.on_subscribe().map(|_| Answer::Go)
+    }
+
+    fn on_next(&mut self, item: &Item) -> Result<Answer, NoMemory> {
+        self.0.on_next(item).map(|_| Answer::Go)
+    }
+
+    fn on_error(&mut self, fault: Fault) -> Result<Answer, NoMemory> {
+        self.0.on_error(fault).map(|_| Answer::Go)
+    }
+
+    fn on_complete(&mut self) -> Result<Answer, NoMemory> {
+        self.0.on_complete().map(|_| Answer::Go)
+    }
+}

@@ -10,67 +10,59 @@ use crate::refusal::NoMemory;
 use crate::signal::{Fault, Signal};
 use crate::text::Text;
 use crate::told::Told;
+use boxcar::tag::{Names, Tag};
 use std::io::Write;
 use std::marker::Model;
-use std::snapshot::Snapshot;
 
 /// A listener that hands each text that it is told to a writer, on a line of its own, and keeps none. After a write that failed it
-/// writes nothing more. A terminal signal flushes the writer.
+/// writes nothing more, and cancels its subscription. A terminal signal flushes the writer.
 #[derive(Drop)]
 pub struct Printer<W: Write> {
     told: Told,
     writer: W,
-    /// The writer as it was at first. It has no bytes, and is there for the proof.
-    before: Snapshot<W>,
+    /// What the writer held at first. It has no bytes, and is there for the proof.
+    before: Tag,
     /// Whether a write or a flush failed.
     has_failed: bool,
-    /// Whether it goes on after a write that failed, and doesn't cancel.
-    goes_on: bool,
 }
 
 impl<W: Write> Model for Printer<W> {
-    ghost use Rattle.flow_rules.specs.Printed.{Printed, IsPrinted};
+    ghost use Rattle.flow_rules.specs.Printed.{Printed, IsPrinted, contents_of};
 
     ghost Value = { Printed };
 
     ghost view = { λ p. record {
       told = p.told;
-      before = W.contents p.before.value;
+      before = contents_of p.before.numbers;
       contents = W.contents p.writer;
       has_failed = p.has_failed;
-      goes_on = p.goes_on;
     } };
 
-    ghost invariant = { λ p. IsPrinted p.told (W.contents p.before.value) (W.contents p.writer) p.has_failed };
+    ghost invariant = { λ p. IsPrinted p.told (contents_of p.before.numbers) (W.contents p.writer) p.has_failed };
+}
+
+/// Reads off a writer what it holds.
+struct Contents;
+
+impl<W: Write> Names<W> for Contents {
+    ghost use Rattle.flow_rules.specs.Printed.{numbers_of};
+
+    ghost numbers = { λ writer. numbers_of (W.contents writer) };
 }
 
 impl<W: Write> Printer<W> {
-    /// One that was told nothing, and that cancels its subscription after a write that failed.
+    /// One that was told nothing.
+    #[tactic(auto, using(crate::proofs::Items::contents_kept))]
     pub fn new(writer: W) -> Printer<W>
         ensures untold { result.told ≡ [] }
         ensures before { result.before ≡ W.contents writer }
         ensures unfailed { result.has_failed ≡ false }
-        ensures cancels { result.goes_on ≡ false }
     {
         Printer {
             told: Told::new(),
-            before: Snapshot::of(&writer),
+            before: Tag::of::<W, Contents>(&writer),
             writer,
             has_failed: false,
-            goes_on: false,
-        }
-    }
-
-    /// One that was told nothing, and that goes on after a write that failed: it is told what comes, and writes none of it.
-    pub fn going_on(writer: W) -> Printer<W>
-        ensures untold { result.told ≡ [] }
-        ensures before { result.before ≡ W.contents writer }
-        ensures unfailed { result.has_failed ≡ false }
-        ensures goes_on { result.goes_on ≡ true }
-    {
-        Printer {
-            goes_on: true,
-            ..Printer::new(writer)
         }
     }
 
@@ -93,7 +85,6 @@ impl<W: Write> Printer<W> {
     /// Has the writer hand on what it holds back, unless a write failed before.
     fn flush(&mut self)
         ensures told { self.new.told ≡ self.old.told }
-        ensures goes_on { self.new.goes_on ≡ self.old.goes_on }
     {
         if !self.has_failed {
             self.has_failed = self.writer.flush().is_err();
@@ -101,10 +92,8 @@ impl<W: Write> Printer<W> {
     }
 
     /// What it answers to a callback.
-    fn answer(&self) -> Answer
-        ensures { self.now.goes_on ≡ true → result ≡ Answer.Go }
-    {
-        if self.has_failed && !self.goes_on {
+    fn answer(&self) -> Answer {
+        if self.has_failed {
             Answer::Cancel
         } else {
             Answer::Go
@@ -113,9 +102,11 @@ impl<W: Write> Printer<W> {
 }
 
 impl<W: Write + Send + Drop> Listener for Printer<W> {
+    ghost use Rattle.std.specs.Prelude.{false};
+
     ghost told = { λ p. p.told };
 
-    ghost is_steady = { λ p. p.goes_on };
+    ghost is_steady = { λ _. false };
 
     #[tactic(auto, using(crate::proofs::Items::subscribed_no_item))]
     fn on_subscribe(&mut self) -> Result<Answer, NoMemory> {

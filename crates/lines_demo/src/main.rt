@@ -2,9 +2,9 @@
 //! line, and answers each on standard output.
 #![tactic(auto)]
 
-use clap::Command;
 use clap::error::ErrorKind;
-use script::{ScriptFault, play_standard_input};
+use clap::{Arg, ArgAction, ArgMatches, Command};
+use script::{Keeping, ScriptFault, play_standard_input};
 use std::alloc::{AllocError, Global};
 use std::process::ExitCode;
 use std::rt::Env;
@@ -20,6 +20,10 @@ const WRONG_USE: u8 = 2;
 
 /// What `--version` prints after the name.
 const VERSION: &str = "0.1.0";
+
+/// The subcommand that plays a script, and its flag for subscribers that keep nothing.
+const SCRIPT: &str = "script";
+const FORGET: &str = "forget";
 
 /// What `--help` says of scripts.
 const SCRIPTS: &str = "Commands of a script, one a line, and their answers:
@@ -54,8 +58,8 @@ fn run<R: Input + Print + Eprint + Env + AllocGlobal>(rt: &R) -> Result<ExitCode
     };
     let command = command_line(rt.alloc()).map_err(|_| ScriptFault::Memory)?;
     let error = match command.try_get_matches_from(words.as_slice()) {
-        Ok(_) => {
-            play_standard_input(rt)?;
+        Ok(matches) => {
+            play_standard_input(rt, keeping(&matches))?;
             return Ok(ExitCode::SUCCESS);
         }
         Err(error) => error,
@@ -68,6 +72,14 @@ fn run<R: Input + Print + Eprint + Env + AllocGlobal>(rt: &R) -> Result<ExitCode
         Ok(ExitCode::from(WRONG_USE))
     } else {
         Ok(ExitCode::SUCCESS)
+    }
+}
+
+/// What the command line says of the subscribers.
+fn keeping(matches: &ArgMatches<'_>) -> Keeping {
+    match matches.subcommand_matches(SCRIPT) {
+        Some(script) if script.get_flag(FORGET) => Keeping::Nothing,
+        _ => Keeping::Everything,
     }
 }
 
@@ -87,8 +99,13 @@ fn command_words<R: Env + AllocGlobal>(rt: &R) -> Result<Option<Vec<String>>, Sc
 
 /// The command line: one subcommand.
 fn command_line<'a>(alloc: Global) -> Result<Command<'a>, AllocError> {
-    let script = Command::new(alloc, "script")
+    let forget = Arg::new(alloc, FORGET)
+        .long(FORGET)
+        .action(ArgAction::SetTrue)
+        .help("The subscriber keeps nothing of what it is told, and takes no memory for it");
+    let script = Command::new(alloc, SCRIPT)
         .about("Plays the script on standard input")
+        .arg(forget)?
         .after_help(SCRIPTS);
     Command::new(alloc, "lines_demo")
         .about("Publishes lines to subscribers")

@@ -13,4 +13,4 @@ mod turn_lines;
 
 pub use fault::ScriptFault;
 pub use run::run_script;
-pub use standard_input::{play_standard_input, steady_and_untold};
+pub use standard_input::{Keeping, play_standard_input, steady_and_untold};

@@ -1,6 +1,8 @@
 //! What the listeners answer, and what they do with what they are told.
 use crate::{Answering, Refused, item_with, signals};
-use flow_rules::{Answer, Collector, Fault, Listener, NoMemory, Printer, Subscriber, Tally};
+use flow_rules::{
+    Answer, Collector, Fault, GoesOn, Listener, NoMemory, Printer, Subscriber, Tally,
+};
 use std::alloc::Global;
 use std::io;
 use std::io::{Error, ErrorKind, Write};
@@ -50,6 +52,8 @@ fn each_answer_is_given(rt: HostRuntime) -> Result<(), Fail> {
             let mut listener = Answering::after(callbacks, answer);
             let wanted = go_but(callbacks as usize, answer);
             assert_eq!(rt; answers(rt.alloc(), &mut listener)?, wanted);
+            let mut listener = GoesOn(Answering::after(callbacks, answer));
+            assert_eq!(rt; answers(rt.alloc(), &mut listener)?, go_but(5, answer));
         }
     }
     Ok(())
@@ -93,36 +97,33 @@ impl Write for Failing {
     }
 }
 
+/// How often a printer answers `Go` and `Cancel` to the five callbacks.
+fn goes_and_cancels(
+    alloc: Global,
+    printer: &mut Printer<Failing>,
+) -> Result<(usize, usize), Fail> {
+    let answered = answers(alloc, printer)?;
+    let count = |wanted| answered.iter().filter(|it| **it == Ok(wanted)).count();
+    Ok((count(Answer::Go), count(Answer::Cancel)))
+}
+
 #[test]
 fn a_printer_writes_lines_until_a_write_fails(rt: HostRuntime) -> Result<(), Fail> {
     let alloc = rt.alloc();
-    // The writes that are taken, the callbacks that answer `Go`, whether one failed, and what was written.
-    let rows: [(u32, usize, bool, &[u8]); 5] = [
-        (0, 1, true, b""),
-        (1, 1, true, b"x"),
-        (2, 2, true, b"x\n"),
-        (3, 2, true, b"x\ny"),
-        (4, 5, false, b"x\ny\n"),
+    // The writes that are taken, how often it answers `Go` and `Cancel`, and what was written.
+    let rows: [(u32, (usize, usize), &[u8]); 5] = [
+        (0, (1, 4), b""),
+        (1, (1, 4), b"x"),
+        (2, (2, 3), b"x\n"),
+        (3, (2, 3), b"x\ny"),
+        (4, (5, 0), b"x\ny\n"),
     ];
-    for (writes, going, has_failed, written) in rows {
-        for goes_on in [false, true] {
-            let writer = Failing {
-                taken: Vec::new(alloc),
-                writes,
-            };
-            let mut printer = if goes_on {
-                Printer::going_on(writer)
-            } else {
-                Printer::new(writer)
-            };
-            let answered = answers(alloc, &mut printer)?;
-            let gos = answered.iter().filter(|it| **it == Ok(Answer::Go)).count();
-            let cancels = answered.iter().filter(|it| **it == Ok(Answer::Cancel)).count();
-            let wanted = if goes_on { (5, 0) } else { (going, 5 - going) };
-            assert_eq!(rt; (gos, cancels), wanted, "{writes} writes");
-            assert_eq!(rt; printer.has_failed(), has_failed);
-            assert_eq!(rt; printer.into_writer().taken.as_slice(), written);
-        }
+    for (writes, wanted, written) in rows {
+        let taken = Vec::new(alloc);
+        let mut printer = Printer::new(Failing { taken, writes });
+        assert_eq!(rt; goes_and_cancels(alloc, &mut printer)?, wanted, "{writes} writes");
+        assert_eq!(rt; printer.has_failed(), writes < 4);
+        assert_eq!(rt; printer.into_writer().taken.as_slice(), written);
     }
     Ok(())
 }

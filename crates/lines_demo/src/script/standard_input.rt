@@ -2,31 +2,65 @@
 ghost use Rattle.std.specs.Prelude.{◌≡◌, [], true, All, IfOk};
 
 use super::fault::ScriptFault;
-use super::run::run_script;
-use flow_rules::{Collector, Subscriber};
+use super::run::{play_script, run_script};
+use flow_rules::{Collector, Subscriber, Tally};
 use std::alloc::Global;
 use std::io;
-use std::io::{BufWriter, Write};
+use std::io::{BufWriter, Read, Write};
 
 /// How many subscribers a script has. It has one subscription at most, and a `sub` that was refused gives its subscriber back, so
 /// more would never be used.
 const STOCK: usize = 1;
 
+/// What the subscribers of a script keep of what they are told.
+#[derive(Clone, Copy)]
+pub enum Keeping {
+    Everything,
+    Nothing,
+}
+
 /// Plays the script on standard input, and answers on standard output.
-pub fn play_standard_input<R: Input + Print + AllocGlobal>(rt: &R) -> Result<(), ScriptFault> {
+pub fn play_standard_input<R: Input + Print + AllocGlobal>(
+    rt: &R,
+    keeping: Keeping,
+) -> Result<(), ScriptFault> {
     let alloc = rt.alloc();
+    let mut reader = rt.reader();
+    let mut writer = BufWriter::new(alloc, io::writer(rt)).map_err(|_| ScriptFault::Memory)?;
+    let played = match keeping {
+        Keeping::Everything => play_on_collectors(alloc, &mut reader, &mut writer),
+        Keeping::Nothing => play_on_tallies(alloc, &mut reader, &mut writer),
+    };
+    let flushed = writer.flush();
+    played?;
+    flushed.map_err(|_| ScriptFault::Write)
+}
+
+/// Plays a script on subscribers that keep all that they are told.
+fn play_on_collectors<R: Read, W: Write>(
+    alloc: Global,
+    reader: &mut R,
+    writer: &mut W,
+) -> Result<(), ScriptFault> {
     let mut collectors: Vec<Box<dyn Subscriber>> = Vec::new(alloc);
     for _ in 0..STOCK {
         let collector = Box::new(alloc, Collector::new(alloc)).map_err(|_| ScriptFault::Memory)?;
         collectors.push(collector).map_err(|_| ScriptFault::Memory)?;
     }
-    let stock = steady_and_untold(alloc, collectors)?;
-    let mut reader = rt.reader();
-    let mut writer = BufWriter::new(rt.alloc(), io::writer(rt)).map_err(|_| ScriptFault::Memory)?;
-    let played = run_script(rt.alloc(), &mut reader, &mut writer, stock);
-    let flushed = writer.flush();
-    played?;
-    flushed.map_err(|_| ScriptFault::Write)
+    run_script(alloc, reader, writer, steady_and_untold(alloc, collectors)?)
+}
+
+/// Plays a script on listeners that keep nothing.
+fn play_on_tallies<R: Read, W: Write>(
+    alloc: Global,
+    reader: &mut R,
+    writer: &mut W,
+) -> Result<(), ScriptFault> {
+    let mut tallies = Vec::new(alloc);
+    for _ in 0..STOCK {
+        tallies.push(Tally::new()).map_err(|_| ScriptFault::Memory)?;
+    }
+    play_script(alloc, reader, writer, tallies)
 }
 
 /// Those of the subscribers that are steady and were told nothing, as a script needs them.
