@@ -56,6 +56,8 @@ class Check:
         """Whether one of the functions (of all, where none is named) has an open goal of its own; and that goal, or why not."""
         if not self.is_judged or self.errors:
             return False, f"it doesn't compile, so no contract was tried: {(self.errors or [self.last()])[0]}"
+        if None in functions:
+            return False, "the check prints no line of the function, or it can't be told which"
         goals = [line for it in functions for line in self.of(self.goals, it)]
         if not functions:
             goals = [line for lines in self.goals.values() for line in lines]
