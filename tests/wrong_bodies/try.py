@@ -65,9 +65,9 @@ class Crate:
         """Runs this command of rt, which proves the crate, in its room."""
         start = time.monotonic()
         how = {"stdin": subprocess.DEVNULL, "stdout": subprocess.PIPE, "stderr": subprocess.STDOUT, "errors": "replace"}
-        said = subprocess.run(["rt", command, "--jobs", str(jobs)], cwd=f"{self.room}/crates/{self.name}", **how).stdout
+        ran = subprocess.run(["rt", command, "--jobs", str(jobs)], cwd=f"{self.room}/crates/{self.name}", **how)
         self.checks, self.seconds = self.checks + 1, self.seconds + time.monotonic() - start
-        return Check(self.name, said)
+        return Check(self.name, ran.stdout, ran.returncode)
 
     def try_batch(self, batch):
         """Tries edits in one check, and alone what is not refused there."""

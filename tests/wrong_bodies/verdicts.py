@@ -13,9 +13,10 @@ VERDICT = re.compile(r"(?:fn|struct|enum|impl|trait) (\S+): (.*)")
 class Check:
     """What one check said: of each function its own open goals, the names that are gone, and its verdict."""
 
-    def __init__(self, crate, text):
+    def __init__(self, crate, text, status):
         self.crate, self.text, self.goals, self.gone, self.verdicts = crate, text, {}, {}, {}
-        self.is_proved = bool(re.search(r"^logic=proved ", text, re.M))
+        # A library that is built already is proved, and `rt lib` says nothing of it.
+        self.is_proved = status == 0
         self.is_judged = bool(re.search(r"^logic=", text, re.M))
         # Texts that can't be read, and where they stand.
         self.errors, self.places = [], []
