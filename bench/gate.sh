@@ -1,8 +1,8 @@
 #!/usr/bin/env bash
 # Measures what the gate costs for each crate, in seconds of the clock and of processors: its proof, its tests (proved from
-# nothing, built and run), its must-fail edits, its wrong bodies (with the proof of the copy from nothing), and the native
-# builds of a program by both compilers, over kept work. One command runs at a time, with one job, in a copy of the
-# repository in a temporary folder, lowest crate first; so it takes longer by the clock than .ci/run, and sets no bounds.
+# nothing, built and run), its must-fail edits, its wrong bodies (from nothing, over built crates below), and the native builds
+# of a program by both compilers, over kept work. One command runs at a time, with one job, in a copy of the repository in a
+# temporary folder, lowest crate first; so it takes longer by the clock than .ci/run, and sets no bounds.
 # Usage: bench/gate.sh [NAME..]; without names all crates of crates.txt.
 set -u
 cd "$(dirname "${BASH_SOURCE[0]}")/.." || exit 1
@@ -55,7 +55,7 @@ measure() {
     fi
     if has must-fail; then spent . rt must-fail "$crate"; else none; fi
     if has wrong-bodies; then
-        from_nothing . tests/wrong_bodies/try.py --jobs 1 "$crate"
+        from_nothing . tests/wrong_bodies/try.py --jobs 1 --proved "$(tests/wrong_bodies/try.py --sum "$crate")" "$crate"
     else
         none
     fi

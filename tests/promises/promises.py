@@ -16,7 +16,7 @@ The form of the file. A section `## NAME` for a crate has tables with these five
   without `.edit`. After the word test (or tests, up to the next `;`) stands the name of a test function of any crate, or a
   path from the top of the repository. A cell that begins with `no edit:` gives a reason, and may name tests after a `;`.
 
-The other way round, each edit is named in a row of its crate's section, or in crates/NAME/must-fail/README.md.
+The other way round, each edit is named in a row of its crate's section, or in a README.md beside the crate's edits.
 """
 
 import glob
@@ -66,10 +66,9 @@ class Crate:
                 owner, trait = owner_in(heads[-1]) if heads else ("", "")
                 self.traits[owner] = trait
                 self.clauses.setdefault(f"{owner}::{it.name}" if owner else it.name, []).extend(it.clauses)
-        edits = [*glob.glob(f"{folder}/must-fail/*.edit"), *glob.glob(f"{folder}/wrong-bodies/*.edit")]
-        self.edits = {os.path.basename(it).removesuffix(".edit") for it in edits}
-        readme = f"{folder}/must-fail/README.md"
-        self.readme = text_of(readme) if os.path.isfile(readme) else ""
+        beside = [it for name in ("must-fail", "wrong-bodies") for it in glob.glob(f"{folder}/{name}/*")]
+        self.edits = {os.path.basename(it).removesuffix(".edit") for it in beside if it.endswith(".edit")}
+        self.readme = "\n".join(text_of(it) for it in beside if it.endswith("README.md"))
 
     def read_ghosts(self, code):
         """Notes the ghost members of each impl, and the ghost fields of each struct."""

@@ -12,10 +12,19 @@ def text_of(file):
 
 
 class Change:
-    """What an edit does in one function: its name, the file, the offsets of its body there, and the new body."""
+    """What an edit does in one function: the function, its file, the offsets of its body there, and the new body."""
 
-    def __init__(self, function, file, start, end, body):
-        self.function, self.file, self.start, self.end, self.body = function, file, start, end, body
+    def __init__(self, function, file, body):
+        self.function, self.file, self.body = function, file, body
+        self.start, self.end = function.start, function.end
+
+    def is_of(self, other):
+        """Whether the other change is of the same function."""
+        return (self.file, self.start) == (other.file, other.start)
+
+    def name_among(self, crate, known):
+        """What rt calls the function, among the names that a check printed, or None where that isn't clear."""
+        return path_of(crate, self.file, self.function, known)
 
 
 class Edit:
@@ -55,23 +64,20 @@ class Edit:
         if not pairs or old is not None:
             self.why = "it has no pair of `old:` and `new:`, or half of one"
 
-    def place(self, crate, folder, known):
+    def place(self, folder):
         """Finds the functions in whose bodies all of the edit stands; there are none where any of it stands elsewhere."""
-        found = [self.change_of(crate, folder, file, text, known) for file, text in self.texts.items()]
+        found = [self.change_of(folder, file, text) for file, text in self.texts.items()]
         if all(found):
             self.changes = found
 
-    def change_of(self, crate, folder, file, text, known):
+    def change_of(self, folder, file, text):
         was = text_of(f"{folder}/{file}")
         functions = functions_of(was) if file.startswith("src/") else []
         for it in sorted((it for it in functions if it.end), key=lambda it: it.end - it.start):
             before, after = was[: it.start], was[it.end :]
             # The body of a `const fn` may be seen by types and constants.
             if text.startswith(before) and text.endswith(after) and not it.is_const:
-                name = path_of(crate, file, it, known)
-                if not name:
-                    self.why = f"the check prints no line of the function `{it.name}` of {file}, or it can't be told which"
-                return Change(name, file, it.start, it.end, text[it.start : len(text) - len(after)])
+                return Change(it, file, text[it.start : len(text) - len(after)])
         return None
 
 
@@ -82,8 +88,8 @@ def batches(edits):
         if len(edit.changes) != 1:
             alone.append([edit])
             continue
-        name = edit.changes[0].function
-        free = (it for it in shared if all(name != other.changes[0].function for other in it))
+        change = edit.changes[0]
+        free = (it for it in shared if not any(change.is_of(other.changes[0]) for other in it))
         batch = next(free, None)
         if batch is None:
             shared.append([edit])

@@ -8,11 +8,13 @@ a callee that is not proved is none. What is not refused so is tried alone befor
 functions, or of anything but a body (a constant, a type, a clause, an invariant), is tried alone; of the last, any open
 goal of the crate counts.
 
-It works on a copy in a temporary folder, and proves the crates there first as they are.
+It works on a copy in a temporary folder, and proves the crates there first as they are; with --proved SUM only where the
+copy has another sum than this, of sources that were proved. The crates below others are built there in any case.
 The last line is `N passed, M failed`. The status is 1 where anything failed, or where there was no edit to try.
 """
 
 import argparse
+import hashlib
 import os
 import shutil
 import subprocess
@@ -26,9 +28,10 @@ sys.path.append(f"{os.path.dirname(os.path.realpath(__file__))}/../lib")
 from edits import Edit, batches, named_by, together
 from verdicts import Check
 
+SOURCES = ("src", "specs", "proofs")
 # What a check reads of a crate below, and of the crate itself.
-OF_LIBRARY = ("src", "specs", "proofs", "out/rlib")
-OF_CRATE = (*OF_LIBRARY, "out/incremental")
+OF_LIBRARY = (*SOURCES, "out/rlib")
+OF_CRATE = (*SOURCES, "out/incremental")
 
 
 def say(text):
@@ -36,7 +39,7 @@ def say(text):
 
 
 class Crate:
-    """A crate with its wrong bodies, those that are wanted."""
+    """A crate with its wrong bodies, those that are wanted; none, where it is only below one that has some."""
 
     def __init__(self, name, below, root, wanted):
         self.name, self.below, self.folder = name, below, f"{root}/crates/{name}"
@@ -47,19 +50,24 @@ class Crate:
         self.edits = [it for it in edits if is_wanted(it)]
         self.checks, self.seconds, self.room = 0, 0.0, None
 
-    def check(self, texts=(), jobs=1):
+    def check(self, texts):
         """Checks the crate in its room with these texts in place of its own."""
         folder = f"{self.room}/crates/{self.name}"
         for file in texts:
             with open(f"{folder}/{file}", "w", encoding="utf-8") as it:
                 it.write(texts[file])
-        start = time.monotonic()
-        how = {"stdin": subprocess.DEVNULL, "stdout": subprocess.PIPE, "stderr": subprocess.STDOUT, "errors": "replace"}
-        said = subprocess.run(["rt", "check", "--jobs", str(jobs)], cwd=folder, **how).stdout
-        self.checks, self.seconds = self.checks + 1, self.seconds + time.monotonic() - start
+        check = self.run("check")
         for file in texts:
             shutil.copyfile(f"{self.folder}/{file}", f"{folder}/{file}")
-        return Check(self.name, said)
+        return check
+
+    def run(self, command, jobs=1):
+        """Runs this command of rt, which proves the crate, in its room."""
+        start = time.monotonic()
+        how = {"stdin": subprocess.DEVNULL, "stdout": subprocess.PIPE, "stderr": subprocess.STDOUT, "errors": "replace"}
+        ran = subprocess.run(["rt", command, "--jobs", str(jobs)], cwd=f"{self.room}/crates/{self.name}", **how)
+        self.checks, self.seconds = self.checks + 1, self.seconds + time.monotonic() - start
+        return Check(self.name, ran.stdout, ran.returncode)
 
     def try_batch(self, batch):
         """Tries edits in one check, and alone what is not refused there."""
@@ -74,19 +82,19 @@ class Crate:
                 self.try_batch(rest)
             return
         for edit in batch:
-            edit.is_refused, edit.why = check.judge([it.function for it in edit.changes])
+            edit.is_refused, edit.why = check.judge([it.name_among(self.name, check.verdicts) for it in edit.changes])
             if not edit.is_refused and len(batch) > 1:
                 self.try_batch([edit])
 
-    def try_all(self, known, base, room):
+    def try_all(self, base, room):
         """Tries all edits in a room of the crate's own, and says what became of each."""
         copy_crates({**dict.fromkeys(self.below, OF_LIBRARY), self.name: OF_CRATE}, base, room)
         # From here on the checkout may change.
         self.folder, self.room = f"{base}/crates/{self.name}", room
-        for edit in self.edits:
-            if edit.why is None:
-                edit.place(self.name, self.folder, known)
-        for batch in batches([it for it in self.edits if it.why is None]):
+        good = [it for it in self.edits if it.why is None]
+        for edit in good:
+            edit.place(self.folder)
+        for batch in batches(good):
             self.try_batch(batch)
         shutil.rmtree(room)
         lines = [f"wrong body {self.name}/{it.name}: {'refused: ' * it.is_refused}{it.why}" for it in self.edits]
@@ -95,16 +103,36 @@ class Crate:
         say(f"{self.name}: {refused} of {len(self.edits)} refused, {self.checks} checks, {self.seconds:.0f} seconds")
 
 
+def files_of(folder):
+    """The sources of a crate."""
+    walks = (it for part in SOURCES for it in os.walk(f"{folder}/{part}"))
+    return sorted(f"{at}/{name}" for at, _, names in walks for name in names)
+
+
+def lines_of(root, names):
+    """The lines of crates.txt that name these crates."""
+    with open(f"{root}/crates.txt", encoding="utf-8") as it:
+        return [line for line in it if line.partition(":")[0].split()[:1] in [[name] for name in names]]
+
+
+def sum_of(root, crates):
+    """A sum of all that the proofs of these crates read of the repository."""
+    names = [it.name for it in crates]
+    found = hashlib.sha256(repr(lines_of(root, names)).encode())
+    for file in (file for name in names for file in files_of(f"{root}/crates/{name}")):
+        with open(file, "rb") as it:
+            found.update(repr((os.path.relpath(file, root), it.read())).encode())
+    return found.hexdigest()
+
+
 def copy_crates(parts, root, to):
     """Copies these parts of each crate, and the lines of crates.txt that name them."""
     for name in parts:
         for part in parts[name]:
             if os.path.isdir(f"{root}/crates/{name}/{part}"):
                 shutil.copytree(f"{root}/crates/{name}/{part}", f"{to}/crates/{name}/{part}")
-    with open(f"{root}/crates.txt", encoding="utf-8") as it:
-        lines = [line for line in it if line.partition(":")[0].split()[:1] in [[name] for name in parts]]
     with open(f"{to}/crates.txt", "w", encoding="utf-8") as it:
-        it.writelines(lines)
+        it.writelines(lines_of(root, parts))
 
 
 def crates_of(root, wanted):
@@ -120,34 +148,37 @@ def crates_of(root, wanted):
         return list(dict.fromkeys(low for it in named[name] if it in named for low in [*below(it), it]))
 
     crates = [Crate(it, below(it), root, wanted) for it in named]
-    return sorted((it for it in crates if it.edits), key=lambda it: len(it.below))
+    needed = {name for it in crates if it.edits for name in [*it.below, it.name]}
+    return sorted((it for it in crates if it.name in needed), key=lambda it: len(it.below))
 
 
-def prove(crates, root, base, jobs):
-    """Proves the crates as they are, over what earlier checks kept, and returns the names of the functions of each; None where one is not proved."""
-    copy_crates({name: OF_CRATE for it in crates for name in [*it.below, it.name]}, root, base)
-    known = {}
+def prove(crates, root, base, jobs, proved):
+    """Builds the crates below others in a copy, over what earlier checks kept, and proves each other that has not this sum
+    of what was proved. False where one is not proved."""
+    copy_crates({it.name: (*OF_CRATE, "out/rlib") for it in crates}, root, base)
+    is_proved = sum_of(base, crates) == proved
+    low = {name for it in crates for name in it.below}
     for crate in crates:
+        if is_proved and crate.name not in low:
+            continue
         crate.room = base
-        check = crate.check(jobs=jobs)
-        known[crate.name] = {*check.verdicts}
+        check = crate.run("lib" if crate.name in low else "check", jobs)
         say(f"{crate.name}: {'proved' if check.is_proved else 'NOT PROVED'} as it is, {crate.seconds:.0f} seconds")
         if not check.is_proved:
             say(check.text)
-            return None
-    return known
+            return False
+    return True
 
 
-def try_crates(crates, root, jobs):
+def try_crates(crates, root, jobs, proved):
     """Tries the edits of the crates, so many crates at a time; False where they are not proved as they are."""
     with tempfile.TemporaryDirectory(prefix="wrong-bodies-") as folder:
-        known = prove(crates, root, f"{folder}/base", jobs)
-        if known is None:
+        if not prove(crates, root, f"{folder}/base", jobs, proved):
             return False
+        work = lambda crate: len(crate.edits) * sum(map(os.path.getsize, files_of(crate.folder)))
         with ThreadPoolExecutor(jobs) as pool:
-            longest_first = sorted(crates, key=lambda it: -it.seconds * len(it.edits))
-            runs = [pool.submit(it.try_all, known[it.name], f"{folder}/base", f"{folder}/{it.name}") for it in longest_first]
-            for run in runs:
+            longest_first = sorted((it for it in crates if it.edits), key=work, reverse=True)
+            for run in [pool.submit(it.try_all, f"{folder}/base", f"{folder}/{it.name}") for it in longest_first]:
                 run.result()
     return True
 
@@ -155,17 +186,22 @@ def try_crates(crates, root, jobs):
 def main():
     parser = argparse.ArgumentParser(description=__doc__, formatter_class=argparse.RawDescriptionHelpFormatter)
     parser.add_argument("--jobs", type=int, default=min(2, len(os.sched_getaffinity(0))), help="how many crates are tried at a time")
+    parser.add_argument("--proved", metavar="SUM", help="the sum of sources that were proved as they are")
+    parser.add_argument("--sum", action="store_true", help="print the sum of the sources, and try nothing")
     parser.add_argument("--root", default=f"{os.path.dirname(os.path.realpath(__file__))}/../..", help="another repository")
     parser.add_argument("wanted", nargs="*", metavar="NAME | NAME/EDIT", help="a crate, or one edit of it (all)")
     given = parser.parse_args()
     root = os.path.realpath(given.root)
     crates = crates_of(root, given.wanted)
-    names = {name for it in crates for name in (it.name, *(f"{it.name}/{edit.name}" for edit in it.edits))}
-    failed = [f"no edit {it}" for it in given.wanted if it not in names]
+    if given.sum:
+        print(sum_of(root, crates))
+        return 0
     edits = [(it, edit) for it in crates for edit in it.edits]
+    names = {name for it, edit in edits for name in (it.name, f"{it.name}/{edit.name}")}
+    failed = [f"no edit {it}" for it in given.wanted if it not in names]
     if not edits:
         failed.append("no edit was tried")
-    elif not try_crates(crates, root, given.jobs):
+    elif not try_crates(crates, root, given.jobs, given.proved):
         failed.append("a crate is not proved as it is")
     else:
         failed += [f"{it.name}/{edit.name}" for it, edit in edits if not edit.is_refused]

@@ -13,9 +13,10 @@ VERDICT = re.compile(r"(?:fn|struct|enum|impl|trait) (\S+): (.*)")
 class Check:
     """What one check said: of each function its own open goals, the names that are gone, and its verdict."""
 
-    def __init__(self, crate, text):
+    def __init__(self, crate, text, status):
         self.crate, self.text, self.goals, self.gone, self.verdicts = crate, text, {}, {}, {}
-        self.is_proved = bool(re.search(r"^logic=proved ", text, re.M))
+        # A library that is built already is proved, and `rt lib` says nothing of it.
+        self.is_proved = status == 0
         self.is_judged = bool(re.search(r"^logic=", text, re.M))
         # Texts that can't be read, and where they stand.
         self.errors, self.places = [], []
@@ -56,6 +57,8 @@ class Check:
         """Whether one of the functions (of all, where none is named) has an open goal of its own; and that goal, or why not."""
         if not self.is_judged or self.errors:
             return False, f"it doesn't compile, so no contract was tried: {(self.errors or [self.last()])[0]}"
+        if None in functions:
+            return False, "the check prints no line of the function, or it can't be told which"
         goals = [line for it in functions for line in self.of(self.goals, it)]
         if not functions:
             goals = [line for lines in self.goals.values() for line in lines]
