@@ -46,7 +46,10 @@ fn demand_adds_up_to_its_bound(rt: HostRuntime) {
     assert!(rt; UNBOUNDED == 9_223_372_036_854_775_807);
     let mut demand = Demand::none();
     for (n, answer, total) in REQUESTS {
-        assert!(rt; demand.add(n) == answer && demand.total() == total, "at {n}");
+        assert!(rt;
+            demand.add(n) == answer && demand.total() == total,
+            "at {n}"
+        );
     }
     assert!(rt; demand == Demand::of(u64::MAX));
 }

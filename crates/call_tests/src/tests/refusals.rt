@@ -30,12 +30,7 @@ fn prints<T: Display>(alloc: Global, value: &T, line: &str) -> Result<bool, Allo
 }
 
 /// Whether a refusal has this number and this word, and prints them.
-fn reads(
-    alloc: Global,
-    refusal: &Refusal,
-    number: u32,
-    word: &str,
-) -> Result<bool, AllocError> {
+fn reads(alloc: Global, refusal: &Refusal, number: u32, word: &str) -> Result<bool, AllocError> {
     let line = format!(in alloc; "refused {number} {word}")?;
     let is_printed = prints(alloc, refusal, line.as_str())?;
     Ok(is_printed && refusal.number() == number && refusal.word() == word)
@@ -45,7 +40,10 @@ fn reads(
 fn a_refusal_has_a_number_and_a_word(rt: HostRuntime) -> Result<(), Fail> {
     let name = Name::new(b"a").ok_or("a name is refused")?;
     for (refusal, number, word) in refusals(rt.alloc(), name) {
-        assert!(rt; reads(rt.alloc(), &refusal, number, word)?, "refusal {number}");
+        assert!(rt;
+            reads(rt.alloc(), &refusal, number, word)?,
+            "refusal {number}"
+        );
     }
     Ok(())
 }
