@@ -1,5 +1,6 @@
 //! The calls of a Desk, as rows: on subscribers of their own types, and on boxes of two kinds.
-use crate::{Refused, Row, answers, desk_of, signals};
+use super::subscribers::was_told;
+use crate::{Refused, Row, answers, desk_of};
 use feed_core::{Outlook, desks_keep_the_flow_rules};
 use flow_rules::{Collector, How, Subscriber, UNBOUNDED, audit};
 use std::alloc::Global;
@@ -77,11 +78,9 @@ fn play<B: Subscriber>(
         assert!(rt; answers(alloc, &mut desk, *row)?, "row {place}");
     }
     desks_keep_the_flow_rules(&desk);
-    let told = signals(alloc, told)?;
-    assert_eq!(rt; desk.subscriber().told(), told.as_slice());
+    assert!(rt; was_told(alloc, desk.subscriber(), told)?);
     let subscriber = desk.into_subscriber();
-    assert_eq!(rt; subscriber.told(), told.as_slice());
-    assert!(rt; audit(subscriber.told()));
+    assert!(rt; was_told(alloc, &subscriber, told)? && audit(subscriber.told()));
     Ok(())
 }
 
@@ -122,20 +121,20 @@ fn demand_stays_unbounded(rt: HostRuntime) -> Result<(), Fail> {
 
 #[test]
 fn a_turn_gives_64_items(rt: HostRuntime) -> Result<(), Fail> {
-    let mut rows = Vec::new(rt.alloc());
-    rows.push(Row::Turn(b"s", Outlook::Resting))?;
-    rows.push(Row::Request(65, true))?;
+    let mut rows = [Row::Ended(None); 71];
+    rows[0] = Row::Turn(b"s", Outlook::Resting);
+    rows[1] = Row::Request(65, true);
     for lag in 1..66 {
-        rows.push(Row::Accepted(b'x', lag, false))?;
+        rows[lag + 1] = Row::Accepted(b'x', lag as u64, false);
     }
-    rows.push(Row::Turn(&[b'x'; 64], Outlook::Again))?;
-    rows.push(Row::Close(false))?;
-    rows.push(Row::Turn(b"xc", Outlook::Ended(How::Completed)))?;
-    rows.push(Row::Counts(65, 65, 65))?;
+    rows[67] = Row::Turn(&[b'x'; 64], Outlook::Again);
+    rows[68] = Row::Close(false);
+    rows[69] = Row::Turn(b"xc", Outlook::Ended(How::Completed));
+    rows[70] = Row::Counts(65, 65, 65);
     let mut told = [b'x'; 67];
     told[0] = b's';
     told[66] = b'c';
-    play_on_all(&rt, rt.alloc(), 65, rows.as_slice(), &told)
+    play_on_all(&rt, rt.alloc(), 65, &rows, &told)
 }
 
 #[test]

@@ -42,7 +42,7 @@ fn an_audit_allows_the_texts_of_the_rules(rt: HostRuntime) -> Result<(), Fail> {
 }
 
 /// Whether the subscriber was told what these letters write.
-fn was_told<B: Subscriber>(
+pub(super) fn was_told<B: Subscriber>(
     alloc: Global,
     subscriber: &B,
     letters: &[u8],
