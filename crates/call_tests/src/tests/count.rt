@@ -37,8 +37,14 @@ fn no_two_of_one_count_are_the_last(rt: HostRuntime) -> Result<(), Fail> {
     let second = opening.add()?.spend();
     assert!(rt; !first.is_last() && !second.is_last());
     last_once(first, second);
-    let third = opening.add()?;
-    none_left(opening.add()?.spend(), third);
+    Ok(())
+}
+
+#[test]
+fn none_is_last_where_one_is_left(rt: HostRuntime) -> Result<(), Fail> {
+    let mut opening = Count::new(rt.alloc())?;
+    let first = opening.add()?;
+    none_left(opening.add()?.spend(), first);
     none_open(opening.add()?.spend(), opening);
     Ok(())
 }

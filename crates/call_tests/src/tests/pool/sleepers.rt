@@ -78,16 +78,22 @@ impl<G: Gate + Drop> Workers<G> {
         self.site.ended.load(SeqCst) == 0
     }
 
-    // Shuts the pool. How many jobs each worker ran, where all of them end then, and else nothing.
-    fn end<R: Clock + Threads + Wait>(self, rt: &R, alloc: Global) -> Result<Vec<u64>, AllocError> {
-        let mut ran = Vec::new(alloc);
+    // Shuts the pool. How many jobs the workers ran, and one of them at most, where all of them end then.
+    fn end<R: Clock + Threads + Wait>(self, rt: &R) -> Option<(u64, u64)> {
         self.site.pool.shut(rt);
-        if comes_to(rt, &self.site.ended, self.threads.len() as u64) {
-            for thread in self.threads {
-                ran.push(thread.join(rt))?;
+        if !comes_to(rt, &self.site.ended, self.threads.len() as u64) {
+            return None;
+        }
+        let mut all: u64 = 0;
+        let mut most: u64 = 0;
+        for thread in self.threads {
+            let ran = thread.join(rt);
+            all = all.saturating_add(ran);
+            if ran > most {
+                most = ran;
             }
         }
-        Ok(ran)
+        Some((all, most))
     }
 }
 
@@ -110,7 +116,7 @@ fn runs_to<R: Clock + Wait>(
 fn a_shut_ends_both_that_sleep(rt: HostRuntime) -> Result<(), Fail> {
     let workers = asleep(rt, rt.alloc(), 2, Wide)?;
     assert!(rt; workers.sleep_on());
-    assert!(rt; workers.end(&rt, rt.alloc())?.as_slice() == [0, 0].as_slice());
+    assert!(rt; workers.end(&rt) == Some((0, 0)));
     Ok(())
 }
 
@@ -135,22 +141,14 @@ fn wake_for_nothing<R: Abort + Clock + Wait>(
     Ok(left)
 }
 
-fn sum_of(numbers: &[u64]) -> u64 {
-    let mut sum: u64 = 0;
-    for number in numbers {
-        sum = sum.saturating_add(*number);
-    }
-    sum
-}
-
 #[test]
 fn a_sleeper_that_finds_nothing_sleeps_on(rt: HostRuntime) -> Result<(), Fail> {
     let runs = no_runs(rt.alloc(), 1)?;
     let workers = asleep(rt, rt.alloc(), 2, Wide)?;
     let left = wake_for_nothing(&rt, &workers.site.pool, &runs)?;
     assert!(rt; workers.sleep_on());
-    let ran = workers.end(&rt, rt.alloc())?;
-    assert!(rt; ran.len() == 2 && sum_of(ran.as_slice()) == left);
+    let (ran, _) = workers.end(&rt).ok_or("a worker does not end")?;
+    assert!(rt; ran == left);
     Ok(())
 }
 
@@ -162,7 +160,7 @@ fn a_worker_that_sleeps_is_woken(rt: HostRuntime) -> Result<(), Fail> {
         assert!(rt; runs_to(&rt, &workers.site.pool, 0, &runs, round)?);
         let_them_sleep(&rt);
     }
-    assert!(rt; workers.end(&rt, rt.alloc())?.as_slice() == [2].as_slice());
+    assert!(rt; workers.end(&rt) == Some((2, 2)));
     Ok(())
 }
 
@@ -195,6 +193,6 @@ fn a_job_put_back_wakes_a_sleeper(rt: HostRuntime) -> Result<(), Fail> {
     let workers = asleep(rt, rt.alloc(), 2, new_once())?;
     assert!(rt; runs_to(&rt, &workers.site.pool, 1, &runs, 2)?);
     workers.site.gate.open.store(true, SeqCst);
-    assert!(rt; workers.end(&rt, rt.alloc())?.as_slice() == [1, 1].as_slice());
+    assert!(rt; workers.end(&rt) == Some((2, 1)));
     Ok(())
 }
