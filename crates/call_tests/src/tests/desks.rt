@@ -1,8 +1,8 @@
 //! The calls of a Desk, as rows: on subscribers of their own types, and on boxes of two kinds.
 use super::subscribers::was_told;
 use crate::{Refused, Row, answers, desk_of};
-use feed_core::{Outlook, desks_keep_the_flow_rules};
-use flow_rules::{Collector, How, Subscriber, UNBOUNDED, audit};
+use feed_core::{Desk, Outlook, desks_keep_the_flow_rules};
+use flow_rules::{Collector, How, NoMemory, Subscriber, UNBOUNDED, audit};
 use std::alloc::Global;
 use std::process::Abort;
 use std::test::Fail;
@@ -62,6 +62,28 @@ const UNBOUNDED_DEMAND: [Row<'static>; 7] = [
     Row::Turn(b"xy", Outlook::Resting),
 ];
 
+/// The place of the first row that a Desk does not answer as the row says.
+fn first_wrong<B: Subscriber>(
+    alloc: Global,
+    desk: &mut Desk<B>,
+    rows: &[Row<'_>],
+) -> Result<Option<usize>, NoMemory> {
+    for (place, row) in rows.iter().enumerate() {
+        if !answers(alloc, desk, *row)? {
+            return Ok(Some(place));
+        }
+    }
+    Ok(None)
+}
+
+/// Whether a Desk's subscriber was told what these letters write, also once it is taken out.
+fn has_told<B: Subscriber>(alloc: Global, desk: Desk<B>, told: &[u8]) -> Result<bool, NoMemory> {
+    desks_keep_the_flow_rules(&desk);
+    let is_shown = was_told(alloc, desk.subscriber(), told)?;
+    let subscriber = desk.into_subscriber();
+    Ok(is_shown && was_told(alloc, &subscriber, told)? && audit(subscriber.told()))
+}
+
 /// Makes the calls on a Desk of this subscriber, for which this capacity is asked, compares each with its row, and takes
 /// out what the subscriber was told.
 fn play<B: Subscriber>(
@@ -74,13 +96,9 @@ fn play<B: Subscriber>(
 ) -> Result<(), Fail> {
     assert!(rt; subscriber.told().is_empty());
     let mut desk = desk_of(alloc, asked, subscriber)?;
-    for (place, row) in rows.iter().enumerate() {
-        assert!(rt; answers(alloc, &mut desk, *row)?, "row {place}");
-    }
-    desks_keep_the_flow_rules(&desk);
-    assert!(rt; was_told(alloc, desk.subscriber(), told)?);
-    let subscriber = desk.into_subscriber();
-    assert!(rt; was_told(alloc, &subscriber, told)? && audit(subscriber.told()));
+    let wrong = first_wrong(alloc, &mut desk, rows)?;
+    assert!(rt; wrong.is_none(), "row {wrong:?}");
+    assert!(rt; has_told(alloc, desk, told)?);
     Ok(())
 }
 

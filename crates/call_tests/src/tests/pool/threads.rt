@@ -154,15 +154,21 @@ fn a_second_loop_of_a_number_returns_at_once(rt: HostRuntime) -> Result<(), Fail
     Ok(())
 }
 
-// A job that runs once, or one that is held in its first run, and keeps how many jobs its worker has run at its end.
+// A job that runs once, or one that is held in its first run.
 #[derive(Drop)]
 enum Mixed {
     Short,
     Long {
         again: u64,
-        held: Arc<Held, Global>,
-        ran: Arc<AtomicU64, Global>,
+        watched: Arc<Watched, Global>,
     },
+}
+
+// What holds a long job, and how many jobs its worker had run at its end.
+#[derive(Drop)]
+struct Watched {
+    held: Held,
+    ran: AtomicU64,
 }
 
 impl Job for Mixed {
@@ -170,27 +176,27 @@ impl Job for Mixed {
 
     fn run<R: Wait>(self, _rt: &R, context: &mut u64) -> Option<Mixed> {
         *context = context.saturating_add(1);
-        let Mixed::Long { again, held, ran } = self else {
+        let Mixed::Long { again, watched } = self else {
             return None;
         };
-        held.pass(0);
+        watched.held.pass(0);
         if again == 0 {
-            ran.store(*context, SeqCst);
+            watched.ran.store(*context, SeqCst);
             return None;
         }
         let again = again - 1;
-        Some(Mixed::Long { again, held, ran })
+        Some(Mixed::Long { again, watched })
     }
 }
 
-fn long_job(
-    again: u64,
-    held: &Arc<Held, Global>,
-    ran: &Arc<AtomicU64, Global>,
-) -> Result<Mixed, AllocError> {
-    let held = Arc::try_clone(held)?;
-    let ran = Arc::try_clone(ran)?;
-    Ok(Mixed::Long { again, held, ran })
+// Hands in a job that is run five times.
+fn hand_in_long<R: Wait>(
+    rt: &R,
+    pool: &Pool<Mixed>,
+    watched: &Arc<Watched, Global>,
+) -> Result<bool, AllocError> {
+    let watched = Arc::try_clone(watched)?;
+    Ok(pool.execute(rt, Mixed::Long { again: 4, watched }).is_ok())
 }
 
 // Hands in as many jobs as the list holds, and one that comes back.
@@ -205,20 +211,17 @@ fn fill<R: Wait>(rt: &R, pool: &Pool<Mixed>) -> bool {
 
 #[test]
 fn a_job_is_run_on_where_the_list_is_full(rt: HostRuntime) -> Result<(), Fail> {
-    let held = Arc::new(rt.alloc(), new_held())?;
-    let ran_then = Arc::new(rt.alloc(), AtomicU64::new(0))?;
+    let held = new_held();
+    let ran = AtomicU64::new(0);
+    let watched = Arc::new(rt.alloc(), Watched { held, ran })?;
     let site = new_site(rt.alloc(), 1, Wide)?;
-    assert!(rt;
-        site.pool
-            .execute(&rt, long_job(4, &held, &ran_then)?)
-            .is_ok()
-    );
+    assert!(rt; hand_in_long(&rt, &site.pool, &watched)?);
     let worker = start_worker(rt, &site, 0)?;
-    assert!(rt; wait_for(&held.reached) && fill(&rt, &site.pool));
-    held.open.store(true, SeqCst);
+    assert!(rt; wait_for(&watched.held.reached) && fill(&rt, &site.pool));
+    watched.held.open.store(true, SeqCst);
     site.pool.shut(&rt);
     let ran = worker.join(&rt);
-    assert!(rt; ran == 5 + CAPACITY as u64 && ran_then.load(SeqCst) == 5);
+    assert!(rt; ran == 5 + CAPACITY as u64 && watched.ran.load(SeqCst) == 5);
     assert!(rt; site.pool.run_one(&rt).is_none());
     Ok(())
 }
