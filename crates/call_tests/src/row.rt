@@ -37,11 +37,7 @@ pub enum Row<'a> {
 }
 
 /// A Desk whose buffer has the capacity that is enforced where this one is asked for.
-pub fn desk_of<B: Listener>(
-    alloc: Global,
-    asked: usize,
-    subscriber: B,
-) -> Result<Desk<B>, Refusal>
+pub fn desk_of<B: Listener>(alloc: Global, asked: usize, subscriber: B) -> Result<Desk<B>, Refusal>
     requires { B.told subscriber ≡ [] }
     ensures { IfOk result (IsNew (capacity_of asked) (B.is_steady subscriber)) }
 {

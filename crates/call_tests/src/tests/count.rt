@@ -1,16 +1,18 @@
 //! Counts: what their tickets answer, alone and between threads.
-use close_count::{Count, last_once, none_left, none_open, one_of_all_is_last};
+use close_count::{Count, Opening, last_once, none_left, none_open, one_of_all_is_last};
+use std::alloc::Global;
 use std::test::Fail;
 use std::thread;
+use std::thread::{JoinHandle, Threads};
 
 #[test]
 fn the_last_of_three_is_true(rt: HostRuntime) -> Result<(), Fail> {
     let mut opening = Count::new(rt.alloc())?;
     let first = opening.add()?;
     let second = opening.add()?;
-    assert!(rt; !first.try_complete());
-    assert!(rt; !opening.try_complete());
-    assert!(rt; second.try_complete());
+    let first_is_last = first.try_complete();
+    let opening_is_last = opening.try_complete();
+    assert!(rt; !first_is_last && !opening_is_last && second.try_complete());
     Ok(())
 }
 
@@ -35,14 +37,21 @@ fn no_two_of_one_count_are_the_last(rt: HostRuntime) -> Result<(), Fail> {
     let second = opening.add()?.spend();
     assert!(rt; !first.is_last() && !second.is_last());
     last_once(first, second);
-    let third = opening.add()?;
-    none_left(opening.add()?.spend(), third);
+    Ok(())
+}
+
+#[test]
+fn none_is_last_where_one_is_left(rt: HostRuntime) -> Result<(), Fail> {
+    let mut opening = Count::new(rt.alloc())?;
+    let first = opening.add()?;
+    none_left(opening.add()?.spend(), first);
     none_open(opening.add()?.spend(), opening);
     Ok(())
 }
 
 #[test]
 fn of_all_one_is_the_last(rt: HostRuntime) -> Result<(), Fail> {
+    let mut tickets = Vec::with_capacity(rt.alloc(), 2)?;
     let mut opening = Count::new(rt.alloc())?;
     let first = opening.add()?.spend();
     let second = opening.add()?.spend();
@@ -50,7 +59,6 @@ fn of_all_one_is_the_last(rt: HostRuntime) -> Result<(), Fail> {
     let first_is_last = first.is_last();
     let second_is_last = second.is_last();
     let third_is_last = third.is_last();
-    let mut tickets = Vec::with_capacity(rt.alloc(), 2)?;
     tickets.push(first)?;
     tickets.push(second)?;
     one_of_all_is_last(third, tickets);
@@ -59,21 +67,35 @@ fn of_all_one_is_the_last(rt: HostRuntime) -> Result<(), Fail> {
     Ok(())
 }
 
+/// Starts seven threads, each of which completes a ticket.
+fn complete_in_threads<R: Threads>(
+    rt: &R,
+    alloc: Global,
+    opening: &mut Opening,
+) -> Result<Vec<JoinHandle<bool>>, Fail> {
+    let mut threads = Vec::with_capacity(alloc, 7)?;
+    for _ in 0..7 {
+        let ticket = opening.add()?;
+        threads.push(thread::spawn(rt, move || ticket.try_complete())?)?;
+    }
+    Ok(threads)
+}
+
+/// How many of seven tickets in threads of their own, and of their opening, were the last.
+fn count_the_last<R: Threads>(rt: &R, alloc: Global) -> Result<u64, Fail> {
+    let mut opening = Count::new(alloc)?;
+    let threads = complete_in_threads(rt, alloc, &mut opening)?;
+    let mut last = u64::from(opening.try_complete());
+    for thread in threads {
+        last = last.saturating_add(u64::from(thread.join(rt)));
+    }
+    Ok(last)
+}
+
 #[test]
 fn one_of_several_threads_finds_the_last(rt: HostRuntime) -> Result<(), Fail> {
-    for _ in 0..50 {
-        let mut opening = Count::new(rt.alloc())?;
-        let mut threads = Vec::with_capacity(rt.alloc(), 7)?;
-        for _ in 0..7 {
-            let ticket = opening.add()?;
-            threads.push(thread::spawn(&rt, move || ticket.try_complete())?)?;
-        }
-        let mut found = Vec::with_capacity(rt.alloc(), 8)?;
-        found.push(opening.try_complete())?;
-        for thread in threads {
-            found.push(thread.join(&rt))?;
-        }
-        assert!(rt; found.iter().filter(|last| **last).count() == 1);
+    for round in 0..50 {
+        assert!(rt; count_the_last(&rt, rt.alloc())? == 1, "round {round}");
     }
     Ok(())
 }

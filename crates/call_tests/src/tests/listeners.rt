@@ -1,76 +1,92 @@
 //! What the listeners answer, and what they do with what they are told.
-use crate::{Answering, Refused, item_with, signals};
-use flow_rules::{
-    Answer, Collector, Fault, GoesOn, Listener, NoMemory, Printer, Subscriber, Tally,
-};
+use super::subscribers::was_told;
+use crate::{Answering, Refused, item_with};
+use flow_rules::{Answer, Collector, Fault, GoesOn, Listener, NoMemory, Printer, Tally};
 use std::alloc::Global;
 use std::io;
 use std::io::{Error, ErrorKind, Write};
 use std::mem::size_of;
 use std::test::Fail;
 
-/// What five callbacks answer: `onSubscribe`, `onNext` of the texts `x` and `y`, and both terminal signals.
-fn answers<B: Listener>(
-    alloc: Global,
-    listener: &mut B,
-) -> Result<[Result<Answer, NoMemory>; 5], Fail> {
-    let x = item_with(alloc, b"x")?;
-    let y = item_with(alloc, b"y")?;
+/// What five callbacks answer.
+type Answers = [Result<Answer, NoMemory>; 5];
+
+const GOES: Answers = [Ok(Answer::Go); 5];
+
+/// What each callback answers, when they are called in turn, `on_next` with two items.
+fn call_each<B: Listener>(alloc: Global, listener: &mut B) -> Result<Answers, NoMemory> {
+    let one = item_with(alloc, b"x")?;
+    let other = item_with(alloc, b"y")?;
     Ok([
         listener.on_subscribe(),
-        listener.on_next(&x),
-        listener.on_next(&y),
+        listener.on_next(&one),
+        listener.on_next(&other),
         listener.on_complete(),
         listener.on_error(Fault::Published(7)),
     ])
 }
 
-/// Five times `Go`, and this answer in one place.
-fn go_but(place: usize, answer: Answer) -> [Result<Answer, NoMemory>; 5] {
-    let mut answers = [Ok(Answer::Go); 5];
-    if place < 5 {
-        answers[place] = Ok(answer);
-    }
-    answers
-}
-
 #[test]
 fn a_tally_counts_items(rt: HostRuntime) -> Result<(), Fail> {
     let mut tally = Tally::new();
-    assert_eq!(rt; tally.items(), 0);
-    assert_eq!(rt; answers(rt.alloc(), &mut tally)?, go_but(5, Answer::Go));
-    assert_eq!(rt; tally.items(), 2);
+    assert!(rt; tally.items() == 0);
+    assert!(rt; call_each(rt.alloc(), &mut tally)? == GOES);
+    assert!(rt; tally.items() == 2);
     // What it was told takes no byte.
-    assert_eq!(rt; size_of::<Tally>(), 8);
+    assert!(rt; size_of::<Tally>() == 8);
     Ok(())
+}
+
+const ANSWERS: [Answer; 4] = [
+    Answer::Go,
+    Answer::Request(3),
+    Answer::Cancel,
+    Answer::Fail(7),
+];
+
+/// Whether this answer is given after so many callbacks, and not by one that goes on.
+fn is_given(alloc: Global, callbacks: usize, answer: Answer) -> Result<bool, NoMemory> {
+    let mut wanted = GOES;
+    if callbacks < 5 {
+        wanted[callbacks] = Ok(answer);
+    }
+    let mut listener = Answering::after(callbacks as u32, answer);
+    let mut going_on = GoesOn(Answering::after(callbacks as u32, answer));
+    Ok(call_each(alloc, &mut listener)? == wanted && call_each(alloc, &mut going_on)? == GOES)
 }
 
 #[test]
 fn each_answer_is_given(rt: HostRuntime) -> Result<(), Fail> {
-    for answer in [Answer::Go, Answer::Request(3), Answer::Cancel, Answer::Fail(7)] {
-        for callbacks in 0..6 {
-            let mut listener = Answering::after(callbacks, answer);
-            let wanted = go_but(callbacks as usize, answer);
-            assert_eq!(rt; answers(rt.alloc(), &mut listener)?, wanted);
-            let mut listener = GoesOn(Answering::after(callbacks, answer));
-            assert_eq!(rt; answers(rt.alloc(), &mut listener)?, go_but(5, answer));
-        }
+    for number in 0..24 {
+        let (answer, callbacks) = (ANSWERS[number / 6], number % 6);
+        assert!(rt;
+            is_given(rt.alloc(), callbacks, answer)?,
+            "{answer:?} after {callbacks}"
+        );
     }
     Ok(())
 }
 
+/// Whether one that is refused memory after so many callbacks answers so many, and has told what these letters write.
+fn is_refused(alloc: Global, callbacks: usize, told: &[u8]) -> Result<bool, NoMemory> {
+    let mut wanted: Answers = [Err(NoMemory); 5];
+    for place in 0..5 {
+        if place < callbacks {
+            wanted[place] = Ok(Answer::Go);
+        }
+    }
+    let mut refused = Refused::after(Collector::new(alloc), callbacks as u32);
+    Ok(call_each(alloc, &mut refused)? == wanted && was_told(alloc, refused.listener(), told)?)
+}
+
 #[test]
 fn a_refused_one_keeps_what_it_answered(rt: HostRuntime) -> Result<(), Fail> {
-    let alloc = rt.alloc();
-    for (callbacks, told) in [b"".as_slice(), b"s", b"sx", b"sxy", b"sxyc", b"sxyce"]
-        .into_iter()
-        .enumerate()
-    {
-        let mut refused = Refused::after(Collector::new(alloc), callbacks as u32);
-        let answered = answers(alloc, &mut refused)?;
-        let refusals = answered.iter().filter(|it| it.is_err()).count();
-        assert_eq!(rt; refusals, 5 - callbacks);
-        assert_eq!(rt; refused.listener().told(), signals(alloc, told)?.as_slice());
+    let told: [&[u8]; 6] = [b"", b"s", b"sx", b"sxy", b"sxyc", b"sxyce"];
+    for (callbacks, told) in told.into_iter().enumerate() {
+        assert!(rt;
+            is_refused(rt.alloc(), callbacks, told)?,
+            "after {callbacks}"
+        );
     }
     Ok(())
 }
@@ -97,33 +113,38 @@ impl Write for Failing {
     }
 }
 
-/// How often a printer answers `Go` and `Cancel` to the five callbacks.
-fn goes_and_cancels(
-    alloc: Global,
-    printer: &mut Printer<Failing>,
-) -> Result<(usize, usize), Fail> {
-    let answered = answers(alloc, printer)?;
-    let count = |wanted| answered.iter().filter(|it| **it == Ok(wanted)).count();
-    Ok((count(Answer::Go), count(Answer::Cancel)))
+/// Whether a printer whose writer takes so many writes answers `Go` to so many callbacks and then `Cancel`, and writes this.
+fn prints(alloc: Global, writes: u32, going: usize, written: &[u8]) -> Result<bool, NoMemory> {
+    let mut wanted: Answers = [Ok(Answer::Cancel); 5];
+    for place in 0..5 {
+        if place < going {
+            wanted[place] = Ok(Answer::Go);
+        }
+    }
+    let taken = Vec::new(alloc);
+    let mut printer = Printer::new(Failing { taken, writes });
+    let is_answered = call_each(alloc, &mut printer)? == wanted;
+    let has_failed = printer.has_failed();
+    let is_written = printer.into_writer().taken.as_slice() == written;
+    Ok(is_answered && is_written && has_failed == (going < 5))
 }
+
+/// The writes that are taken, the callbacks that are answered `Go`, and what is written.
+const PRINTED: [(u32, usize, &[u8]); 5] = [
+    (0, 1, b""),
+    (1, 1, b"x"),
+    (2, 2, b"x\n"),
+    (3, 2, b"x\ny"),
+    (4, 5, b"x\ny\n"),
+];
 
 #[test]
 fn a_printer_writes_lines_until_a_write_fails(rt: HostRuntime) -> Result<(), Fail> {
-    let alloc = rt.alloc();
-    // The writes that are taken, how often it answers `Go` and `Cancel`, and what was written.
-    let rows: [(u32, (usize, usize), &[u8]); 5] = [
-        (0, (1, 4), b""),
-        (1, (1, 4), b"x"),
-        (2, (2, 3), b"x\n"),
-        (3, (2, 3), b"x\ny"),
-        (4, (5, 0), b"x\ny\n"),
-    ];
-    for (writes, wanted, written) in rows {
-        let taken = Vec::new(alloc);
-        let mut printer = Printer::new(Failing { taken, writes });
-        assert_eq!(rt; goes_and_cancels(alloc, &mut printer)?, wanted, "{writes} writes");
-        assert_eq!(rt; printer.has_failed(), writes < 4);
-        assert_eq!(rt; printer.into_writer().taken.as_slice(), written);
+    for (writes, going, written) in PRINTED {
+        assert!(rt;
+            prints(rt.alloc(), writes, going, written)?,
+            "{writes} writes"
+        );
     }
     Ok(())
 }

@@ -1,14 +1,20 @@
 //! Pools: what happens behind the lock, and between threads.
+ghost use Rattle.std.specs.Prelude.{◌≡◌, ◌<◌, IfOk};
+ghost use Rattle.std.specs.Arc.{arc_value};
+ghost use Rattle.async_pool.specs.Pool.{pool_workers};
+
 mod alone;
 mod sleepers;
 mod threads;
 
-use async_pool::{Job, Pool};
+use async_pool::{Gate, Job, Pool};
 use std::alloc::{AllocError, Global};
-use std::sync::atomic::AtomicU64;
 use std::sync::atomic::Ordering::SeqCst;
+use std::sync::atomic::{AtomicBool, AtomicU64};
 use std::sync::{Arc, Wait};
+use std::test::Fail;
 use std::thread;
+use std::thread::{JoinHandle, Threads};
 
 // How often a thread looks for what another one does before it gives up.
 const MOST_LOOKS: u64 = 10_000_000;
@@ -71,15 +77,61 @@ fn hand_in<R: Wait>(
     Ok(true)
 }
 
-// Waits for what another thread does, but not for ever.
-fn wait_until<F: Fn() -> bool + Drop>(is_done: F) -> bool
-    requires { F.IsAlwaysCallable is_done }
-{
+// The number of a job, if there is one.
+fn number_of(job: Option<Numbered>) -> Option<usize> {
+    Some(job?.number)
+}
+
+// Waits until another thread raises a flag, but not for ever.
+fn wait_for(flag: &AtomicBool) -> bool {
     for _ in 0..MOST_LOOKS {
-        if is_done() {
+        if flag.load(SeqCst) {
             return true;
         }
         thread::yield_now();
     }
     false
+}
+
+// What the threads of a pool's workers share: the pool, their gate, and how many of them have ended.
+#[derive(Drop)]
+struct Site<J: Job, G: Gate + Drop> {
+    pool: Pool<J>,
+    gate: G,
+    ended: AtomicU64,
+}
+
+fn new_site<J: Job, G: Gate + Drop>(
+    alloc: Global,
+    workers: usize,
+    gate: G,
+) -> Result<Arc<Site<J, G>, Global>, Fail>
+    ensures { IfOk result (λ site. pool_workers (arc_value site).pool ≡ workers) }
+{
+    let pool = Pool::new(alloc, workers)?;
+    let ended = AtomicU64::new(0);
+    Ok(Arc::new(alloc, Site { pool, gate, ended })?)
+}
+
+// A thread that runs the loop of one worker, counts itself among those that have ended, and answers with the context of
+// its jobs.
+fn start_worker<
+    R: Threads + Wait + Send + Copy + 'static,
+    J: Job<Context = u64> + 'static,
+    G: Gate + Send + Drop + 'static,
+>(rt: R, site: &Arc<Site<J, G>, Global>, worker: usize) -> Result<JoinHandle<u64>, AllocError>
+    requires { worker < pool_workers (arc_value site.now).pool }
+{
+    let site = Arc::try_clone(site)?;
+    Ok(thread::spawn(
+        &rt,
+        move ||
+            requires { worker < pool_workers (arc_value site).pool }
+        {
+            let mut context = 0;
+            site.pool.worker_loop(&rt, worker, &site.gate, &mut context);
+            site.ended.fetch_add(1, SeqCst);
+            context
+        },
+    )?)
 }

@@ -1,23 +1,44 @@
 //! Texts and items, and what becomes of an item.
+ghost use Rattle.std.specs.Prelude.{◌≤◌, length};
+
 use crate::item_with;
 use flow_rules::{Item, NoMemory, Put, Text};
 use std::alloc::Global;
 use std::test::Fail;
 
+const TEXTS: [&[u8]; 4] = [b"", b" x", b"\xff\0", &[b'f'; 4096]];
+
+/// The parts of items, and whether those of `item_with` are the same with the text `x`.
+const ITEMS: [(u32, u64, u64, &[u8; 1], bool); 5] = [
+    (1, 2, 3, b"x", true),
+    (0, 2, 3, b"x", false),
+    (1, 0, 3, b"x", false),
+    (1, 2, 0, b"x", false),
+    (1, 2, 3, b"y", false),
+];
+
+/// Whether an item of `item_with` holds these bytes.
+fn holds(item: &Item, bytes: &[u8]) -> bool {
+    (item.source, item.seq, item.serial) == (1, 2, 3) && item.text.as_bytes() == bytes
+}
+
+/// Whether an item with these bytes, and what shares them, hold them, also where the item is gone.
+fn is_shared(alloc: Global, bytes: &[u8]) -> Result<bool, NoMemory>
+    requires { length bytes.now ≤ Text.LONGEST }
+{
+    let one = item_with(alloc, bytes)?;
+    let two = one.share()?;
+    let text = one.text.share()?;
+    let are_equal = two == one && text == one.text && holds(&one, bytes);
+    drop(one);
+    Ok(are_equal && holds(&two, bytes))
+}
+
 #[test]
 fn a_text_holds_its_bytes(rt: HostRuntime) -> Result<(), Fail> {
-    assert_eq!(rt; Text::LONGEST, 4096);
-    let rows: [&[u8]; 4] = [b"", b" x", b"\xff\0", &[b'f'; 4096]];
-    for bytes in rows {
-        assert!(rt; bytes.len() <= Text::LONGEST);
-        let one = item_with(rt.alloc(), bytes)?;
-        assert_eq!(rt; one.text.as_bytes(), bytes);
-        assert_eq!(rt; one.text.share()?, one.text);
-        let two = one.share()?;
-        assert_eq!(rt; (two.source, two.seq, two.serial), (1, 2, 3));
-        assert_eq!(rt; two, one);
-        drop(one);
-        assert_eq!(rt; two.text.as_bytes(), bytes);
+    assert!(rt; Text::LONGEST == 4096);
+    for bytes in TEXTS {
+        assert!(rt; bytes.len() <= Text::LONGEST && is_shared(rt.alloc(), bytes)?);
     }
     Ok(())
 }
@@ -25,14 +46,7 @@ fn a_text_holds_its_bytes(rt: HostRuntime) -> Result<(), Fail> {
 #[test]
 fn items_are_equal_where_all_four_parts_are(rt: HostRuntime) -> Result<(), Fail> {
     let one = item_with(rt.alloc(), b"x")?;
-    let rows = [
-        (1, 2, 3, b"x", true),
-        (0, 2, 3, b"x", false),
-        (1, 0, 3, b"x", false),
-        (1, 2, 0, b"x", false),
-        (1, 2, 3, b"y", false),
-    ];
-    for (source, seq, serial, bytes, are_equal) in rows {
+    for (source, seq, serial, bytes, are_equal) in ITEMS {
         let text = Text::new(rt.alloc(), bytes)?;
         let other = Item {
             source,
@@ -40,30 +54,50 @@ fn items_are_equal_where_all_four_parts_are(rt: HostRuntime) -> Result<(), Fail>
             serial,
             text,
         };
-        assert_eq!(rt; one == other, are_equal, "{other:?}");
+        assert!(rt; (one == other) == are_equal, "{source} {seq} {serial}");
     }
     Ok(())
 }
 
 /// What may become of an item.
-fn puts(alloc: Global) -> Result<Vec<Put<()>>, NoMemory> {
-    let mut puts = Vec::new(alloc);
-    puts.push(Put::Full(item_with(alloc, b"x")?))?;
-    puts.push(Put::Full(item_with(alloc, b"y")?))?;
-    puts.push(Put::Gone(item_with(alloc, b"x")?))?;
-    for (lag, start) in [(1, Some(())), (1, None), (2, Some(()))] {
-        puts.push(Put::Accepted { lag, start })?;
+fn puts(alloc: Global) -> Result<[Put<()>; 6], NoMemory> {
+    let full = item_with(alloc, b"x")?;
+    let gone = full.share()?;
+    let other = item_with(alloc, b"y")?;
+    Ok([
+        Put::Full(full),
+        Put::Full(other),
+        Put::Gone(gone),
+        Put::Accepted {
+            lag: 1,
+            start: Some(()),
+        },
+        Put::Accepted {
+            lag: 1,
+            start: None,
+        },
+        Put::Accepted {
+            lag: 2,
+            start: Some(()),
+        },
+    ])
+}
+
+/// Whether a put is equal to the one at this place, and to no other.
+fn is_only_at(place: usize, put: &Put<()>, puts: &[Put<()>]) -> bool {
+    for (other_place, other) in puts.iter().enumerate() {
+        if (put == other) != (place == other_place) {
+            return false;
+        }
     }
-    Ok(puts)
+    true
 }
 
 #[test]
 fn puts_are_equal_where_their_parts_are(rt: HostRuntime) -> Result<(), Fail> {
     let others = puts(rt.alloc())?;
     for (place, put) in puts(rt.alloc())?.iter().enumerate() {
-        let mut equal = others.iter().enumerate().filter(|other| other.1 == put);
-        assert_eq!(rt; equal.next().map(|other| other.0), Some(place));
-        assert!(rt; equal.next().is_none(), "put {place}");
+        assert!(rt; is_only_at(place, put, &others), "put {place}");
     }
     Ok(())
 }

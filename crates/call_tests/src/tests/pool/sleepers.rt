@@ -1,13 +1,10 @@
 //! What workers do that sleep: who wakes them, and that each looks again.
-ghost use Rattle.std.specs.Prelude.{◌<◌};
-ghost use Rattle.std.specs.Arc.{arc_value};
-ghost use Rattle.async_pool.specs.Pool.{pool_workers};
-
-use super::{Numbered, hand_in, no_runs, wait_until};
+use super::{Numbered, Runs, Site, hand_in, new_site, no_runs, start_worker, wait_for};
 use async_pool::{Gate, Pool, Wide};
 use std::alloc::{AllocError, Global};
-use std::sync::atomic::AtomicU64;
+use std::process::Abort;
 use std::sync::atomic::Ordering::SeqCst;
+use std::sync::atomic::{AtomicBool, AtomicU64};
 use std::sync::{Arc, Wait};
 use std::test::Fail;
 use std::thread;
@@ -21,35 +18,6 @@ const PATIENCE: u64 = 10;
 
 // How often a sleeper is woken for a job that is gone when it looks, if there is time for that.
 const ROUNDS: u64 = 3000;
-
-type Shared = Arc<Pool<Numbered>, Global>;
-
-type Counter = Arc<AtomicU64, Global>;
-
-// A thread that runs the loop of one worker, and then counts itself among those that have ended.
-fn start_worker<R: Threads + Wait + Send + Copy + 'static, G: Gate + Send + Drop + 'static>(
-    rt: R,
-    pool: &Shared,
-    ended: &Counter,
-    worker: usize,
-    gate: G,
-) -> Result<JoinHandle<u64>, AllocError>
-    requires { worker < pool_workers (arc_value pool.now) }
-{
-    let pool = Arc::try_clone(pool)?;
-    let ended = Arc::try_clone(ended)?;
-    Ok(thread::spawn(
-        &rt,
-        move ||
-            requires { worker < pool_workers (arc_value pool) }
-        {
-            let mut ran = 0;
-            pool.worker_loop(&rt, worker, &gate, &mut ran);
-            ended.fetch_add(1, SeqCst);
-            ran
-        },
-    )?)
-}
 
 // Time enough for workers to find nothing, and to sleep.
 fn let_them_sleep(rt: &impl Clock) {
@@ -75,83 +43,145 @@ fn comes_to(rt: &impl Clock, counter: &AtomicU64, number: u64) -> bool {
 
 // Whether a test has waited for long enough.
 fn is_late(rt: &impl Clock, start: &Instant) -> bool {
-    !start
-        .elapsed(rt)
-        .is_ok_and(|time| time.as_secs() < PATIENCE)
+    let Ok(time) = start.elapsed(rt) else {
+        return true;
+    };
+    time.as_secs() >= PATIENCE
+}
+
+// The workers of a pool, each in a thread of its own.
+#[derive(Drop)]
+struct Workers<G: Gate + Drop> {
+    site: Arc<Site<Numbered, G>, Global>,
+    threads: Vec<JoinHandle<u64>>,
+}
+
+// So many workers that had time to fall asleep.
+fn asleep<R: Clock + Threads + Wait + Send + Copy + 'static, G: Gate + Send + Drop + 'static>(
+    rt: R,
+    alloc: Global,
+    workers: usize,
+    gate: G,
+) -> Result<Workers<G>, Fail> {
+    let site = new_site(alloc, workers, gate)?;
+    let mut threads = Vec::with_capacity(alloc, workers)?;
+    for worker in 0..workers {
+        threads.push(start_worker(rt, &site, worker)?)?;
+    }
+    let_them_sleep(&rt);
+    Ok(Workers { site, threads })
+}
+
+impl<G: Gate + Drop> Workers<G> {
+    // Whether no worker has ended.
+    fn sleep_on(&self) -> bool {
+        self.site.ended.load(SeqCst) == 0
+    }
+
+    // Shuts the pool. How many jobs the workers ran, and one of them at most, where all of them end then.
+    fn end<R: Clock + Threads + Wait>(self, rt: &R) -> Option<(u64, u64)> {
+        self.site.pool.shut(rt);
+        if !comes_to(rt, &self.site.ended, self.threads.len() as u64) {
+            return None;
+        }
+        let mut all: u64 = 0;
+        let mut most: u64 = 0;
+        for thread in self.threads {
+            let ran = thread.join(rt);
+            all = all.saturating_add(ran);
+            if ran > most {
+                most = ran;
+            }
+        }
+        Some((all, most))
+    }
+}
+
+// Hands in a job, and waits until the jobs of its number ran so often.
+fn runs_to<R: Clock + Wait>(
+    rt: &R,
+    pool: &Pool<Numbered>,
+    again: u64,
+    runs: &Runs,
+    number: u64,
+) -> Result<bool, AllocError> {
+    let is_in = hand_in(rt, pool, 1, again, runs)?;
+    let Some(run) = runs.first() else {
+        return Ok(false);
+    };
+    Ok(is_in && comes_to(rt, run, number))
 }
 
 #[test]
 fn a_shut_ends_both_that_sleep(rt: HostRuntime) -> Result<(), Fail> {
-    let pool = Arc::new(rt.alloc(), Pool::new(rt.alloc(), 2)?)?;
-    let ended = Arc::new(rt.alloc(), AtomicU64::new(0))?;
-    let one = start_worker(rt, &pool, &ended, 0, Wide)?;
-    let other = start_worker(rt, &pool, &ended, 1, Wide)?;
-    let_them_sleep(&rt);
-    assert!(rt; ended.load(SeqCst) == 0);
-    pool.shut(&rt);
-    assert!(rt; comes_to(&rt, &ended, 2));
-    assert!(rt; one.join(&rt) == 0 && other.join(&rt) == 0);
+    let workers = asleep(rt, rt.alloc(), 2, Wide)?;
+    assert!(rt; workers.sleep_on());
+    assert!(rt; workers.end(&rt) == Some((0, 0)));
     Ok(())
+}
+
+// Hands in a job and takes one out, many times. How many jobs were left to the workers.
+fn wake_for_nothing<R: Abort + Clock + Wait>(
+    rt: &R,
+    pool: &Pool<Numbered>,
+    runs: &Runs,
+) -> Result<u64, Fail> {
+    let mut left: u64 = 0;
+    let start = Instant::now(rt)?;
+    for _ in 0..ROUNDS {
+        if is_late(rt, &start) {
+            break;
+        }
+        assert!(rt; hand_in(rt, pool, 1, 0, runs)?);
+        if pool.run_one(rt).is_none() {
+            left = left.saturating_add(1);
+        }
+        thread::sleep(rt, Duration::from_micros(100));
+    }
+    Ok(left)
 }
 
 #[test]
 fn a_sleeper_that_finds_nothing_sleeps_on(rt: HostRuntime) -> Result<(), Fail> {
     let runs = no_runs(rt.alloc(), 1)?;
-    let pool = Arc::new(rt.alloc(), Pool::new(rt.alloc(), 2)?)?;
-    let ended = Arc::new(rt.alloc(), AtomicU64::new(0))?;
-    let one = start_worker(rt, &pool, &ended, 0, Wide)?;
-    let other = start_worker(rt, &pool, &ended, 1, Wide)?;
-    let_them_sleep(&rt);
-    let mut handed_in: u64 = 0;
-    let mut taken: u64 = 0;
-    let start = Instant::now(&rt)?;
-    for _ in 0..ROUNDS {
-        if is_late(&rt, &start) {
-            break;
-        }
-        assert!(rt; hand_in(&rt, &pool, 1, 0, &runs)?);
-        handed_in = handed_in.saturating_add(1);
-        if pool.run_one(&rt).is_some() {
-            taken = taken.saturating_add(1);
-        }
-        thread::sleep(&rt, Duration::from_micros(100));
-    }
-    assert!(rt; ended.load(SeqCst) == 0);
-    pool.shut(&rt);
-    assert!(rt; comes_to(&rt, &ended, 2));
-    let ran = one.join(&rt).saturating_add(other.join(&rt));
-    assert!(rt; ran.saturating_add(taken) == handed_in);
+    let workers = asleep(rt, rt.alloc(), 2, Wide)?;
+    let left = wake_for_nothing(&rt, &workers.site.pool, &runs)?;
+    assert!(rt; workers.sleep_on());
+    let (ran, _) = workers.end(&rt).ok_or("a worker does not end")?;
+    assert!(rt; ran == left);
     Ok(())
 }
 
 #[test]
 fn a_worker_that_sleeps_is_woken(rt: HostRuntime) -> Result<(), Fail> {
     let runs = no_runs(rt.alloc(), 1)?;
-    let pool = Arc::new(rt.alloc(), Pool::new(rt.alloc(), 1)?)?;
-    let ended = Arc::new(rt.alloc(), AtomicU64::new(0))?;
-    let worker = start_worker(rt, &pool, &ended, 0, Wide)?;
+    let workers = asleep(rt, rt.alloc(), 1, Wide)?;
     for round in 1..3 {
+        assert!(rt; runs_to(&rt, &workers.site.pool, 0, &runs, round)?);
         let_them_sleep(&rt);
-        assert!(rt; hand_in(&rt, &pool, 1, 0, &runs)?);
-        assert!(rt; runs.first().is_some_and(|run| comes_to(&rt, run, round)));
     }
-    pool.shut(&rt);
-    assert!(rt; comes_to(&rt, &ended, 1));
-    assert!(rt; worker.join(&rt) == 2);
+    assert!(rt; workers.end(&rt) == Some((2, 2)));
     Ok(())
 }
 
 // A gate that each of two workers passes once, and that then holds whoever comes until it is opened.
 #[derive(Drop)]
 struct Once {
-    passes: Counter,
-    open: Counter,
+    passes: AtomicU64,
+    open: AtomicBool,
+}
+
+fn new_once() -> Once {
+    Once {
+        passes: AtomicU64::new(0),
+        open: AtomicBool::new(false),
+    }
 }
 
 impl Gate for Once {
     fn pass(&self, _worker: usize) {
         if self.passes.fetch_add(1, SeqCst) >= 2 {
-            wait_until(|| self.open.load(SeqCst) > 0);
+            wait_for(&self.open);
         }
     }
 }
@@ -160,27 +190,9 @@ impl Gate for Once {
 #[test]
 fn a_job_put_back_wakes_a_sleeper(rt: HostRuntime) -> Result<(), Fail> {
     let runs = no_runs(rt.alloc(), 1)?;
-    let pool = Arc::new(rt.alloc(), Pool::new(rt.alloc(), 2)?)?;
-    let ended = Arc::new(rt.alloc(), AtomicU64::new(0))?;
-    let gate = Once {
-        passes: Arc::new(rt.alloc(), AtomicU64::new(0))?,
-        open: Arc::new(rt.alloc(), AtomicU64::new(0))?,
-    };
-    let one = start_worker(rt, &pool, &ended, 0, again(&gate)?)?;
-    let other = start_worker(rt, &pool, &ended, 1, again(&gate)?)?;
-    let_them_sleep(&rt);
-    assert!(rt; hand_in(&rt, &pool, 1, 1, &runs)?);
-    assert!(rt; runs.first().is_some_and(|run| comes_to(&rt, run, 2)));
-    gate.open.store(1, SeqCst);
-    pool.shut(&rt);
-    assert!(rt; comes_to(&rt, &ended, 2));
-    assert!(rt; one.join(&rt) == 1 && other.join(&rt) == 1);
+    let workers = asleep(rt, rt.alloc(), 2, new_once())?;
+    assert!(rt; runs_to(&rt, &workers.site.pool, 1, &runs, 2)?);
+    workers.site.gate.open.store(true, SeqCst);
+    assert!(rt; workers.end(&rt) == Some((2, 1)));
     Ok(())
-}
-
-fn again(gate: &Once) -> Result<Once, AllocError> {
-    Ok(Once {
-        passes: Arc::try_clone(&gate.passes)?,
-        open: Arc::try_clone(&gate.open)?,
-    })
 }

@@ -1,17 +1,40 @@
 //! What a pool's threads do.
 ghost use Rattle.std.specs.Prelude.{◌<◌};
-ghost use Rattle.std.specs.Arc.{arc_value};
 ghost use Rattle.async_pool.specs.Pool.{pool_workers};
 
-use super::{Numbered, Runs, hand_in, no_runs, wait_until};
+use super::{Numbered, Runs, hand_in, new_site, no_runs, start_worker, wait_for};
 use async_pool::{CAPACITY, Gate, Job, MOST_WORKERS, Pool, Wide};
-use std::alloc::Global;
+use std::alloc::{AllocError, Global};
 use std::cell::Cell;
 use std::sync::atomic::Ordering::SeqCst;
 use std::sync::atomic::{AtomicBool, AtomicU64};
 use std::sync::{Arc, Wait};
 use std::test::Fail;
 use std::thread;
+use std::thread::Threads;
+
+// How many jobs two workers run that share a pool by reference.
+fn run_by_two<R: Threads + Wait + Sync>(rt: &R, pool: &Pool<Numbered>) -> u64
+    requires { 1 < pool_workers pool.now }
+{
+    let (mut first, mut second) = (0, 0);
+    let mut one = || pool.worker_loop(rt, 0, &Wide, &mut first);
+    let mut other = ||
+        requires { 1 < pool_workers pool.now }
+    { pool.worker_loop(rt, 1, &Wide, &mut second) };
+    thread::join_mut(rt, &mut one, &mut other);
+    first.saturating_add(second)
+}
+
+// Whether each job ran so often.
+fn all_ran(runs: &Runs, number: u64) -> bool {
+    for run in runs.iter() {
+        if run.load(SeqCst) != number {
+            return false;
+        }
+    }
+    true
+}
 
 #[test]
 fn each_job_of_two_workers_ran_twice(rt: HostRuntime) -> Result<(), Fail> {
@@ -19,12 +42,7 @@ fn each_job_of_two_workers_ran_twice(rt: HostRuntime) -> Result<(), Fail> {
     let pool = Pool::new(rt.alloc(), 2)?;
     assert!(rt; hand_in(&rt, &pool, 100, 1, &runs)?);
     pool.shut(&rt);
-    let (mut first, mut second) = (0, 0);
-    let mut one = || pool.worker_loop(&rt, 0, &Wide, &mut first);
-    let mut other = || pool.worker_loop(&rt, 1, &Wide, &mut second);
-    thread::join_mut(&rt, &mut one, &mut other);
-    assert!(rt; first.saturating_add(second) == 200);
-    assert!(rt; runs.iter().all(|run| run.load(SeqCst) == 2));
+    assert!(rt; run_by_two(&rt, &pool) == 200 && all_ran(&runs, 2));
     assert!(rt; pool.stop(&rt).is_empty());
     Ok(())
 }
@@ -45,20 +63,10 @@ impl Job for Local {
 
 #[test]
 fn a_job_need_not_be_sync(rt: HostRuntime) -> Result<(), Fail> {
-    let pool = Arc::new(rt.alloc(), Pool::new(rt.alloc(), 1)?)?;
-    let theirs = Arc::try_clone(&pool)?;
-    assert!(rt; pool.execute(&rt, Local(Cell::new(6))).is_ok());
-    let worker = thread::spawn(
-        &rt,
-        move ||
-            requires { 0 < pool_workers (arc_value theirs) }
-        {
-            let mut last = 0;
-            theirs.worker_loop(&rt, 0, &Wide, &mut last);
-            last
-        },
-    )?;
-    pool.shut(&rt);
+    let site = new_site(rt.alloc(), 1, Wide)?;
+    assert!(rt; site.pool.execute(&rt, Local(Cell::new(6))).is_ok());
+    let worker = start_worker(rt, &site, 0)?;
+    site.pool.shut(&rt);
     assert!(rt; worker.join(&rt) == 7);
     Ok(())
 }
@@ -124,44 +132,43 @@ fn new_held() -> Held {
 impl Gate for Held {
     fn pass(&self, _worker: usize) {
         self.reached.store(true, SeqCst);
-        wait_until(|| self.open.load(SeqCst));
+        wait_for(&self.open);
     }
 }
 
 #[test]
 fn a_second_loop_of_a_number_returns_at_once(rt: HostRuntime) -> Result<(), Fail> {
-    let pool = Pool::<Numbered>::new(rt.alloc(), 2)?;
-    pool.shut(&rt);
-    let held = new_held();
+    let site = new_site::<Numbered, Held>(rt.alloc(), 2, new_held())?;
     let gate = Keeping(no_runs(rt.alloc(), 2)?);
-    let (mut first, mut second) = (0, 0);
-    let mut one = || pool.worker_loop(&rt, 0, &held, &mut first);
-    let mut other = ||
-        requires { 0 < pool_workers pool }
-    {
-        if wait_until(|| held.reached.load(SeqCst)) {
-            pool.worker_loop(&rt, 0, &gate, &mut second);
-        }
-        held.open.store(true, SeqCst);
-    };
-    thread::join_mut(&rt, &mut one, &mut other);
+    let mut ran = 0;
+    site.pool.shut(&rt);
+    let first = start_worker(rt, &site, 0)?;
+    assert!(rt; wait_for(&site.gate.reached));
+    site.pool.worker_loop(&rt, 0, &gate, &mut ran);
     assert!(rt; gate.passes_of(0) == Some(0));
-    // Once that loop has ended, another of its number runs.
-    let mut third = 0;
-    pool.worker_loop(&rt, 0, &gate, &mut third);
+    // Once the first loop has ended, another of its number runs.
+    site.gate.open.store(true, SeqCst);
+    first.join(&rt);
+    site.pool.worker_loop(&rt, 0, &gate, &mut ran);
     assert!(rt; gate.passes_of(0) == Some(1));
     Ok(())
 }
 
-// A job that runs once, or one that is held in its first run, and keeps how many jobs its worker has run at its end.
+// A job that runs once, or one that is held in its first run.
 #[derive(Drop)]
 enum Mixed {
     Short,
     Long {
         again: u64,
-        held: Arc<Held, Global>,
-        ran: Arc<AtomicU64, Global>,
+        watched: Arc<Watched, Global>,
     },
+}
+
+// What holds a long job, and how many jobs its worker had run at its end.
+#[derive(Drop)]
+struct Watched {
+    held: Held,
+    ran: AtomicU64,
 }
 
 impl Job for Mixed {
@@ -169,17 +176,27 @@ impl Job for Mixed {
 
     fn run<R: Wait>(self, _rt: &R, context: &mut u64) -> Option<Mixed> {
         *context = context.saturating_add(1);
-        let Mixed::Long { again, held, ran } = self else {
+        let Mixed::Long { again, watched } = self else {
             return None;
         };
-        held.pass(0);
+        watched.held.pass(0);
         if again == 0 {
-            ran.store(*context, SeqCst);
+            watched.ran.store(*context, SeqCst);
             return None;
         }
         let again = again - 1;
-        Some(Mixed::Long { again, held, ran })
+        Some(Mixed::Long { again, watched })
     }
+}
+
+// Hands in a job that is run five times.
+fn hand_in_long<R: Wait>(
+    rt: &R,
+    pool: &Pool<Mixed>,
+    watched: &Arc<Watched, Global>,
+) -> Result<bool, AllocError> {
+    let watched = Arc::try_clone(watched)?;
+    Ok(pool.execute(rt, Mixed::Long { again: 4, watched }).is_ok())
 }
 
 // Hands in as many jobs as the list holds, and one that comes back.
@@ -194,25 +211,17 @@ fn fill<R: Wait>(rt: &R, pool: &Pool<Mixed>) -> bool {
 
 #[test]
 fn a_job_is_run_on_where_the_list_is_full(rt: HostRuntime) -> Result<(), Fail> {
-    let pool = Pool::new(rt.alloc(), 1)?;
-    let held = Arc::new(rt.alloc(), new_held())?;
-    let ran_then = Arc::new(rt.alloc(), AtomicU64::new(0))?;
-    let long = Mixed::Long {
-        again: 4,
-        held: Arc::try_clone(&held)?,
-        ran: Arc::try_clone(&ran_then)?,
-    };
-    assert!(rt; pool.execute(&rt, long).is_ok());
-    let mut ran = 0;
-    let mut is_full = false;
-    let mut one = || pool.worker_loop(&rt, 0, &Wide, &mut ran);
-    let mut other = || {
-        is_full = wait_until(|| held.reached.load(SeqCst)) && fill(&rt, &pool);
-        held.open.store(true, SeqCst);
-        pool.shut(&rt);
-    };
-    thread::join_mut(&rt, &mut one, &mut other);
-    assert!(rt; is_full && ran_then.load(SeqCst) == 5);
-    assert!(rt; ran == 5 + CAPACITY as u64 && pool.stop(&rt).is_empty());
+    let held = new_held();
+    let ran = AtomicU64::new(0);
+    let watched = Arc::new(rt.alloc(), Watched { held, ran })?;
+    let site = new_site(rt.alloc(), 1, Wide)?;
+    assert!(rt; hand_in_long(&rt, &site.pool, &watched)?);
+    let worker = start_worker(rt, &site, 0)?;
+    assert!(rt; wait_for(&watched.held.reached) && fill(&rt, &site.pool));
+    watched.held.open.store(true, SeqCst);
+    site.pool.shut(&rt);
+    let ran = worker.join(&rt);
+    assert!(rt; ran == 5 + CAPACITY as u64 && watched.ran.load(SeqCst) == 5);
+    assert!(rt; site.pool.run_one(&rt).is_none());
     Ok(())
 }

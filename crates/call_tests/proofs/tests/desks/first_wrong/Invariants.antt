@@ -1,5 +1,5 @@
 use Rattle.std.proofs.Common.{◌≡◌, true}
-use Rattle.call_tests.proofs.tests.desks.play.Given as goal
+use Rattle.call_tests.proofs.tests.desks.first_wrong.Given as goal
 
 -- the listener of the Desk stays steady
 abbrev pub invariant-loop-place : goal.invariant-loop-place
