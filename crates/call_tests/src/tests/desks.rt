@@ -114,6 +114,7 @@ fn play_on_all(
     let shown = play(rt, alloc, Shown(Collector::new(alloc)), asked, rows)?;
     assert!(rt; has_told(alloc, &shown.0, told)?);
     let boxed: Box<dyn Subscriber> = Box::new(alloc, Collector::new(alloc))?;
+    assert!(rt; boxed.steady());
     let boxed = play(rt, alloc, boxed, asked, rows)?;
     assert!(rt; has_told(alloc, &boxed, told)?);
     let boxed: Box<dyn Listener> = Box::new(alloc, Tally::new())?;

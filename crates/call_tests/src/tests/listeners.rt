@@ -45,20 +45,20 @@ const ANSWERS: [Answer; 4] = [
 ];
 
 /// Whether this answer is given after so many callbacks, and not by one that goes on.
-fn is_given(alloc: Global, callbacks: usize, answer: Answer) -> Result<bool, NoMemory> {
+fn is_given(alloc: Global, callbacks: u32, answer: Answer) -> Result<bool, NoMemory> {
     let mut wanted = GOES;
     if callbacks < 5 {
-        wanted[callbacks] = Ok(answer);
+        wanted[callbacks as usize] = Ok(answer);
     }
-    let mut listener = Answering::after(callbacks as u32, answer);
-    let mut going_on = GoesOn(Answering::after(callbacks as u32, answer));
+    let mut listener = Answering::after(callbacks, answer);
+    let mut going_on = GoesOn(Answering::after(callbacks, answer));
     Ok(call_each(alloc, &mut listener)? == wanted && call_each(alloc, &mut going_on)? == GOES)
 }
 
 #[test]
 fn each_answer_is_given(rt: HostRuntime) -> Result<(), Fail> {
     for number in 0..24 {
-        let (answer, callbacks) = (ANSWERS[number / 6], number % 6);
+        let (answer, callbacks) = (ANSWERS[number / 6], number as u32 % 6);
         assert!(rt;
             is_given(rt.alloc(), callbacks, answer)?,
             "{answer:?} after {callbacks}"
@@ -68,21 +68,28 @@ fn each_answer_is_given(rt: HostRuntime) -> Result<(), Fail> {
 }
 
 /// Whether one that is refused memory after so many callbacks answers so many, and has told what these letters write.
-fn is_refused(alloc: Global, callbacks: usize, told: &[u8]) -> Result<bool, NoMemory> {
+fn is_refused(alloc: Global, callbacks: u32, told: &[u8]) -> Result<bool, NoMemory> {
     let mut wanted: Answers = [Err(NoMemory); 5];
     for place in 0..5 {
-        if place < callbacks {
+        if place < callbacks as usize {
             wanted[place] = Ok(Answer::Go);
         }
     }
-    let mut refused = Refused::after(Collector::new(alloc), callbacks as u32);
+    let mut refused = Refused::after(Collector::new(alloc), callbacks);
     Ok(call_each(alloc, &mut refused)? == wanted && was_told(alloc, refused.listener(), told)?)
 }
 
 #[test]
 fn a_refused_one_keeps_what_it_answered(rt: HostRuntime) -> Result<(), Fail> {
-    let told: [&[u8]; 6] = [b"", b"s", b"sx", b"sxy", b"sxyc", b"sxyce"];
-    for (callbacks, told) in told.into_iter().enumerate() {
+    let rows: [(u32, &[u8]); 6] = [
+        (0, b""),
+        (1, b"s"),
+        (2, b"sx"),
+        (3, b"sxy"),
+        (4, b"sxyc"),
+        (5, b"sxyce"),
+    ];
+    for (callbacks, told) in rows {
         assert!(rt;
             is_refused(rt.alloc(), callbacks, told)?,
             "after {callbacks}"
