@@ -21,7 +21,8 @@ class Check:
         # Texts that can't be read, and where they stand.
         self.errors, self.places = [], []
         notes = []
-        for line in text.split("\n"):
+        # A long error goes on in the next line.
+        for line in re.sub(r"\n  (?=has no |is not )", " ", text).split("\n"):
             self.read_error(line)
             verdict = VERDICT.match(line)
             if GOAL.match(line):

@@ -8,7 +8,7 @@ use Rattle.feed_core.specs.PlainTurn.{Turn, greeting, plain_turn_of}
 use Rattle.feed_core.specs.Sound.{is_begun, signals_of}
 use Rattle.feed_core.specs.Turn.{lane_after_turn, taken_in}
 use Rattle.feed_core.proofs.CalmLanes.{IsCalm}
-use Rattle.feed_core.proofs.SignalLists.{items_of_append}
+use Rattle.flow_rules.proofs.Items.{items_of_append}
 use Rattle.feed_core.proofs.WholeTurns.{IsOpenList, EndsSo, told_is_open, grown_told, items_of_greeted, sound_after, turn_parts}
 
 -- the signal that was not told has an item, or none

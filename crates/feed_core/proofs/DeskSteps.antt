@@ -10,7 +10,7 @@ use Rattle.feed_core.specs.PlainTurn.{terminal_of}
 use Rattle.feed_core.specs.Sound.{is_begun, opening, terminal_part, signals_of, lane_of, loss_of, HasCause, IsInOrder, IsSound}
 use Rattle.feed_core.specs.Steps.{OwesEnd, MovesNext}
 use Rattle.feed_core.proofs.FlowRules.{all_counted, told_open}
-use Rattle.feed_core.proofs.SignalLists.{items_of_append}
+use Rattle.flow_rules.proofs.Items.{items_of_append}
 
 -- a list that was begun stays so when it grows
 pub is_begun_append : (told more : List Signal) → is_begun told ≡ true → is_begun (told ++ more) ≡ true

@@ -5,14 +5,6 @@ use Rattle.feed_core.specs.Prelude.{Item, Signal, Subscribed, Next, Complete, Er
 use Rattle.feed_core.specs.PlainTurn.{terminal_of}
 use Rattle.feed_core.specs.Sound.{terminal_part, opening}
 
--- the items of two lists, one after the other
-pub items_of_append : (s t : List Signal) → items_of (s ++ t) ≡ items_of s ++ items_of t
-items_of_append [] t = refl
-items_of_append (Subscribed ∷ s) t = items_of_append s t
-items_of_append (Next item ∷ s) t = ap (λ items. item ∷ items) (items_of_append s t)
-items_of_append (Complete ∷ s) t = items_of_append s t
-items_of_append (Error _ ∷ s) t = items_of_append s t
-
 -- the items of onNexts
 pub items_of_nexts : (items : List Item) → items_of (map Next items) ≡ items
 items_of_nexts [] = refl

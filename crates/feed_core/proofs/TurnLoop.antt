@@ -13,7 +13,8 @@ use Rattle.feed_core.specs.PlainTurn.{Turn, another_turn, greeting, terminal_of,
 use Rattle.feed_core.specs.Sound.{is_begun}
 use Rattle.feed_core.specs.Steps.{AfterTurn, Greets, IsToldBy, Looks, lane_after_end, rest_of_turn, turn_within}
 use Rattle.feed_core.proofs.DeskSteps.{is_begun_append, items_of_terminal}
-use Rattle.feed_core.proofs.SignalLists.{IsTerminal, complete_last, error_last, items_of_append, items_of_nexts, nexts_open, opening_open, contains_none, contains_one}
+use Rattle.flow_rules.proofs.Items.{items_of_append}
+use Rattle.feed_core.proofs.SignalLists.{IsTerminal, complete_last, error_last, items_of_nexts, nexts_open, opening_open, contains_none, contains_one}
 use Rattle.feed_core.proofs.PlainTurns.{full, gives}
 
 -- so many items were given since the turn began, and the rest of the plain turn is left

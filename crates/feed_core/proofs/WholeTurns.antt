@@ -10,7 +10,8 @@ use Rattle.feed_core.specs.Turn.{is_again, lane_after_turn, taken_in}
 use Rattle.feed_core.proofs.CalmLanes.{IsCalm}
 use Rattle.feed_core.proofs.DeskSteps.{items_of_terminal, no_cause}
 use Rattle.feed_core.proofs.FlowRules.{all_counted, told_and_waiting, told_open}
-use Rattle.feed_core.proofs.SignalLists.{items_of_append, items_of_nexts}
+use Rattle.flow_rules.proofs.Items.{items_of_append}
+use Rattle.feed_core.proofs.SignalLists.{items_of_nexts}
 
 -- the terminal part of a lane is no item
 items_of_terminal_part : (how : Option How) → items_of (terminal_part how) ≡ []

@@ -36,7 +36,7 @@ pub(crate) trait Reads<X> {
     ghost signals: { X → List Signal };
 }
 
-/// Off nothing, no signals are read.
+/// Reads an empty list.
 struct Nothing;
 
 impl Reads<()> for Nothing {
@@ -50,9 +50,10 @@ struct Grown<'a> {
     signal: &'a Signal,
 }
 
-struct All;
+/// Reads a list and what comes after it.
+struct Both;
 
-impl Reads<Grown<'_>> for All {
+impl Reads<Grown<'_>> for Both {
     ghost signals = { λ grown. grown.told.now ++ grown.signal.now ∷ [] };
 }
 
@@ -63,7 +64,7 @@ struct GrownByItem<'a> {
     item: &'a Item,
 }
 
-impl Reads<GrownByItem<'_>> for All {
+impl Reads<GrownByItem<'_>> for Both {
     ghost signals = { λ grown. grown.told.now ++ Next grown.item.now ∷ [] };
 }
 
@@ -79,14 +80,14 @@ impl Told {
     pub fn tell(&mut self, signal: &Signal)
         ensures { self.new ≡ self.old ++ signal.now ∷ [] }
     {
-        *self = Told::of::<Grown<'_>, All>(&Grown { told: self, signal });
+        *self = Told::of::<Grown<'_>, Both>(&Grown { told: self, signal });
     }
 
     /// The `onNext` of this item more.
     pub fn tell_next(&mut self, item: &Item)
         ensures { self.new ≡ self.old ++ Next item.now ∷ [] }
     {
-        *self = Told::of::<GrownByItem<'_>, All>(&GrownByItem { told: self, item });
+        *self = Told::of::<GrownByItem<'_>, Both>(&GrownByItem { told: self, item });
     }
 
     /// The list that is read off a value.
