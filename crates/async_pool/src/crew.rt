@@ -1,5 +1,5 @@
 //! Which workers run, and whether the pool was shut.
-ghost use Rattle.std.specs.Prelude.{◌≡◌, ◌<◌, true, false, replicate, slice_get, Some, slice_set, IsTrue, IsFalse, ◌↔◌};
+ghost use Rattle.std.specs.Prelude.{◌≡◌, ◌<◌, true, false, replicate, slice_get, Some, slice_set, ◌↔◌};
 
 /// The most workers of a pool.
 pub const MOST_WORKERS: usize = 8;
@@ -15,7 +15,7 @@ impl Crew {
     /// Nobody runs, and the pool is open.
     pub fn new() -> Crew
         ensures nobody { result.running ≡ replicate MOST_WORKERS false }
-        ensures open { IsFalse result.shut }
+        ensures open { result.shut ≡ false }
     {
         Crew {
             running: [false; MOST_WORKERS],
@@ -26,7 +26,7 @@ impl Crew {
     /// Marks a worker as running. False where it runs already.
     pub fn start(&mut self, worker: usize) -> bool
         requires { worker < MOST_WORKERS }
-        ensures fresh { IsTrue result ↔ (slice_get self.old.running worker ≡ Some false) }
+        ensures fresh { (result ≡ true) ↔ (slice_get self.old.running worker ≡ Some false) }
         ensures marked { self.new ≡ record self.old { running = slice_set self.old.running worker true } }
     {
         let is_running = self.running[worker];

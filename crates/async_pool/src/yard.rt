@@ -1,6 +1,6 @@
 //! What stands behind a pool's lock: the jobs, the room for those that are left at the end, and
 //! what its workers do.
-ghost use Rattle.std.specs.Prelude.{◌≡◌, ◌≤◌, ◌+◌, ◌-◌, ◌++◌, ◌∷◌, [], ◌<◌, ◌⊎◌, ◌↔◌, true, false, Some, min, length, slice_get, slice_set, IfOk, IfErr, OnErr, OnOk, IsTrue, IsErr, IfSome, IfNone, IsNone};
+ghost use Rattle.std.specs.Prelude.{◌≡◌, ◌≤◌, ◌+◌, ◌-◌, ◌++◌, ◌∷◌, [], ◌<◌, ◌⊎◌, ◌↔◌, true, false, Some, min, length, slice_get, slice_set, IfOk, IfErr, OnErr, OnOk, IsErr, IfSome, IfNone, IsNone};
 ghost use Rattle.std.specs.Vec.{vec_capacity};
 ghost use Rattle.async_pool.specs.declared.inbox.TheConstants.{CAPACITY};
 ghost use Rattle.async_pool.specs.declared.crew.TheConstants.{MOST_WORKERS};
@@ -53,7 +53,7 @@ impl<J: Drop> Yard<J> {
 
     /// Puts a new job at the back, and calls a sleeper. It comes back where the list is full or the pool was shut.
     pub fn admit(&mut self, job: J) -> Result<Wake, J>
-        ensures refused { IsErr result ↔ (IsTrue self.old.crew.shut ⊎ (length (jobs_of self.old.inbox) ≡ CAPACITY)) }
+        ensures refused { IsErr result ↔ ((self.old.crew.shut ≡ true) ⊎ (length (jobs_of self.old.inbox) ≡ CAPACITY)) }
         ensures back { OnOk result (jobs_of self.new.inbox ≡ jobs_of self.old.inbox ++ job ∷ []) }
         ensures called { IfOk result (λ wake. CallsOne self.old.sleepers wake self.new.sleepers) }
         ensures same_crew { self.new.crew ≡ self.old.crew }
@@ -134,7 +134,7 @@ impl<J: Drop> Yard<J> {
     /// Marks a worker as running. False where it runs already.
     pub fn start(&mut self, worker: usize) -> bool
         requires { worker < MOST_WORKERS }
-        ensures fresh { IsTrue result ↔ (slice_get self.old.crew.running worker ≡ Some false) }
+        ensures fresh { (result ≡ true) ↔ (slice_get self.old.crew.running worker ≡ Some false) }
         ensures marked { self.new ≡ record self.old { crew = record self.old.crew { running = slice_set self.old.crew.running worker true } } }
     {
         self.crew.start(worker)

@@ -1,5 +1,5 @@
 -- What a row says of a Desk.
-use Rattle.std.specs.Prelude.{◌≡◌, ◌↔◌, unsigned_abs, Option, IsSome, IsTrue, List, [], ◌∷◌, length}
+use Rattle.std.specs.Prelude.{◌≡◌, ◌↔◌, unsigned_abs, Option, IsSome, List, [], ◌∷◌, length, true}
 use Rattle.feed_core.specs.Prelude.{Signal, Ending}
 use Rattle.feed_core.specs.Desk.{DeskState, AcceptsItem, IsFull, Rests, Owes, desk_after_request, desk_after_end, desk_after_turn}
 use Rattle.feed_core.specs.declared.turn.outlook.Outlook.{Outlook}
@@ -15,10 +15,10 @@ MakesTurn old new = Owes old × ((seen : List Signal) × ((outlook : Outlook) ×
 -- what is so of a Desk before and after a call that was answered as the row says
 abbrev pub Fits : Row → DeskState → DeskState → Type 0
 Fits (Accepted letter lag starts) old new =
-    (start : Option Unit) × AcceptsItem old new (lettered_item (letter ∷ [])) lag start × (IsTrue starts ↔ IsSome start)
+    (start : Option Unit) × AcceptsItem old new (lettered_item (letter ∷ [])) lag start × ((starts ≡ true) ↔ IsSome start)
 Fits (Full _) old new = IsFull old × (new ≡ old)
-Fits (Gone _) old new = IsTrue (is_gone old.lane) × (new ≡ old)
-Fits (Request n starts) old new = (new ≡ desk_after_request (unsigned_abs n) old) × (IsTrue starts ↔ Rests old)
+Fits (Gone _) old new = (is_gone old.lane ≡ true) × (new ≡ old)
+Fits (Request n starts) old new = (new ≡ desk_after_request (unsigned_abs n) old) × ((starts ≡ true) ↔ Rests old)
 Fits (Close starts) old new = new ≡ desk_after_end Ending.Normal old
 Fits (Turn _ _) old new = MakesTurn old new
 Fits (Capacity enforced) old new = (new ≡ old) × (old.capacity ≡ enforced)

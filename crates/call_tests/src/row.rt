@@ -1,5 +1,5 @@
 //! The calls of a Desk as rows: what is called, and what has to be answered.
-ghost use Rattle.std.specs.Prelude.{◌≡◌, [], true, IsTrue, IsFalse, IfOk, OnErr};
+ghost use Rattle.std.specs.Prelude.{◌≡◌, [], true, IfOk, OnErr, false};
 ghost use Rattle.flow_rules.specs.Capacity.{capacity_of};
 ghost use Rattle.feed_core.specs.Desk.{IsNew};
 ghost use Rattle.feed_core.specs.Lane.{IsFlow};
@@ -57,7 +57,7 @@ pub fn answers<B: Listener>(
 ) -> Result<bool, NoMemory>
     requires { desk.old.is_steady ≡ true }
     ensures steady { desk.new.is_steady ≡ true }
-    ensures fits { IfOk result (λ is_answered. IsTrue is_answered → Fits row.entry desk.old desk.new) }
+    ensures fits { IfOk result (λ is_answered. is_answered ≡ true → Fits row.entry desk.old desk.new) }
     ensures flow { IsFlow desk.new.lane }
     ensures err { OnErr result (desk.new ≡ desk.old) }
 {
@@ -75,7 +75,7 @@ pub fn answers<B: Listener>(
 
 /// Whether a Desk shows what a row says that it shows.
 fn shows<B: Listener>(desk: &Desk<B>, row: Row<'_>) -> bool
-    ensures { IsTrue result → Fits row.entry desk.now desk.now }
+    ensures { result ≡ true → Fits row.entry desk.now desk.now }
 {
     match row {
         Row::Capacity(enforced) => desk.capacity() == enforced,
@@ -96,7 +96,7 @@ fn is_accepted<B: Listener>(
     want: (u64, bool),
 ) -> Result<bool, NoMemory>
     ensures steady { desk.new.is_steady ≡ desk.old.is_steady }
-    ensures fits { IfOk result (λ is_answered. IsTrue is_answered → Fits (Row.Accepted letter want.0 want.1) desk.old desk.new) }
+    ensures fits { IfOk result (λ is_answered. is_answered ≡ true → Fits (Row.Accepted letter want.0 want.1) desk.old desk.new) }
     ensures flow { IsFlow desk.old.lane → IsFlow desk.new.lane }
     ensures err { OnErr result (desk.new ≡ desk.old) }
 {
@@ -118,8 +118,8 @@ fn comes_back<B: Listener>(
     from_gone: bool,
 ) -> Result<bool, NoMemory>
     ensures steady { desk.new.is_steady ≡ desk.old.is_steady }
-    ensures full { IfOk result (λ is_answered. IsTrue is_answered → IsFalse from_gone → Fits (Row.Full letter) desk.old desk.new) }
-    ensures gone { IfOk result (λ is_answered. IsTrue is_answered → IsTrue from_gone → Fits (Row.Gone letter) desk.old desk.new) }
+    ensures full { IfOk result (λ is_answered. is_answered ≡ true → from_gone ≡ false → Fits (Row.Full letter) desk.old desk.new) }
+    ensures gone { IfOk result (λ is_answered. is_answered ≡ true → from_gone ≡ true → Fits (Row.Gone letter) desk.old desk.new) }
     ensures flow { IsFlow desk.old.lane → IsFlow desk.new.lane }
     ensures err { OnErr result (desk.new ≡ desk.old) }
 {
@@ -144,7 +144,7 @@ fn turns<B: Listener>(
 ) -> Result<bool, NoMemory>
     requires { desk.old.is_steady ≡ true }
     ensures steady { desk.new.is_steady ≡ true }
-    ensures fits { IfOk result (λ is_answered. IsTrue is_answered → MakesTurn desk.old desk.new) }
+    ensures fits { IfOk result (λ is_answered. is_answered ≡ true → MakesTurn desk.old desk.new) }
     ensures flow { IsFlow desk.old.lane → IsFlow desk.new.lane }
     ensures err { OnErr result (desk.new ≡ desk.old) }
 {

@@ -1,6 +1,6 @@
 //! What holds of the tickets of one count. Each law is a function, and calling it tells its caller the law.
 //! None of them does anything else.
-ghost use Rattle.std.specs.Prelude.{◌≡◌, ◌+◌, ◌≤◌, [], ◌∷◌, length, min, count_by, All, IsTrue};
+ghost use Rattle.std.specs.Prelude.{◌≡◌, ◌+◌, ◌≤◌, [], ◌∷◌, length, min, count_by, All, true};
 ghost use Rattle.std.specs.Arc.{arc_value};
 ghost use Rattle.close_count.specs.Opening.{count_of_opening};
 ghost use Rattle.close_count.specs.Ticket.{count_of_ticket};
@@ -17,7 +17,7 @@ use std::sync::Arc;
 /// Of two tickets that were spent of one count, not both were the last.
 pub fn last_once(one: Spent, other: Spent)
     requires { count_of_spent one ≡ count_of_spent other }
-    ensures { IsTrue (was_last one) → ¬ IsTrue (was_last other) }
+    ensures { was_last one ≡ true → ¬ (was_last other ≡ true) }
 {
     compare(one.counter, one.seat, other.seat);
 }
@@ -25,7 +25,7 @@ pub fn last_once(one: Spent, other: Spent)
 /// Once the last ticket was spent, no ticket of the count is left.
 pub fn none_left(spent: Spent, ticket: Ticket)
     requires { count_of_spent spent ≡ count_of_ticket ticket }
-    ensures { ¬ IsTrue (was_last spent) }
+    ensures { ¬ (was_last spent ≡ true) }
 {
     compare(spent.counter, spent.seat, ticket.seat);
 }
@@ -33,7 +33,7 @@ pub fn none_left(spent: Spent, ticket: Ticket)
 /// Once the last ticket was spent, the opening of the count is spent, too.
 pub fn none_open(spent: Spent, opening: Opening)
     requires { count_of_spent spent ≡ count_of_opening opening }
-    ensures { ¬ IsTrue (was_last spent) }
+    ensures { ¬ (was_last spent ≡ true) }
 {
     compare(spent.counter, spent.seat, opening.seat);
 }

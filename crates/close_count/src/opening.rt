@@ -1,5 +1,5 @@
 //! The first ticket of a count, which makes all others.
-ghost use Rattle.std.specs.Prelude.{◌≡◌, ◌+◌, ◌≤◌, ◌⊎◌, ℕ, ◌↔◌, [], IsTrue, IfOk, OnOk, IfErr, OnErr, Err};
+ghost use Rattle.std.specs.Prelude.{◌≡◌, ◌+◌, ◌≤◌, ◌⊎◌, ℕ, ◌↔◌, [], IfOk, OnOk, IfErr, OnErr, Err, true};
 ghost use Rattle.std.specs.Arc.{arc_value};
 ghost use Rattle.flow_rules.specs.declared.refusal.Refusal.TheVariants as Refusal;
 ghost use Rattle.close_count.specs.declared.rule.TheConstants.{MOST_TICKETS};
@@ -59,7 +59,7 @@ impl Opening {
     pub fn spend(self) -> Spent
         ensures count { count_of_spent result ≡ count_of_opening self }
         ensures total { total_of_spent result ≡ tickets_made self + 1 }
-        ensures step { (n : ℕ) × CompletesAt n × (IsTrue (was_last result) ↔ (n ≡ 1)) }
+        ensures step { (n : ℕ) × CompletesAt n × ((was_last result ≡ true) ↔ (n ≡ 1)) }
     {
         Spent::of_seat(self.counter, self.seat)
     }
@@ -67,7 +67,7 @@ impl Opening {
     /// Spends the opening, and answers whether it was the last ticket (`CountedCompleter.tryComplete`).
     #[must_use]
     pub fn try_complete(self) -> bool
-        ensures { (n : ℕ) × CompletesAt n × (IsTrue result ↔ (n ≡ 1)) }
+        ensures { (n : ℕ) × CompletesAt n × ((result ≡ true) ↔ (n ≡ 1)) }
     {
         self.spend().is_last()
     }

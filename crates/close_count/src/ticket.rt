@@ -1,5 +1,5 @@
 //! One ticket of a count, which any thread may spend.
-ghost use Rattle.std.specs.Prelude.{◌≡◌, ℕ, ◌↔◌, [], IsTrue};
+ghost use Rattle.std.specs.Prelude.{◌≡◌, ℕ, ◌↔◌, [], true};
 ghost use Rattle.std.specs.Arc.{arc_value};
 ghost use Rattle.close_count.specs.Tickets.{ticket_view, CompletesAt};
 
@@ -27,7 +27,7 @@ impl Ticket {
     /// Spends the ticket. What comes back tells whether it was the last one.
     pub fn spend(self) -> Spent
         ensures count { count_of_spent result ≡ count_of_ticket self }
-        ensures step { (n : ℕ) × CompletesAt n × (IsTrue (was_last result) ↔ (n ≡ 1)) }
+        ensures step { (n : ℕ) × CompletesAt n × ((was_last result ≡ true) ↔ (n ≡ 1)) }
     {
         Spent::of_seat(self.counter, self.seat)
     }
@@ -35,7 +35,7 @@ impl Ticket {
     /// Spends the ticket, and answers whether it was the last one (`CountedCompleter.tryComplete`).
     #[must_use]
     pub fn try_complete(self) -> bool
-        ensures { (n : ℕ) × CompletesAt n × (IsTrue result ↔ (n ≡ 1)) }
+        ensures { (n : ℕ) × CompletesAt n × ((result ≡ true) ↔ (n ≡ 1)) }
     {
         self.spend().is_last()
     }

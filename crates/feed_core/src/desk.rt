@@ -67,7 +67,7 @@ impl<B: Listener> Model for Desk<B> {
 }
 
 impl<B: Listener> Desk<B> {
-    ghost use Rattle.std.specs.Prelude.{◌≡◌, ◌≤◌, ◌+◌, ◌↔◌, [], true, length, IsTrue, IsFalse, IfOk, IfErr};
+    ghost use Rattle.std.specs.Prelude.{◌≡◌, ◌≤◌, ◌+◌, ◌↔◌, [], true, length, IfOk, IfErr, false};
     ghost use Rattle.feed_core.specs.Desk.{IsNew, Owes};
     ghost use Rattle.feed_core.specs.LaneCalls.{IsCapacity, lag_of};
     ghost use Rattle.feed_core.specs.Prelude.{UNBOUNDED};
@@ -156,9 +156,9 @@ impl<B: Listener> Desk<B> {
     /// Whether a turn is owed. Where none is, nothing is forgotten: the subscriber was told all that its demand and its
     /// ending allow. The lane keeps the Flow rules in any case.
     pub fn owes(&self) -> bool
-        ensures value { IsTrue result ↔ Owes self.now }
+        ensures value { (result ≡ true) ↔ Owes self.now }
         ensures flow { IsFlow self.now.lane }
-        ensures settled { IsFalse result → IsSettled self.now.lane }
+        ensures settled { result ≡ false → IsSettled self.now.lane }
     {
         self.started && self.how.is_none()
     }

@@ -1,5 +1,5 @@
 //! Which lists of signals the Flow rules allow.
-ghost use Rattle.std.specs.Prelude.{◌↔◌, IsTrue};
+ghost use Rattle.std.specs.Prelude.{◌≡◌, ◌↔◌, true};
 ghost use Rattle.flow_rules.specs.Signals.{IsFlowText};
 
 use crate::signal::Signal;
@@ -15,7 +15,7 @@ enum Stage {
 /// Whether the signals are a list that the Flow rules allow: nothing, or `Subscribed`, then any number of `Next`, then
 /// nothing, one `Complete` or one `Error` (Reactive Streams 1.0, rules 1.3, 1.7 and 1.9).
 pub fn audit(signals: &[Signal]) -> bool
-    ensures { IsTrue result ↔ IsFlowText signals.now }
+    ensures { (result ≡ true) ↔ IsFlowText signals.now }
 {
     let mut stage = Stage::Fresh;
     for signal in signals {

@@ -1,5 +1,5 @@
 //! The name that a subscriber subscribes with.
-ghost use Rattle.std.specs.Prelude.{◌≡◌, ◌≤◌, ◌↔◌, ◌==◌, List, ℕ, length, IsTrue, IsSome, IfSome, Some};
+ghost use Rattle.std.specs.Prelude.{◌≡◌, ◌≤◌, ◌↔◌, ◌==◌, List, ℕ, length, IsSome, IfSome, Some, true};
 ghost use Rattle.std.specs.List.{list_all};
 ghost use Rattle.std.specs.Cmp.Lexicographic.{pointwise};
 ghost use Rattle.std.specs.Cmp.Rules.{comparing};
@@ -38,7 +38,7 @@ impl Name {
 
     /// The name with these bytes, or `None` where they are not 1 to 32 ASCII letters, digits, `-` and `_`.
     pub fn new(bytes: &[u8]) -> Option<Name>
-        ensures allowed { IsSome result ↔ IsTrue (is_name bytes.now) }
+        ensures allowed { IsSome result ↔ (is_name bytes.now ≡ true) }
         ensures value { IfSome result (λ name. name ≡ bytes.now) }
     {
         if !is_allowed(bytes) {
@@ -63,7 +63,7 @@ impl Name {
 /// Whether the bytes are a name.
 fn is_allowed(bytes: &[u8]) -> bool
     ensures value { result ≡ is_name bytes.now }
-    ensures short { IsTrue result → length bytes.now ≤ Name.LONGEST }
+    ensures short { result ≡ true → length bytes.now ≤ Name.LONGEST }
 {
     1 <= bytes.len() && bytes.len() <= Name::LONGEST && all_may_stand(bytes)
 }

@@ -1,6 +1,5 @@
 -- The turns of a session are those of the definition, under some refusals.
 use Rattle.std.proofs.Common.{◌≡◌, ℕ, zero, suc, ◌+◌, ◌-◌, ◌<◌, Bool, true, false, if◌then◌else◌, List, [], ◌∷◌, ◌++◌, length, map, take, drop, refl, sym, ap, subst, ◌∙◌, append_assoc, length-append, arith, Option, Some, inl, inr}
-use Rattle.std.specs.Prelude.{IsTrue}
 use Rattle.std.proofs.lemmas.List.{append-nil, length-drop, take_all}
 use mathlib.Core.List.{IsPrefix}
 use Rattle.feed_core.specs.PlainTurn.{plain_turn_of}
@@ -36,9 +35,9 @@ fewer_wait old new told outlook after plain prefix full owed =
     omega (arith, waiting, same, gave, given)
 
 -- only the outlook Again leaves another turn owed
-pub owed_again : (old new : DeskState) (told : List Signal) (outlook : Outlook) → new ≡ desk_after_turn old told outlook → IsTrue (owes new) → outlook ≡ Outlook.Again
-owed_again old new told outlook after owed = by outlook (subst (λ (desk : DeskState). IsTrue (owes desk)) after owed) where
-  by : (o : Outlook) → IsTrue (owes (desk_after_turn old told o)) → o ≡ Outlook.Again
+pub owed_again : (old new : DeskState) (told : List Signal) (outlook : Outlook) → new ≡ desk_after_turn old told outlook → owes new ≡ true → outlook ≡ Outlook.Again
+owed_again old new told outlook after owed = by outlook (subst (λ (desk : DeskState). (owes desk ≡ true)) after owed) where
+  by : (o : Outlook) → owes (desk_after_turn old told o) ≡ true → o ≡ Outlook.Again
   by Outlook.Again owed = refl
   by Outlook.Resting owed = cc
   by (Outlook.Ended how) owed = cc

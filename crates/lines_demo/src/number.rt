@@ -1,5 +1,5 @@
 //! Numbers: how bytes spell one.
-ghost use Rattle.std.specs.Prelude.{◌≡◌, ◌≤◌, length, IsTrue, IfSome, All};
+ghost use Rattle.std.specs.Prelude.{◌≡◌, ◌≤◌, length, IfSome, All, true};
 ghost use Rattle.std.specs.List.{list_all};
 ghost use Rattle.lines_demo.specs.Number.{is_digit, is_number, value_of_digits, spelled_number, IsDigit};
 
@@ -27,15 +27,15 @@ pub fn parse_number(bytes: &[u8]) -> Option<u64>
 
 fn is_number(bytes: &[u8]) -> bool
     ensures value { result ≡ is_number bytes.now }
-    ensures short { IsTrue result → length bytes.now ≤ MOST_DIGITS }
-    ensures digits { IsTrue result → All IsDigit bytes.now }
+    ensures short { result ≡ true → length bytes.now ≤ MOST_DIGITS }
+    ensures digits { result ≡ true → All IsDigit bytes.now }
 {
     1 <= bytes.len() && bytes.len() <= MOST_DIGITS && are_digits(bytes)
 }
 
 fn are_digits(bytes: &[u8]) -> bool
     ensures value { result ≡ list_all is_digit bytes.now }
-    ensures digits { IsTrue result → All IsDigit bytes.now }
+    ensures digits { result ≡ true → All IsDigit bytes.now }
 {
     bytes.iter().all(|byte| *byte >= b'0' && *byte <= b'9')
 }

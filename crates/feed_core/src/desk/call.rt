@@ -1,5 +1,5 @@
 //! What a publisher and the owner of a subscription call.
-ghost use Rattle.std.specs.Prelude.{◌≡◌, ◌↔◌, ◌<◌, ◌<ℤ◌, pos, length, unsigned_abs, None, Some, true, false, IsSome, IsTrue};
+ghost use Rattle.std.specs.Prelude.{◌≡◌, ◌↔◌, ◌<◌, ◌<ℤ◌, pos, length, unsigned_abs, None, Some, true, false, IsSome};
 ghost use Rattle.feed_core.specs.Prelude.{PUBLICATIONS, Ending, total_after, IfAccepted, IfFull, IfGone};
 ghost use Rattle.feed_core.specs.Desk.{AcceptsItem, GivesBack, IsFull, Rests, desk_after_signal};
 ghost use Rattle.feed_core.specs.Lane.{IsFlow};
@@ -17,7 +17,7 @@ impl<B: Listener> Desk<B> {
         requires few { length self.old.lane.accepted < PUBLICATIONS }
         ensures accepted { IfAccepted result (AcceptsItem self.old self.new item) }
         ensures full { IfFull result (λ back. IsFull self.old × GivesBack self.old self.new item back) }
-        ensures gone { IfGone result (λ back. IsTrue (is_gone self.old.lane) × GivesBack self.old self.new item back) }
+        ensures gone { IfGone result (λ back. (is_gone self.old.lane ≡ true) × GivesBack self.old self.new item back) }
         ensures flow { IsFlow self.new.lane }
     {
         if self.how.is_some() || self.causes.closing.is_some() {

@@ -1,5 +1,5 @@
 //! The list of the signals of one turn.
-ghost use Rattle.std.specs.Prelude.{◌≡◌, ◌<◌, ◌≤◌, ◌↔◌, ◌∷◌, [], length, IsTrue, IfOk};
+ghost use Rattle.std.specs.Prelude.{◌≡◌, ◌<◌, ◌≤◌, ◌↔◌, ◌∷◌, [], length, IfOk, true};
 
 use crate::turn::SIGNALS_IN_A_TURN;
 use flow_rules::{NoMemory, Signal};
@@ -68,7 +68,7 @@ impl Seen {
 
     /// Whether it holds no signal.
     pub fn is_empty(&self) -> bool
-        ensures { IsTrue result ↔ (self.now.signals ≡ []) }
+        ensures { (result ≡ true) ↔ (self.now.signals ≡ []) }
     {
         self.signals.is_empty()
     }

@@ -1,5 +1,5 @@
 //! The player: it has a session obey the lines of a script, and writes what they are answered.
-ghost use Rattle.std.specs.Prelude.{◌≡◌, ◌<◌, Some, [], true, All, length, is_ok, IsTrue, IfOk, OnOk, IsFalse};
+ghost use Rattle.std.specs.Prelude.{◌≡◌, ◌<◌, Some, [], true, All, length, is_ok, IfOk, OnOk, false};
 ghost use Rattle.lines_demo.specs.Line.{lines_of};
 ghost use Rattle.lines_demo.specs.Writing.{Writes, line_of};
 ghost use Rattle.lines_demo.specs.Script.Command.{IsInRange};
@@ -102,7 +102,7 @@ impl<B: Listener> Player<B> {
     fn play_turns<W: Write>(&mut self, writer: &mut W) -> Result<(), OutputFault>
         ensures turns { Answers (is_ok result) (λ refusals. run_turns self.old.session refusals)
             (W.contents writer.old) (W.contents writer.new) self.new.session }
-        ensures rests { OnOk result (IsFalse (owes_turn self.new.session.subscription)) }
+        ensures rests { OnOk result (owes_turn self.new.session.subscription ≡ false) }
         ensures settled { OnOk result (IsSettledSession self.new.session) }
     {
         while self.session.owes_turn() {
@@ -113,11 +113,11 @@ impl<B: Listener> Player<B> {
 
     /// Makes a turn, and writes its lines.
     fn play_turn<W: Write>(&mut self, writer: &mut W) -> Result<(), OutputFault>
-        requires { IsTrue (owes_turn self.old.session.subscription) }
+        requires { owes_turn self.old.session.subscription ≡ true }
         ensures turn { Answers (is_ok result) (λ refusals. turn_result self.old.session self.old.session.subscription refusals)
             (W.contents writer.old) (W.contents writer.new) self.new.session }
         ensures prints { PrintsTurn (is_ok result) self.old.session self.new.session (W.contents writer.old) (W.contents writer.new) }
-        ensures fewer { IsTrue (owes_turn self.new.session.subscription)
+        ensures fewer { owes_turn self.new.session.subscription ≡ true
             → waiting_items self.new.session.subscription < waiting_items self.old.session.subscription }
     {
         let (name, outlook) = self.session.turn(&mut self.seen);

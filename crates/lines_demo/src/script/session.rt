@@ -1,5 +1,5 @@
 //! The session: where a script stands, and what each command changes there.
-ghost use Rattle.std.specs.Prelude.{◌≡◌, ◌<◌, ◌≤◌, ◌^◌, [], true, All, length, IsTrue, IsFalse, IfOk, IfErr, option_map};
+ghost use Rattle.std.specs.Prelude.{◌≡◌, ◌<◌, ◌≤◌, ◌^◌, [], true, All, length, IfOk, IfErr, option_map, false};
 ghost use Rattle.std.specs.Option.{ForSome};
 ghost use Rattle.feed_core.specs.LaneCalls.{IsCapacity};
 ghost use Rattle.lines_demo.specs.Prelude.{PUBLICATIONS, UNBOUNDED};
@@ -231,7 +231,7 @@ impl<B: Listener> Session<B> {
     pub fn owes_turn(&self) -> bool
         ensures value { result ≡ owes_turn self.now.subscription }
         ensures flow { KeepsFlow self.now }
-        ensures settled { IsFalse result → IsSettledSession self.now }
+        ensures settled { result ≡ false → IsSettledSession self.now }
     {
         match &self.subscription {
             Some(subscription) => subscription.owes_turn(),
@@ -241,9 +241,9 @@ impl<B: Listener> Session<B> {
 
     /// Makes a turn, and answers whose it was. What it told stands in `seen`.
     pub fn turn(&mut self, seen: &mut Seen) -> (Name, Outlook)
-        requires { IsTrue (owes_turn self.old.subscription) }
+        requires { owes_turn self.old.subscription ≡ true }
         ensures turn { MakesTurn self.old self.new result.0 seen.new.signals result.1 }
-        ensures fewer { IsTrue (owes_turn self.new.subscription) → waiting_items self.new.subscription < waiting_items self.old.subscription }
+        ensures fewer { owes_turn self.new.subscription ≡ true → waiting_items self.new.subscription < waiting_items self.old.subscription }
     {
         match &mut self.subscription {
             Some(subscription) => (*subscription.name(), subscription.turn(seen)),

@@ -15,7 +15,9 @@ const STOCK: usize = 1;
 /// What the subscribers of a script keep of what they are told.
 #[derive(Clone, Copy)]
 pub enum Keeping {
+    /// All of it, as a `Collector` does.
     Everything,
+    /// None of it, as a `Tally` does.
     Nothing,
 }
 

@@ -1,5 +1,5 @@
 //! The subscription of a script.
-ghost use Rattle.std.specs.Prelude.{◌≡◌, ◌<◌, ◌<ℤ◌, pos, unsigned_abs, true, length, IsTrue, IsFalse};
+ghost use Rattle.std.specs.Prelude.{◌≡◌, ◌<◌, ◌<ℤ◌, pos, unsigned_abs, true, length, false};
 ghost use Rattle.feed_core.specs.PlainTurn.{plain_turn_of};
 ghost use Rattle.feed_core.specs.Turn.{MeetsPlainTurn};
 ghost use Rattle.lines_demo.specs.Prelude.{PUBLICATIONS, owes, lag_of, IsFlow, IsSettled};
@@ -77,17 +77,17 @@ impl<B: Listener> Subscription<B> {
     pub fn owes_turn(&self) -> bool
         ensures value { result ≡ owes self.now.desk }
         ensures flow { IsFlow self.now.desk.lane }
-        ensures settled { IsFalse result → IsSettled self.now.desk.lane }
+        ensures settled { result ≡ false → IsSettled self.now.desk.lane }
     {
         self.desk.owes()
     }
 
     /// Makes a turn. What it told stands in `seen`.
     pub fn turn(&mut self, seen: &mut Seen) -> Outlook
-        requires { IsTrue (owes self.old.desk) }
+        requires { owes self.old.desk ≡ true }
         ensures after { self.new ≡ subscription_after_turn self.old seen.new.signals result }
         ensures plain { MeetsPlainTurn (plain_turn_of self.old.desk.lane) seen.new.signals result }
-        ensures fewer { IsTrue (owes self.new.desk) → lag_of self.new.desk.lane < lag_of self.old.desk.lane }
+        ensures fewer { owes self.new.desk ≡ true → lag_of self.new.desk.lane < lag_of self.old.desk.lane }
     {
         self.desk.turn(seen)
     }

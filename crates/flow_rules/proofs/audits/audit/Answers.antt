@@ -1,5 +1,5 @@
 -- Where the machine stops, the list is not allowed; at the end it has gone through all of it.
-use Rattle.std.proofs.Common.{◌≡◌, ◌∷◌, [], List, IsTrue, refl, arith, drop, false, ◌∙◌}
+use Rattle.std.proofs.Common.{◌≡◌, ◌∷◌, [], List, refl, arith, drop, false, ◌∙◌, true}
 use Rattle.std.proofs.lemmas.List.{drop_all}
 use Rattle.flow_rules.specs.declared.signal.Signal.{Signal}
 use Rattle.flow_rules.specs.declared.audits.Stage.TheVariants.{Fresh}
@@ -27,5 +27,5 @@ returns-in_default-3 c =
 pub returns : goal.returns
 returns c =
     let all : drop c.loop-signal.signal-index c.args.signals.now ≡ [] = drop_all c.loop-signal.signal-index c.args.signals.now (omega arith) in
-    let accepted : IsTrue (passes Fresh c.args.signals.now) = c.loop-signal.invariant ∙ passes_end _ _ all in
+    let accepted : passes Fresh c.args.signals.now ≡ true = c.loop-signal.invariant ∙ passes_end _ _ all in
     (λ _. (passes_iff c.args.signals.now).0 accepted, λ _. refl)
