@@ -1,8 +1,9 @@
 #!/bin/sh
 # Measures how long the native program takes to play scripts of 1, 4 and 16 MiB, made of offers, requests and runs, and
 # how much memory it has at its peak, both for each byte of the script, and prints each as a ratio to the script of 1 MiB.
+# Each is played twice: on a subscriber that keeps all that it is told, and with --forget on one that keeps nothing.
 # Then the kinds of script that cost most a byte, at 1 MiB each: a run a line, lines of two bytes, offers with CR LF.
-# It sets no bounds. The subscriber keeps all that it is told, so memory grows with the script.
+# It sets no bounds. The script is read whole, so memory grows with it even where the subscriber keeps nothing.
 # It needs the program, which `rt ci` and `./play --build` leave in crates/lines_demo/out, and GNU time or Python 3.
 # Usage: bench/script.sh [RUNS]; each figure is the median of RUNS runs (5).
 set -eu
@@ -40,18 +41,20 @@ lines() {
     }'
 }
 
-# peak FILE: the KiB at the peak of one run.
+# peak FILE: the KiB at the peak of one run. As Python measures it, that is at least what Python has itself, some 14,000 KiB.
+# Each run has the flag $flag, if there is one.
+flag=
 if [ -x /usr/bin/time ] && /usr/bin/time -f %M true >/dev/null 2>&1; then
     peak() {
-        /usr/bin/time -o "$work/time" -f %M "$program" script <"$1" >"$work/out"
+        /usr/bin/time -o "$work/time" -f %M "$program" script ${flag:+"$flag"} <"$1" >"$work/out"
         cat "$work/time"
     }
 else
     peak() {
-        python3 - "$program" "$1" "$work/out" <<'PROGRAM'
+        python3 - "$1" "$work/out" "$program" script ${flag:+"$flag"} <<'PROGRAM'
 import resource, subprocess, sys
-with open(sys.argv[2], "rb") as script, open(sys.argv[3], "wb") as out:
-    subprocess.run([sys.argv[1], "script"], stdin=script, stdout=out, check=True)
+with open(sys.argv[1], "rb") as script, open(sys.argv[2], "wb") as out:
+    subprocess.run(sys.argv[3:], stdin=script, stdout=out, check=True)
 print(resource.getrusage(resource.RUSAGE_CHILDREN).ru_maxrss)
 PROGRAM
     }
@@ -60,7 +63,7 @@ fi
 # spent FILE: the nanoseconds of one run, that of starting the program among them.
 spent() {
     start=$(date +%s%N)
-    "$program" script <"$1" >"$work/out"
+    "$program" script ${flag:+"$flag"} <"$1" >"$work/out"
     echo $(($(date +%s%N) - start))
 }
 
@@ -84,17 +87,20 @@ figures() {
         base_memory = $3 * 1024 / $1
         time = $5 / $4
         memory = $6 * 1024 / $4
-        printf "%-8s %8d %7.3f %11.1f %5.2f %8d %19.2f %5.2f\n",
+        printf "%-14s %8d %7.3f %11.1f %5.2f %8d %19.2f %5.2f\n",
             name, $4, $5 / 1e9, time, time / base_time, $6, memory, memory / base_memory
     }'
 }
 
-printf 'script      bytes seconds ns_per_byte ratio peak_KiB peak_bytes_per_byte ratio\n'
+printf 'script            bytes seconds ns_per_byte ratio peak_KiB peak_bytes_per_byte ratio\n'
 first=
 for size in 1 4 16; do
     make "$size" >"$work/script"
-    figures "${size}MiB"
+    for flag in '' --forget; do
+        figures "${size}MiB${flag:+ $flag}"
+    done
 done
+flag=
 lines 'run\n' >"$work/script"
 figures runs
 lines 'x\n' >"$work/script"

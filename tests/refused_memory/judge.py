@@ -1,6 +1,6 @@
 """Plays scripts with the Nth request for memory refused, for N from 1 up to a run that meets no refusal, and judges each run.
 
-usage: judge.py PROGRAM REFUSE.so SCRIPT..
+usage: judge.py PROGRAM REFUSE.so [--forget] SCRIPT..
 
 A run has to end by itself within ten seconds. Up to the refusal its output is that of the script with ample memory, and then
 
@@ -14,6 +14,7 @@ A run has to end by itself within ten seconds. Up to the refusal its output is t
 
 Each `sub`, `offer` and `submit` that is not refused with ample memory has to be refused it in some run, and so has some
 callback; some run has to be stopped. Where SCRIPT has a file .expected beside it, some run has to give just that.
+With --forget the subscriber keeps nothing, so no callback may be refused memory.
 """
 
 import os
@@ -29,8 +30,9 @@ PUBLISHED = re.compile(rb"(offer|submit) -?\d+\n|refused 11 wait\n")
 class Script:
     """A script, its output with ample memory, and where in it the answers of each command end."""
 
-    def __init__(self, program, file):
-        self.program, self.file = program, file
+    def __init__(self, program, forgets, file):
+        self.command = [program, "script", "--forget"] if forgets else [program, "script"]
+        self.forgets = forgets
         with open(file, "rb") as it:
             self.lines = it.read().splitlines(keepends=True)
         self.full = self.play(self.lines)
@@ -40,14 +42,14 @@ class Script:
 
     def play(self, lines):
         """The lines of the output with ample memory."""
-        ran = subprocess.run([self.program, "script"], input=b"".join(lines), stdout=subprocess.PIPE, timeout=10, check=True)
+        ran = subprocess.run(self.command, input=b"".join(lines), stdout=subprocess.PIPE, timeout=10, check=True)
         return ran.stdout.splitlines(keepends=True)
 
     def refused(self, hook, number):
         """The status, the output and standard error of the run whose request of this number is refused, and whether it was."""
         room = {**os.environ, "REFUSE": str(number), "LD_PRELOAD": hook}
         how = {"stdout": subprocess.PIPE, "stderr": subprocess.PIPE, "timeout": 10, "env": room}
-        ran = subprocess.run([self.program, "script"], input=b"".join(self.lines), **how)
+        ran = subprocess.run(self.command, input=b"".join(self.lines), **how)
         said = ran.stderr.replace(b"request refused\n", b"")
         return ran.returncode, ran.stdout, said, said != ran.stderr
 
@@ -83,6 +85,8 @@ class Script:
         return None
 
     def judge_callback(self, at, lines):
+        if self.forgets:
+            return f"line {at + 1} says that a callback was refused memory, of a subscriber that keeps nothing"
         self.met["callback"] += 1
         name = lines[at].split()[0]
         command = next(i for i, end in enumerate(self.ends[1:]) if end > at)
@@ -109,7 +113,8 @@ class Script:
         asks = [i for i, it in enumerate(self.lines) if re.match(rb"(sub|offer|submit) ", it)]
         asks = [i for i in asks if not self.full[self.ends[i]].startswith(b"refused ")]
         missing = [f"line {i + 1}, {self.lines[i].decode(errors='replace').strip()}" for i in asks if i not in self.met]
-        return missing + [it for it in ("stopped", "callback") if not self.met[it]]
+        needed = ["stopped"] if self.forgets else ["stopped", "callback"]
+        return missing + [it for it in needed if not self.met[it]]
 
 
 def ended(line):
@@ -118,9 +123,9 @@ def ended(line):
     return found[1] + b" 0\n" if found else b"submit 0\n" if line == b"refused 11 wait\n" else line
 
 
-def sweep(program, hook, file):
+def sweep(program, hook, forgets, file):
     """Refuses the requests of the script's run in turn, and returns what is wrong."""
-    script, outputs = Script(program, file), set()
+    script, outputs = Script(program, forgets, file), set()
     for number in range(1, MOST):
         try:
             status, output, said, is_met = script.refused(hook, number)
@@ -146,13 +151,16 @@ def sweep(program, hook, file):
     if script.never_met():
         return f"never refused memory: {'; '.join(script.never_met())}"
     commands = sum(count for it, count in script.met.items() if isinstance(it, int))
-    print(f"{file}: {number - 1} requests, each refused in turn: {script.met['stopped']} stopped the script,", end=" ")
+    how = ", with --forget" if forgets else ""
+    print(f"{file}{how}: {number - 1} requests, each refused in turn: {script.met['stopped']} stopped the script,", end=" ")
     print(f"{script.met['callback']} a callback, {commands} a command, {script.met['nothing']} nothing")
     return None
 
 
-def main(program, hook, *files):
-    faults = [f"{it}: {why}" for it in files for why in [sweep(program, hook, it)] if why]
+def main(program, hook, *words):
+    files = [it for it in words if it != "--forget"]
+    forgets = len(files) < len(words)
+    faults = [f"{it}: {why}" for it in files for why in [sweep(program, hook, forgets, it)] if why]
     print("\n".join(faults or ["each refusal is told as it is"]))
     return 1 if faults or not files else 0
 

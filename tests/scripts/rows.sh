@@ -21,14 +21,17 @@ same() {
     cmp "$1" "$2" >"$work/cmp" 2>&1 || fault "$3: $(cat "$work/cmp")"
 }
 
-# row NAME: plays $work/in. It must write $work/want, nothing on standard error, and end with status 0.
+# row NAME: plays $work/in, and again on a subscriber that keeps nothing. Each time the program must write $work/want, nothing
+# on standard error, and end with status 0.
 row() {
-    row=$1
-    status=0
-    "$program" script <"$work/in" >"$work/out" 2>"$work/err" || status=$?
-    [ "$status" -eq 0 ] || fault "status $status"
-    same "$work/want" "$work/out" 'standard output'
-    [ ! -s "$work/err" ] || fault "standard error: $(cat "$work/err")"
+    for flag in '' --forget; do
+        row="$1${flag:+, with $flag}"
+        status=0
+        "$program" script ${flag:+"$flag"} <"$work/in" >"$work/out" 2>"$work/err" || status=$?
+        [ "$status" -eq 0 ] || fault "status $status"
+        same "$work/want" "$work/out" 'standard output'
+        [ ! -s "$work/err" ] || fault "standard error: $(cat "$work/err")"
+    done
 }
 
 # ended NAME STATUS LINE: a run that has ended with $status was to end so, with this line alone on standard error.
@@ -176,8 +179,10 @@ line 'no subcommand' 2 err
 line 'an unknown subcommand' 2 err scripts
 line 'one word too many' 2 err script more
 line 'an unknown option' 2 err script --more
+line 'an option with a word too many' 2 err script --forget=more
 line '--help' 0 out --help
 line 'script --help' 0 out script --help
+grep -q -e --forget "$work/out" || fault 'no word of --forget'
 
 [ "$failures" -eq 0 ] || exit 1
 echo 'all rows are as they should be'

@@ -1,61 +1,94 @@
-//! One subscription with a subscriber of one's own, which keeps what it is told and knows its longest text.
+//! One subscription with a subscriber of one's own, which knows its longest text and keeps nothing of what it is told.
 #![tactic(auto)]
 
-ghost use Rattle.std.specs.Prelude.{◌≡◌, []};
+ghost use Rattle.std.specs.Prelude.{◌≡◌, [], true, IfOk};
+ghost use Rattle.flow_rules.specs.Signals.{items_of};
+ghost use Rattle.desk_example.specs.Texts.{longest_of};
 
 use feed_core::{Desk, Seen};
 use flow_rules::{
-    Answer, Collector, Fault, Item, NoMemory, PUBLICATIONS, Put, Signal, Subscriber, Text, capacity,
+    Answer, Fault, Item, Listener, NoMemory, PUBLICATIONS, Put, Signal, Text, Told, capacity,
 };
 use std::alloc::Global;
+use std::marker::Model;
 
-/// Keeps what it is told, and knows the length of its longest text.
+/// Knows the length of the longest text that it was told.
 #[derive(Drop)]
 struct Longest {
-    collector: Collector,
+    told: Told,
     longest: usize,
 }
 
-impl Subscriber for Longest {
-    ghost use Rattle.std.specs.Prelude.{is_none};
+impl Model for Longest {
+    ghost use Rattle.std.specs.Prelude.{◌≡◌, List};
+    ghost use Rattle.flow_rules.specs.declared.signal.Signal.{Signal};
+    ghost use Rattle.flow_rules.specs.Signals.{items_of};
+    ghost use Rattle.desk_example.specs.Texts.{longest_of};
 
-    ghost told = { λ s. s.collector.told };
+    ghost Value = { List Signal };
 
-    ghost is_steady = { λ s. is_none s.collector.requests };
+    ghost view = { λ l. l.told };
 
-    fn told(&self) -> &[Signal] {
-        self.collector.told()
+    ghost invariant = { λ l. l.longest ≡ longest_of (items_of l.told) };
+}
+
+impl Longest {
+    /// One that was told nothing.
+    fn new() -> Longest
+        ensures { result ≡ [] }
+    {
+        Longest {
+            told: Told::new(),
+            longest: 0,
+        }
     }
 
-    fn steady(&self) -> bool {
-        self.collector.steady()
+    /// The length of the longest text that it was told, 0 where it was told none.
+    fn longest(&self) -> usize
+        ensures { result ≡ longest_of (items_of self.now) }
+    {
+        self.longest
     }
+}
 
+impl Listener for Longest {
+    ghost use Rattle.std.specs.Prelude.{true};
+
+    ghost told = { λ l. l };
+
+    ghost is_steady = { λ _. true };
+
+    #[tactic(auto, using(flow_rules::proofs::Items::subscribed_no_item))]
     fn on_subscribe(&mut self) -> Result<Answer, NoMemory> {
-        self.collector.on_subscribe()
+        self.told.tell(&Signal::Subscribed);
+        Ok(Answer::Go)
     }
 
+    #[tactic(auto, using(crate::proofs::Texts::one_item_more))]
     fn on_next(&mut self, item: &Item) -> Result<Answer, NoMemory> {
+        self.told.tell_next(item);
         self.longest = self.longest.max(item.text.as_bytes().len());
-        self.collector.on_next(item)
+        Ok(Answer::Go)
     }
 
+    #[tactic(auto, using(flow_rules::proofs::Items::error_no_item))]
     fn on_error(&mut self, fault: Fault) -> Result<Answer, NoMemory> {
-        self.collector.on_error(fault)
+        self.told.tell(&Signal::Error(fault));
+        Ok(Answer::Go)
     }
 
+    #[tactic(auto, using(flow_rules::proofs::Items::complete_no_item))]
     fn on_complete(&mut self) -> Result<Answer, NoMemory> {
-        self.collector.on_complete()
+        self.told.tell(&Signal::Complete);
+        Ok(Answer::Go)
     }
 }
 
 /// A subscription with room for 4 items, whose subscriber requests 2.
-fn subscribed(alloc: Global) -> anyhow::Result<Desk<Longest>> {
-    let subscriber = Longest {
-        collector: Collector::new(alloc),
-        longest: 0,
-    };
-    match Desk::new(alloc, capacity(3)?, subscriber) {
+fn subscribed(alloc: Global) -> anyhow::Result<Desk<Longest>>
+    ensures { IfOk result (λ desk. desk.is_steady ≡ true) }
+{
+    match Desk::new(alloc, capacity(3)?, Longest::new()) {
         Ok(mut desk) => {
             // Its first turn is owed already, so a request starts no task.
             let _ = desk.request(2);
@@ -66,12 +99,14 @@ fn subscribed(alloc: Global) -> anyhow::Result<Desk<Longest>> {
 }
 
 /// Offers a text, where fewer than 2^62 items were accepted. The answer is the lag, where the item was taken.
-fn offer<B: Subscriber>(
+fn offer<B: Listener>(
     desk: &mut Desk<B>,
     alloc: Global,
     number: u64,
     text: &[u8],
-) -> anyhow::Result<Option<u64>> {
+) -> anyhow::Result<Option<u64>>
+    ensures { desk.new.is_steady ≡ desk.old.is_steady }
+{
     if text.len() > Text::LONGEST || desk.accepted() >= PUBLICATIONS {
         return Ok(None);
     }
@@ -88,9 +123,11 @@ fn offer<B: Subscriber>(
 }
 
 /// Runs the task of a subscription, where a turn is owed: turns until it rests or has ended.
-fn run<B: Subscriber>(desk: &mut Desk<B>, seen: &mut Seen) {
+fn run<B: Listener>(desk: &mut Desk<B>, seen: &mut Seen)
+    requires { desk.old.is_steady ≡ true }
+{
     for _ in 0..u64::MAX {
-        if !desk.owes() || !desk.subscriber().steady() {
+        if !desk.owes() {
             return;
         }
         let _ = desk.turn(seen);
@@ -107,11 +144,6 @@ fn main(rt: HostRuntime) -> anyhow::Result<()> {
     }
     run(&mut desk, &mut seen);
     println!(rt; "given {}, {} wait", desk.given(), desk.lag())?;
-    let subscriber = desk.into_subscriber();
-    println!(rt;
-        "told {} signals, longest text {}",
-        subscriber.told().len(),
-        subscriber.longest
-    )?;
+    println!(rt; "longest text {}", desk.into_subscriber().longest())?;
     Ok(())
 }

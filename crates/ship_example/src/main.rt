@@ -1,0 +1,122 @@
+//! Ships lines: publishes each line of standard input on a subscription, whose subscriber writes it to standard output. However many
+//! lines there are, it holds one line and the items of the buffer.
+#![tactic(auto)]
+
+ghost use Rattle.std.specs.Prelude.{◌≡◌, true, IfOk};
+
+use anyhow::{bail, ensure};
+use feed_core::{Desk, Seen};
+use flow_rules::{Ending, GoesOn, Item, PUBLICATIONS, Printer, Put, Text, UNBOUNDED, capacity};
+use std::alloc::Global;
+use std::io;
+use std::io::{BufRead, BufReader, BufWriter, Read, Write};
+
+/// A subscription whose subscriber writes, and goes on after a write that failed.
+type Shipping<W> = Desk<GoesOn<Printer<W>>>;
+
+/// A subscription with room for 256 items, whose subscriber requests all that will ever come.
+fn subscribed<W: Write + Send + Drop>(alloc: Global, writer: W) -> anyhow::Result<Shipping<W>>
+    ensures { IfOk result (λ desk. desk.is_steady ≡ true) }
+{
+    match Desk::new(alloc, capacity(256)?, GoesOn(Printer::new(writer))) {
+        Ok(mut desk) => {
+            // Its first turn is owed already, so a request starts no task.
+            let _ = desk.request(i64::MAX);
+            Ok(desk)
+        }
+        Err((refused, _)) => Err(refused.into()),
+    }
+}
+
+/// Reads a line without its line feed, and no more of it than the longest text and one byte. The answer is whether there was one.
+fn read_line<R: BufRead>(reader: &mut R, line: &mut Vec<u8>) -> io::Result<bool> {
+    line.clear();
+    let most = Text::LONGEST as u64 + 1;
+    if Read::take(&mut *reader, most).read_until(b'\n', line)? == 0 {
+        return Ok(false);
+    }
+    if line.last() == Some(&b'\n') {
+        let _ = line.pop();
+    }
+    Ok(true)
+}
+
+/// Publishes a line, after a turn where the buffer is full.
+fn publish<W: Write + Send + Drop>(
+    desk: &mut Shipping<W>,
+    seen: &mut Seen,
+    item: Item,
+) -> anyhow::Result<()>
+    requires { desk.old.is_steady ≡ true }
+    ensures { desk.new.is_steady ≡ true }
+{
+    if desk.lag() == desk.capacity() as u64 && desk.owes() {
+        let _ = desk.turn(seen);
+    }
+    ensure!(desk.accepted() < PUBLICATIONS, "too many lines");
+    match desk.put(item) {
+        Put::Accepted { .. } => Ok(()),
+        Put::Full(_) => bail!("no room for a line"),
+        Put::Gone(_) => bail!("nobody takes a line"),
+    }
+}
+
+/// Publishes each line, until there are no more or one could not be written.
+fn ship<R: BufRead, W: Write + Send + Drop>(
+    alloc: Global,
+    reader: &mut R,
+    desk: &mut Shipping<W>,
+    seen: &mut Seen,
+) -> anyhow::Result<()>
+    requires { desk.old.is_steady ≡ true }
+    ensures { desk.new.is_steady ≡ true }
+{
+    let mut line = Vec::new(alloc);
+    for number in 0..PUBLICATIONS {
+        if desk.subscriber().0.has_failed() || !read_line(reader, &mut line)? {
+            break;
+        }
+        ensure!(
+            line.len() <= Text::LONGEST,
+            "line {} has more than {} bytes",
+            number + 1,
+            Text::LONGEST
+        );
+        let item = Item {
+            source: 0,
+            seq: number,
+            serial: number,
+            text: Text::new(alloc, line.as_slice())?,
+        };
+        publish(desk, seen, item)?;
+    }
+    Ok(())
+}
+
+/// Ends a subscription, and tells its subscriber all that is left.
+fn end<W: Write + Send + Drop>(desk: &mut Shipping<W>, seen: &mut Seen)
+    requires { desk.old.is_steady ≡ true }
+{
+    let _ = desk.end(Ending::Normal);
+    for _ in 0..u64::MAX {
+        if !desk.owes() {
+            return;
+        }
+        let _ = desk.turn(seen);
+    }
+}
+
+fn main(rt: HostRuntime) -> anyhow::Result<()> {
+    let alloc = rt.alloc();
+    let mut seen = Seen::new(alloc)?;
+    let mut reader = BufReader::new(alloc, rt.reader())?;
+    let mut desk = subscribed(alloc, BufWriter::new(alloc, io::writer(&rt))?)?;
+    let shipped = ship(alloc, &mut reader, &mut desk, &mut seen);
+    // The lines before a wrong one are shipped, too.
+    end(&mut desk, &mut seen);
+    ensure!(
+        !desk.into_subscriber().0.has_failed(),
+        "a line could not be written"
+    );
+    shipped
+}
