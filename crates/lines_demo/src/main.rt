@@ -23,6 +23,7 @@ const VERSION: &str = "0.1.0";
 
 /// The subcommand that plays a script, and its flag for subscribers that keep nothing.
 const SCRIPT: &str = "script";
+
 const FORGET: &str = "forget";
 
 /// What `--help` says of scripts.
