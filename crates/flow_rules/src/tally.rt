@@ -11,7 +11,7 @@ use crate::told::Told;
 use std::marker::Model;
 
 /// A listener that counts the items that it is told, and keeps none. It is steady, and no callback of it is refused memory.
-#[derive(Drop)]
+#[derive(Debug, Drop)]
 pub struct Tally {
     told: Told,
     items: u64,

@@ -11,7 +11,7 @@ use std::marker::Model;
 /// the program runs.
 ///
 /// A [`Listener`](crate::Listener) contains one, and each of its callbacks adds its own signal.
-#[derive(Drop)]
+#[derive(Debug, Drop)]
 pub struct Told {
     ghost signals: { List Signal },
 }
