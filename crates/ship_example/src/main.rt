@@ -1,5 +1,5 @@
-//! Ships lines: publishes each line of standard input on a subscription, whose subscriber writes it to standard output. However many
-//! lines there are, it holds one line and the items of the buffer.
+//! Ships lines: publishes each line of standard input on a subscription, whose subscriber writes it to standard output. It holds
+//! one line and the items of the buffer, however many lines there are.
 #![tactic(auto)]
 
 ghost use Rattle.std.specs.Prelude.{◌≡◌, true, IfOk};
