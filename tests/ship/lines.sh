@@ -1,7 +1,8 @@
 #!/bin/sh
 # Ships lines with the native program of crates/ship_example. What it writes has to be what it read, and its memory at the peak
 # the same however many lines there are: the medians of 9 runs on 10,000 and on 1,000,000 lines, with a slack of 256 KiB, a
-# quarter of a byte a line. (Single runs on the same lines differ by some 300 KiB, by what the system maps of the program.)
+# quarter of a byte a line. (Single runs on the same lines differ by some 300 KiB, by what the system maps of the program, and
+# the medians by 40 KiB.)
 # Then lines that are too long, and output that can't be written.
 # It needs the program, which `rt ci` leaves in crates/ship_example/out, and gcc.
 set -eu

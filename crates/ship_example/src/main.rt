@@ -1,12 +1,12 @@
-//! Ships lines: publishes each line of standard input on a subscription, whose subscriber writes it to standard output. However many
-//! lines there are, it holds one line and the items of the buffer.
+//! Ships lines: publishes each line of standard input on a subscription, whose subscriber writes it to standard output. It holds
+//! one line and the items of the buffer, however many lines there are.
 #![tactic(auto)]
 
 ghost use Rattle.std.specs.Prelude.{◌≡◌, true, IfOk};
 
 use anyhow::{bail, ensure};
 use feed_core::{Desk, Seen};
-use flow_rules::{Ending, GoesOn, Item, PUBLICATIONS, Printer, Put, Text, UNBOUNDED, capacity};
+use flow_rules::{Ending, GoesOn, Item, PUBLICATIONS, Printer, Put, Text, capacity};
 use std::alloc::Global;
 use std::io;
 use std::io::{BufRead, BufReader, BufWriter, Read, Write};
@@ -72,7 +72,7 @@ fn ship<R: BufRead, W: Write + Send + Drop>(
     ensures { desk.new.is_steady ≡ true }
 {
     let mut line = Vec::new(alloc);
-    for number in 0..PUBLICATIONS {
+    for number in 0..u64::MAX {
         if desk.subscriber().0.has_failed() || !read_line(reader, &mut line)? {
             break;
         }
