@@ -1,6 +1,6 @@
 -- A lane that nothing ends at once, and that the calls of its subscription keep it so.
 use Rattle.std.proofs.Common.{◌≡◌, ℕ, ◌+◌, ◌≤◌, Bool, true, false, [], ◌∷◌, length, refl, length-append, arith, None, Some}
-use Rattle.feed_core.specs.Prelude.{Item, Causes, Fault, IllegalArgument, IllegalState, Ending, How, UNBOUNDED, total_after}
+use Rattle.feed_core.specs.Prelude.{Item, Causes, IllegalArgument, IllegalState, Ending, How, UNBOUNDED, total_after}
 use Rattle.feed_core.specs.Cause.{stops, end_where, closing_error}
 use Rattle.feed_core.specs.Lane.{LaneState}
 use Rattle.feed_core.specs.LaneCalls.{lag_of, empty_lane, lane_with_item, lane_with_closing, lane_with_demand}

@@ -1,5 +1,5 @@
 -- One step of a turn keeps a Desk in order.
-use Rattle.std.proofs.Common.{◌≡◌, ℕ, ◌+◌, ◌<◌, ◌≤◌, Bool, true, false, List, [], ◌∷◌, ◌++◌, map, length, drop, Option, None, Some, refl, ap, sym, ◌∙◌, subst, inl, inr, arith, append_assoc}
+use Rattle.std.proofs.Common.{◌≡◌, ℕ, ◌+◌, ◌<◌, Bool, true, false, List, [], ◌∷◌, ◌++◌, map, length, drop, Option, None, Some, refl, ap, sym, ◌∙◌, subst, inl, inr, arith, append_assoc}
 use Rattle.std.proofs.lemmas.List.{append-nil, length-append, map-append}
 use Rattle.std.proofs.Math.Seq.{drop-append_seam}
 use Rattle.feed_core.specs.Prelude.{Item, Signal, Subscribed, Next, Published, IllegalArgument, IllegalState, Ending, How, items_of}
@@ -7,7 +7,7 @@ use Rattle.feed_core.specs.declared.cause.Causes.{Causes}
 use Rattle.feed_core.specs.Cause.{IsFaultOf, stops, closes, end_where, closing_error, completion, with_cause_of}
 use Rattle.feed_core.specs.Lane.{LaneState}
 use Rattle.feed_core.specs.PlainTurn.{terminal_of}
-use Rattle.feed_core.specs.Sound.{is_begun, opening, terminal_part, signals_of, lane_of, loss_of, HasCause, IsInOrder, IsSound}
+use Rattle.feed_core.specs.Sound.{is_begun, opening, terminal_part, signals_of, lane_of, HasCause, IsInOrder}
 use Rattle.feed_core.specs.Steps.{OwesEnd, MovesNext}
 use Rattle.feed_core.proofs.FlowRules.{all_counted, told_open}
 use Rattle.flow_rules.proofs.Items.{items_of_append}

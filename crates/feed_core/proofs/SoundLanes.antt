@@ -1,5 +1,5 @@
 -- The calls of a subscription keep its lane sound.
-use Rattle.std.proofs.Common.{◌≡◌, ℕ, ◌≤◌, [], ◌∷◌, ◌++◌, length, ap, sym, ◌∙◌, append_assoc, length-append, arith, None, Some}
+use Rattle.std.proofs.Common.{◌≡◌, ℕ, ◌≤◌, [], ◌∷◌, ◌++◌, ap, sym, ◌∙◌, append_assoc, length-append, arith, None}
 use Rattle.feed_core.specs.Prelude.{Item, Ending, items_of}
 use Rattle.feed_core.specs.Lane.{LaneState}
 use Rattle.feed_core.specs.LaneCalls.{lane_with_item, lane_with_closing}

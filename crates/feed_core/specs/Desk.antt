@@ -1,11 +1,11 @@
 -- One subscription as plain state: what its calls change, and what they answer.
-use Rattle.std.specs.Prelude.{◌≡◌, ◌↔◌, ℕ, ◌<◌, ◌≤◌, Bool, true, false, ◌&&◌, if◌then◌else◌, is_none, is_some, Option, None, Some, IsSome, List, [], ◌∷◌, ◌++◌}
+use Rattle.std.specs.Prelude.{◌≡◌, ◌↔◌, ℕ, ◌<◌, ◌≤◌, Bool, true, false, ◌&&◌, if◌then◌else◌, is_none, is_some, Option, None, IsSome, List}
 use Rattle.feed_core.specs.Prelude.{Item, Signal, Ending}
 use Rattle.feed_core.specs.declared.turn.outlook.Outlook.{Outlook}
 use Rattle.feed_core.specs.declared.turn.outlook.Outlook.TheVariants.{Again, Resting, Ended}
 use Rattle.feed_core.specs.Lane.{LaneState}
 use Rattle.feed_core.specs.LaneCalls.{empty_lane, lag_of, accepts, IsOpen, lane_with_item, lane_with_closing, lane_with_demand}
-use Rattle.feed_core.specs.Turn.{causes_after, how_after, lane_after_turn}
+use Rattle.feed_core.specs.Turn.{lane_after_turn}
 
 -- a subscription: its lane, the capacity of its buffer, whether its task was started and is not at rest since
 -- (which stays so once it has ended), and whether its subscriber only goes on

@@ -1,5 +1,5 @@
 -- What the calls of a subscription do to its lane (`SubmissionPublisher.offer` and `close`, `Flow.Subscription.request`, Java SE 17).
-use Rattle.std.specs.Prelude.{◌≡◌, ℕ, ◌-◌, ◌<◌, ◌==◌, Bool, ◌||◌, ◌&&◌, not, if◌then◌else◌, is_some, Option, None, Some, [], ◌∷◌, ◌++◌, length}
+use Rattle.std.specs.Prelude.{◌≡◌, ℕ, ◌-◌, ◌<◌, ◌==◌, Bool, ◌||◌, ◌&&◌, not, if◌then◌else◌, is_some, None, Some, [], ◌∷◌, ◌++◌, length}
 use Rattle.feed_core.specs.Prelude.{Item, Ending, IsCapacityOf, total_after}
 use Rattle.feed_core.specs.Cause.{no_causes}
 use Rattle.feed_core.specs.Lane.{LaneState}

@@ -1,5 +1,5 @@
 -- The list of a turn's signals, and the room that was made for it.
-use Rattle.std.specs.Prelude.{ℕ, List, [], ◌∷◌, ◌++◌}
+use Rattle.std.specs.Prelude.{ℕ, List, [], ◌++◌}
 use Rattle.flow_rules.specs.declared.signal.Signal.{Signal}
 
 -- the signals, in order, and for how many there is room

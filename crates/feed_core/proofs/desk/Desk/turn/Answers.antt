@@ -1,5 +1,5 @@
 -- Each look is one step of the plain turn, and the turn is over after 64 items at most.
-use Rattle.std.proofs.Common.{◌++◌, length, drop, ap, sym, ◌∙◌, refl, arith}
+use Rattle.std.proofs.Common.{◌++◌, length, drop, ap, ◌∙◌, arith}
 use Rattle.feed_core.specs.Prelude.{Complete, Error, items_of}
 use Rattle.feed_core.specs.Seen.{SeenState}
 use Rattle.feed_core.proofs.TurnLoop.{after_look, completes, desk_same, ends_ungreeted, errs, few_signals, in_order, in_order_yet, items_of-so_far, length-so_far, misses_greeting, no_terminal_yet, plain_end, plain_full, so_far_more, taken_end, taken_full}
