@@ -1,3 +1,4 @@
+pub mod Amount
 pub mod Callback
 pub mod Capacity
 pub mod Collected

@@ -2,6 +2,7 @@
 //! capacity, demand, and the check that a list of signals is one that the rules allow.
 #![tactic(auto)]
 
+mod amount;
 mod answer;
 mod audits;
 mod capacities;
@@ -21,6 +22,7 @@ mod tally;
 mod text;
 mod told;
 
+pub use amount::Amount;
 pub use answer::Answer;
 pub use audits::audit;
 pub use capacities::{LARGEST_CAPACITY, capacity};
