@@ -29,7 +29,7 @@ pub use capacities::{LARGEST_CAPACITY, capacity};
 pub use collector::Collector;
 pub use demand::{Demand, IllegalArgument, UNBOUNDED};
 pub use ending::Ending;
-pub use feed::Put;
+pub use feed::{DropHandler, Feed, Put, Standing};
 pub use how::How;
 pub use item::{Item, PUBLICATIONS};
 pub use listener::{GoesOn, Listener, Shown};
