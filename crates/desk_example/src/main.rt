@@ -5,7 +5,7 @@ ghost use Rattle.std.specs.Prelude.{◌≡◌, []};
 
 use feed_core::{Desk, Seen};
 use flow_rules::{
-    Answer, Collector, Fault, Item, NoMemory, PUBLICATIONS, Put, Signal, Subscriber, Text, capacity,
+    Answer, Collector, Fault, Feed, Item, NoMemory, PUBLICATIONS, Put, Signal, Subscriber, Text, capacity,
 };
 use std::alloc::Global;
 

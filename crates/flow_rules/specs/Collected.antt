@@ -2,6 +2,8 @@
 use Rattle.std.specs.Prelude.{ℤ, List, Option, Some, None}
 use Rattle.flow_rules.specs.declared.answer.Answer.{Answer}
 use Rattle.flow_rules.specs.declared.answer.Answer.TheVariants.{Go, Request}
+use Rattle.flow_rules.specs.declared.item.Item.{Item}
+use Rattle.flow_rules.specs.declared.signal.Fault.{Fault}
 use Rattle.flow_rules.specs.declared.signal.Signal.{Signal}
 use Rattle.flow_rules.specs.declared.signal.Signal.TheVariants.{Subscribed, Next, Complete, Error}
 

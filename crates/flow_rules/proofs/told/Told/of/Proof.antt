@@ -1,5 +1,5 @@
 -- `of` makes a value of no bytes, whose list is read off the argument. Assumes `Logic`.
-use Rattle.std.proofs.Common.{List, [], ◌∷◌, ◌++◌, refl, sym, subst}
+use Rattle.std.proofs.Common.{ℕ, List, [], ◌∷◌, ◌++◌, refl, sym, subst}
 use seplogic.Ra.Ura.{Ura}
 use mir.Syntax.{Fn, Dict, a_type, dcons, dnil}
 use mir.Val.{Val, vptr, vstruct, vnil}
