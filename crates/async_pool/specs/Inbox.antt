@@ -1,6 +1,6 @@
 -- What clauses see of the list of jobs.
 use Rattle.std.specs.Prelude.{ℕ, List}
-use Rattle.async_pool.specs.Amount.{amount_of}
+use Rattle.flow_rules.specs.Amount.{amount_of}
 use Rattle.async_pool.specs.declared.inbox.Inbox.{Inbox}
 
 module _ {J : Type 0} where

@@ -1,4 +1,3 @@
-pub mod Amount
 pub mod Bag
 pub mod Crew
 pub mod Inbox

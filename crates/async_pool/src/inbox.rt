@@ -2,11 +2,11 @@
 ghost use Rattle.std.specs.Prelude.{◌≡◌, ◌+◌, ◌≤◌, ◌∷◌, ◌++◌, [], length, vec_len, IfOk, OnOk, IfErr, OnErr, IsErr, IsNone, IfSome, IfNone, OnSome, ◌↔◌};
 ghost use Rattle.std.specs.VecDeque.{deque_len, deque_capacity};
 ghost use Rattle.std.specs.Vec.{vec_capacity};
-ghost use Rattle.async_pool.specs.Amount.{amount_of};
+ghost use Rattle.flow_rules.specs.Amount.{amount_of};
 ghost use Rattle.async_pool.specs.Bag.{IsBag};
 ghost use Rattle.async_pool.specs.declared.inbox.TheConstants.{CAPACITY};
 
-use crate::amount::Amount;
+use flow_rules::Amount;
 use std::alloc::{AllocError, Global};
 use std::collections::VecDeque;
 

@@ -13,7 +13,6 @@
 //! lock keeps that as numbers. All room is made by [`Pool::new`], so no other call takes memory.
 #![tactic(auto)]
 
-mod amount;
 mod crew;
 mod inbox;
 mod job;

@@ -1,7 +1,7 @@
 -- What a row says of a Desk.
 use Rattle.std.specs.Prelude.{◌≡◌, ◌↔◌, unsigned_abs, Option, IsSome, List, [], ◌∷◌, length, true}
 use Rattle.feed_core.specs.Prelude.{Signal, Ending}
-use Rattle.feed_core.specs.Desk.{DeskState, AcceptsItem, IsFull, Rests, Owes, desk_after_request, desk_after_end, desk_after_turn}
+use Rattle.feed_core.specs.Desk.{DeskState, AcceptsItem, IsFull, Rests, Owes, desk_after_look, desk_after_try, desk_after_request, desk_after_end, desk_after_turn}
 use Rattle.feed_core.specs.declared.turn.outlook.Outlook.{Outlook}
 use Rattle.feed_core.specs.LaneCalls.{is_gone, lag_of}
 use Rattle.call_tests.specs.Letters.{lettered_item}
@@ -16,8 +16,8 @@ MakesTurn old new = Owes old × ((seen : List Signal) × ((outlook : Outlook) ×
 abbrev pub Fits : Row → DeskState → DeskState → Type 0
 Fits (Accepted letter lag starts) old new =
     (start : Option Unit) × AcceptsItem old new (lettered_item (letter ∷ [])) lag start × ((starts ≡ true) ↔ IsSome start)
-Fits (Full _) old new = IsFull old × (new ≡ old)
-Fits (Gone _) old new = (is_gone old.lane ≡ true) × (new ≡ old)
+Fits (Full _) old new = IsFull old × (new ≡ desk_after_look old)
+Fits (Gone _) old new = (is_gone old.lane ≡ true) × (new ≡ desk_after_try old)
 Fits (Request n starts) old new = (new ≡ desk_after_request (unsigned_abs n) old) × ((starts ≡ true) ↔ Rests old)
 Fits (Close starts) old new = new ≡ desk_after_end Ending.Normal old
 Fits (Turn _ _) old new = MakesTurn old new

@@ -8,7 +8,7 @@ ghost use Rattle.call_tests.specs.Row.{Fits, MakesTurn};
 
 use crate::letters::{item_with, signals};
 use feed_core::{Desk, Outlook, Seen, desks_keep_the_flow_rules};
-use flow_rules::{Ending, How, Listener, NoMemory, PUBLICATIONS, Put, Refusal, capacity};
+use flow_rules::{Ending, Feed, How, Listener, NoMemory, PUBLICATIONS, Put, Refusal, capacity};
 use std::alloc::Global;
 
 /// A call of a Desk, and what it has to answer.
@@ -67,7 +67,7 @@ pub fn answers<B: Listener>(
         Row::Full(letter) => comes_back(alloc, desk, letter, false)?,
         Row::Gone(letter) => comes_back(alloc, desk, letter, true)?,
         Row::Request(n, starts) => n > 0 && desk.request(n).is_some() == starts,
-        Row::Close(starts) => desk.end(Ending::Normal).is_some() == starts,
+        Row::Close(starts) => closes(desk, starts),
         Row::Turn(letters, outlook) => turns(alloc, desk, letters, outlook)?,
         shown => shows(desk, shown),
     })
@@ -104,7 +104,9 @@ fn is_accepted<B: Listener>(
     if desk.accepted() >= PUBLICATIONS {
         return Ok(false);
     }
-    Ok(match desk.put(item) {
+    let answer = desk.put(item);
+    desks_keep_the_flow_rules(desk);
+    Ok(match answer {
         Put::Accepted { lag, start } => (lag, start.is_some()) == want,
         Put::Full(_) | Put::Gone(_) => false,
     })
@@ -128,11 +130,24 @@ fn comes_back<B: Listener>(
     if desk.accepted() >= PUBLICATIONS {
         return Ok(false);
     }
-    Ok(match desk.put(item) {
+    let answer = desk.put(item);
+    desks_keep_the_flow_rules(desk);
+    Ok(match answer {
         Put::Accepted { .. } => false,
         Put::Full(back) => !from_gone && back == twin,
         Put::Gone(back) => from_gone && back == twin,
     })
+}
+
+/// Whether a close starts the task, or does not.
+fn closes<B: Listener>(desk: &mut Desk<B>, starts: bool) -> bool
+    ensures steady { desk.new.is_steady ≡ desk.old.is_steady }
+    ensures fits { result ≡ true → Fits (Row.Close starts) desk.old desk.new }
+    ensures flow { IsFlow desk.new.lane }
+{
+    let start = desk.end(Ending::Normal);
+    desks_keep_the_flow_rules(desk);
+    start.is_some() == starts
 }
 
 /// Whether a turn is owed, tells what these letters write, and has this outlook.

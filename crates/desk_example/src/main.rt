@@ -7,7 +7,7 @@ ghost use Rattle.desk_example.specs.Texts.{longest_of};
 
 use feed_core::{Desk, Seen};
 use flow_rules::{
-    Answer, Fault, Item, Listener, NoMemory, PUBLICATIONS, Put, Signal, Text, Told, capacity,
+    Answer, Fault, Feed, Item, Listener, NoMemory, PUBLICATIONS, Put, Signal, Text, Told, capacity,
 };
 use std::alloc::Global;
 use std::marker::Model;

@@ -4,6 +4,7 @@ pub mod DeskSteps
 pub mod FlowRules
 pub mod Looks
 pub mod PlainTurns
+pub mod ProducerEnds
 pub mod SignalLists
 pub mod SoundLanes
 pub mod TurnLoop

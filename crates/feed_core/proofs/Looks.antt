@@ -24,8 +24,8 @@ owed_turn lane end most (inr e) =
     ap (λ waiting. turn_within (suc most) lane.causes waiting (lane.asked - lane.given)) nothing ∙ pauses most lane.causes [] (lane.asked - lane.given) e.0 (omega arith) ∙ ap (λ close. close_or_rest close []) e.1
 
 -- a subscription of these parts
-abbrev pub desk_of : LaneState → ℕ → Bool → Bool → DeskState
-desk_of lane capacity started steady = record { lane = lane; capacity = capacity; started = started; is_steady = steady }
+abbrev pub desk_of : LaneState → ℕ → Bool → Bool → ℕ → DeskState
+desk_of lane capacity started steady looks = record { lane = lane; capacity = capacity; started = started; is_steady = steady; looks = looks }
 
 -- where completion is asked for, items are left
 still_resting : (closing : Option Ending) (waiting : List Item) → (IsSome (completion closing) → 0 < length waiting)
@@ -57,6 +57,7 @@ looks_rested old seen flow unended unstopped all waits =
         how = unended;
         started = refl;
         capacity = refl;
+        looks = refl;
         steady = λ steady. steady;
       };
       few = omega arith;
@@ -90,10 +91,10 @@ no_item_missed How.OutOfMemory = refl
 module _ {told : List Signal} {held : List Item} {given asked capacity : ℕ} {causes : Causes} {how : Option How} {started : Bool}
     (kept : IsInOrder (lane_of told held given asked causes how) held capacity started) (unended : how ≡ None) (runs : started ≡ true) (begun : is_begun told ≡ true) where
   -- a subscription that ended is changed by what it was told, and by its end
-  ended_after : {told' last : List Signal} {given' : ℕ} {steady steady' : Bool} (held' : List Item) (end : How)
+  ended_after : {told' last : List Signal} {given' : ℕ} {steady steady' : Bool} {looks : ℕ} (held' : List Item) (end : How)
       → told' ≡ told ++ last → items_of told' ++ held' ≡ items_of told ++ held → (steady ≡ true → steady' ≡ true)
-      → AfterTurn (desk_of (lane_of told held given asked causes how) capacity started steady)
-      (desk_of (lane_of told' held' given' asked (with_cause_of end causes) (Some end)) capacity started steady') last (Ended end)
+      → AfterTurn (desk_of (lane_of told held given asked causes how) capacity started steady looks)
+      (desk_of (lane_of told' held' given' asked (with_cause_of end causes) (Some end)) capacity started steady' looks) last (Ended end)
   ended_after held' end recorded accepted stays = record {
     recorded = recorded;
     accepted = accepted;
@@ -102,15 +103,16 @@ module _ {told : List Signal} {held : List Item} {given asked capacity : ℕ} {c
     how = refl;
     started = runs;
     capacity = refl;
+    looks = refl;
     steady = stays;
   }
 
   -- an item was taken and told
-  pub looks_given : {told' : List Signal} {held' : List Item} {seen seen' : List Signal} {steady steady' : Bool}
+  pub looks_given : {told' : List Signal} {held' : List Item} {seen seen' : List Signal} {steady steady' : Bool} {looks : ℕ}
       → MovesNext told told' held held' seen seen' → stops causes ≡ None → given < asked
       → (steady ≡ true → steady' ≡ true)
-      → Looks (desk_of (lane_of told held given asked causes how) capacity started steady)
-      (desk_of (lane_of told' held' (given + 1) asked causes how) capacity started steady') seen seen' Again
+      → Looks (desk_of (lane_of told held given asked causes how) capacity started steady looks)
+      (desk_of (lane_of told' held' (given + 1) asked causes how) capacity started steady' looks) seen seen' Again
   looks_given {told'} {held'} moves unstopped requested stays =
       let after : drop (given + 1) (items_of told' ++ held') ≡ held' =
       ap (λ k. drop k (items_of told' ++ held')) (sym (one_more kept unended runs begun moves)) ∙ drop-append_seam (items_of told') held' in
@@ -126,6 +128,7 @@ module _ {told : List Signal} {held : List Item} {given asked capacity : ℕ} {c
           how = unended;
           started = runs;
           capacity = refl;
+          looks = refl;
           steady = stays;
         };
         few = omega arith;
@@ -143,11 +146,11 @@ module _ {told : List Signal} {held : List Item} {given asked capacity : ℕ} {c
       }
 
   -- an item was taken, and its callback met want of memory
-  pub looks_lost : {told' : List Signal} {held' : List Item} {seen seen' : List Signal} {steady steady' : Bool}
+  pub looks_lost : {told' : List Signal} {held' : List Item} {seen seen' : List Signal} {steady steady' : Bool} {looks : ℕ}
       → told' ≡ told → held' ≡ held → seen' ≡ seen → stops causes ≡ None → given < length (items_of told ++ held)
       → given < asked → (steady ≡ true → steady' ≡ true)
-      → Looks (desk_of (lane_of told held given asked causes how) capacity started steady)
-      (desk_of (lane_of told' held' (given + 1) asked (with_cause_of How.OutOfMemory causes) (Some How.OutOfMemory)) capacity started steady') seen seen' (Ended How.OutOfMemory)
+      → Looks (desk_of (lane_of told held given asked causes how) capacity started steady looks)
+      (desk_of (lane_of told' held' (given + 1) asked (with_cause_of How.OutOfMemory causes) (Some How.OutOfMemory)) capacity started steady' looks) seen seen' (Ended How.OutOfMemory)
   looks_lost {told'} {held'} {seen} same_told same_held same_seen unstopped waits requested stays = record {
     last = [];
     shape = refl;
@@ -176,11 +179,11 @@ module _ {told : List Signal} {held : List Item} {given asked capacity : ℕ} {c
         let waiting : drop given (items_of told ++ held) ≡ item ∷ items = waiting_held kept unended ∙ e in
         (item, turn_within most causes items (asked - given - 1), ap (λ rest. turn_within (suc most) causes rest (asked - given)) waiting ∙ gives most causes item items (asked - given) unstopped (omega arith))
 
-  module _ {told' : List Signal} {seen seen' : List Signal} {steady steady' : Bool} (end : How) (owed : OwesEnd (lane_of told held given asked causes how) end) (stays : steady ≡ true → steady' ≡ true) where
+  module _ {told' : List Signal} {seen seen' : List Signal} {steady steady' : Bool} {looks : ℕ} (end : How) (owed : OwesEnd (lane_of told held given asked causes how) end) (stays : steady ≡ true → steady' ≡ true) where
     -- the end that was owed was told
     pub looks_ended : told' ≡ told ++ terminal_of end → seen' ≡ seen ++ terminal_of end
-        → Looks (desk_of (lane_of told held given asked causes how) capacity started steady)
-        (desk_of (lane_of told' held given asked (with_cause_of end causes) (Some end)) capacity started steady') seen seen' (Ended end)
+        → Looks (desk_of (lane_of told held given asked causes how) capacity started steady looks)
+        (desk_of (lane_of told' held given asked (with_cause_of end causes) (Some end)) capacity started steady' looks) seen seen' (Ended end)
     looks_ended grows seen_grows =
         let same : items_of told' ≡ items_of told = ended_items told told' end grows in
         record {
@@ -202,8 +205,8 @@ module _ {told : List Signal} {held : List Item} {given asked capacity : ℕ} {c
 
     -- the callback of the end that was owed met want of memory
     pub looks_missed : told' ≡ told → seen' ≡ seen → HasTerminal end
-        → Looks (desk_of (lane_of told held given asked causes how) capacity started steady)
-        (desk_of (lane_of told' held given asked (with_cause_of How.OutOfMemory causes) (Some How.OutOfMemory)) capacity started steady') seen seen' (Ended How.OutOfMemory)
+        → Looks (desk_of (lane_of told held given asked causes how) capacity started steady looks)
+        (desk_of (lane_of told' held given asked (with_cause_of How.OutOfMemory causes) (Some How.OutOfMemory)) capacity started steady' looks) seen seen' (Ended How.OutOfMemory)
     looks_missed same_told same_seen missed = record {
       last = [];
       shape = refl;

@@ -62,6 +62,7 @@ pub desk_same : (old new : DeskState) (seen : List Signal) (outlook : Outlook) �
 desk_same old new seen outlook after steady taken = λ k. record {
   lane = record { accepted = after.accepted k; given = taken k; asked = after.asked k; causes = after.causes k; how = after.how k; told = after.recorded k };
   capacity = after.capacity k;
+  looks = after.looks k;
   started = after.started k;
   is_steady = (after.steady steady ∙ sym steady) k;
 }
@@ -84,6 +85,7 @@ so_far_greeted old new seen seen' owed nothing greets =
         how = owed.1;
         started = owed.0;
         capacity = refl;
+        looks = refl;
         steady = λ steady. steady;
       };
       begun = begun_by_greeting old.lane.told;
@@ -108,6 +110,7 @@ after_then old mid new seen more outlook first second = record {
   how = second.how;
   started = second.started;
   capacity = second.capacity ∙ first.capacity;
+  looks = second.looks ∙ first.looks;
   steady = λ steady. second.steady (first.steady steady);
 }
 

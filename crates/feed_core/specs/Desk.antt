@@ -1,5 +1,5 @@
 -- One subscription as plain state: what its calls change, and what they answer.
-use Rattle.std.specs.Prelude.{◌≡◌, ◌↔◌, ℕ, ◌<◌, ◌≤◌, Bool, true, false, ◌&&◌, if◌then◌else◌, is_none, is_some, Option, None, IsSome, List}
+use Rattle.std.specs.Prelude.{◌≡◌, ◌↔◌, ℕ, ◌+◌, ◌<◌, ◌≤◌, Bool, true, false, ◌&&◌, if◌then◌else◌, is_none, is_some, Option, None, IsSome, List}
 use Rattle.feed_core.specs.Prelude.{Item, Signal, Ending}
 use Rattle.feed_core.specs.declared.turn.outlook.Outlook.{Outlook}
 use Rattle.feed_core.specs.declared.turn.outlook.Outlook.TheVariants.{Again, Resting, Ended}
@@ -8,17 +8,18 @@ use Rattle.feed_core.specs.LaneCalls.{empty_lane, lag_of, accepts, IsOpen, lane_
 use Rattle.feed_core.specs.Turn.{lane_after_turn}
 
 -- a subscription: its lane, the capacity of its buffer, whether its task was started and is not at rest since
--- (which stays so once it has ended), and whether its subscriber only goes on
+-- (which stays so once it has ended), whether its subscriber only goes on, and how often its publisher has looked at it
 pub record DeskState : Type 0 where
   pub lane : LaneState
   pub capacity : ℕ
   pub started : Bool
   pub is_steady : Bool
+  pub looks : ℕ
 
 -- a new subscription: its lane is empty, and it owes its first turn
 abbrev pub IsNew : ℕ → Bool → DeskState → Type 0
 IsNew capacity steady desk =
-    desk ≡ record { lane = empty_lane; capacity = capacity; started = true; is_steady = steady }
+    desk ≡ record { lane = empty_lane; capacity = capacity; started = true; is_steady = steady; looks = 0 }
 
 -- a turn is owed: the task was started, and has not ended
 abbrev pub Owes : DeskState → Type 0
@@ -36,9 +37,17 @@ Rests desk = (desk.started ≡ false) × (desk.lane.how ≡ None)
 abbrev pub IsFull : DeskState → Type 0
 IsFull desk = IsOpen desk.lane × (lag_of desk.lane ≡ desk.capacity)
 
--- the item came back, and nothing has changed
+-- a subscription that its publisher has looked at
+abbrev pub desk_after_look : DeskState → DeskState
+desk_after_look desk = record desk { looks = desk.looks + 1 }
+
+-- a subscription that an item was offered to in vain: its publisher has looked at it, unless it was closed
+abbrev pub desk_after_try : DeskState → DeskState
+desk_after_try desk = if is_some desk.lane.causes.closing then desk else desk_after_look desk
+
+-- the item came back, and nothing has changed but that the publisher may have looked
 abbrev pub GivesBack : DeskState → DeskState → Item → Item → Type 0
-GivesBack old new item back = (back ≡ item) × (new ≡ old)
+GivesBack looked new item back = (back ≡ item) × (new ≡ looked)
 
 -- a change of the lane was signalled: the lane is the new one, and the task was started
 abbrev pub desk_after_signal : DeskState → LaneState → DeskState
@@ -48,7 +57,7 @@ desk_after_signal desk lane = record desk { lane = lane; started = true }
 pub record AcceptsItem (old new : DeskState) (item : Item) (lag : ℕ) (start : Option Unit) : Type 0 where
   pub open_before : IsOpen old.lane
   pub room_before : lag_of old.lane < old.capacity
-  pub taken : new ≡ desk_after_signal old (lane_with_item item old.lane)
+  pub taken : new ≡ desk_after_signal (desk_after_look old) (lane_with_item item old.lane)
   pub lag_after : lag ≡ lag_of new.lane
   pub lag_fits : lag ≤ new.capacity
   pub starts : IsSome start ↔ Rests old
@@ -59,7 +68,11 @@ started_after Again = true
 started_after Resting = false
 started_after (Ended _) = true
 
--- the subscription after an item was offered to it
+-- a subscription, but for how often its publisher has looked at it
+abbrev pub desk_without_looks : DeskState → DeskState
+desk_without_looks desk = record desk { looks = 0 }
+
+-- the subscription after an item was offered to it, but for the looks
 abbrev pub desk_after_put : Item → DeskState → DeskState
 desk_after_put item desk = if accepts desk.capacity desk.lane then desk_after_signal desk (lane_with_item item desk.lane) else desk
 

@@ -1,5 +1,5 @@
--- What the calls of a subscription do to its lane (`SubmissionPublisher.offer` and `close`, `Flow.Subscription.request`, Java SE 17).
-use Rattle.std.specs.Prelude.{◌≡◌, ℕ, ◌-◌, ◌<◌, ◌==◌, Bool, ◌||◌, ◌&&◌, not, if◌then◌else◌, is_some, None, Some, [], ◌∷◌, ◌++◌, length}
+-- What the calls of a subscription do to its lane (`SubmissionPublisher.offer`, `close` and `subscribe`, `Flow.Subscription.request`, Java SE 17).
+use Rattle.std.specs.Prelude.{◌≡◌, ℕ, ◌-◌, ◌<◌, ◌==◌, Bool, true, ◌||◌, ◌&&◌, not, if◌then◌else◌, is_some, None, Some, [], ◌∷◌, ◌++◌, length}
 use Rattle.feed_core.specs.Prelude.{Item, Ending, IsCapacityOf, total_after}
 use Rattle.feed_core.specs.Cause.{no_causes}
 use Rattle.feed_core.specs.Lane.{LaneState}
@@ -27,6 +27,10 @@ lane_with_item item lane = record lane { accepted = lane.accepted ++ item ∷ []
 -- the lane with this ending as a cause
 abbrev pub lane_with_closing : Ending → LaneState → LaneState
 lane_with_closing ending lane = record lane { causes = record lane.causes { closing = Some ending } }
+
+-- the lane with a second subscribing of its subscriber as a cause
+abbrev pub lane_with_duplicate : LaneState → LaneState
+lane_with_duplicate lane = record lane { causes = record lane.causes { state = true } }
 
 -- the lane with this many more items requested
 abbrev pub lane_with_demand : ℕ → LaneState → LaneState

@@ -1,6 +1,7 @@
 pub mod Buffer
 pub mod Cause
 pub mod Desk
+pub mod Feed
 pub mod Lane
 pub mod LaneCalls
 pub mod PlainTurn

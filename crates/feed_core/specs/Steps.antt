@@ -73,6 +73,7 @@ pub record AfterTurn (old new : DeskState) (seen : List Signal) (outlook : Outlo
   pub how : new.lane.how ≡ how_after outlook
   pub started : new.started ≡ started_after outlook
   pub capacity : new.capacity ≡ old.capacity
+  pub looks : new.looks ≡ old.looks
   pub steady : old.is_steady ≡ true → new.is_steady ≡ true
 
 -- one look at the causes, and what followed: an item, the end, or rest

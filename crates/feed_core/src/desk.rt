@@ -7,7 +7,7 @@
 //! subscription rests. After 64 items the turn answers `Again`, so that the other subscriptions get theirs. A callback that is
 //! refused memory ends the subscription.
 //!
-//! **Waking.** `put`, `end` and `request` change what there is to tell, so each signals: it marks the task as started. Where the task
+//! **Waking.** `put`, `end`, `duplicate` and `request` change what there is to tell, so each signals: it marks the task as started. Where the task
 //! was at rest, the call answers `Some(())`, and its caller has to see that the task is run; an answer that starts a task is
 //! `#[must_use]`. Where the task was started before, its next look finds the change. Only a look that finds nothing to do takes the
 //! mark away. So between two calls a turn is owed, or the subscriber was told all that its demand and its ending allow. The mark
@@ -18,7 +18,7 @@ mod turn;
 
 use crate::cause::Causes;
 use buffer::Buffer;
-use flow_rules::{Demand, How, Listener, NoMemory};
+use flow_rules::{Amount, Demand, How, Listener, NoMemory};
 use std::alloc::Global;
 use std::marker::Model;
 
@@ -46,11 +46,14 @@ pub struct Desk<B: Listener> {
     how: Option<How>,
     /// Whether its task was started and is not at rest since. It stays so once it has ended.
     started: bool,
+    /// How often its publisher has looked at it.
+    looks: Amount,
 }
 
 impl<B: Listener> Model for Desk<B> {
     ghost use Rattle.feed_core.specs.Desk.{DeskState};
     ghost use Rattle.feed_core.specs.Sound.{lane_of, IsStored};
+    ghost use Rattle.flow_rules.specs.Amount.{amount_of};
 
     ghost Value = { DeskState };
 
@@ -59,6 +62,7 @@ impl<B: Listener> Model for Desk<B> {
       capacity = d.capacity;
       started = d.started;
       is_steady = B.is_steady d.subscriber;
+      looks = amount_of d.looks;
     } };
 
     ghost invariant = { λ d. IsStored
@@ -95,6 +99,7 @@ impl<B: Listener> Desk<B> {
             causes: Causes::none(),
             how: None,
             started: true,
+            looks: Amount::zero(),
         })
     }
 

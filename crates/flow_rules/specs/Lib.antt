@@ -1,7 +1,10 @@
+pub mod Amount
+pub mod Call
 pub mod Callback
 pub mod Capacity
 pub mod Collected
 pub mod Demand
+pub mod Feed
 pub mod Name
 pub mod Padding
 pub mod Printed

@@ -2,6 +2,7 @@
 //! capacity, demand, and the check that a list of signals is one that the rules allow.
 #![tactic(auto)]
 
+mod amount;
 mod answer;
 mod audits;
 mod capacities;
@@ -21,13 +22,14 @@ mod tally;
 mod text;
 mod told;
 
+pub use amount::Amount;
 pub use answer::Answer;
 pub use audits::audit;
 pub use capacities::{LARGEST_CAPACITY, capacity};
 pub use collector::Collector;
 pub use demand::{Demand, IllegalArgument, UNBOUNDED};
 pub use ending::Ending;
-pub use feed::Put;
+pub use feed::{DropHandler, Feed, Put, Standing};
 pub use how::How;
 pub use item::{Item, PUBLICATIONS};
 pub use listener::{GoesOn, Listener, Shown};

@@ -6,7 +6,7 @@ ghost use Rattle.std.specs.Prelude.{◌≡◌, true, IfOk};
 
 use anyhow::{bail, ensure};
 use feed_core::{Desk, Seen};
-use flow_rules::{Ending, GoesOn, Item, PUBLICATIONS, Printer, Put, Text, capacity};
+use flow_rules::{Ending, Feed, GoesOn, Item, PUBLICATIONS, Printer, Put, Text, capacity};
 use std::alloc::Global;
 use std::io;
 use std::io::{BufRead, BufReader, BufWriter, Read, Write};

@@ -1,58 +1,67 @@
 //! What a publisher and the owner of a subscription call.
-ghost use Rattle.std.specs.Prelude.{◌≡◌, ◌↔◌, ◌<◌, ◌<ℤ◌, pos, length, unsigned_abs, None, Some, true, false, IsSome};
-ghost use Rattle.feed_core.specs.Prelude.{PUBLICATIONS, Ending, total_after, IfAccepted, IfFull, IfGone};
-ghost use Rattle.feed_core.specs.Desk.{AcceptsItem, GivesBack, IsFull, Rests, desk_after_signal};
+ghost use Rattle.std.specs.Prelude.{◌≡◌, ◌+◌, ◌↔◌, ◌<ℤ◌, pos, unsigned_abs, true, false, is_some, IsSome};
+ghost use Rattle.feed_core.specs.Desk.{Rests, desk_after_signal};
 ghost use Rattle.feed_core.specs.Lane.{IsFlow};
-ghost use Rattle.feed_core.specs.LaneCalls.{is_gone, lane_with_closing, lane_with_demand};
+ghost use Rattle.feed_core.specs.LaneCalls.{lane_with_demand};
+ghost use Rattle.flow_rules.specs.Amount.{amount_of};
 
 use super::Desk;
-use flow_rules::{Ending, Item, Listener, Put};
+use flow_rules::{Amount, Ending, Feed, How, Item, Listener, NoMemory, Put, Standing};
 use std::mem;
 
-impl<B: Listener> Desk<B> {
-    /// Offers an item to the buffer, which neither waits nor takes memory (`SubmissionPublisher.offer`, one try).
-    ///
-    /// Where the buffer is full, or the subscription has ended or was closed, the item comes back and nothing changes.
-    pub fn put(&mut self, item: Item) -> Put<()>
-        requires few { length self.old.lane.accepted < PUBLICATIONS }
-        ensures accepted { IfAccepted result (AcceptsItem self.old self.new item) }
-        ensures full { IfFull result (λ back. IsFull self.old × GivesBack self.old self.new item back) }
-        ensures gone { IfGone result (λ back. (is_gone self.old.lane ≡ true) × GivesBack self.old self.new item back) }
-        ensures flow { IsFlow self.new.lane }
-    {
-        if self.how.is_some() || self.causes.closing.is_some() {
+impl<B: Listener> Feed for Desk<B> {
+    ghost use Rattle.feed_core.specs.Feed.{end_of, DoesCall};
+
+    type Task = ();
+
+    ghost meaning = { end_of };
+
+    ghost does = { DoesCall };
+
+    /// It is always ready.
+    fn ready(&mut self) -> Result<(), NoMemory> {
+        Ok(())
+    }
+
+    fn put(&mut self, item: Item) -> Put<()> {
+        if self.causes.closing.is_some() {
             return Put::Gone(item);
         }
-        let lag = self.accepted - self.given;
-        if lag == self.capacity as u64 {
+        let standing = look(self.how, self.accepted - self.given, &mut self.looks);
+        if standing.ended {
+            return Put::Gone(item);
+        }
+        if standing.held == self.capacity as u64 {
             return Put::Full(item);
         }
         self.held.put(item);
         self.accepted += 1;
         Put::Accepted {
-            lag: lag + 1,
+            lag: standing.held + 1,
             start: signal(&mut self.started),
         }
     }
 
-    /// Closes the subscription: its subscriber is told the ending once it was given every item
-    /// (`SubmissionPublisher.close`). Only the first call does anything.
-    #[must_use]
-    pub fn end(&mut self, ending: Ending) -> Option<()>
-        requires normal { ending ≡ Ending.Normal }
-        ensures first { self.old.lane.causes.closing ≡ None
-            → self.new ≡ desk_after_signal self.old (lane_with_closing ending self.old.lane) }
-        ensures later { IsSome self.old.lane.causes.closing → self.new ≡ self.old }
-        ensures starts { IsSome result ↔ ((self.old.lane.causes.closing ≡ None) × Rests self.old) }
-        ensures flow { IsFlow self.new.lane }
-    {
-        if self.causes.closing.is_some() {
-            return None;
+    fn end(&mut self, ending: Ending) -> Option<()> {
+        if self.causes.closing.is_none() {
+            self.causes.closing = Some(ending);
+            signal(&mut self.started)
+        } else {
+            None
         }
-        self.causes.closing = Some(ending);
+    }
+
+    fn duplicate(&mut self) -> Option<()> {
+        self.causes.state = true;
         signal(&mut self.started)
     }
 
+    fn standing(&mut self) -> Standing {
+        look(self.how, self.accepted - self.given, &mut self.looks)
+    }
+}
+
+impl<B: Listener> Desk<B> {
     /// Adds to the demand (`Flow.Subscription.request`; Reactive Streams 1.0, rules 3.8 and 3.17). An ended
     /// subscription counts it, too, and is told nothing more.
     #[must_use]
@@ -64,6 +73,19 @@ impl<B: Listener> Desk<B> {
     {
         let _ = self.asked.add(n);
         signal(&mut self.started)
+    }
+}
+
+/// Looks at a subscription: whether it has ended, and how many items its buffer holds.
+fn look(how: Option<How>, held: u64, looks: &mut Amount) -> Standing
+    ensures ended { result.ended ≡ is_some how }
+    ensures held { result.held ≡ held }
+    ensures counted { amount_of looks.new ≡ amount_of looks.old + 1 }
+{
+    looks.add_one();
+    Standing {
+        ended: how.is_some(),
+        held,
     }
 }
 

@@ -22,7 +22,7 @@ cap_result state refusals capacity =
 
 -- what the publisher has of a new subscription: its first turn is owed, and its subscriber is steady
 abbrev pub desk_at_start : ℕ → DeskState
-desk_at_start capacity = record { lane = empty_lane; capacity = capacity; started = true; is_steady = true }
+desk_at_start capacity = record { lane = empty_lane; capacity = capacity; started = true; is_steady = true; looks = 0 }
 
 -- what the publisher has of a subscription before it requests anything: it is closed at once where the publisher was
 abbrev pub desk_at_subscribing : Bool → ℕ → DeskState

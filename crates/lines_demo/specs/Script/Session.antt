@@ -5,7 +5,7 @@ use Rattle.lines_demo.specs.declared.script.reply.Reply.{Reply}
 use Rattle.lines_demo.specs.declared.script.reply.Reply.TheVariants.{Refused}
 use Rattle.lines_demo.specs.declared.script.session.TheConstants.{DEFAULT_CAPACITY}
 
--- a subscription: its name, and what the publisher has of it
+-- a subscription: its name, and what the publisher has of it, but for how often it has looked at it
 pub record SubscriptionState : Type 0 where
   pub name : List ℕ
   pub desk : DeskState

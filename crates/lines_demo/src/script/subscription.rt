@@ -2,12 +2,12 @@
 ghost use Rattle.std.specs.Prelude.{◌≡◌, ◌<◌, ◌<ℤ◌, pos, unsigned_abs, true, length, false};
 ghost use Rattle.feed_core.specs.PlainTurn.{plain_turn_of};
 ghost use Rattle.feed_core.specs.Turn.{MeetsPlainTurn};
-ghost use Rattle.lines_demo.specs.Prelude.{PUBLICATIONS, owes, lag_of, IsFlow, IsSettled};
+ghost use Rattle.lines_demo.specs.Prelude.{PUBLICATIONS, owes, desk_without_looks, lag_of, IsFlow, IsSettled};
 ghost use Rattle.lines_demo.specs.Script.Calls.{offer_answer, subscription_after_put, subscription_after_request, subscription_after_close};
 ghost use Rattle.lines_demo.specs.Script.Turns.{subscription_after_turn};
 
 use feed_core::{Desk, Outlook, Seen};
-use flow_rules::{Ending, Item, Listener, Name, Put};
+use flow_rules::{Ending, Feed, Item, Listener, Name, Put};
 use std::marker::Model;
 
 /// A subscription of a script: its name, and what the publisher has of it. Its subscriber is steady.
@@ -19,11 +19,12 @@ pub struct Subscription<B: Listener> {
 
 impl<B: Listener> Model for Subscription<B> {
     ghost use Rattle.std.specs.Prelude.{◌≡◌, true};
+    ghost use Rattle.lines_demo.specs.Prelude.{desk_without_looks};
     ghost use Rattle.lines_demo.specs.Script.Session.{SubscriptionState};
 
     ghost Value = { SubscriptionState };
 
-    ghost view = { λ s. record { name = s.name; desk = s.desk } };
+    ghost view = { λ s. record { name = s.name; desk = desk_without_looks s.desk } };
 
     ghost invariant = { λ s. s.desk.is_steady ≡ true };
 }
@@ -32,7 +33,7 @@ impl<B: Listener> Subscription<B> {
     /// A subscription of this name.
     pub fn new(name: Name, desk: Desk<B>) -> Subscription<B>
         requires steady { desk.is_steady ≡ true }
-        ensures { result ≡ record { name = name; desk = desk } }
+        ensures { result ≡ record { name = name; desk = desk_without_looks desk } }
     {
         Subscription { name, desk }
     }

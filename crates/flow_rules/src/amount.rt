@@ -3,10 +3,10 @@ ghost use Rattle.std.specs.Prelude.{◌≡◌, ◌+◌};
 
 use boxcar::tag::{Names, Tag};
 
-/// How many there were. Its `Tag` is a value of no bytes that a proof keeps numbers in, so it costs nothing when it
-/// runs, and it never wraps.
+/// How many there were: of jobs that an inbox took, or of looks that a publisher made. It is a value of no bytes that a proof keeps a
+/// number in, so it costs nothing when the program runs, and it never wraps. Clauses read it by `amount_of`.
 #[derive(Drop)]
-pub(crate) struct Amount {
+pub struct Amount {
     tag: Tag,
 }
 
@@ -22,13 +22,13 @@ struct OneMore;
 
 impl Names<Amount> for OneMore {
     ghost use Rattle.std.specs.Prelude.{[], ◌∷◌, ◌+◌};
-    ghost use Rattle.async_pool.specs.Amount.{amount_of};
+    ghost use Rattle.flow_rules.specs.Amount.{amount_of};
 
     ghost numbers = { λ amount. (amount_of amount + 1) ∷ [] };
 }
 
 impl Amount {
-    ghost use Rattle.async_pool.specs.Amount.{amount_of};
+    ghost use Rattle.flow_rules.specs.Amount.{amount_of};
 
     /// None.
     pub fn zero() -> Amount

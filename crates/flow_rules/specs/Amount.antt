@@ -1,6 +1,6 @@
 -- What clauses see of an Amount.
 use Rattle.std.specs.Prelude.{ℕ, slice_index}
-use Rattle.async_pool.specs.declared.amount.Amount.{Amount}
+use Rattle.flow_rules.specs.declared.amount.Amount.{Amount}
 
 -- how many there were
 abbrev pub amount_of : Amount → ℕ
