@@ -7,11 +7,11 @@
 //! subscription rests. After 64 items the turn answers `Again`, so that the other subscriptions get theirs. A callback that is
 //! refused memory ends the subscription.
 //!
-//! **Waking.** `put`, `end`, `duplicate` and `request` change what there is to tell, so each signals: it marks the task as started. Where the task
-//! was at rest, the call answers `Some(())`, and its caller has to see that the task is run; an answer that starts a task is
-//! `#[must_use]`. Where the task was started before, its next look finds the change. Only a look that finds nothing to do takes the
-//! mark away. So between two calls a turn is owed, or the subscriber was told all that its demand and its ending allow. The mark
-//! stays after the end, so that nothing starts the task of a subscription that has ended.
+//! **Waking.** `put`, `end`, `duplicate` and `request` change what there is to tell, so each signals: it marks the task as
+//! started. Where the task was at rest, the call answers `Some(())`, and its caller has to see that the task is run; an answer
+//! that starts a task is `#[must_use]`. Where the task was started before, its next look finds the change. Only a look that finds
+//! nothing to do takes the mark away. So between two calls a turn is owed, or the subscriber was told all that its demand and its
+//! ending allow. The mark stays after the end, so that nothing starts the task of a subscription that has ended.
 mod buffer;
 mod call;
 mod turn;
