@@ -12,7 +12,6 @@ pub use Rattle.flow_rules.specs.declared.signal.Signal.{Signal}
 pub use Rattle.flow_rules.specs.declared.signal.Signal.TheVariants.{Subscribed, Next, Complete, Error}
 pub use Rattle.flow_rules.specs.Capacity.{capacity_of, IsCapacityOf}
 pub use Rattle.flow_rules.specs.Demand.{total_after}
-pub use Rattle.flow_rules.specs.Put.{IfAccepted, IfFull, IfGone}
 pub use Rattle.flow_rules.specs.Signals.{IsTerminalPart, IsFlowText, items_of}
 pub use Rattle.feed_core.specs.declared.cause.Causes.{Causes}
 pub use Rattle.feed_core.specs.declared.turn.outlook.Outlook.{Outlook}

@@ -8,6 +8,5 @@ pub mod Feed
 pub mod Name
 pub mod Padding
 pub mod Printed
-pub mod Put
 pub mod Refusal
 pub mod Signals
