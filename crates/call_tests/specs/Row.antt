@@ -1,12 +1,12 @@
 -- What a row says of a Desk.
-use Rattle.std.specs.Prelude.{◌≡◌, ◌↔◌, unsigned_abs, Option, IsSome, List, [], ◌∷◌, length, true}
+use Rattle.std.specs.Prelude.{◌≡◌, ◌↔◌, unsigned_abs, is_some, Option, IsSome, List, [], ◌∷◌, length, true}
 use Rattle.feed_core.specs.Prelude.{Signal, Ending}
-use Rattle.feed_core.specs.Desk.{DeskState, AcceptsItem, IsFull, Rests, Owes, desk_after_look, desk_after_try, desk_after_request, desk_after_end, desk_after_turn}
+use Rattle.feed_core.specs.Desk.{DeskState, AcceptsItem, IsFull, Rests, Owes, desk_after_look, desk_after_try, desk_after_signal, desk_after_request, desk_after_end, desk_after_turn}
 use Rattle.feed_core.specs.declared.turn.outlook.Outlook.{Outlook}
-use Rattle.feed_core.specs.LaneCalls.{is_gone, lag_of}
+use Rattle.feed_core.specs.LaneCalls.{is_gone, lag_of, lane_with_duplicate}
 use Rattle.call_tests.specs.Letters.{lettered_item}
 use Rattle.call_tests.specs.declared.row.Row.{Row}
-use Rattle.call_tests.specs.declared.row.Row.TheVariants.{Accepted, Full, Gone, Request, Close, Turn, Capacity, Counts, Lag, Ended}
+use Rattle.call_tests.specs.declared.row.Row.TheVariants.{Accepted, Full, Gone, Request, Close, Fail, Duplicate, Standing, Turn, Capacity, Counts, Lag, Ended}
 
 -- a turn was owed, and it changed the Desk as a turn does that tells some signals and has some outlook
 abbrev pub MakesTurn : DeskState → DeskState → Type 0
@@ -20,6 +20,9 @@ Fits (Full _) old new = IsFull old × (new ≡ desk_after_look old)
 Fits (Gone _) old new = (is_gone old.lane ≡ true) × (new ≡ desk_after_try old)
 Fits (Request n starts) old new = (new ≡ desk_after_request (unsigned_abs n) old) × ((starts ≡ true) ↔ Rests old)
 Fits (Close starts) old new = new ≡ desk_after_end Ending.Normal old
+Fits (Fail code starts) old new = new ≡ desk_after_end (Ending.Failed code) old
+Fits (Duplicate starts) old new = (new ≡ desk_after_signal old (lane_with_duplicate old.lane)) × ((starts ≡ true) ↔ Rests old)
+Fits (Standing ended held) old new = (new ≡ desk_after_look old) × (is_some old.lane.how ≡ ended) × (lag_of old.lane ≡ held)
 Fits (Turn _ _) old new = MakesTurn old new
 Fits (Capacity enforced) old new = (new ≡ old) × (old.capacity ≡ enforced)
 Fits (Counts accepted given asked) old new =

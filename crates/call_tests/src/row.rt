@@ -1,7 +1,7 @@
 //! The calls of a Desk as rows: what is called, and what has to be answered.
 ghost use Rattle.std.specs.Prelude.{◌≡◌, [], true, IfOk, OnErr, false};
 ghost use Rattle.flow_rules.specs.Capacity.{capacity_of};
-ghost use Rattle.feed_core.specs.Desk.{IsNew};
+ghost use Rattle.feed_core.specs.Desk.{IsNew, desk_after_end};
 ghost use Rattle.feed_core.specs.Lane.{IsFlow};
 ghost use Rattle.call_tests.specs.declared.row.Row.TheVariants as Row;
 ghost use Rattle.call_tests.specs.Row.{Fits, MakesTurn};
@@ -24,6 +24,12 @@ pub enum Row<'a> {
     Request(i64, bool),
     /// The publisher is closed, and the task is to be started or not.
     Close(bool),
+    /// The publisher is closed with an error of this code, and the task is to be started or not.
+    Fail(u32, bool),
+    /// Its subscriber subscribes a second time, and the task is to be started or not.
+    Duplicate(bool),
+    /// A look shows whether it has ended, and how many items its buffer holds.
+    Standing(bool, u64),
     /// A turn is owed. It tells what these letters write, and has this outlook.
     Turn(&'a [u8], Outlook),
     /// The buffer has this capacity.
@@ -67,7 +73,10 @@ pub fn answers<B: Listener>(
         Row::Full(letter) => comes_back(alloc, desk, letter, false)?,
         Row::Gone(letter) => comes_back(alloc, desk, letter, true)?,
         Row::Request(n, starts) => n > 0 && desk.request(n).is_some() == starts,
-        Row::Close(starts) => closes(desk, starts),
+        Row::Close(starts) => closes(desk, Ending::Normal, starts),
+        Row::Fail(code, starts) => closes(desk, Ending::Failed(code), starts),
+        Row::Duplicate(starts) => duplicates(desk, starts),
+        Row::Standing(ended, held) => stands(desk, ended, held),
         Row::Turn(letters, outlook) => turns(alloc, desk, letters, outlook)?,
         shown => shows(desk, shown),
     })
@@ -139,15 +148,37 @@ fn comes_back<B: Listener>(
     })
 }
 
-/// Whether a close starts the task, or does not.
-fn closes<B: Listener>(desk: &mut Desk<B>, starts: bool) -> bool
+/// Whether a close with this ending starts the task, or does not.
+fn closes<B: Listener>(desk: &mut Desk<B>, ending: Ending, starts: bool) -> bool
     ensures steady { desk.new.is_steady ≡ desk.old.is_steady }
-    ensures fits { result ≡ true → Fits (Row.Close starts) desk.old desk.new }
+    ensures fits { result ≡ true → desk.new ≡ desk_after_end ending desk.old }
     ensures flow { IsFlow desk.new.lane }
 {
-    let start = desk.end(Ending::Normal);
+    let start = desk.end(ending);
     desks_keep_the_flow_rules(desk);
     start.is_some() == starts
+}
+
+/// Whether a second subscribing starts the task, or does not.
+fn duplicates<B: Listener>(desk: &mut Desk<B>, starts: bool) -> bool
+    ensures steady { desk.new.is_steady ≡ desk.old.is_steady }
+    ensures fits { result ≡ true → Fits (Row.Duplicate starts) desk.old desk.new }
+    ensures flow { IsFlow desk.new.lane }
+{
+    let start = desk.duplicate();
+    desks_keep_the_flow_rules(desk);
+    start.is_some() == starts
+}
+
+/// Whether a look shows this.
+fn stands<B: Listener>(desk: &mut Desk<B>, ended: bool, held: u64) -> bool
+    ensures steady { desk.new.is_steady ≡ desk.old.is_steady }
+    ensures fits { result ≡ true → Fits (Row.Standing ended held) desk.old desk.new }
+    ensures flow { IsFlow desk.new.lane }
+{
+    let standing = desk.standing();
+    desks_keep_the_flow_rules(desk);
+    (standing.ended, standing.held) == (ended, held)
 }
 
 /// Whether a turn is owed, tells what these letters write, and has this outlook.

@@ -4,7 +4,9 @@ ghost use Rattle.std.specs.Prelude.{◌≡◌, [], true};
 use super::subscribers::was_told;
 use crate::{Refused, Row, answers, desk_of};
 use feed_core::{Desk, Outlook, desks_keep_the_flow_rules};
-use flow_rules::{Collector, How, Listener, NoMemory, Shown, Subscriber, Tally, UNBOUNDED, audit};
+use flow_rules::{
+    Collector, Fault, How, Listener, NoMemory, Shown, Subscriber, Tally, UNBOUNDED, audit,
+};
 use std::alloc::Global;
 use std::process::Abort;
 use std::test::Fail;
@@ -49,6 +51,28 @@ const COMPLETION: [Row<'static>; 11] = [
     Row::Ended(Some(How::Completed)),
     Row::Counts(1, 1, 2),
     Row::Gone(b'z'),
+];
+
+const ERROR: [Row<'static>; 10] = [
+    Row::Accepted(b'x', 1, false),
+    Row::Turn(b"s", Outlook::Resting),
+    Row::Standing(false, 1),
+    Row::Fail(7, true),
+    Row::Close(false),
+    Row::Gone(b'y'),
+    Row::Turn(b"e", Outlook::Ended(How::Errored(Fault::Published(7)))),
+    Row::Standing(true, 1),
+    Row::Fail(8, false),
+    Row::Gone(b'z'),
+];
+
+const SECOND_SUBSCRIBING: [Row<'static>; 6] = [
+    Row::Turn(b"s", Outlook::Resting),
+    Row::Accepted(b'x', 1, true),
+    Row::Turn(b"", Outlook::Resting),
+    Row::Duplicate(true),
+    Row::Duplicate(false),
+    Row::Ended(None),
 ];
 
 const UNBOUNDED_DEMAND: [Row<'static>; 7] = [
@@ -135,6 +159,16 @@ fn a_full_buffer_gives_the_item_back(rt: HostRuntime) -> Result<(), Fail> {
 #[test]
 fn completion_comes_after_the_items(rt: HostRuntime) -> Result<(), Fail> {
     play_on_all(&rt, rt.alloc(), 4, &COMPLETION, b"sxc")
+}
+
+#[test]
+fn an_error_overtakes_the_items(rt: HostRuntime) -> Result<(), Fail> {
+    play_on_all(&rt, rt.alloc(), 4, &ERROR, b"se")
+}
+
+#[test]
+fn a_second_subscribing_starts_the_task_once(rt: HostRuntime) -> Result<(), Fail> {
+    play_on_all(&rt, rt.alloc(), 4, &SECOND_SUBSCRIBING, b"s")
 }
 
 #[test]
