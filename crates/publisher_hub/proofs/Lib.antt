@@ -1,0 +1,9 @@
+pub mod Ends
+pub mod Grown
+pub mod LiveRounds
+pub mod Looks
+pub mod Offers
+pub mod PartialRounds
+pub mod Preparing
+pub mod Places
+pub mod Starting

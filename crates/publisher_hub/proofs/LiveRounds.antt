@@ -1,0 +1,50 @@
+-- A step of a round over the live subscriptions: which one is next, and what is known of it.
+use Rattle.std.proofs.Common.{◌≡◌, ◌⊎◌, ℕ, ◌+◌, ◌<◌, zero, suc, ◌≤◌, true, false, Bool, None, Some, List, [], ◌∷◌, length, map, get_or, set, refl, ap, sym, subst, ◌∙◌, inl, inr, arith, slice_index_or}
+use Rattle.std.specs.Prelude.{slice_get}
+use Rattle.std.proofs.lemmas.List.{length-map}
+use Rattle.std.proofs.lemmas.Option.{slice_get-get_or, slice_get_within}
+use Rattle.flow_rules.specs.Feed.{End}
+use Rattle.publisher_hub.specs.Entry.{EntryState, entry_of}
+use Rattle.publisher_hub.specs.Sound.{AreLive, AreNumbers}
+use Rattle.publisher_hub.specs.declared.entry.Entry.{Entry}
+use Rattle.publisher_hub.proofs.PartialRounds.{IsAmong, Upto, next_is_other}
+
+-- the next number
+pub number_at : (live : List ℕ) (n : ℕ) → n < length live → slice_get live n ≡ Some (slice_index_or live n 0)
+number_at live n within = slice_get-get_or live n 0 within
+
+-- what stands at a place of a list that was mapped
+pub get_mapped : {A B : Type 0} (f : A → B) (xs : List A) (k : ℕ) (x : A) → slice_get xs k ≡ Some x → slice_get (map f xs) k ≡ Some (f x)
+get_mapped f [] k x at = cc
+get_mapped f (first ∷ xs) zero x at = cc
+get_mapped f (first ∷ xs) (suc k) x at = get_mapped f xs k x at
+
+-- what stands at a place of a mapped list was mapped from what stands there
+pub get_before_map : {A B : Type 0} (f : A → B) (xs : List A) (k : ℕ) (y : B) → slice_get (map f xs) k ≡ Some y → (x : A) × ((slice_get xs k ≡ Some x) × (f x ≡ y))
+get_before_map f [] k y at = cc
+get_before_map f (first ∷ xs) zero y at = (first, (refl, cc))
+get_before_map f (first ∷ xs) (suc k) y at = get_before_map f xs k y at
+
+-- the numbers of the live ones are those of these entries
+pub numbers_of : {F : Type 0} (meaning : F → End) (live : List ℕ) (xs : List (Entry F)) → AreLive live (map (entry_of meaning) xs) → AreNumbers live (length xs)
+numbers_of meaning live xs are = subst (λ many. AreNumbers live many) (length-map xs (entry_of meaning)) are.numbers
+
+-- one that is none of the live ones is retired
+pub others_retired : {F : Type 0} (meaning : F → End) (live : List ℕ) (xs : List (Entry F)) (k : ℕ) (x : Entry F) → AreLive live (map (entry_of meaning) xs) → slice_get xs k ≡ Some x
+    → (IsAmong live (length live) k → ⊥) → x.retired ≡ true
+others_retired meaning live xs k x are at other = by x.retired refl where
+  by : (retired : Bool) → x.retired ≡ retired → retired ≡ true
+  by true e = refl
+  by false e = let found = are.covers k (entry_of meaning x) (get_mapped (entry_of meaning) xs k x at) e in
+      absurd (other (found.0, (slice_get_within live found.0 k found.1, found.1)))
+
+module _ {B F : Type 0} (R : B → Entry F → Entry F → Type 0) (quiet : B) (live : List ℕ) (n : ℕ) (answers : List B) (xs ys : List (Entry F))
+    (numbers : AreNumbers live (length xs)) (within : n < length live) (upto : Upto R quiet live n answers xs ys) where
+  -- the number of the next one is that of an entry
+  pub number_within : slice_index_or live n 0 < length ys
+  number_within = let is = numbers.within n (slice_index_or live n 0) (number_at live n within) in let long = upto.as_long in omega arith
+
+  -- the next one is as it was
+  pub next_stood : (d : Entry F) → slice_get xs (slice_index_or live n 0) ≡ Some (slice_index_or ys (slice_index_or live n 0) d)
+  next_stood d = sym (upto.rest (slice_index_or live n 0) (next_is_other live (length xs) n (slice_index_or live n 0) numbers (number_at live n within)))
+      ∙ slice_get-get_or ys (slice_index_or live n 0) d number_within

@@ -1,0 +1,26 @@
+-- One that goes on was asked to be ready.
+use Rattle.std.proofs.Common.{rules, ◌≡◌, Result, Ok, Err, OnErr, IsErr, refl}
+use Rattle.flow_rules.specs.declared.feed.standing.Standing.{Standing}
+use Rattle.publisher_hub.proofs.entry.Entry.prepare.Goals as goal
+
+on_err : {A E : Type 0} (r : Result A E) (P : Type 0) → P → OnErr r P
+on_err (Ok x) P p = _
+on_err (Err e) P p = p
+
+pub returns-in_err-make_ready-clause-err : goal.returns-in_err-make_ready-clause-err
+returns-in_err-make_ready-clause-err g c = on_err c.from_residual.result _ (record {
+  middle = c.look.new.self;
+  standing = c.in-Some.standing;
+  answer = c.make_ready.result;
+  sees = search rules;
+  refused = search rules;
+  readied = c.make_ready.ensures;
+})
+
+pub returns-in_ok-make_ready-clause-ok : goal.returns-in_ok-make_ready-clause-ok
+returns-in_ok-make_ready-clause-ok g c = record {
+  middle = c.look.new.self;
+  sees = search rules;
+  ended = search rules;
+  stays = λ _. (c.make_ready.result, (search rules, c.make_ready.ensures));
+}

@@ -1,0 +1,40 @@
+-- One subscription of a Hub, as its clauses see it.
+use Rattle.std.specs.Prelude.{ℕ, Bool, Option, None, Some, option_map, if◌then◌else◌, List, []}
+use Rattle.close_count.specs.declared.ticket.Ticket.{Ticket}
+use Rattle.flow_rules.specs.Feed.{End}
+use Rattle.flow_rules.specs.declared.item.Item.{Item}
+use Rattle.publisher_hub.specs.declared.entry.Entry.{Entry}
+
+-- a subscription: its name; the next serial number when it was subscribed, and when it was retired; how many publications found its
+-- buffer full; whether it was retired; what the publisher knows of its producer's end; and its ticket
+pub record EntryState : Type 0 where
+  pub name : List ℕ
+  pub since : ℕ
+  pub until : ℕ
+  pub dropped : ℕ
+  pub retired : Bool
+  pub feed : Option End
+  pub ticket : Option Ticket
+
+-- what is stored of a subscription whose producer's end means this
+abbrev pub entry_of : {F : Type 0} → (F → End) → Entry F → EntryState
+entry_of meaning entry = record {
+  name = entry.name;
+  since = entry.since;
+  until = entry.until;
+  dropped = entry.dropped;
+  retired = entry.retired;
+  feed = option_map meaning entry.feed;
+  ticket = entry.ticket;
+}
+
+-- up to which serial number it takes part: the next one, until it is retired
+abbrev pub until_of : ℕ → EntryState → ℕ
+until_of next entry = if entry.retired then entry.until else next
+
+-- what its buffer accepted, where its producer's end is there
+abbrev pub accepted_of : EntryState → List Item
+accepted_of entry = by entry.feed where
+  by : Option End → List Item
+  by None = []
+  by (Some e) = e.accepted

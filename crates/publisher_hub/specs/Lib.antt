@@ -1,0 +1,7 @@
+pub mod Entry
+pub mod Hub
+pub mod Lists
+pub mod Looking
+pub mod Offering
+pub mod Sound
+pub mod Steps

@@ -1,0 +1,152 @@
+-- What looks do to the subscriptions of a Hub.
+use Rattle.std.specs.Prelude.{◌≡◌, ◌⊎◌, ℕ, ◌<◌, ◌≤◌, Bool, true, false, ◌||◌, nat_lt, if◌then◌else◌, Option, None, Some, Result, List, [], ◌∷◌, length, OnOk, OnErr, IsOk, IsErr}
+use Rattle.flow_rules.specs.Call as Call
+use Rattle.flow_rules.specs.Call.{Call}
+use Rattle.flow_rules.specs.Feed.{End, Looked, held_count, is_gone}
+use Rattle.flow_rules.specs.declared.feed.standing.Standing.{Standing}
+use Rattle.flow_rules.specs.declared.refusal.NoMemory.{NoMemory}
+use Rattle.publisher_hub.specs.Entry.{EntryState}
+use Rattle.publisher_hub.specs.Hub.{HubState, hub_of}
+use Rattle.publisher_hub.specs.Lists.{Each, EachBy, gather}
+use Rattle.publisher_hub.specs.declared.entry.Entry.{Entry}
+use Rattle.publisher_hub.specs.declared.hub.Hub.{Hub}
+
+-- an end that was looked at any number of times, and may have been made ready
+pub record Follows (e f : End) : Type 0 where
+  pub seen : e.seen ≤ f.seen
+  pub over : e.over ≡ true → f.over ≡ true
+  pub looks : e.looks ≤ f.looks
+  pub rest : f ≡ record e { seen = f.seen; looks = f.looks; over = f.over; ready = f.ready }
+
+-- a retired subscription is left alone
+pub record StaysRetired (old new : EntryState) : Type 0 where
+  pub retired : old.retired ≡ true
+  pub same : new ≡ old
+
+-- a live one was looked at, and stays
+pub record StaysLive (old new : EntryState) : Type 0 where
+  pub before : End
+  pub after : End
+  pub live : old.retired ≡ false
+  pub was : old.feed ≡ Some before
+  pub follows : Follows before after
+  pub now : new ≡ record old { feed = Some after }
+
+-- a live one was looked at, had ended or was closed, and is retired at this serial number
+pub record IsRetiredAt (next : ℕ) (old new : EntryState) : Type 0 where
+  pub before : End
+  pub after : End
+  pub live : old.retired ≡ false
+  pub was : old.feed ≡ Some before
+  pub follows : Follows before after
+  pub gone : is_gone after ≡ true
+  pub now : new ≡ record old { feed = Some after; retired = true; until = next }
+
+-- what looks leave of a subscription
+abbrev pub IsKept : ℕ → EntryState → EntryState → Type 0
+IsKept next old new = StaysRetired old new ⊎ (StaysLive old new ⊎ IsRetiredAt next old new)
+
+-- nothing of a Hub changed but by looks
+pub record IsLookedAt (old new : HubState) : Type 0 where
+  pub rest : new ≡ record old { entries = new.entries }
+  pub entries : Each (IsKept old.progress.next) old.entries new.entries
+
+-- the number of a subscription that goes on, where a look showed that its buffer is full
+abbrev pub full_by : ℕ → ℕ → Option Standing → List ℕ
+full_by capacity number None = []
+full_by capacity number (Some standing) = if standing.ended || nat_lt standing.held capacity then [] else number ∷ []
+
+-- the numbers of the subscriptions that looks showed to be full, in order
+abbrev pub full : ℕ → List (Option Standing) → List ℕ
+full capacity glances = gather (full_by capacity) 0 glances
+
+-- this tells whether looks showed no full buffer
+pub record IsRoom (room : Bool) (capacity : ℕ) (glances : List (Option Standing)) : Type 0 where
+  pub there : room ≡ true → full capacity glances ≡ []
+  pub missing : room ≡ false → 0 < length (full capacity glances)
+
+module _ {F T : Type 0} (meaning : F → End) (does : F → Call T → F → Type 0) where
+  -- an end was looked at, and stood so
+  pub record Stands (standing : Standing) (f g : F) : Type 0 where
+    pub look : Looked (meaning f) (meaning g)
+    pub ended : standing.ended ≡ (meaning g).over
+    pub held : standing.held ≡ held_count (meaning g)
+    pub exact : does f (Call.Looks standing) g
+
+  -- an end was to be made ready for one task, and answered so
+  pub record Readies (answer : Result Unit NoMemory) (f g : F) : Type 0 where
+    pub ok : OnOk answer (meaning g ≡ record (meaning f) { ready = true })
+    pub err : OnErr answer (meaning g ≡ meaning f)
+    pub stays : (meaning f).ready ≡ true → IsOk answer
+    pub exact : does f (Call.Readies answer) g
+
+  -- a live subscription was looked at, which retires it at this serial number where that shows its end
+  pub record Sees (next : ℕ) (standing : Standing) (old new : Entry F) : Type 0 where
+    pub before : F
+    pub after : F
+    pub live : old.retired ≡ false
+    pub was : old.feed ≡ Some before
+    pub stands : Stands standing before after
+    pub ended : standing.ended ≡ true → new ≡ record old { feed = Some after; retired = true; until = next }
+    pub stays : standing.ended ≡ false → new ≡ record old { feed = Some after }
+
+  -- what a look showed of a subscription: nothing where that was retired before
+  abbrev pub Glances : ℕ → Option Standing → Entry F → Entry F → Type 0
+  Glances next None old new = (old.retired ≡ true) × (new ≡ old)
+  Glances next (Some standing) old new = Sees next standing old new
+
+  -- a live subscription was to be made ready for one task, and answered so
+  pub record IsReadied (answer : Result Unit NoMemory) (old new : Entry F) : Type 0 where
+    pub before : F
+    pub after : F
+    pub was : old.feed ≡ Some before
+    pub readies : Readies answer before after
+    pub now : new ≡ record old { feed = Some after }
+
+  -- a live subscription was looked at, and made ready where it goes on
+  pub record SeesReady (next : ℕ) (standing : Standing) (old new : Entry F) : Type 0 where
+    pub middle : Entry F
+    pub sees : Sees next standing old middle
+    pub ended : standing.ended ≡ true → new ≡ middle
+    pub stays : standing.ended ≡ false → (answer : Result Unit NoMemory) × (IsOk answer × IsReadied answer middle new)
+
+  -- the same of any subscription
+  abbrev pub Prepares : ℕ → Option Standing → Entry F → Entry F → Type 0
+  Prepares next None old new = (old.retired ≡ true) × (new ≡ old)
+  Prepares next (Some standing) old new = SeesReady next standing old new
+
+  -- a live subscription was looked at, goes on, and could not be made ready
+  pub record FailsToPrepare (next : ℕ) (old new : Entry F) : Type 0 where
+    pub middle : Entry F
+    pub standing : Standing
+    pub answer : Result Unit NoMemory
+    pub sees : Sees next standing old middle
+    pub refused : IsErr answer
+    pub readied : IsReadied answer middle new
+
+  -- a subscription was looked at or not, and made ready or not
+  abbrev pub MayPrepare : ℕ → Entry F → Entry F → Type 0
+  MayPrepare next old new = (new ≡ old) ⊎ (((glance : Option Standing) × Prepares next glance old new) ⊎ FailsToPrepare next old new)
+
+-- the number of a subscription that goes on, by a look
+abbrev pub living_by : ℕ → Option Standing → List ℕ
+living_by number None = []
+living_by number (Some standing) = if standing.ended then [] else number ∷ []
+
+-- how many items wait in the buffer of one that goes on
+abbrev pub waiting_by : ℕ → Option Standing → List ℕ
+waiting_by number None = []
+waiting_by number (Some standing) = if standing.ended then [] else standing.held ∷ []
+
+-- the numbers of the subscriptions that go on by these looks, in order, and how many items wait for each
+abbrev pub living : List (Option Standing) → List ℕ
+living glances = gather living_by 0 glances
+
+abbrev pub waiting : List (Option Standing) → List ℕ
+waiting glances = gather waiting_by 0 glances
+
+module _ {F T : Type 0} (meaning : F → End) (does : F → Call T → F → Type 0) where
+  -- all live subscriptions of a Hub were looked at, those that had ended were retired, and nothing else changed
+  pub record LooksAtAll (glances : List (Option Standing)) (old new : Hub F) : Type 0 where
+    pub rest : hub_of meaning new ≡ record (hub_of meaning old) { entries = (hub_of meaning new).entries }
+    pub entries : EachBy (Glances meaning does old.next) glances old.entries.items new.entries.items

@@ -1,0 +1,104 @@
+//! The Hub.
+ghost use Rattle.std.specs.Prelude.{◌≡◌, ◌≤◌, ◌↔◌, IfOk, IfErr, replicate};
+ghost use Rattle.flow_rules.specs.Capacity.{capacity_of};
+ghost use Rattle.flow_rules.specs.declared.refusal.Refusal.TheVariants as Refusal;
+ghost use Rattle.publisher_hub.specs.Hub.{hub_of, hub_at_start};
+ghost use Rattle.publisher_hub.specs.Sound.{IsSound};
+
+use crate::entry::Entry;
+use close_count::Opening;
+use flow_rules::{Ending, Feed, NoMemory, PUBLICATIONS, Refusal, capacity};
+use std::alloc::Global;
+
+/// How many sources a Hub has at most (submitters, where threads publish).
+pub const SOURCES: usize = 256;
+
+/// The subscriptions of one publisher, and the numbers of its publications (`SubmissionPublisher`, Java SE 17).
+///
+/// Between any two calls it is sound: what each subscription accepted has rising serial numbers, two that accepted one serial number
+/// accepted one item, and what each accepted and dropped is what was published since it was subscribed.
+#[derive(Drop)]
+pub struct Hub<F> {
+    /// The capacity of each buffer.
+    pub(crate) capacity: usize,
+    /// The next serial number, at most [`PUBLICATIONS`](flow_rules::PUBLICATIONS).
+    pub(crate) next: u64,
+    /// How many items of each source were published.
+    pub(crate) counts: Vec<u64>,
+    /// How many sources were handed out.
+    pub(crate) sources: u32,
+    /// How it was closed, if it was.
+    pub(crate) ending: Option<Ending>,
+    /// How many offers found any buffer full.
+    pub(crate) dropping: u64,
+    /// The opening ticket, until it is closed.
+    pub(crate) opening: Option<Opening>,
+    /// All subscriptions that were ever made, in order.
+    pub(crate) entries: Vec<Entry<F>>,
+    /// The numbers of those that may be live, rising.
+    pub(crate) live: Vec<u32>,
+}
+
+impl<F: Feed> Hub<F> {
+    /// A Hub without subscriptions, whose buffers have the capacity that is enforced where this one is asked for.
+    ///
+    /// Refused 1 where the capacity is 0, and 5 where a growth is refused.
+    pub fn new(alloc: Global, asked: usize) -> Result<Hub<F>, Refusal>
+        ensures ok { IfOk result (λ hub. hub_of F.meaning hub ≡ hub_at_start (capacity_of asked) 0) }
+        ensures sound { IfOk result (λ hub. IsSound (hub_of F.meaning hub)) }
+        ensures zero { asked ≡ 0 → IfErr result (λ refusal. refusal ≡ Refusal.BadCapacity) }
+    {
+        Hub::starting_at(alloc, asked, 0)
+    }
+
+    /// The same, with its next serial number.
+    pub fn starting_at(alloc: Global, asked: usize, serial: u64) -> Result<Hub<F>, Refusal>
+        requires { serial ≤ PUBLICATIONS }
+        ensures ok { IfOk result (λ hub. hub_of F.meaning hub ≡ hub_at_start (capacity_of asked) serial) }
+        ensures sound { IfOk result (λ hub. IsSound (hub_of F.meaning hub)) }
+        ensures zero { asked ≡ 0 → IfErr result (λ refusal. refusal ≡ Refusal.BadCapacity) }
+    {
+        let capacity = capacity(asked)?;
+        Ok(Hub {
+            capacity,
+            next: serial,
+            counts: no_counts(alloc)?,
+            sources: 0,
+            ending: None,
+            dropping: 0,
+            opening: None,
+            entries: Vec::new(alloc),
+            live: Vec::new(alloc),
+        })
+    }
+
+    /// The capacity of each buffer (`SubmissionPublisher.getMaxBufferCapacity`).
+    pub fn capacity(&self) -> usize
+        ensures { result ≡ (hub_of F.meaning self.now).progress.capacity }
+    {
+        self.capacity
+    }
+
+    /// The serial number of the next publication.
+    pub fn next_serial(&self) -> u64
+        requires { IsSound (hub_of F.meaning self.now) }
+        ensures value { result ≡ (hub_of F.meaning self.now).progress.next }
+        ensures bounded { result ≤ PUBLICATIONS }
+    {
+        self.next
+    }
+
+    /// How it was closed, if it was (`SubmissionPublisher.isClosed` and `getClosedException`).
+    pub fn ending(&self) -> Option<Ending>
+        ensures { result ≡ (hub_of F.meaning self.now).progress.ending }
+    {
+        self.ending
+    }
+}
+
+/// Of no source an item was published.
+fn no_counts(alloc: Global) -> Result<Vec<u64>, NoMemory>
+    ensures { IfOk result (λ counts. counts.items ≡ replicate SOURCES 0) }
+{
+    Ok(Vec::from_slice(alloc, &[0; SOURCES])?)
+}

@@ -1,0 +1,11 @@
+//! Many subscriptions behind one publisher, as plain state: who is subscribed, which serial number comes next, and what became of each
+//! publication at each subscription.
+#![tactic(auto)]
+
+mod entry;
+mod hub;
+mod rounds;
+mod work;
+
+pub use hub::Hub;
+pub use work::Work;

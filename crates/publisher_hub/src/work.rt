@@ -1,0 +1,11 @@
+//! A task that a publisher's call started.
+
+/// A started task, with the number of its subscription. Who gets it has to see that the task is run.
+#[must_use]
+#[derive(Drop)]
+pub struct Work<T> {
+    /// The number of the subscription, in the order in which they were made, from 0.
+    pub entry: u32,
+    /// What is to be run.
+    pub task: T,
+}
