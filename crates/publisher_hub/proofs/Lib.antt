@@ -1,5 +1,6 @@
 pub mod Ends
 pub mod Grown
+pub mod Kept
 pub mod LiveRounds
 pub mod Looks
 pub mod Offers

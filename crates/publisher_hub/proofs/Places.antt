@@ -1,9 +1,9 @@
 -- The elements at a place of two lists.
-use Rattle.std.proofs.Common.{◌≡◌, ℕ, ◌<◌, Some, List, length, get_or, arith}
+use Rattle.std.proofs.Common.{◌≡◌, ℕ, ◌<◌, zero, suc, Some, List, [], ◌∷◌, length, get_or, refl, arith}
 use Rattle.std.specs.Prelude.{slice_get}
 use Rattle.std.proofs.lemmas.Option.{slice_get-get_or, slice_get_within}
 use Rattle.publisher_hub.specs.Entry.{EntryState}
-use Rattle.publisher_hub.specs.Lists.{Each}
+use Rattle.publisher_hub.specs.Lists.{Each, EachBy}
 
 -- what stood at a place where this stands now
 pub record StoodAt (R : EntryState → EntryState → Type 0) (xs : List EntryState) (k : ℕ) (y : EntryState) : Type 0 where
@@ -17,3 +17,14 @@ stood_at R xs ys k y each at =
     let as_long : length ys ≡ length xs = each.as_long in
     let there : slice_get xs k ≡ Some (get_or xs k y) = slice_get-get_or xs k y (omega arith) in
     record { entry = get_or xs k y; at = there; became = each.each k (get_or xs k y) y there at }
+
+-- something stands at each place of a list
+pub there : {X : Type 0} (xs : List X) (k : ℕ) → k < length xs → (x : X) × (slice_get xs k ≡ Some x)
+there [] k within = let low : k < 0 = within in absurd (omega arith)
+there (x ∷ xs) zero within = (x, refl)
+there (x ∷ xs) (suc k) within = there xs k (omega arith)
+
+-- the answer that was given at a place where something stood
+pub answered_at : {B A : Type 0} (R : B → A → A → Type 0) (answers : List B) (xs ys : List A) (k : ℕ) (x : A) → EachBy R answers xs ys → slice_get xs k ≡ Some x
+    → (answer : B) × (slice_get answers k ≡ Some answer)
+answered_at R answers xs ys k x each at = there answers k (let within = slice_get_within xs k x at in let many = each.answered in omega arith)

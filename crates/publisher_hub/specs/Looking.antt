@@ -121,6 +121,7 @@ module _ {F T : Type 0} (meaning : F → End) (does : F → Call T → F → Typ
     pub standing : Standing
     pub answer : Result Unit NoMemory
     pub sees : Sees next standing old middle
+    pub goes_on : standing.ended ≡ false
     pub refused : IsErr answer
     pub readied : IsReadied answer middle new
 

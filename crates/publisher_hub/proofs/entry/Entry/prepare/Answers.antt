@@ -13,6 +13,7 @@ returns-in_err-make_ready-clause-err g c = on_err c.from_residual.result _ (reco
   standing = c.in-Some.standing;
   answer = c.make_ready.result;
   sees = search rules;
+  goes_on = search rules;
   refused = search rules;
   readied = c.make_ready.ensures;
 })
