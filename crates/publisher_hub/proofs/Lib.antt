@@ -1,4 +1,5 @@
 pub mod Ends
+pub mod GivingRounds
 pub mod Grown
 pub mod Kept
 pub mod LiveRounds
@@ -7,4 +8,5 @@ pub mod Offers
 pub mod PartialRounds
 pub mod Preparing
 pub mod Places
+pub mod Shares
 pub mod Starting

@@ -1,5 +1,5 @@
 -- A round over the numbers of the live subscriptions, as far as it has come: what each one answered, and what became of it.
-use Rattle.std.proofs.Common.{◌≡◌, ◌⊎◌, ℕ, zero, suc, ◌+◌, ◌<◌, ◌≤◌, Option, None, Some, List, [], ◌∷◌, ◌++◌, length, replicate, set, refl, ap, sym, subst, ◌∙◌, inl, inr, arith}
+use Rattle.std.proofs.Common.{◌≡◌, ◌⊎◌, ℕ, zero, suc, ◌+◌, ◌<◌, ◌≤◌, Option, None, Some, List, [], ◌∷◌, ◌++◌, append_assoc, length, replicate, set, refl, ap, sym, subst, ◌∙◌, inl, inr, arith}
 use Rattle.std.specs.Prelude.{slice_get}
 use Rattle.std.proofs.lemmas.List.{append-nil, length-replicate, length-set}
 use Rattle.std.proofs.lemmas.Option.{slice_get_within}
@@ -129,11 +129,6 @@ gather_quiet each quiet (answer ∷ answers) place none all =
     ap (λ b. each place b ++ gather each (suc place) answers) (all 0 answer refl)
     ∙ ap (λ cs. cs ++ gather each (suc place) answers) (none place)
     ∙ gather_quiet each quiet answers (suc place) none (λ i a at. all (suc i) a at)
-
--- the gathered lists one after the other
-append_assoc : {C : Type 0} (xs ys zs : List C) → (xs ++ ys) ++ zs ≡ xs ++ (ys ++ zs)
-append_assoc [] ys zs = refl
-append_assoc (x ∷ xs) ys zs = ap (λ cs. x ∷ cs) (append_assoc xs ys zs)
 
 -- where the answers from a place on gather nothing, an answer there is gathered behind those before it
 gather_set : {B C : Type 0} (each : ℕ → B → List C) (quiet : B) (answers : List B) (place k : ℕ) (answer : B) → ((p : ℕ) → each p quiet ≡ [])

@@ -1,4 +1,5 @@
 pub mod Entry
+pub mod Giving
 pub mod Hub
 pub mod Lists
 pub mod Looking

@@ -1,7 +1,8 @@
 -- What has to hold of one subscription before a step of a round.
-use Rattle.std.specs.Prelude.{◌≡◌, ℕ, false, Some, IsSome, List, slice_get}
+use Rattle.std.specs.Prelude.{◌≡◌, ℕ, ◌<◌, false, Some, IsSome, List, length, slice_get}
 use Rattle.flow_rules.specs.Feed.{End, MayStart}
-use Rattle.publisher_hub.specs.Entry.{EntryState}
+use Rattle.flow_rules.specs.declared.item.TheConstants.{PUBLICATIONS}
+use Rattle.publisher_hub.specs.Entry.{EntryState, accepted_of}
 
 -- where a subscription isn't retired, its producer's end is there
 abbrev pub IsHere : EntryState → Type 0
@@ -15,5 +16,11 @@ CanTake entry = entry.retired ≡ false → (end : End) × ((entry.feed ≡ Some
 abbrev pub AreHere : List EntryState → Type 0
 AreHere entries = (k : ℕ) (entry : EntryState) → slice_get entries k ≡ Some entry → IsHere entry
 
-abbrev pub CanAllTake : List EntryState → Type 0
-CanAllTake entries = (k : ℕ) (entry : EntryState) → slice_get entries k ≡ Some entry → CanTake entry
+-- it may be offered an item, and the numbers that grow have room
+pub record CanGive (entry : EntryState) : Type 0 where
+  pub take : CanTake entry
+  pub few : length (accepted_of entry) < PUBLICATIONS
+  pub few_drops : entry.dropped < PUBLICATIONS
+
+abbrev pub CanAllGive : List EntryState → Type 0
+CanAllGive entries = (k : ℕ) (entry : EntryState) → slice_get entries k ≡ Some entry → CanGive entry

@@ -3,6 +3,7 @@
 #![tactic(auto)]
 
 mod entry;
+mod giving;
 mod hub;
 mod rounds;
 mod work;

@@ -1,4 +1,6 @@
 //! Rounds over the live subscriptions of a Hub, in order of subscription.
+mod giving;
 mod preparing;
 
+pub(crate) use giving::give_all;
 pub(crate) use preparing::prepare_all;
