@@ -4,6 +4,7 @@ pub mod Grown
 pub mod Kept
 pub mod LiveRounds
 pub mod Looks
+pub mod Offered
 pub mod Offers
 pub mod PartialRounds
 pub mod Preparing

@@ -46,7 +46,7 @@ counted_looked p old new e f follows since dropped until within gone is =
     }
 
 -- a subscription of a sound Hub stays one where it is looked at
-entry_kept : (p : Progress) (old new : EntryState) → IsKept p.next old new → IsEntry p old → IsEntry p new
+pub entry_kept : (p : Progress) (old new : EntryState) → IsKept p.next old new → IsEntry p old → IsEntry p new
 entry_kept p old new (inl stays) is = subst (λ (entry : EntryState). IsEntry p entry) (sym stays.same) is
 entry_kept p old new (inr (inl stays)) is =
     subst (λ (entry : EntryState). IsEntry p entry) (sym stays.now) (record {

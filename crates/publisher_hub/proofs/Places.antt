@@ -28,3 +28,20 @@ there (x ∷ xs) (suc k) within = there xs k (omega arith)
 pub answered_at : {B A : Type 0} (R : B → A → A → Type 0) (answers : List B) (xs ys : List A) (k : ℕ) (x : A) → EachBy R answers xs ys → slice_get xs k ≡ Some x
     → (answer : B) × (slice_get answers k ≡ Some answer)
 answered_at R answers xs ys k x each at = there answers k (let within = slice_get_within xs k x at in let many = each.answered in omega arith)
+
+-- what stood at a place where this stands now, and the answer that was given there
+pub record StoodBy {B A : Type 0} (R : B → A → A → Type 0) (answers : List B) (xs : List A) (k : ℕ) (y : A) : Type 0 where
+  pub entry : A
+  pub answer : B
+  pub at : slice_get xs k ≡ Some entry
+  pub said : slice_get answers k ≡ Some answer
+  pub became : R answer entry y
+
+pub stood_by : {B A : Type 0} (R : B → A → A → Type 0) (answers : List B) (xs ys : List A) (k : ℕ) (y : A) → EachBy R answers xs ys → slice_get ys k ≡ Some y → StoodBy R answers xs k y
+stood_by R answers xs ys k y each at =
+    let within : k < length ys = slice_get_within ys k y at in
+    let long = each.as_long in
+    let answered = each.answered in
+    let old = there xs k (omega arith) in
+    let answer = there answers k (omega arith) in
+    record { entry = old.0; answer = answer.0; at = old.1; said = answer.1; became = each.each k answer.0 old.0 y answer.1 old.1 at }
