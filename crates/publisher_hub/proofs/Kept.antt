@@ -1,5 +1,5 @@
 -- What looks leave of a subscription, from what its producer's end answered.
-use Rattle.std.proofs.Common.{◌≡◌, ◌⊎◌, ◌||◌, ℕ, ◌+◌, ◌<◌, ◌≤◌, Bool, true, false, Option, None, Some, option_map, Result, Ok, Err, IsOk, IsErr, List, length, map, refl, ap, sym, subst, ◌∙◌, inl, inr, arith, is_some, IsSome}
+use Rattle.std.proofs.Common.{◌≡◌, ◌⊎◌, ◌||◌, ℕ, ◌+◌, ◌<◌, ◌≤◌, Bool, true, false, Option, None, Some, option_map, Result, Ok, Err, IsOk, IsErr, List, length, map, refl, ap, sym, subst, ◌∙◌, inl, inr, arith, is_some, IfOk, IsSome, OnErr}
 use Rattle.std.specs.Prelude.{slice_get}
 use Rattle.std.proofs.lemmas.List.{length-map}
 use Rattle.flow_rules.specs.Call.{Call}
@@ -8,7 +8,7 @@ use Rattle.flow_rules.specs.declared.feed.standing.Standing.{Standing}
 use Rattle.flow_rules.specs.declared.refusal.NoMemory.{NoMemory}
 use Rattle.publisher_hub.specs.Entry.{EntryState, entry_of}
 use Rattle.publisher_hub.specs.Lists.{Each, EachBy}
-use Rattle.publisher_hub.specs.Looking.{FailsToPrepare, Follows, Glances, IsKept, IsReadied, MayPrepare, Prepares, Readies, Sees, SeesReady, Stands}
+use Rattle.publisher_hub.specs.Looking.{FailsToPrepare, Follows, Glances, IsKept, IsReadied, IsRoom, MayPrepare, Prepares, Readies, Sees, SeesReady, Stands}
 use Rattle.publisher_hub.specs.Steps.{AreHere, IsHere}
 use Rattle.publisher_hub.specs.declared.entry.Entry.{Entry}
 use Rattle.publisher_hub.proofs.Ends.{follows_look}
@@ -146,3 +146,17 @@ each_may_prepare meaning does next xs ys here each = record {
   by : (x y : EntryState) → IsHere x → (y ≡ x) ⊎ IsKept next x y → IsKept next x y
   by x y here (inl same) = subst (λ (entry : EntryState). IsKept next x entry) (sym same) (untouched_kept next x here)
   by x y here (inr kept) = kept
+
+-- subscriptions that were not looked at are kept
+pub each_untouched : (next : ℕ) (entries : List EntryState) → AreHere entries → Each (IsKept next) entries entries
+each_untouched next entries here = record {
+  as_long = refl;
+  each = λ k x y at at'. subst (λ (entry : EntryState). IsKept next x entry) (Rattle.publisher_hub.proofs.PartialRounds.same_some (sym at ∙ at')) (untouched_kept next x (here k x at));
+}
+
+-- what the round leaves that prepares all is kept, whatever it answered
+pub round_kept : {F T : Type 0} (meaning : F → End) (does : F → Call T → F → Type 0) (next capacity : ℕ) (xs ys : List (Entry F)) (result : Result Bool NoMemory) → AreHere (map (entry_of meaning) xs)
+    → IfOk result (λ room. (glances : List (Option Standing)) × (EachBy (Prepares meaning does next) glances xs ys × IsRoom room capacity glances))
+    → OnErr result (Each (MayPrepare meaning does next) xs ys) → Each (IsKept next) (map (entry_of meaning) xs) (map (entry_of meaning) ys)
+round_kept meaning does next capacity xs ys (Ok room) here ok err = each_mapped meaning (Prepares meaning does next) (IsKept next) ok.0 xs ys (prepares_kept meaning does next) ok.1.0
+round_kept meaning does next capacity xs ys (Err e) here ok err = each_may_prepare meaning does next xs ys here err

@@ -1,4 +1,5 @@
 pub mod Ends
+pub mod Gathered
 pub mod GivingRounds
 pub mod Grown
 pub mod Kept
@@ -9,5 +10,6 @@ pub mod Offers
 pub mod PartialRounds
 pub mod Preparing
 pub mod Places
+pub mod Publications
 pub mod Shares
 pub mod Starting

@@ -10,7 +10,7 @@ use Rattle.flow_rules.specs.declared.feed.standing.Standing.{Standing}
 use Rattle.flow_rules.specs.declared.item.Item.{Item}
 use Rattle.flow_rules.specs.declared.item.TheConstants.{PUBLICATIONS}
 use Rattle.flow_rules.specs.declared.refusal.NoMemory.{NoMemory}
-use Rattle.publisher_hub.specs.Entry.{EntryState, accepted_of, entry_of}
+use Rattle.publisher_hub.specs.Entry.{EntryState, entry_of}
 use Rattle.publisher_hub.specs.Hub.{HubState, Progress}
 use Rattle.publisher_hub.specs.Lists.{Each, EachBy}
 use Rattle.publisher_hub.specs.Looking.{Follows, IsReadied, Prepares, SeesReady}
@@ -26,7 +26,7 @@ use Rattle.publisher_hub.proofs.PartialRounds.{same_some}
 use Rattle.publisher_hub.proofs.Places.{answered_at, stood_by}
 
 -- a subscription can't be retired and not
-not_both : {X : Type 0} {b : Bool} → b ≡ true → b ≡ false → X
+pub not_both : {X : Type 0} {b : Bool} → b ≡ true → b ≡ false → X
 not_both yes_it no_it = let e = sym yes_it ∙ no_it in cc
 
 module _ {F T : Type 0} (meaning : F → End) (does : F → Call T → F → Type 0) (next : ℕ) where

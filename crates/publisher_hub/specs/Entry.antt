@@ -1,8 +1,7 @@
 -- One subscription of a Hub, as its clauses see it.
-use Rattle.std.specs.Prelude.{ℕ, Bool, Option, None, Some, option_map, if◌then◌else◌, List, []}
+use Rattle.std.specs.Prelude.{ℕ, Bool, Option, option_map, if◌then◌else◌, List}
 use Rattle.close_count.specs.declared.ticket.Ticket.{Ticket}
 use Rattle.flow_rules.specs.Feed.{End}
-use Rattle.flow_rules.specs.declared.item.Item.{Item}
 use Rattle.publisher_hub.specs.declared.entry.Entry.{Entry}
 
 -- a subscription: its name; the next serial number when it was subscribed, and when it was retired; how many publications found its
@@ -31,10 +30,3 @@ entry_of meaning entry = record {
 -- up to which serial number it takes part: the next one, until it is retired
 abbrev pub until_of : ℕ → EntryState → ℕ
 until_of next entry = if entry.retired then entry.until else next
-
--- what its buffer accepted, where its producer's end is there
-abbrev pub accepted_of : EntryState → List Item
-accepted_of entry = by entry.feed where
-  by : Option End → List Item
-  by None = []
-  by (Some e) = e.accepted

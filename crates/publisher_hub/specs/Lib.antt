@@ -4,5 +4,6 @@ pub mod Hub
 pub mod Lists
 pub mod Looking
 pub mod Offering
+pub mod Publishing
 pub mod Sound
 pub mod Steps

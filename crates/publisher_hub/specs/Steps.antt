@@ -2,7 +2,7 @@
 use Rattle.std.specs.Prelude.{◌≡◌, ℕ, ◌<◌, false, Some, IsSome, List, length, slice_get}
 use Rattle.flow_rules.specs.Feed.{End, MayStart}
 use Rattle.flow_rules.specs.declared.item.TheConstants.{PUBLICATIONS}
-use Rattle.publisher_hub.specs.Entry.{EntryState, accepted_of}
+use Rattle.publisher_hub.specs.Entry.{EntryState}
 
 -- where a subscription isn't retired, its producer's end is there
 abbrev pub IsHere : EntryState → Type 0
@@ -19,7 +19,7 @@ AreHere entries = (k : ℕ) (entry : EntryState) → slice_get entries k ≡ Som
 -- it may be offered an item, and the numbers that grow have room
 pub record CanGive (entry : EntryState) : Type 0 where
   pub take : CanTake entry
-  pub few : length (accepted_of entry) < PUBLICATIONS
+  pub few : (end : End) → entry.feed ≡ Some end → length end.accepted < PUBLICATIONS
   pub few_drops : entry.dropped < PUBLICATIONS
 
 abbrev pub CanAllGive : List EntryState → Type 0

@@ -1,7 +1,8 @@
 //! One subscription of a Hub.
-ghost use Rattle.std.specs.Prelude.{◌≡◌, ◌-◌, ◌<◌, length, IfOk, IsSome, OnErr, false};
+ghost use Rattle.std.specs.Prelude.{◌≡◌, ◌-◌, ◌<◌, length, IfOk, IsSome, OnErr, Some, false};
+ghost use Rattle.flow_rules.specs.Feed.{End};
 ghost use Rattle.flow_rules.specs.declared.item.TheConstants.{PUBLICATIONS};
-ghost use Rattle.publisher_hub.specs.Entry.{entry_of, accepted_of};
+ghost use Rattle.publisher_hub.specs.Entry.{entry_of};
 ghost use Rattle.publisher_hub.specs.Looking.{FailsToPrepare, Glances, IsReadied, Prepares};
 ghost use Rattle.publisher_hub.specs.Offering.{Gives};
 ghost use Rattle.publisher_hub.specs.Steps.{CanTake, IsHere};
@@ -81,7 +82,7 @@ impl<F: Feed> Entry<F> {
     #[must_use]
     pub fn give(&mut self, item: Item) -> Option<Put<F::Task>>
         requires take { CanTake (entry_of F.meaning self.old) }
-        requires few { length (accepted_of (entry_of F.meaning self.old)) < PUBLICATIONS }
+        requires few { (end : End) → (entry_of F.meaning self.old).feed ≡ Some end → length end.accepted < PUBLICATIONS }
         requires few_drops { self.old.dropped < PUBLICATIONS }
         ensures { Gives F.meaning F.does item result self.old self.new }
     {

@@ -1,4 +1,6 @@
 //! The Hub.
+mod publishing;
+
 ghost use Rattle.std.specs.Prelude.{◌≡◌, ◌≤◌, ◌↔◌, IfOk, IfErr, replicate};
 ghost use Rattle.flow_rules.specs.Capacity.{capacity_of};
 ghost use Rattle.flow_rules.specs.declared.refusal.Refusal.TheVariants as Refusal;
@@ -6,8 +8,10 @@ ghost use Rattle.publisher_hub.specs.Hub.{hub_of, hub_at_start};
 ghost use Rattle.publisher_hub.specs.Sound.{IsSound};
 
 use crate::entry::Entry;
+use crate::giving::Giving;
 use close_count::Opening;
 use flow_rules::{Ending, Feed, NoMemory, PUBLICATIONS, Refusal, capacity};
+pub use publishing::Unpublished;
 use std::alloc::Global;
 
 /// How many sources a Hub has at most (submitters, where threads publish).
@@ -37,6 +41,8 @@ pub struct Hub<F> {
     pub(crate) entries: Vec<Entry<F>>,
     /// The numbers of those that may be live, rising.
     pub(crate) live: Vec<u32>,
+    /// What a publication gathers. Only its room lasts from one to the next.
+    pub(crate) giving: Giving,
 }
 
 impl<F: Feed> Hub<F> {
@@ -69,6 +75,7 @@ impl<F: Feed> Hub<F> {
             opening: None,
             entries: Vec::new(alloc),
             live: Vec::new(alloc),
+            giving: Giving::new(alloc),
         })
     }
 

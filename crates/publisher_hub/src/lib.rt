@@ -8,5 +8,5 @@ mod hub;
 mod rounds;
 mod work;
 
-pub use hub::Hub;
+pub use hub::{Hub, Unpublished};
 pub use work::Work;

@@ -1,0 +1,71 @@
+-- What the calls do that publish an item, and why they are refused.
+use Rattle.std.specs.Prelude.{◌≡◌, ℕ, ◌<◌, Option, None, Some, List, [], ◌++◌, Vec, length}
+use Rattle.std.specs.declared.alloc.Global.{Global}
+use Rattle.flow_rules.specs.Call.{Call}
+use Rattle.flow_rules.specs.Feed.{End}
+use Rattle.flow_rules.specs.declared.feed.put.Put.{Put}
+use Rattle.flow_rules.specs.declared.feed.standing.Standing.{Standing}
+use Rattle.flow_rules.specs.declared.item.Item.{Item}
+use Rattle.flow_rules.specs.declared.item.TheConstants.{PUBLICATIONS}
+use Rattle.flow_rules.specs.declared.refusal.Refusal.{Refusal}
+use Rattle.flow_rules.specs.declared.refusal.Refusal.TheVariants as Refusal
+use Rattle.publisher_hub.specs.Giving.{AreShares, HasRoom}
+use Rattle.publisher_hub.specs.Hub.{Progress, hub_of}
+use Rattle.publisher_hub.specs.Lists.{Each, EachBy, greatest}
+use Rattle.publisher_hub.specs.Looking.{IsLookedAt, MayPrepare, Prepares, full}
+use Rattle.publisher_hub.specs.Offering.{Gives, Offers, lags, missed, started}
+use Rattle.publisher_hub.specs.declared.entry.Entry.{Entry}
+use Rattle.publisher_hub.specs.declared.hub.Hub.{Hub}
+use Rattle.publisher_hub.specs.declared.hub.publishing.Unpublished.{Unpublished}
+use Rattle.publisher_hub.specs.declared.hub.publishing.Unpublished.TheVariants.{NoRoom, Refused}
+use Rattle.publisher_hub.specs.declared.work.Work.{Work}
+
+-- why no item is taken any more: the ending, or that as many were published as may be
+abbrev pub IsRefused : Progress → Option Refusal → Type 0
+IsRefused progress None = (progress.ending ≡ None) × (progress.next ≡ PUBLICATIONS → ⊥)
+IsRefused progress (Some (Refusal.Closed ending)) = progress.ending ≡ Some ending
+IsRefused progress (Some Refusal.Exhausted) = (progress.ending ≡ None) × (progress.next ≡ PUBLICATIONS)
+IsRefused progress (Some _) = ⊥
+
+-- a publication of this item has all that it needs
+pub record CanPublish {F T : Type 0} (item : Item) (hub : Hub F) (due : Vec (Work T) Global) : Type 0 where
+  pub room : HasRoom (length hub.live.items) hub.giving due
+  pub shares : AreShares item hub.giving.shares.items
+  pub missed : hub.giving.missed.items ≡ []
+  pub lag : hub.giving.lag ≡ 0
+
+module _ {F T : Type 0} (meaning : F → End) (does : F → Call T → F → Type 0) where
+  -- an item of this source and text was published, with this lag: each subscription was looked at and made ready, each that goes on had
+  -- room, and then each of them was offered the item
+  pub record Publishes (source : ℕ) (text : List ℕ) (old new : Hub F) (due_old due_new : List (Work T)) (lag : ℕ) : Type 0 where
+    pub item : Item
+    pub from : item.source ≡ source
+    pub words : item.text ≡ text
+    pub glances : List (Option Standing)
+    pub puts : List (Option (Put T))
+    pub middle : List (Entry F)
+    pub looked : EachBy (Prepares meaning does old.next) glances old.entries.items middle
+    pub room : full old.capacity glances ≡ []
+    pub given : EachBy (Gives meaning does item) puts middle new.entries.items
+    pub offers : Offers item (hub_of meaning old) (hub_of meaning new)
+    pub no_drop : missed puts ≡ []
+    pub no_dropping : new.dropping ≡ old.dropping
+    pub due : due_new ≡ due_old ++ started puts
+    pub greatest_lag : lag ≡ greatest (lags puts)
+
+  -- each subscription was looked at and made ready, with these standings
+  abbrev pub PreparesAll : List (Option Standing) → Hub F → Hub F → Type 0
+  PreparesAll glances old new = EachBy (Prepares meaning does old.next) glances old.entries.items new.entries.items
+
+  -- why an item was not published: want of memory, where some subscriptions may have been looked at; or all were looked at, and the
+  -- publisher takes no items, or a buffer was full
+  abbrev pub WhyRefused : List ℕ → Hub F → Hub F → Unpublished → Type 0
+  WhyRefused text old new (Refused Refusal.NoMemory) = Each (MayPrepare meaning does old.next) old.entries.items new.entries.items
+  WhyRefused text old new (Refused refusal) = IsRefused (hub_of meaning old).progress (Some refusal) × ((glances : List (Option Standing)) × PreparesAll glances old new)
+  WhyRefused text old new (NoRoom back) = (back ≡ text) × (IsRefused (hub_of meaning old).progress None
+      × ((glances : List (Option Standing)) × (PreparesAll glances old new × (0 < length (full old.capacity glances)))))
+
+  -- an item was not published: nothing has changed but by looks
+  pub record RefusesItem (text : List ℕ) (old new : Hub F) (unpublished : Unpublished) : Type 0 where
+    pub unchanged : IsLookedAt (hub_of meaning old) (hub_of meaning new)
+    pub why : WhyRefused text old new unpublished

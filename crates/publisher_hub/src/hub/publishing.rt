@@ -1,0 +1,132 @@
+//! Giving an item to all live subscriptions.
+ghost use Rattle.std.specs.Prelude.{◌≡◌, ◌+◌, ◌<◌, ◌≤◌, ◌++◌, List, Option, Some, None, IfOk, IfErr, OnOk, OnErr, IfSome, IfNone, IsNone, Result, false, map, length, slice_get};
+ghost use Rattle.flow_rules.specs.declared.feed.put.Put.{Put};
+ghost use Rattle.flow_rules.specs.declared.feed.standing.Standing.{Standing};
+ghost use Rattle.flow_rules.specs.declared.item.TheConstants.{PUBLICATIONS};
+ghost use Rattle.publisher_hub.specs.Entry.{entry_of};
+ghost use Rattle.publisher_hub.specs.Giving.{AreShares, Gathers, HasRoom};
+ghost use Rattle.publisher_hub.specs.Hub.{hub_of};
+ghost use Rattle.publisher_hub.specs.Lists.{Each, EachBy};
+ghost use Rattle.publisher_hub.specs.Looking.{IsLookedAt, IsRoom, MayPrepare, Prepares};
+ghost use Rattle.publisher_hub.specs.Offering.{Gives, IsNextItem, progress_after};
+ghost use Rattle.publisher_hub.specs.Publishing.{CanPublish, IsRefused, Publishes, RefusesItem};
+ghost use Rattle.publisher_hub.specs.Sound.{IsSound};
+ghost use Rattle.publisher_hub.specs.Steps.{CanAllGive};
+
+use super::{Hub, SOURCES};
+use crate::rounds::{give_all, prepare_all};
+use crate::work::Work;
+use flow_rules::{Feed, Item, NoMemory, PUBLICATIONS, Refusal, Text};
+
+/// Why an item was not published.
+#[derive(Debug, Drop)]
+pub enum Unpublished {
+    /// The Hub refuses it.
+    Refused(Refusal),
+    /// A live subscription has no room. The text comes back.
+    NoRoom(Text),
+}
+
+impl<F: Feed> Hub<F> {
+    /// Gives a text to all live subscriptions at once, if all have room (`SubmissionPublisher.submit`, without waiting).
+    ///
+    /// The answer is the greatest lag, in items, or 0 where there are no subscriptions. Refused 5 where a growth is refused, 2 where the Hub
+    /// is closed, and 13 once [`PUBLICATIONS`](flow_rules::PUBLICATIONS) were made; else `NoRoom` where a buffer is full. Then no list and
+    /// no count has changed.
+    pub fn publish(&mut self, source: u32, text: Text, due: &mut Vec<Work<F::Task>>) -> Result<u64, Unpublished>
+        requires sound { IsSound (hub_of F.meaning self.old) }
+        requires source { source < SOURCES }
+        ensures sound { IsSound (hub_of F.meaning self.new) }
+        ensures ok { IfOk result (λ lag. Publishes F.meaning F.does source text self.old self.new due.old.items due.new.items lag) }
+        ensures err { IfErr result (λ why. RefusesItem F.meaning F.does text self.old self.new why) }
+        ensures nothing_due { OnErr result (due.new.items ≡ due.old.items) }
+    {
+        let item = self.next_item(source, text);
+        let room = match self.prepare(&item, due) {
+            Ok(room) => room,
+            Err(NoMemory) => return Err(Unpublished::Refused(Refusal::NoMemory)),
+        };
+        if let Some(refusal) = self.refusal() {
+            return Err(Unpublished::Refused(refusal));
+        }
+        if !room {
+            return Err(Unpublished::NoRoom(item.text));
+        }
+        self.give(&item, due);
+        self.count(&item);
+        Ok(self.giving.lag)
+    }
+
+    /// The next item of a source.
+    fn next_item(&self, source: u32, text: Text) -> Item
+        requires sound { IsSound (hub_of F.meaning self.now) }
+        requires source { source < SOURCES }
+        ensures source { result.source ≡ source }
+        ensures text { result.text ≡ text }
+        ensures serial { result.serial ≡ (hub_of F.meaning self.now).progress.next }
+        ensures seq { slice_get (hub_of F.meaning self.now).progress.counts source ≡ Some result.seq }
+    {
+        Item {
+            source,
+            seq: self.counts[source as usize],
+            serial: self.next,
+            text,
+        }
+    }
+
+    /// Takes all that a publication needs, and looks at each live subscription. The answer is whether all have room.
+    fn prepare(&mut self, item: &Item, due: &mut Vec<Work<F::Task>>) -> Result<bool, NoMemory>
+        requires sound { IsSound (hub_of F.meaning self.old) }
+        ensures ok { IfOk result (λ room. (glances : List (Option Standing)) × (EachBy (Prepares F.meaning F.does self.old.next) glances self.old.entries.items self.new.entries.items × IsRoom room self.old.capacity glances)) }
+        ensures err { OnErr result (Each (MayPrepare F.meaning F.does self.old.next) self.old.entries.items self.new.entries.items) }
+        ensures looked { IsLookedAt (hub_of F.meaning self.old) (hub_of F.meaning self.new) }
+        ensures sound { IsSound (hub_of F.meaning self.new) }
+        ensures due { due.new.items ≡ due.old.items }
+        ensures ready { OnOk result (CanPublish item.now self.new due.new) }
+    {
+        due.reserve(self.live.len())?;
+        self.giving.begin(item, self.live.len())?;
+        let Hub { entries, live, next, capacity, .. } = self;
+        prepare_all(entries, live, *next, *capacity)
+    }
+
+    /// Why the Hub takes no items any more.
+    fn refusal(&self) -> Option<Refusal>
+        ensures { IsRefused (hub_of F.meaning self.now).progress result }
+    {
+        if let Some(ending) = self.ending {
+            return Some(Refusal::Closed(ending));
+        }
+        if self.next == PUBLICATIONS {
+            return Some(Refusal::Exhausted);
+        }
+        None
+    }
+
+    /// Offers the item to each live subscription.
+    fn give(&mut self, item: &Item, due: &mut Vec<Work<F::Task>>)
+        requires sound { IsSound (hub_of F.meaning self.old) }
+        requires can { CanAllGive (map (entry_of F.meaning) self.old.entries.items) }
+        requires ready { CanPublish item.now self.old due.old }
+        ensures given { (puts : List (Option (Put F.Task))) × (EachBy (Gives F.meaning F.does item.now) puts self.old.entries.items self.new.entries.items × Gathers item.now puts self.new.giving due.old due.new) }
+        ensures rest { hub_of F.meaning self.new ≡ record (hub_of F.meaning self.old) { entries = (hub_of F.meaning self.new).entries } }
+        ensures room { HasRoom 0 self.new.giving due.new }
+    {
+        let Hub { entries, live, giving, .. } = self;
+        give_all(entries, live, item, giving, due);
+    }
+
+    /// Counts an item as published.
+    fn count(&mut self, item: &Item)
+        requires sound { length (hub_of F.meaning self.old).progress.counts ≡ SOURCES }
+        requires next { IsNextItem (hub_of F.meaning self.old).progress item.now }
+        requires source { item.now.source < SOURCES }
+        requires few { item.now.seq < PUBLICATIONS }
+        ensures rest { hub_of F.meaning self.new ≡ record (hub_of F.meaning self.old) { progress = progress_after item.now (hub_of F.meaning self.old).progress.dropping (hub_of F.meaning self.old).progress } }
+        ensures entries { self.new.entries ≡ self.old.entries }
+        ensures giving { self.new.giving ≡ self.old.giving }
+    {
+        self.next += 1;
+        self.counts[item.source as usize] = item.seq + 1;
+    }
+}
