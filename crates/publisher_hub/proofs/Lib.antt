@@ -11,5 +11,6 @@ pub mod PartialRounds
 pub mod Preparing
 pub mod Places
 pub mod Publications
+pub mod Published
 pub mod Shares
 pub mod Starting
