@@ -1,6 +1,7 @@
 //! Rounds over the live subscriptions of a Hub, in order of subscription.
 mod giving;
 mod preparing;
+mod retrying;
 
 pub(crate) use giving::give_all;
 pub(crate) use preparing::prepare_all;
