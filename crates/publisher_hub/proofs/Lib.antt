@@ -12,5 +12,6 @@ pub mod Preparing
 pub mod Places
 pub mod Publications
 pub mod Published
+pub mod RetryRounds
 pub mod Shares
 pub mod Starting

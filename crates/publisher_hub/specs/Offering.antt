@@ -1,5 +1,5 @@
 -- What a publication does to each subscription of a Hub, and to the Hub.
-use Rattle.std.specs.Prelude.{◌≡◌, ◌⊎◌, ℕ, ◌+◌, ◌-◌, ◌<◌, ◌≤◌, true, false, Option, None, Some, List, [], ◌∷◌, ◌++◌, slice_get, slice_set, ⊤}
+use Rattle.std.specs.Prelude.{◌≡◌, ◌⊎◌, ℕ, ◌+◌, ◌-◌, ◌<◌, ◌≤◌, true, false, Option, None, Some, List, [], ◌∷◌, ◌++◌, slice_get, slice_set, IsSome}
 use Rattle.flow_rules.specs.Call as Call
 use Rattle.flow_rules.specs.Call.{Call}
 use Rattle.flow_rules.specs.Feed as Feed
@@ -136,12 +136,10 @@ started_again seconds = gather started_again_by 0 seconds
 abbrev pub lags_again : {T : Type 0} → List (Second T) → List ℕ
 lags_again seconds = gather lag_again_by 0 seconds
 
--- the second pass did something exactly where the first one missed
-abbrev pub FollowsUp : {T : Type 0} → Option (Put T) → Second T → Type 0
-FollowsUp (Some (Full back)) (Some answer) = ⊤
-FollowsUp (Some (Full back)) None = ⊥
-FollowsUp put None = ⊤
-FollowsUp put (Some answer) = ⊥
+-- the second pass did something at these numbers, and nowhere else
+pub record AreAsked {T : Type 0} (numbers : List ℕ) (seconds : List (Second T)) : Type 0 where
+  pub asked : (i k : ℕ) (second : Second T) → slice_get numbers i ≡ Some k → slice_get seconds k ≡ Some second → IsSome second
+  pub others : (k : ℕ) (second : Second T) → slice_get seconds k ≡ Some second → IsSome second → (i : ℕ) × (slice_get numbers i ≡ Some k)
 
 -- a subscription after an item was offered to its end, by what that answered: a full buffer is counted as a drop, and one that takes
 -- no more items is retired before the item

@@ -6,7 +6,7 @@ ghost use Rattle.flow_rules.specs.declared.item.TheConstants.{PUBLICATIONS};
 ghost use Rattle.publisher_hub.specs.Entry.{entry_of};
 ghost use Rattle.publisher_hub.specs.Giving.{AddsAgain, AreShares, GathersAgain, HasRoomAgain};
 ghost use Rattle.publisher_hub.specs.Lists.{EachBy};
-ghost use Rattle.publisher_hub.specs.Offering.{GivesAgain, Second};
+ghost use Rattle.publisher_hub.specs.Offering.{AreAsked, GivesAgain, Second};
 ghost use Rattle.publisher_hub.specs.Sound.{AreNumbers};
 ghost use Rattle.publisher_hub.specs.Steps.{CanEachTryAgain, CanTryAgain};
 
@@ -14,6 +14,22 @@ use crate::entry::Entry;
 use crate::giving::Giving;
 use crate::work::Work;
 use flow_rules::{DropHandler, Feed, Item, Put};
+
+/// Asks a handler about each subscription whose buffer was full, in order, and where it says so offers a share of the item once more.
+pub(crate) fn retry_all<F: Feed>(entries: &mut [Entry<F>], item: &Item, handler: &mut Box<dyn DropHandler>, giving: &mut Giving, due: &mut Vec<Work<F::Task>>)
+    requires numbers { AreNumbers giving.old.missed.items (length entries.old) }
+    requires can { CanEachTryAgain giving.old.missed.items (map (entry_of F.meaning) entries.old) }
+    requires shares { AreShares item.now giving.old.shares.items }
+    requires room { HasRoomAgain (vec_len giving.old.missed) giving.old due.old }
+    requires drops { giving.old.drops ≡ 0 }
+    requires few { vec_len giving.old.missed < PUBLICATIONS }
+    ensures given { (seconds : List (Second F.Task)) × (EachBy (GivesAgain F.meaning F.does item.now) seconds entries.old entries.new × (AreAsked giving.old.missed.items seconds × GathersAgain item.now seconds giving.old giving.new due.old due.new)) }
+{
+    for place in 0..giving.missed.len() {
+        let number = giving.missed[place];
+        retry_one(&mut entries[number as usize], number, item, handler, giving, due);
+    }
+}
 
 /// Asks a handler about a subscription whose buffer was full, offers a share of the item once more where it says so, and gathers what
 /// came of it.
