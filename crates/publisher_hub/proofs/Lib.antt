@@ -5,6 +5,7 @@ pub mod Grown
 pub mod Kept
 pub mod LiveRounds
 pub mod Looks
+pub mod Missed
 pub mod Offered
 pub mod Offers
 pub mod PartialRounds

@@ -106,6 +106,16 @@ impl Giving {
         }
     }
 
+    /// The drops stand without a second try.
+    pub fn decline(&mut self)
+        ensures drops { self.new.drops ≡ vec_len self.old.missed }
+        ensures lag { self.new.lag ≡ self.old.lag }
+        ensures missed { self.new.missed ≡ self.old.missed }
+        ensures shares { self.new.shares ≡ self.old.shares }
+    {
+        self.drops = self.missed.len() as u64;
+    }
+
     /// Gathers what a second offer to one subscription was answered, or that its drop stands without one.
     pub fn note_again<T: Drop>(&mut self, number: u32, answer: Option<Put<T>>, due: &mut Vec<Work<T>>)
         requires due { vec_len due.old < vec_capacity due.old }
