@@ -4,6 +4,7 @@ pub mod GivingRounds
 pub mod Grown
 pub mod Kept
 pub mod LiveRounds
+pub mod Looking
 pub mod Looks
 pub mod Offered
 pub mod Offers

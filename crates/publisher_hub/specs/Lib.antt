@@ -5,5 +5,6 @@ pub mod Lists
 pub mod Looking
 pub mod Offering
 pub mod Publishing
+pub mod Overview
 pub mod Sound
 pub mod Steps
