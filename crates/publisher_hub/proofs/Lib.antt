@@ -7,6 +7,7 @@ pub mod LiveRounds
 pub mod Looking
 pub mod Looks
 pub mod Offered
+pub mod LooksAtAll
 pub mod Offers
 pub mod PartialRounds
 pub mod Preparing

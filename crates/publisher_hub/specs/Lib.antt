@@ -3,6 +3,7 @@ pub mod Giving
 pub mod Hub
 pub mod Lists
 pub mod Looking
+pub mod Names
 pub mod Offering
 pub mod Publishing
 pub mod Overview

@@ -1,5 +1,6 @@
 //! The Hub.
 mod publishing;
+mod looking;
 
 ghost use Rattle.std.specs.Prelude.{◌≡◌, ◌≤◌, ◌↔◌, IfOk, IfErr, replicate};
 ghost use Rattle.flow_rules.specs.Capacity.{capacity_of};
