@@ -8,6 +8,7 @@ pub mod Looking
 pub mod Looks
 pub mod Offered
 pub mod LooksAtAll
+pub mod Naming
 pub mod Offers
 pub mod PartialRounds
 pub mod Preparing
