@@ -3,6 +3,7 @@ pub mod Gathered
 pub mod GivingRounds
 pub mod Grown
 pub mod Kept
+pub mod Lending
 pub mod LiveRounds
 pub mod Looking
 pub mod Looks

@@ -1,6 +1,7 @@
 pub mod Entry
 pub mod Giving
 pub mod Hub
+pub mod Lending
 pub mod Lists
 pub mod Looking
 pub mod Names

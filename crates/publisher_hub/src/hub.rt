@@ -1,5 +1,6 @@
 //! The Hub.
 mod publishing;
+mod entries;
 mod looking;
 
 ghost use Rattle.std.specs.Prelude.{◌≡◌, ◌≤◌, ◌↔◌, IfOk, IfErr, replicate};
