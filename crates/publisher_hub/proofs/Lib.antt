@@ -17,4 +17,5 @@ pub mod Places
 pub mod Publications
 pub mod Published
 pub mod Shares
+pub mod Replaced
 pub mod Starting
