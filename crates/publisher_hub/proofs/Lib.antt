@@ -19,3 +19,4 @@ pub mod Published
 pub mod Shares
 pub mod Replaced
 pub mod Starting
+pub mod Tickets

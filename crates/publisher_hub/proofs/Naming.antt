@@ -14,12 +14,7 @@ use Rattle.publisher_hub.specs.Sound.{AreLive, AreNumbers}
 use Rattle.publisher_hub.specs.declared.entry.Entry.{Entry}
 use Rattle.publisher_hub.proofs.LiveRounds.{get_mapped, number_at, numbers_of}
 use Rattle.publisher_hub.proofs.PartialRounds.{IsAmong, Upto, below_or_last, gather_next, gather_none, same_some, upto_each, upto_next, upto_none}
-
--- a list where an element was set to what it was
-set_same : {X : Type 0} (xs : List X) (k : ℕ) (x : X) → slice_get xs k ≡ Some x → set xs k x ≡ xs
-set_same [] k x at = refl
-set_same (first ∷ xs) zero x at = ap (λ y. y ∷ xs) (sym (same_some at))
-set_same (first ∷ xs) (suc k) x at = ap (λ ys. first ∷ ys) (set_same xs k x at)
+use Rattle.publisher_hub.proofs.Replaced.{set_same}
 
 -- what one place gathered
 abbrev gathered_by : ℕ → List (List ℕ) → List (List ℕ)

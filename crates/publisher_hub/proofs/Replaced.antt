@@ -95,6 +95,12 @@ live_after p live xs ys each are = record {
       are.covers k stood.entry stood.at (was_live p stood.entry entry stood.became lives);
 }
 
+-- a list where an element was set to what it was
+pub set_same : {X : Type 0} (xs : List X) (k : ℕ) (x : X) → slice_get xs k ≡ Some x → set xs k x ≡ xs
+set_same [] k x at = refl
+set_same (first ∷ xs) zero x at = ap (λ y. y ∷ xs) (sym (same_some at))
+set_same (first ∷ xs) (suc k) x at = ap (λ ys. first ∷ ys) (set_same xs k x at)
+
 -- what stands in a list where one place was set
 set_or_stood : {X : Type 0} (xs : List X) (place : ℕ) (value : X) (i : ℕ) (y : X) → slice_get (set xs place value) i ≡ Some y → ((place ≡ i) × (value ≡ y)) ⊎ (slice_get xs i ≡ Some y)
 set_or_stood [] place value i y at = inr at

@@ -10,3 +10,4 @@ pub mod Publishing
 pub mod Overview
 pub mod Sound
 pub mod Steps
+pub mod Tickets

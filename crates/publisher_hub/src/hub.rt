@@ -1,5 +1,6 @@
 //! The Hub.
 mod publishing;
+mod ended;
 mod entries;
 mod looking;
 
