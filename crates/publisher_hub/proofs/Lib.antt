@@ -3,10 +3,14 @@ pub mod Gathered
 pub mod GivingRounds
 pub mod Grown
 pub mod Kept
+pub mod Lending
 pub mod LiveRounds
+pub mod Looking
 pub mod Looks
 pub mod Missed
 pub mod Offered
+pub mod LooksAtAll
+pub mod Naming
 pub mod Offers
 pub mod PartialRounds
 pub mod Preparing
@@ -15,4 +19,6 @@ pub mod Publications
 pub mod Published
 pub mod RetryRounds
 pub mod Shares
+pub mod Replaced
 pub mod Starting
+pub mod Tickets

@@ -1,9 +1,13 @@
 pub mod Entry
 pub mod Giving
 pub mod Hub
+pub mod Lending
 pub mod Lists
 pub mod Looking
+pub mod Names
 pub mod Offering
 pub mod Publishing
+pub mod Overview
 pub mod Sound
 pub mod Steps
+pub mod Tickets

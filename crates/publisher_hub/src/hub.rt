@@ -1,5 +1,9 @@
 //! The Hub.
 mod publishing;
+mod ended;
+mod entries;
+mod looking;
+mod sources;
 
 ghost use Rattle.std.specs.Prelude.{◌≡◌, ◌≤◌, ◌↔◌, IfOk, IfErr, replicate};
 ghost use Rattle.flow_rules.specs.Capacity.{capacity_of};
