@@ -10,6 +10,5 @@ mod rounds;
 mod work;
 
 pub use hub::{Hub, Unpublished};
-pub use hub::Hub;
 pub use laws::lent_feeds_keep_hubs_sound;
 pub use work::Work;
