@@ -18,6 +18,7 @@ pub mod Places
 pub mod Publications
 pub mod Published
 pub mod RetryRounds
+pub mod SecondOffers
 pub mod Shares
 pub mod Replaced
 pub mod Starting

@@ -1,4 +1,5 @@
 //! The Hub.
+mod offering;
 mod publishing;
 mod ended;
 mod entries;
