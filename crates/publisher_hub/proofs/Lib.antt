@@ -11,6 +11,7 @@ pub mod Missed
 pub mod Offered
 pub mod LooksAtAll
 pub mod Naming
+pub mod Offerings
 pub mod Offers
 pub mod PartialRounds
 pub mod Preparing
@@ -19,6 +20,7 @@ pub mod Publications
 pub mod Published
 pub mod RetryRounds
 pub mod SecondOffers
+pub mod WholeOffers
 pub mod Shares
 pub mod Replaced
 pub mod Starting

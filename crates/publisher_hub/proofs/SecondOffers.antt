@@ -63,7 +63,7 @@ module _ {F T : Type 0} (meaning : F → End) (does : F → Call T → F → Typ
 
   module _ (next : ℕ) (serial : x.serial ≡ next) where
     -- what became of the item at one subscription, after both passes
-    twice_offered : (glance : Option Standing) (put : Option (Put T)) (second : Second T) (old ready middle new : Entry F) → ((e : End) → (entry_of meaning old).feed ≡ Some e → e.closing ≡ None)
+    pub twice_offered : (glance : Option Standing) (put : Option (Put T)) (second : Second T) (old ready middle new : Entry F) → ((e : End) → (entry_of meaning old).feed ≡ Some e → e.closing ≡ None)
         → (IsSome second → (back : Item) × (put ≡ Some (Full back))) → Prepares meaning does next glance old ready → Gives meaning does x put ready middle → GivesAgain meaning does x second middle new
         → IsOffered x (entry_of meaning old) (entry_of meaning new)
     twice_offered glance put None old ready middle new unclosed full prepared gives again =
@@ -79,7 +79,7 @@ module _ {F T : Type 0} (meaning : F → End) (does : F → Call T → F → Typ
           some_some answer = search rules
 
     -- a drop is counted where it stands
-    twice_dropped : (k : ℕ) (glance : Option Standing) (put : Option (Put T)) (second : Second T) (old ready middle new : Entry F)
+    pub twice_dropped : (k : ℕ) (glance : Option Standing) (put : Option (Put T)) (second : Second T) (old ready middle new : Entry F)
         → (IsSome second → (back : Item) × (put ≡ Some (Full back))) → ((back : Item) → put ≡ Some (Full back) → IsSome second)
         → Prepares meaning does next glance old ready → Gives meaning does x put ready middle → GivesAgain meaning does x second middle new → new.dropped ≡ old.dropped + length (dropped_by k second)
     twice_dropped k glance put second old ready middle new full asked prepared gives again = by put second full asked gives again where
