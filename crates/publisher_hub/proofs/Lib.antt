@@ -11,14 +11,16 @@ pub mod Missed
 pub mod Offered
 pub mod LooksAtAll
 pub mod Naming
+pub mod Offered
 pub mod Offers
 pub mod PartialRounds
-pub mod Preparing
 pub mod Places
+pub mod Preparing
 pub mod Publications
 pub mod Published
 pub mod RetryRounds
 pub mod Shares
 pub mod Replaced
+pub mod Shares
 pub mod Starting
 pub mod Tickets

@@ -1,8 +1,8 @@
 //! The Hub.
-mod publishing;
 mod ended;
 mod entries;
 mod looking;
+mod publishing;
 mod sources;
 
 ghost use Rattle.std.specs.Prelude.{◌≡◌, ◌≤◌, ◌↔◌, IfOk, IfErr, replicate};
