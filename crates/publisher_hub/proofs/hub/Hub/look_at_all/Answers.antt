@@ -10,4 +10,4 @@ returns-clause-sound g c =
     let items = with_items_is c.args.self.now.entries c.look_all.new.entries (c.look_all.auto.entries ∙ c.deref_mut.ensures.len) in
     let new = record c.args.self.now { entries = with_items c.args.self.now.entries c.look_all.new.entries } in
     sound_looks g.F.Feed.meaning g.F.Feed.does c.look_all.ensures.0 c.args.self.now new c.requires.sound
-        (record { rest = refl; entries = rw (items, ← c.deref_mut.ensures.value) c.look_all.ensures.1.0 })
+    (record { rest = refl; entries = rw (items, ← c.deref_mut.ensures.value) c.look_all.ensures.1.0 })
