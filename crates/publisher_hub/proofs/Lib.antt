@@ -11,16 +11,14 @@ pub mod Missed
 pub mod Offered
 pub mod LooksAtAll
 pub mod Naming
-pub mod Offered
 pub mod Offers
 pub mod PartialRounds
-pub mod Places
 pub mod Preparing
+pub mod Places
 pub mod Publications
 pub mod Published
 pub mod RetryRounds
 pub mod Shares
 pub mod Replaced
-pub mod Shares
 pub mod Starting
 pub mod Tickets

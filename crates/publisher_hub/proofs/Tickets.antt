@@ -8,7 +8,7 @@ use Rattle.close_count.specs.declared.ticket.Ticket.{Ticket}
 use Rattle.flow_rules.specs.Call.{Call}
 use Rattle.flow_rules.specs.Feed.{End, Looked, is_gone}
 use Rattle.flow_rules.specs.declared.feed.standing.Standing.{Standing}
-use Rattle.publisher_hub.specs.Entry.{EntryState, entry_of, until_of}
+use Rattle.publisher_hub.specs.Entry.{entry_of, until_of}
 use Rattle.publisher_hub.specs.Hub.{HubState, Progress, hub_of}
 use Rattle.publisher_hub.specs.Sound.{IsEntry, IsSound}
 use Rattle.publisher_hub.specs.Tickets.{AsksForTicket, AsksForTicketAt, HandsOut}

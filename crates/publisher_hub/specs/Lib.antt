@@ -6,8 +6,8 @@ pub mod Lists
 pub mod Looking
 pub mod Names
 pub mod Offering
-pub mod Overview
 pub mod Publishing
+pub mod Overview
 pub mod Sound
 pub mod Steps
 pub mod Tickets

@@ -1,5 +1,5 @@
 -- One subscription was asked for its ticket.
-use Rattle.std.proofs.Common.{rules, ◌≡◌, ◌<◌, ◌≤◌, length, Some, refl, ap, sym, ◌∙◌}
+use Rattle.std.proofs.Common.{rules, ◌<◌, ◌≤◌, length, Some, ap, sym, ◌∙◌}
 use Rattle.std.proofs.lemmas.Option.{slice_get-get_or}
 use Rattle.std.specs.Vec.{with_item}
 use Rattle.publisher_hub.proofs.Tickets.{asks_nobody, asks_there, sound_asked}

@@ -1,5 +1,5 @@
 -- What was looked at stays sound.
-use Rattle.std.proofs.Common.{◌≡◌, refl, ◌∙◌}
+use Rattle.std.proofs.Common.{refl, ◌∙◌}
 use Rattle.std.specs.Vec.{with_items}
 use Rattle.std.proofs.lemmas.List.{with_items_is}
 use Rattle.publisher_hub.proofs.LooksAtAll.{sound_looks}

@@ -1,5 +1,5 @@
 -- Each of the live subscriptions is looked at once.
-use Rattle.std.proofs.Common.{rules, ◌≡◌, ◌<◌, None, refl, subst, length, arith, slice_index_or}
+use Rattle.std.proofs.Common.{rules, ◌≡◌, ◌<◌, None, refl, subst, length, slice_index_or}
 use Rattle.publisher_hub.specs.Entry.{entry_of}
 use Rattle.publisher_hub.specs.Looking.{Glances}
 use Rattle.publisher_hub.proofs.LiveRounds.{get_mapped, next_stood, number_at, number_within, numbers_of, others_retired}

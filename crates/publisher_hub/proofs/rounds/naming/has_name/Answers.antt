@@ -1,5 +1,5 @@
 -- One is found by its name, or none of the live subscriptions has it.
-use Rattle.std.proofs.Common.{rules, ◌≡◌, ◌<◌, map, length, refl, arith}
+use Rattle.std.proofs.Common.{rules, ◌≡◌, map, length, refl, arith}
 use Rattle.publisher_hub.specs.Entry.{entry_of}
 use Rattle.publisher_hub.proofs.LiveRounds.{number_at}
 use Rattle.publisher_hub.proofs.Naming.{entry_next, none_at_all, none_more, number_inside, other_names, same_names}

@@ -1,5 +1,5 @@
 -- Each of the live subscriptions that isn't retired is named once.
-use Rattle.std.proofs.Common.{rules, ◌≡◌, ◌<◌, map, length, arith, slice_index_or}
+use Rattle.std.proofs.Common.{rules, ◌≡◌, map, length, arith}
 use Rattle.publisher_hub.specs.Entry.{entry_of}
 use Rattle.publisher_hub.proofs.LiveRounds.{number_at}
 use Rattle.publisher_hub.proofs.Naming.{entry_next, named_all, named_less, named_more, named_none, number_inside}
