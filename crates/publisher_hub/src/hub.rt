@@ -4,6 +4,7 @@ mod publishing;
 mod ended;
 mod entries;
 mod looking;
+mod publishing;
 mod sources;
 
 ghost use Rattle.std.specs.Prelude.{◌≡◌, ◌≤◌, ◌↔◌, IfOk, IfErr, replicate};
