@@ -1,3 +1,4 @@
+pub mod Closes
 pub mod Ends
 pub mod Gathered
 pub mod GivingRounds
@@ -8,8 +9,9 @@ pub mod Looks
 pub mod Offered
 pub mod Offers
 pub mod PartialRounds
-pub mod Preparing
 pub mod Places
 pub mod Publications
 pub mod Shares
+pub mod Preparing
+pub mod SameLists
 pub mod Starting
