@@ -1,9 +1,11 @@
+pub mod Additions
 pub mod Closes
 pub mod Ends
 pub mod Gathered
 pub mod GivingRounds
 pub mod Grown
 pub mod Kept
+pub mod LeavingOut
 pub mod LiveRounds
 pub mod Looks
 pub mod Offered

@@ -1,3 +1,4 @@
+pub mod Adding
 pub mod Closing
 pub mod Entry
 pub mod Giving
