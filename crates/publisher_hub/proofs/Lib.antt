@@ -15,5 +15,7 @@ pub mod Places
 pub mod Publications
 pub mod Shares
 pub mod Preparing
+pub mod Readying
 pub mod SameLists
+pub mod Shares
 pub mod Starting

@@ -1,24 +1,27 @@
 -- Subscriptions that were made ready.
-use Rattle.std.proofs.Common.{◌≡◌, ◌||◌, ℕ, Bool, true, false, Option, None, Some, option_map, Result, Ok, Err, IsOk, IsErr, List, map, refl, ap, sym, subst, ◌∙◌, is_some}
+use Rattle.std.proofs.Common.{◌≡◌, ◌||◌, ℕ, Bool, true, false, Option, None, Some, option_map, Result, Ok, Err, IfOk, OnOk, IsOk, IsErr, List, map, refl, ap, sym, subst, ◌∙◌, is_some, arith, length, ◌<◌}
 use Rattle.std.specs.Prelude.{slice_get}
+use Rattle.std.proofs.lemmas.Option.{slice_get_within}
 use Rattle.flow_rules.specs.Call.{Call}
 use Rattle.flow_rules.specs.Feed.{End}
 use Rattle.flow_rules.specs.declared.feed.standing.Standing.{Standing}
 use Rattle.flow_rules.specs.declared.refusal.NoMemory.{NoMemory}
 use Rattle.publisher_hub.specs.Entry.{EntryState, entry_of}
+use Rattle.publisher_hub.specs.Hub.{HubState}
 use Rattle.publisher_hub.specs.Lists.{EachBy}
-use Rattle.publisher_hub.specs.Looking.{FailsToPrepare, Prepares, Readies, SeesReady}
-use Rattle.publisher_hub.specs.Readiness.{AreReady, IsReady}
-use Rattle.publisher_hub.specs.Steps.{CanAllTake}
+use Rattle.publisher_hub.specs.Looking.{FailsToPrepare, IsRoom, Prepares, Readies, SeesReady}
+use Rattle.publisher_hub.specs.Readiness.{AreReady, CanAllTake, IsReady}
+use Rattle.publisher_hub.specs.Sound.{IsSound}
+use Rattle.publisher_hub.specs.Steps.{AreHere}
 use Rattle.publisher_hub.specs.declared.entry.Entry.{Entry}
 use Rattle.publisher_hub.proofs.LiveRounds.{get_before_map}
 use Rattle.publisher_hub.proofs.PartialRounds.{same_some}
-use Rattle.publisher_hub.proofs.Places.{before_at, answered_at}
+use Rattle.publisher_hub.proofs.Places.{answered_at, there}
 
 -- an answer is no refusal
 not_both : {A E : Type 0} (answer : Result A E) → IsOk answer → IsErr answer → ⊥
-not_both (Ok x) ok err = err
-not_both (Err e) ok err = ok
+not_both (Ok x) ok err = cc
+not_both (Err e) ok err = cc
 
 -- an end that was made ready is
 now_ready : {F T : Type 0} (meaning : F → End) (does : F → Call T → F → Type 0) (answer : Result Unit NoMemory) (f g : F) → IsOk answer → Readies meaning does answer f g → (meaning g).ready ≡ true
@@ -54,7 +57,7 @@ module _ {F T : Type 0} (meaning : F → End) (does : F → Call T → F → Typ
   pub all_prepared_ready : (glances : List (Option Standing)) (xs ys : List (Entry F)) → EachBy (Prepares meaning does next) glances xs ys → AreReady (map (entry_of meaning) ys)
   all_prepared_ready glances xs ys each k entry at =
       let now = get_before_map (entry_of meaning) ys k entry at in
-      let old = before_at (Prepares meaning does next) glances xs ys k now.0 each now.1.0 in
+      let old = there xs k (let within = slice_get_within ys k now.0 now.1.0 in let many = each.as_long in omega arith) in
       let glance = answered_at (Prepares meaning does next) glances xs ys k old.0 each old.1 in
       subst (λ (entry : EntryState). IsReady entry) now.1.1 (prepared_ready glance.0 old.0 now.0 (each.each k glance.0 old.0 now.0 glance.1 old.1 now.1.0))
 
@@ -63,3 +66,13 @@ pub ready_can_take : (entries : List EntryState) → AreReady entries → CanAll
 ready_can_take entries ready k entry at live =
     let has = ready k entry at live in
     (has.0, (has.1.0, ap (λ b. b || is_some has.0.closing) has.1.1))
+
+-- what a round has made ready is, where it isn't refused
+pub on_ok_ready : {F T : Type 0} (meaning : F → End) (does : F → Call T → F → Type 0) (next capacity : ℕ) (result : Result Bool NoMemory) (xs ys : List (Entry F))
+    → IfOk result (λ room. (glances : List (Option Standing)) × (EachBy (Prepares meaning does next) glances xs ys × IsRoom room capacity glances)) → OnOk result (AreReady (map (entry_of meaning) ys))
+on_ok_ready meaning does next capacity (Ok room) xs ys ok = all_prepared_ready meaning does next ok.0 xs ys ok.1.0
+on_ok_ready meaning does next capacity (Err e) xs ys ok = _
+
+-- the producers' ends of a sound Hub's subscriptions are there
+pub all_here : (hub : HubState) → IsSound hub → AreHere hub.entries
+all_here hub sound k entry at live = (sound.entries k entry at).here live

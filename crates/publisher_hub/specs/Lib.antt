@@ -7,5 +7,6 @@ pub mod Lists
 pub mod Looking
 pub mod Offering
 pub mod Publishing
+pub mod Readiness
 pub mod Sound
 pub mod Steps

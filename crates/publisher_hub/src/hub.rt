@@ -7,6 +7,8 @@ ghost use Rattle.flow_rules.specs.declared.refusal.Refusal.TheVariants as Refusa
 ghost use Rattle.publisher_hub.specs.Hub.{hub_of, hub_at_start};
 ghost use Rattle.publisher_hub.specs.Sound.{IsSound};
 
+mod preparing;
+
 use crate::entry::Entry;
 use crate::giving::Giving;
 use close_count::Opening;
