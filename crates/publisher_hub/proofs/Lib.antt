@@ -1,5 +1,6 @@
 pub mod Additions
 pub mod Closes
+pub mod ClosingRounds
 pub mod Ends
 pub mod Gathered
 pub mod GivingRounds

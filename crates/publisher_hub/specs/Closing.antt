@@ -63,16 +63,19 @@ module _ {F T : Type 0} (meaning : F → End) (does : F → Call T → F → Typ
   Closes ending None old new = (old.retired ≡ true) × (new ≡ old)
   Closes ending (Some start) old new = Closed ending start old new
 
-  -- the first close of a Hub: all live subscriptions were looked at and made ready; then each that goes on was closed once, and the
-  -- tasks that this started are due, in order of subscription; the ending is set and the opening ticket taken out, and nothing else
-  -- changed
+  -- each live subscription was closed once, and the tasks that this started are due, in order of subscription
+  pub record ClosesLive (ending : Ending) (xs ys : List (Entry F)) (due_before due_after : List (Work T)) : Type 0 where
+    pub answers : List (Option (Option T))
+    pub each : EachBy (Closes ending) answers xs ys
+    pub due : due_after ≡ due_before ++ started_by_ends answers
+
+  -- the first close of a Hub: all live subscriptions were looked at and made ready, which left the middle list; then each that goes on was
+  -- closed; the ending is set and the opening ticket taken out, and nothing else changed
   pub record ClosesAll (ending : Ending) (due_before due_after : List (Work T)) (old new : Hub F) : Type 0 where
     pub middle : List (Entry F)
     pub glances : List (Option Standing)
-    pub answers : List (Option (Option T))
     pub prepared : EachBy (Prepares meaning does old.next) glances old.entries.items middle
-    pub closed : EachBy (Closes ending) answers middle new.entries.items
-    pub due : due_after ≡ due_before ++ started_by_ends answers
+    pub closes : ClosesLive ending middle new.entries.items due_before due_after
     pub rest : hub_of meaning new ≡ record (hub_of meaning old) {
       progress = progress_closed ending (hub_of meaning old).progress;
       opening = None;

@@ -7,6 +7,8 @@ ghost use Rattle.publisher_hub.specs.Looking.{FailsToPrepare, Glances, IsReadied
 ghost use Rattle.publisher_hub.specs.Offering.{Gives};
 ghost use Rattle.publisher_hub.specs.Steps.{CanTake, IsHere};
 
+mod closing;
+
 use close_count::Ticket;
 use flow_rules::{Feed, Item, Name, NoMemory, Put, Standing};
 

@@ -7,6 +7,7 @@ ghost use Rattle.flow_rules.specs.declared.refusal.Refusal.TheVariants as Refusa
 ghost use Rattle.publisher_hub.specs.Hub.{hub_of, hub_at_start};
 ghost use Rattle.publisher_hub.specs.Sound.{IsSound};
 
+mod closing;
 mod preparing;
 
 use crate::entry::Entry;
