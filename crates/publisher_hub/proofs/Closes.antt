@@ -1,15 +1,20 @@
 -- A sound Hub that is closed stays sound.
-use Rattle.std.proofs.Common.{◌≡◌, ◌⊎◌, ℕ, ◌<◌, ◌≤◌, true, false, None, Some, List, refl, ap, sym, subst, ◌∙◌, inl, inr, arith}
+use Rattle.std.proofs.Common.{◌≡◌, ◌⊎◌, ℕ, ◌<◌, ◌≤◌, true, false, Option, None, Some, option_map, List, map, refl, ap, sym, subst, ◌∙◌, inl, inr, arith}
 use Rattle.std.specs.Prelude.{slice_get}
+use Rattle.std.proofs.lemmas.List.{length-map}
+use Rattle.flow_rules.specs.Call.{Call}
 use Rattle.flow_rules.specs.Feed.{End}
 use Rattle.flow_rules.specs.declared.ending.Ending.{Ending}
 use Rattle.flow_rules.specs.declared.item.Item.{Item}
-use Rattle.publisher_hub.specs.Closing.{IsClosed, IsClosedBy, WasClosed, progress_closed}
-use Rattle.publisher_hub.specs.Entry.{EntryState, until_of}
+use Rattle.publisher_hub.specs.Closing.{Closes, IsClosed, IsClosedBy, WasClosed, progress_closed}
+use Rattle.publisher_hub.specs.Entry.{EntryState, entry_of, until_of}
 use Rattle.publisher_hub.specs.Hub.{HubState, Progress}
+use Rattle.publisher_hub.specs.Lists.{Each, EachBy}
 use Rattle.publisher_hub.specs.Sound.{IsCounted, IsEntry, IsOrdered, IsPublished, IsSound, MOST_ENTRIES}
+use Rattle.publisher_hub.specs.declared.entry.Entry.{Entry}
+use Rattle.publisher_hub.proofs.LiveRounds.{get_before_map}
 use Rattle.publisher_hub.proofs.Looks.{same_end, until_next}
-use Rattle.publisher_hub.proofs.Places.{stood_at}
+use Rattle.publisher_hub.proofs.Places.{answered_at, stood_at}
 use Rattle.publisher_hub.proofs.SameLists.{KeepsLists, RetiresNoLess, agreed_same, live_same}
 
 -- an item that a subscription accepted was published as before
@@ -90,3 +95,37 @@ sound_closed ending old new sound closed =
       all_sources = sound.all_sources;
       few_counts = sound.few_counts;
     })
+
+-- no producer's end of a Hub without an ending was closed
+pub none_closed : (hub : HubState) → IsSound hub → hub.progress.ending ≡ None → (k : ℕ) (entry : EntryState) (e : End) → slice_get hub.entries k ≡ Some entry → entry.feed ≡ Some e → e.closing ≡ None
+none_closed hub sound none k entry e at was = ((sound.entries k entry at).counted e was).unclosed none
+
+module _ {F T : Type 0} (meaning : F → End) (does : F → Call T → F → Type 0) (ending : Ending) where
+  -- what a close did to one subscription, whose end wasn't closed before
+  closed_by : (answer : Option (Option T)) (x y : Entry F) → ((e : End) → option_map meaning x.feed ≡ Some e → e.closing ≡ None) → Closes meaning does ending answer x y
+      → IsClosedBy ending (entry_of meaning x) (entry_of meaning y)
+  closed_by None x y unclosed stays = inl (record { retired = stays.0; same = ap (λ (entry : Entry F). entry_of meaning entry) stays.1 })
+  closed_by (Some start) x y unclosed closed =
+      let was : option_map meaning x.feed ≡ Some (meaning closed.before) = ap (λ feed. option_map meaning feed) closed.was in
+      inr (record {
+        before = meaning closed.before;
+        after = meaning closed.after;
+        live = closed.live;
+        was = was;
+        closed = closed.means.first (unclosed (meaning closed.before) was);
+        now = ap (λ (entry : Entry F). entry_of meaning entry) closed.now;
+      })
+
+  -- what a round of closes did to all
+  pub all_closed_by : (answers : List (Option (Option T))) (xs ys : List (Entry F)) → ((k : ℕ) (entry : EntryState) (e : End) → slice_get (map (entry_of meaning) xs) k ≡ Some entry → entry.feed ≡ Some e → e.closing ≡ None)
+      → EachBy (Closes meaning does ending) answers xs ys → Each (IsClosedBy ending) (map (entry_of meaning) xs) (map (entry_of meaning) ys)
+  all_closed_by answers xs ys unclosed each = record {
+    as_long = length-map ys (entry_of meaning) ∙ each.as_long ∙ sym (length-map xs (entry_of meaning));
+    each = λ k x y at at'.
+        let old = get_before_map (entry_of meaning) xs k x at in
+        let new = get_before_map (entry_of meaning) ys k y at' in
+        let answer = answered_at (Closes meaning does ending) answers xs ys k old.0 each old.1.0 in
+        subst (λ (entry : EntryState). IsClosedBy ending entry y) old.1.1 (subst (λ (entry : EntryState). IsClosedBy ending (entry_of meaning old.0) entry) new.1.1
+            (closed_by answer.0 old.0 new.0 (λ e was. unclosed k (entry_of meaning old.0) e (at ∙ ap Some (sym old.1.1)) was)
+            (each.each k answer.0 old.0 new.0 answer.1 old.1.0 new.1.0)));
+  }

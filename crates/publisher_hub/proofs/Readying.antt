@@ -1,5 +1,5 @@
 -- Subscriptions that were made ready.
-use Rattle.std.proofs.Common.{◌≡◌, ◌||◌, ℕ, Bool, true, false, Option, None, Some, option_map, Result, Ok, Err, IfOk, OnOk, IsOk, IsErr, List, map, refl, ap, sym, subst, ◌∙◌, is_some, arith, length, ◌<◌}
+use Rattle.std.proofs.Common.{◌≡◌, ◌||◌, ℕ, Bool, true, false, Option, None, Some, option_map, Result, Ok, Err, IfOk, OnErr, OnOk, IsOk, IsErr, List, map, refl, ap, sym, subst, ◌∙◌, is_some, arith, length, ◌<◌}
 use Rattle.std.specs.Prelude.{slice_get}
 use Rattle.std.proofs.lemmas.Option.{slice_get_within}
 use Rattle.flow_rules.specs.Call.{Call}
@@ -9,11 +9,12 @@ use Rattle.flow_rules.specs.declared.refusal.NoMemory.{NoMemory}
 use Rattle.publisher_hub.specs.Entry.{EntryState, entry_of}
 use Rattle.publisher_hub.specs.Hub.{HubState}
 use Rattle.publisher_hub.specs.Lists.{EachBy}
-use Rattle.publisher_hub.specs.Looking.{FailsToPrepare, IsRoom, Prepares, Readies, SeesReady}
+use Rattle.publisher_hub.specs.Looking.{FailsToPrepare, IsKept, IsLookedAt, IsRoom, Prepares, Readies, SeesReady}
 use Rattle.publisher_hub.specs.Readiness.{AreReady, CanAllTake, IsReady}
 use Rattle.publisher_hub.specs.Sound.{IsSound}
 use Rattle.publisher_hub.specs.Steps.{AreHere}
 use Rattle.publisher_hub.specs.declared.entry.Entry.{Entry}
+use Rattle.publisher_hub.proofs.Kept.{untouched_kept}
 use Rattle.publisher_hub.proofs.LiveRounds.{get_before_map}
 use Rattle.publisher_hub.proofs.PartialRounds.{same_some}
 use Rattle.publisher_hub.proofs.Places.{answered_at, there}
@@ -76,3 +77,18 @@ on_ok_ready meaning does next capacity (Err e) xs ys ok = _
 -- the producers' ends of a sound Hub's subscriptions are there
 pub all_here : (hub : HubState) → IsSound hub → AreHere hub.entries
 all_here hub sound k entry at live = (sound.entries k entry at).here live
+
+-- a Hub that is as it was
+pub not_looked_at : (hub : HubState) → IsSound hub → IsLookedAt hub hub
+not_looked_at hub sound = record {
+  rest = refl;
+  entries = record {
+    as_long = refl;
+    each = λ k x y at at'. subst (λ (entry : EntryState). IsKept hub.progress.next x entry) (same_some (sym at ∙ at')) (untouched_kept hub.progress.next x (all_here hub sound k x at));
+  };
+}
+
+-- a refusal answers nothing
+pub on_err : {A E : Type 0} (r : Result A E) (P : Type 0) → P → OnErr r P
+on_err (Ok x) P p = _
+on_err (Err e) P p = p
