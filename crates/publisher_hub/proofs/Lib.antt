@@ -13,10 +13,10 @@ pub mod Offered
 pub mod Offers
 pub mod PartialRounds
 pub mod Places
-pub mod Publications
-pub mod Shares
 pub mod Preparing
+pub mod Publications
 pub mod Readying
 pub mod SameLists
 pub mod Shares
 pub mod Starting
+pub mod Telling

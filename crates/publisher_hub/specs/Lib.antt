@@ -10,3 +10,4 @@ pub mod Publishing
 pub mod Readiness
 pub mod Sound
 pub mod Steps
+pub mod Subscribing

@@ -6,7 +6,7 @@ use Rattle.publisher_hub.specs.Hub.{hub_of}
 use Rattle.publisher_hub.specs.Lists.{Each}
 use Rattle.publisher_hub.specs.Looking.{IsKept, IsLookedAt}
 use Rattle.publisher_hub.specs.Readiness.{AreReady}
-use Rattle.publisher_hub.proofs.Kept.{either_kept}
+use Rattle.publisher_hub.proofs.Kept.{round_kept}
 use Rattle.publisher_hub.proofs.Looks.{sound_looked_at}
 use Rattle.publisher_hub.proofs.Readying.{all_here, on_ok_ready}
 use Rattle.publisher_hub.proofs.hub.Hub.prepare_live.Goals as goal
@@ -16,7 +16,7 @@ returns-clause-looked g c =
     let whole = with_items_is c.args.self.now.entries c.prepare_all.new.entries (c.prepare_all.auto.entries ∙ c.deref_mut.ensures.len) in
     record {
       rest = refl;
-      entries = rw whole (rw (← c.deref_mut.ensures.value) (either_kept g.F.Feed.meaning g.F.Feed.does c.args.self.now.next c.args.self.now.capacity c.prepare_all.result c.deref_mut.result.now c.prepare_all.new.entries
+      entries = rw whole (rw (← c.deref_mut.ensures.value) (round_kept g.F.Feed.meaning g.F.Feed.does c.args.self.now.next c.args.self.now.capacity c.deref_mut.result.now c.prepare_all.new.entries c.prepare_all.result
           (rw c.deref_mut.ensures.value (all_here (hub_of g.F.Feed.meaning c.args.self.now) c.requires.sound)) c.prepare_all.ensures.ok c.prepare_all.ensures.err));
     }
 
