@@ -32,6 +32,13 @@ pub record WasTold (old new : EntryState) : Type 0 where
   pub told : after ≡ record before { state = true; ready = after.ready }
   pub now : new ≡ record old { feed = Some after }
 
+-- the subscription of this number has this name, or has another
+abbrev pub IsNamed : {F : Type 0} → List ℕ → ℕ → List (Entry F) → Type 0
+IsNamed {F} name number entries = (entry : Entry F) × ((slice_get entries number ≡ Some entry) × (entry.name ≡ name))
+
+abbrev pub IsNotNamed : {F : Type 0} → List ℕ → ℕ → List (Entry F) → Type 0
+IsNotNamed {F} name number entries = (entry : Entry F) → slice_get entries number ≡ Some entry → entry.name ≡ name → ⊥
+
 -- no subscription that isn't retired has this name
 abbrev pub IsUnnamed : List ℕ → List EntryState → Type 0
 IsUnnamed name entries = (k : ℕ) (entry : EntryState) → slice_get entries k ≡ Some entry → entry.retired ≡ false → entry.name ≡ name → ⊥

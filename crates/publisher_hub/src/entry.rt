@@ -8,6 +8,7 @@ ghost use Rattle.publisher_hub.specs.Offering.{Gives};
 ghost use Rattle.publisher_hub.specs.Steps.{CanTake, IsHere};
 
 mod closing;
+mod telling;
 
 use close_count::Ticket;
 use flow_rules::{Feed, Item, Name, NoMemory, Put, Standing};

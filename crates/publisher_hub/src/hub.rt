@@ -1,4 +1,8 @@
 //! The Hub.
+mod closing;
+mod leaving_out;
+mod named;
+mod preparing;
 mod publishing;
 
 ghost use Rattle.std.specs.Prelude.{◌≡◌, ◌≤◌, ◌↔◌, IfOk, IfErr, replicate};
@@ -6,9 +10,6 @@ ghost use Rattle.flow_rules.specs.Capacity.{capacity_of};
 ghost use Rattle.flow_rules.specs.declared.refusal.Refusal.TheVariants as Refusal;
 ghost use Rattle.publisher_hub.specs.Hub.{hub_of, hub_at_start};
 ghost use Rattle.publisher_hub.specs.Sound.{IsSound};
-
-mod closing;
-mod preparing;
 
 use crate::entry::Entry;
 use crate::giving::Giving;
