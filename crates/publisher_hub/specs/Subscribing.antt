@@ -43,15 +43,30 @@ IsNotNamed {F} name number entries = (entry : Entry F) → slice_get entries num
 abbrev pub IsUnnamed : List ℕ → List EntryState → Type 0
 IsUnnamed name entries = (k : ℕ) (entry : EntryState) → slice_get entries k ≡ Some entry → entry.retired ≡ false → entry.name ≡ name → ⊥
 
+-- the subscription of this number isn't retired
+abbrev pub IsLiveAt : {F : Type 0} → ℕ → List (Entry F) → Type 0
+IsLiveAt {F} number entries = (entry : Entry F) × ((slice_get entries number ≡ Some entry) × (entry.retired ≡ false))
+
+-- there is a place for one subscription more
+pub record HasPlace {F : Type 0} (hub : Hub F) : Type 0 where
+  pub entry_place : vec_len hub.entries < vec_capacity hub.entries
+  pub number_place : vec_len hub.live < vec_capacity hub.live
+  pub few_live : length hub.live.items < MOST_LIVE
+  pub few_entries : length hub.entries.items < MOST_ENTRIES
+
+-- why there is none: there are as many live ones as there may be; else as many that were ever made; else memory is refused
+abbrev pub HasNoPlace : {F : Type 0} → Refusal → Hub F → Type 0
+HasNoPlace Refusal.TooMany hub = length hub.live.items ≡ MOST_LIVE
+HasNoPlace Refusal.Exhausted hub = (length hub.live.items < MOST_LIVE) × (length hub.entries.items ≡ MOST_ENTRIES)
+HasNoPlace Refusal.NoMemory hub = (length hub.live.items < MOST_LIVE) × (length hub.entries.items < MOST_ENTRIES)
+HasNoPlace _ hub = ⊥
+
 -- a subscription of this name may be added to a Hub, and one task may be started
 pub record CanAdmit {F T : Type 0} (meaning : F → End) (name : List ℕ) (hub : Hub F) (due : Vec (Work T) Global) : Type 0 where
   pub due_place : vec_len due < vec_capacity due
-  pub entry_place : vec_len hub.entries < vec_capacity hub.entries
-  pub number_place : vec_len hub.live < vec_capacity hub.live
+  pub place : HasPlace hub
   pub ready : AreReady (hub_of meaning hub).entries
   pub unnamed : IsUnnamed name (hub_of meaning hub).entries
-  pub few_live : length hub.live.items < MOST_LIVE
-  pub few_entries : length hub.entries.items < MOST_ENTRIES
 
 module _ {F T : Type 0} (meaning : F → End) (does : F → Call T → F → Type 0) where
   -- all live subscriptions of a Hub were looked at, the ended ones retired, the others made ready, and the numbers of the retired ones
@@ -78,27 +93,35 @@ module _ {F T : Type 0} (meaning : F → End) (does : F → Call T → F → Typ
     pub exact : does before (Call.Duplicates start) after
     pub now : new ≡ record old { feed = Some after }
 
-  -- one live subscription of this name was told of a second subscribing; the task that this started is due, and nothing else changed
-  pub record TellsOne (name : List ℕ) (due_before due_after : List (Work T)) (old new : Hub F) : Type 0 where
-    pub number : ℕ
+  -- the live subscription of this number was told of a second subscribing; the task that this started is due, and nothing else changed
+  pub record TellsAt (number : ℕ) (due_before due_after : List (Work T)) (old new : Hub F) : Type 0 where
     pub start : Option T
     pub before : Entry F
     pub after : Entry F
     pub there : slice_get old.entries.items number ≡ Some before
-    pub named : before.name ≡ name
     pub told : Told start before after
     pub entries : new.entries.items ≡ slice_set old.entries.items number after
     pub due : due_after ≡ due_before ++ work_of number start
     pub rest : hub_of meaning new ≡ record (hub_of meaning old) { entries = (hub_of meaning new).entries }
 
-  -- why a subscribing is refused, and what is left then: a live subscription has the name, and is told of it; there are as many live
-  -- ones, or as many that were ever made, as there may be; or memory is refused, where only looks were made
+  -- one live subscription of this name was told of a second subscribing
+  pub record TellsOne (name : List ℕ) (due_before due_after : List (Work T)) (old new : Hub F) : Type 0 where
+    pub number : ℕ
+    pub named : IsNamed name number old.entries.items
+    pub tells : TellsAt number due_before due_after old new
+
+  -- no live subscription of a Hub that was looked at has the name, and there is no place for one more
+  pub record FindsNoPlace (name : List ℕ) (refusal : Refusal) (old new : Hub F) : Type 0 where
+    pub seen : IsSeen old new
+    pub unnamed : IsUnnamed name (hub_of meaning new).entries
+    pub why : HasNoPlace refusal new
+
+  -- why a subscribing is refused, and what is left then: a live subscription has the name, and is told of it; else there is no place; or
+  -- memory was refused before all were looked at
   abbrev pub Refuses : List ℕ → Refusal → List (Work T) → List (Work T) → Hub F → Hub F → Type 0
   Refuses name Refusal.Duplicate due_before due_after old new = (middle : Hub F) × (IsSeen old middle × TellsOne name due_before due_after middle new)
-  Refuses name Refusal.TooMany due_before due_after old new = IsSeen old new × ((length new.live.items ≡ MOST_LIVE) × (due_after ≡ due_before))
-  Refuses name Refusal.Exhausted due_before due_after old new = IsSeen old new × ((length new.entries.items ≡ MOST_ENTRIES) × (due_after ≡ due_before))
-  Refuses name Refusal.NoMemory due_before due_after old new = (IsSeenInPart old new ⊎ IsSeen old new) × (due_after ≡ due_before)
-  Refuses name _ due_before due_after old new = ⊥
+  Refuses name Refusal.NoMemory due_before due_after old new = (IsSeenInPart old new ⊎ FindsNoPlace name Refusal.NoMemory old new) × (due_after ≡ due_before)
+  Refuses name refusal due_before due_after old new = FindsNoPlace name refusal old new × (due_after ≡ due_before)
 
   -- the producer's end of a new subscription is closed at once where its Hub was
   abbrev pub ClosesNew : Option Ending → F → Option T → F → Type 0

@@ -4,6 +4,8 @@ mod leaving_out;
 mod named;
 mod preparing;
 mod publishing;
+mod seeing;
+mod subscribing;
 
 ghost use Rattle.std.specs.Prelude.{◌≡◌, ◌≤◌, ◌↔◌, IfOk, IfErr, replicate};
 ghost use Rattle.flow_rules.specs.Capacity.{capacity_of};
