@@ -1,15 +1,20 @@
 -- A sound Hub stays sound where a subscription is told of a second subscribing.
-use Rattle.std.proofs.Common.{◌≡◌, ◌⊎◌, ℕ, zero, suc, ◌<◌, ◌≤◌, true, false, None, Some, List, [], ◌∷◌, length, set, refl, ap, sym, subst, ◌∙◌, inl, inr, arith}
+use Rattle.std.proofs.Common.{◌≡◌, ◌⊎◌, ℕ, zero, suc, ◌<◌, ◌≤◌, true, false, Option, None, Some, option_map, List, [], ◌∷◌, length, map, get_or, set, refl, ap, sym, subst, ◌∙◌, inl, inr, arith}
 use Rattle.std.specs.Prelude.{slice_get}
 use Rattle.std.proofs.lemmas.List.{length-set}
+use Rattle.std.proofs.lemmas.Option.{slice_get-get_or, slice_get_within}
+use Rattle.flow_rules.specs.Call.{Call}
 use Rattle.flow_rules.specs.Feed.{End}
 use Rattle.flow_rules.specs.declared.item.Item.{Item}
-use Rattle.publisher_hub.specs.Entry.{EntryState, until_of}
-use Rattle.publisher_hub.specs.Hub.{HubState, Progress}
+use Rattle.publisher_hub.specs.Entry.{EntryState, entry_of, until_of}
+use Rattle.publisher_hub.specs.Hub.{HubState, Progress, hub_of}
 use Rattle.publisher_hub.specs.Lists.{Each}
 use Rattle.publisher_hub.specs.Sound.{IsCounted, IsEntry, IsOrdered, IsSound, MOST_ENTRIES}
-use Rattle.publisher_hub.specs.Subscribing.{WasTold}
+use Rattle.publisher_hub.specs.Subscribing.{Told, WasTold}
+use Rattle.publisher_hub.specs.declared.entry.Entry.{Entry}
+use Rattle.publisher_hub.specs.declared.hub.Hub.{Hub}
 use Rattle.publisher_hub.proofs.Grown.{get_elsewhere, get_there}
+use Rattle.publisher_hub.proofs.LiveRounds.{get_mapped}
 use Rattle.publisher_hub.proofs.Looks.{same_end}
 use Rattle.publisher_hub.proofs.PartialRounds.{same_some}
 use Rattle.publisher_hub.proofs.Places.{stood_at}
@@ -72,7 +77,7 @@ each_told xs k x y at told = record {
   by : (i : ℕ) (old new : EntryState) → slice_get xs i ≡ Some old → slice_get (set xs k y) i ≡ Some new → (k ≡ i) ⊎ (k ≡ i → ⊥) → MayBeTold old new
   by i old new before after (inl same) =
       let was : x ≡ old = same_some (sym at ∙ subst (λ j. slice_get xs j ≡ Some old) (sym same) before) in
-      let within : k < length xs = Rattle.std.proofs.lemmas.Option.slice_get_within xs k x at in
+      let within : k < length xs = slice_get_within xs k x at in
       let now : y ≡ new = same_some (sym (get_there xs k y within) ∙ subst (λ j. slice_get (set xs k y) j ≡ Some new) (sym same) after) in
       inr (subst (λ (entry : EntryState). WasTold old entry) now (subst (λ (entry : EntryState). WasTold entry y) was told))
   by i old new before after (inr other) = inl (same_some (sym after ∙ get_elsewhere xs k i y other ∙ before))
@@ -95,3 +100,32 @@ sound_told hub k x y at told sound =
       all_sources = sound.all_sources;
       few_counts = sound.few_counts;
     }
+
+-- what is read at a place where something stands stands there
+pub read_at : {X : Type 0} (xs : List X) (k : ℕ) (x y : X) → slice_get xs k ≡ Some y → x ≡ get_or xs k x → slice_get xs k ≡ Some x
+read_at xs k x y at value = slice_get-get_or xs k x (slice_get_within xs k y at) ∙ ap Some (sym value)
+
+-- setting a place commutes with a map
+pub map_set : {A B : Type 0} (f : A → B) (xs : List A) (k : ℕ) (x : A) → map f (set xs k x) ≡ set (map f xs) k (f x)
+map_set f [] k x = refl
+map_set f (first ∷ xs) zero x = refl
+map_set f (first ∷ xs) (suc k) x = ap (λ ys. f first ∷ ys) (map_set f xs k x)
+
+module _ {F T : Type 0} (meaning : F → End) (does : F → Call T → F → Type 0) where
+  -- what a producer's end that was told means
+  pub was_told : (start : Option T) (old new : Entry F) → Told meaning does start old new → WasTold (entry_of meaning old) (entry_of meaning new)
+  was_told start old new told = record {
+    before = meaning told.before;
+    after = meaning told.after;
+    live = told.live;
+    was = ap (λ feed. option_map meaning feed) told.was;
+    told = told.means.rest;
+    now = ap (λ (entry : Entry F). entry_of meaning entry) told.now;
+  }
+
+  -- a sound Hub stays sound where one of its subscriptions is told
+  pub sound_tells : (hub : Hub F) (ys : List (Entry F)) (k : ℕ) (start : Option T) (old new : Entry F) → IsSound (hub_of meaning hub) → slice_get hub.entries.items k ≡ Some old → Told meaning does start old new
+      → ys ≡ set hub.entries.items k new → IsSound (record (hub_of meaning hub) { entries = map (entry_of meaning) ys })
+  sound_tells hub ys k start old new sound at told now =
+      subst (λ (entries : List EntryState). IsSound (record (hub_of meaning hub) { entries = entries })) (sym (ap (λ l. map (entry_of meaning) l) now ∙ map_set (entry_of meaning) hub.entries.items k new))
+          (sound_told (hub_of meaning hub) k (entry_of meaning old) (entry_of meaning new) (get_mapped (entry_of meaning) hub.entries.items k old at) (was_told start old new told) sound)
