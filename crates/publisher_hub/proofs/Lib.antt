@@ -19,4 +19,5 @@ pub mod Readying
 pub mod SameLists
 pub mod Shares
 pub mod Starting
+pub mod Subscriptions
 pub mod Telling

@@ -18,6 +18,30 @@ pub const MOST_LIVE: usize = 64;
 pub const MOST_ENTRIES: usize = 4_294_967_295;
 
 impl<F: Feed> Hub<F> {
+    /// Whether a subscriber of this name may subscribe now (`SubmissionPublisher.subscribe`, Java SE 17). After Ok the next
+    /// [`admit`](Hub::admit) of this name with the same `due` isn't refused, as long as no call but [`add_ticket`](Hub::add_ticket) comes
+    /// between.
+    ///
+    /// In this order: `NoMemory` where a place of `due`, or what a started task needs, is refused; `Duplicate` where a live subscription
+    /// has the name, whose subscriber is told of it; `TooMany` where [`MOST_LIVE`] are live; `Exhausted` where [`MOST_ENTRIES`] were ever
+    /// made; and `NoMemory` where the place of one more is refused. Nothing else changes, but by looks.
+    pub fn may_subscribe(&mut self, name: Name, due: &mut Vec<Work<F::Task>>) -> Result<(), Refusal>
+        requires sound { IsSound (hub_of F.meaning self.old) }
+        ensures can { OnOk result (CanAdmit F.meaning name self.new due.new) }
+        ensures seen { OnOk result (IsSeen F.meaning F.does self.old self.new) }
+        ensures nothing_due { OnOk result (due.new.items ≡ due.old.items) }
+        ensures err { IfErr result (λ refusal. Refuses F.meaning F.does name refusal due.old.items due.new.items self.old self.new) }
+        ensures stays { CanAdmit F.meaning name self.old due.old → IsOk result }
+        ensures sound { IsSound (hub_of F.meaning self.new) }
+    {
+        self.see_all(due)?;
+        if let Some(number) = find_named(&self.entries, &self.live, name) {
+            self.tell_duplicate(number, due);
+            return Err(Refusal::Duplicate);
+        }
+        self.make_place()
+    }
+
     /// Tells the live subscription of this number of a second subscribing.
     fn tell_duplicate(&mut self, number: u32, due: &mut Vec<Work<F::Task>>)
         requires sound { IsSound (hub_of F.meaning self.old) }
@@ -39,7 +63,7 @@ impl<F: Feed> Hub<F> {
         ensures stays { HasPlace self.old → IsOk result }
         ensures entries { self.new.entries.items ≡ self.old.entries.items }
         ensures live { self.new.live.items ≡ self.old.live.items }
-        ensures rest { self.new ≡ record self.old { entries = self.new.entries; live = self.new.live } }
+        ensures same { hub_of F.meaning self.new ≡ hub_of F.meaning self.old }
     {
         if self.live.len() >= MOST_LIVE {
             return Err(Refusal::TooMany);
