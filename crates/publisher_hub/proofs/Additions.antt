@@ -1,15 +1,20 @@
 -- A sound Hub that a subscription is added to stays sound.
-use Rattle.std.proofs.Common.{◌≡◌, ◌⊎◌, ℕ, zero, suc, ◌+◌, ◌<◌, ◌≤◌, false, Option, None, Some, List, [], ◌∷◌, ◌++◌, length, refl, ap, sym, subst, ◌∙◌, inl, inr, arith}
+use Rattle.std.proofs.Common.{◌≡◌, ◌⊎◌, ℕ, zero, suc, ◌+◌, ◌<◌, ◌≤◌, false, Option, None, Some, List, [], ◌∷◌, ◌++◌, length, map, refl, ap, sym, subst, ◌∙◌, inl, inr, arith}
 use Rattle.std.specs.Prelude.{slice_get}
-use Rattle.std.proofs.lemmas.List.{length-append}
+use Rattle.std.proofs.lemmas.List.{length-append, length-map, map-append}
 use Rattle.std.proofs.lemmas.Option.{slice_get_within}
 use Rattle.close_count.specs.declared.ticket.Ticket.{Ticket}
+use Rattle.flow_rules.specs.Call.{Call}
 use Rattle.flow_rules.specs.Feed.{End}
+use Rattle.flow_rules.specs.declared.ending.Ending.{Ending}
 use Rattle.flow_rules.specs.declared.item.Item.{Item}
-use Rattle.publisher_hub.specs.Adding.{hub_with, new_entry}
-use Rattle.publisher_hub.specs.Entry.{EntryState}
-use Rattle.publisher_hub.specs.Hub.{HubState, Progress}
+use Rattle.publisher_hub.specs.Adding.{IsFresh, hub_with, new_entry}
+use Rattle.publisher_hub.specs.Entry.{EntryState, entry_of}
+use Rattle.publisher_hub.specs.Hub.{HubState, Progress, hub_of}
 use Rattle.publisher_hub.specs.Sound.{AreLive, IsAccepted, IsCounted, IsEntry, IsSound, MOST_ENTRIES, MOST_LIVE}
+use Rattle.publisher_hub.specs.Subscribing.{ClosesNew, HasPlace, first_entry}
+use Rattle.publisher_hub.specs.declared.entry.Entry.{Entry}
+use Rattle.publisher_hub.specs.declared.hub.Hub.{Hub}
 use Rattle.publisher_hub.proofs.Grown.{get_grown}
 use Rattle.publisher_hub.proofs.Looks.{same_end}
 
@@ -99,3 +104,26 @@ sound_added hub name e ticket empty capacity unclosed few_live few_entries sound
       by : (k : ℕ) (l : EntryState) → (slice_get hub.entries k ≡ Some l) ⊎ ((k ≡ length hub.entries) × (new_entry hub.progress name e ticket ≡ l)) → IsEntry hub.progress l
       by k l (inl before) = sound.entries k l before
       by k l (inr now) = subst (λ (entry : EntryState). IsEntry hub.progress entry) now.1 (entry_added hub.progress name e ticket empty capacity unclosed)
+
+-- the same of what is stored
+pub sound_grown : {F : Type 0} (meaning : F → End) (hub : Hub F) (entries : List (Entry F)) (live : List ℕ) (name : List ℕ) (feed : F) (ticket : Option Ticket) → (meaning feed).accepted ≡ []
+    → (meaning feed).capacity ≡ hub.capacity → (hub.ending ≡ None → (meaning feed).closing ≡ None) → HasPlace hub → entries ≡ hub.entries.items ++ first_entry name hub.next feed ticket ∷ []
+    → live ≡ hub.live.items ++ length hub.entries.items ∷ [] → IsSound (hub_of meaning hub) → IsSound (record (hub_of meaning hub) { entries = map (entry_of meaning) entries; live = live })
+sound_grown {F} meaning hub entries live name feed ticket empty capacity unclosed place entries_are live_is sound =
+    let many : length (map (entry_of meaning) hub.entries.items) ≡ length hub.entries.items = length-map hub.entries.items (entry_of meaning) in
+    let few_entries = place.few_entries in
+    let added = sound_added (hub_of meaning hub) name (meaning feed) ticket empty capacity unclosed place.few_live (omega arith) sound in
+    let mapped : map (entry_of meaning) entries ≡ map (entry_of meaning) hub.entries.items ++ new_entry (hub_of meaning hub).progress name (meaning feed) ticket ∷ [] =
+        ap (λ (l : List (Entry F)). map (entry_of meaning) l) entries_are ∙ map-append (entry_of meaning) hub.entries.items (first_entry name hub.next feed ticket ∷ []) in
+    let numbered : live ≡ hub.live.items ++ length (map (entry_of meaning) hub.entries.items) ∷ [] = live_is ∙ ap (λ n. hub.live.items ++ n ∷ []) (sym many) in
+    subst (λ (l : List ℕ). IsSound (record (hub_of meaning hub) { entries = map (entry_of meaning) entries; live = l })) (sym numbered)
+        (subst (λ (l : List EntryState). IsSound (record (hub_of meaning hub) { entries = l; live = hub.live.items ++ length (map (entry_of meaning) hub.entries.items) ∷ [] })) (sym mapped) added)
+
+-- the producer's end of a new subscription, closed where its Hub is, has accepted nothing
+pub new_is_empty : {F T : Type 0} (meaning : F → End) (does : F → Call T → F → Type 0) (ending : Option Ending) (feed after : F) (start : Option T) (capacity : ℕ) → IsFresh capacity (meaning feed)
+    → ClosesNew meaning does ending feed start after → ((meaning after).accepted ≡ []) × (((meaning after).capacity ≡ capacity) × (ending ≡ None → (meaning after).closing ≡ None))
+new_is_empty meaning does None feed after start capacity fresh closes =
+    (ap (λ f. (meaning f).accepted) closes.1 ∙ fresh.empty, (ap (λ f. (meaning f).capacity) closes.1 ∙ fresh.capacity_is, λ _. ap (λ f. (meaning f).closing) closes.1 ∙ fresh.unclosed))
+new_is_empty meaning does (Some ending) feed after start capacity fresh closes =
+    let now = closes.0.first fresh.unclosed in
+    (ap (λ (e : End). e.accepted) now ∙ fresh.empty, (ap (λ (e : End). e.capacity) now ∙ fresh.capacity_is, λ none. cc))

@@ -68,6 +68,18 @@ pub record CanAdmit {F T : Type 0} (meaning : F → End) (name : List ℕ) (hub 
   pub ready : AreReady (hub_of meaning hub).entries
   pub unnamed : IsUnnamed name (hub_of meaning hub).entries
 
+-- what is stored of a new subscription
+abbrev pub first_entry : {F : Type 0} → List ℕ → ℕ → F → Option Ticket → Entry F
+first_entry name next feed ticket = record {
+  name = name;
+  since = next;
+  until = next;
+  dropped = 0;
+  retired = false;
+  feed = Some feed;
+  ticket = ticket;
+}
+
 module _ {F T : Type 0} (meaning : F → End) (does : F → Call T → F → Type 0) where
   -- all live subscriptions of a Hub were looked at, the ended ones retired, the others made ready, and the numbers of the retired ones
   -- left out; nothing else changed
@@ -140,14 +152,6 @@ module _ {F T : Type 0} (meaning : F → End) (does : F → Call T → F → Typ
     pub after : F
     pub closes : ClosesNew old.ending feed start after
     pub due : due_after ≡ due_before ++ work_of number start
-    pub entries : new.entries.items ≡ middle.entries.items ++ record {
-      name = name;
-      since = old.next;
-      until = old.next;
-      dropped = 0;
-      retired = false;
-      feed = Some after;
-      ticket = ticket;
-    } ∷ []
+    pub entries : new.entries.items ≡ middle.entries.items ++ first_entry name old.next after ticket ∷ []
     pub live : new.live.items ≡ middle.live.items ++ number ∷ []
     pub rest : hub_of meaning new ≡ record (hub_of meaning old) { entries = (hub_of meaning new).entries; live = new.live.items }

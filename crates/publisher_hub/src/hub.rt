@@ -1,4 +1,5 @@
 //! The Hub.
+mod admitting;
 mod closing;
 mod leaving_out;
 mod named;
