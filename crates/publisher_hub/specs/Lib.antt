@@ -11,3 +11,4 @@ pub mod Readiness
 pub mod Sound
 pub mod Steps
 pub mod Subscribing
+pub mod Tickets

@@ -7,6 +7,7 @@ mod preparing;
 mod publishing;
 mod seeing;
 mod subscribing;
+mod tickets;
 
 ghost use Rattle.std.specs.Prelude.{◌≡◌, ◌≤◌, ◌↔◌, IfOk, IfErr, replicate};
 ghost use Rattle.flow_rules.specs.Capacity.{capacity_of};
