@@ -27,5 +27,5 @@ AddsTicket (Some ticket) before after = MakesTicket ticket before after
 abbrev pub RefusesTicket : Refusal → Option Opening → Type 0
 RefusesTicket Refusal.Exhausted None = ⊤
 RefusesTicket Refusal.Exhausted (Some opening) = tickets_made opening ≡ MOST_TICKETS
-RefusesTicket Refusal.NoMemory (Some opening) = ⊤
+RefusesTicket Refusal.NoMemory (Some opening) = tickets_made opening ≡ MOST_TICKETS → ⊥
 RefusesTicket _ _ = ⊥
