@@ -12,8 +12,8 @@ use Rattle.flow_rules.specs.declared.refusal.Refusal.TheVariants as Refusal
 use Rattle.publisher_hub.specs.Adding.{AreAllLive, goes_on, live_of}
 use Rattle.publisher_hub.specs.Entry.{EntryState, entry_of}
 use Rattle.publisher_hub.specs.Hub.{HubState, hub_of}
-use Rattle.publisher_hub.specs.Lists.{EachBy}
-use Rattle.publisher_hub.specs.Looking.{Prepares}
+use Rattle.publisher_hub.specs.Lists.{Each, EachBy}
+use Rattle.publisher_hub.specs.Looking.{IsKept, Prepares}
 use Rattle.publisher_hub.specs.Readiness.{AreReady}
 use Rattle.publisher_hub.specs.Subscribing.{CanAdmit, FindsNoPlace, HasNoPlace, HasPlace, IsLiveAt, IsNamed, IsNotNamed, IsSeen, IsUnnamed, Refuses}
 use Rattle.publisher_hub.specs.declared.entry.Entry.{Entry}
@@ -47,6 +47,7 @@ module _ {F T : Type 0} (meaning : F → End) (does : F → Call T → F → Typ
     glances = seen.glances;
     prepared = subst (λ (l : List (Entry F)). EachBy (Prepares meaning does old.next) seen.glances old.entries.items l) (sym entries) seen.prepared;
     left = rw (live, entries) seen.left;
+    kept = subst (λ (hub : HubState). Each (IsKept old.next) (hub_of meaning old).entries hub.entries) (sym same) seen.kept;
     all_live = rw (live, entries) seen.all_live;
     rest = same ∙ seen.rest ∙ rw (live, entries) refl;
   }

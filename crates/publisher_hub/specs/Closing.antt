@@ -9,7 +9,7 @@ use Rattle.flow_rules.specs.declared.feed.standing.Standing.{Standing}
 use Rattle.publisher_hub.specs.Entry.{EntryState}
 use Rattle.publisher_hub.specs.Hub.{HubState, Progress, hub_of}
 use Rattle.publisher_hub.specs.Lists.{Each, EachBy, gather}
-use Rattle.publisher_hub.specs.Looking.{Prepares, StaysRetired}
+use Rattle.publisher_hub.specs.Looking.{IsLookedAt, Prepares, StaysRetired}
 use Rattle.publisher_hub.specs.Offering.{work_of}
 use Rattle.publisher_hub.specs.declared.entry.Entry.{Entry}
 use Rattle.publisher_hub.specs.declared.hub.Hub.{Hub}
@@ -37,6 +37,12 @@ pub record IsClosed (ending : Ending) (old new : HubState) : Type 0 where
   pub unclosed : old.progress.ending ≡ None
   pub rest : new ≡ record old { progress = progress_closed ending old.progress; opening = None; entries = new.entries }
   pub entries : Each (IsClosedBy ending) old.entries new.entries
+
+-- the same after looks
+pub record IsClosedLooking (ending : Ending) (old new : HubState) : Type 0 where
+  pub middle : HubState
+  pub looked : IsLookedAt old middle
+  pub closed : IsClosed ending middle new
 
 -- the task that a close of a subscription started
 abbrev pub started_by_end : {T : Type 0} → ℕ → Option (Option T) → List (Work T)

@@ -6,9 +6,9 @@ pub mod Hub
 pub mod Lists
 pub mod Looking
 pub mod Offering
+pub mod OpeningTicket
 pub mod Publishing
 pub mod Readiness
 pub mod Sound
 pub mod Steps
 pub mod Subscribing
-pub mod Tickets

@@ -87,12 +87,14 @@ module _ {F T : Type 0} (meaning : F → End) (does : F → Call T → F → Typ
     pub glances : List (Option Standing)
     pub prepared : EachBy (Prepares meaning does old.next) glances old.entries.items new.entries.items
     pub left : new.live.items ≡ live_of (hub_of meaning new).entries old.live.items
+    pub kept : Each (IsKept old.next) (hub_of meaning old).entries (hub_of meaning new).entries
     pub all_live : AreAllLive new.live.items (hub_of meaning new).entries
     pub rest : hub_of meaning new ≡ record (hub_of meaning old) { entries = (hub_of meaning new).entries; live = new.live.items }
 
   -- some live subscriptions of a Hub were looked at, the ended ones of these retired, and the others made ready; nothing else changed
   pub record IsSeenInPart (old new : Hub F) : Type 0 where
     pub prepared : Each (MayPrepare meaning does old.next) old.entries.items new.entries.items
+    pub kept : Each (IsKept old.next) (hub_of meaning old).entries (hub_of meaning new).entries
     pub rest : hub_of meaning new ≡ record (hub_of meaning old) { entries = (hub_of meaning new).entries }
 
   -- the producer's end of a live subscription was told once of a second subscribing, which answered this task

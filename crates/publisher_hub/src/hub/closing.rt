@@ -2,7 +2,7 @@
 ghost use Rattle.std.specs.Prelude.{◌≡◌, ◌+◌, ◌≤◌, None, Ok, Err, IsOk, IsSome, List, OnErr, OnOk, IfOk, length, vec_len};
 ghost use Rattle.std.specs.Vec.{vec_capacity};
 ghost use Rattle.flow_rules.specs.declared.refusal.Refusal.TheVariants as Refusal;
-ghost use Rattle.publisher_hub.specs.Closing.{ClosesAll, ClosesLive, IsClosed};
+ghost use Rattle.publisher_hub.specs.Closing.{ClosesAll, ClosesLive, IsClosedLooking};
 ghost use Rattle.publisher_hub.specs.Hub.{hub_of};
 ghost use Rattle.publisher_hub.specs.Looking.{IsLookedAt, MayPrepare};
 ghost use Rattle.publisher_hub.specs.Lists.{Each};
@@ -25,6 +25,7 @@ impl<F: Feed> Hub<F> {
     pub fn end(&mut self, ending: Ending, due: &mut Vec<Work<F::Task>>) -> Result<Option<Opening>, Refusal>
         requires sound { IsSound (hub_of F.meaning self.old) }
         ensures first { self.old.ending ≡ None → IfOk result (λ opening. (opening ≡ self.old.opening) × ClosesAll F.meaning F.does ending due.old.items due.new.items self.old self.new) }
+        ensures means { self.old.ending ≡ None → OnOk result (IsClosedLooking ending (hub_of F.meaning self.old) (hub_of F.meaning self.new)) }
         ensures later { IsSome self.old.ending → (result ≡ Ok None) × ((self.new ≡ self.old) × (due.new ≡ due.old)) }
         ensures err { OnErr result (result ≡ Err Refusal.NoMemory) }
         ensures looked { OnErr result (IsLookedAt (hub_of F.meaning self.old) (hub_of F.meaning self.new)) }

@@ -9,7 +9,7 @@ ghost use Rattle.flow_rules.specs.declared.refusal.Refusal.TheVariants as Refusa
 ghost use Rattle.publisher_hub.specs.Hub.{hub_of};
 ghost use Rattle.publisher_hub.specs.Sound.{IsSound};
 ghost use Rattle.publisher_hub.specs.Subscribing.{CanAdmit};
-ghost use Rattle.publisher_hub.specs.Tickets.{AddsTicket, RefusesTicket};
+ghost use Rattle.publisher_hub.specs.OpeningTicket.{AddsTicket, RefusesTicket};
 ghost use Rattle.publisher_hub.specs.declared.work.Work.{Work};
 
 use crate::hub::Hub;
