@@ -48,3 +48,16 @@ module _ {B F : Type 0} (R : B → Entry F → Entry F → Type 0) (quiet : B) (
   pub next_stood : (d : Entry F) → slice_get xs (slice_index_or live n 0) ≡ Some (slice_index_or ys (slice_index_or live n 0) d)
   next_stood d = sym (upto.rest (slice_index_or live n 0) (next_is_other live (length xs) n (slice_index_or live n 0) numbers (number_at live n within)))
       ∙ slice_get-get_or ys (slice_index_or live n 0) d number_within
+
+-- the number that was read at a place of a list
+pub number_read : (numbers now : List ℕ) (place k : ℕ) → now ≡ numbers → place < length numbers → k ≡ slice_index_or now place k → slice_get numbers place ≡ Some k
+number_read numbers now place k same within read = slice_get-get_or numbers place k within ∙ ap Some (sym (read ∙ ap (λ ns. slice_index_or ns place k) same))
+
+module _ {B F : Type 0} (R : B → Entry F → Entry F → Type 0) (quiet : B) (numbers : List ℕ) (n k : ℕ) (answers : List B) (xs ys : List (Entry F))
+    (are : AreNumbers numbers (length xs)) (at : slice_get numbers n ≡ Some k) (upto : Upto R quiet numbers n answers xs ys) where
+  -- the same, by the number
+  pub within_now : k < length ys
+  within_now = let is = are.within n k at in let long = upto.as_long in omega arith
+
+  pub stood_at_number : (d : Entry F) → slice_get xs k ≡ Some (slice_index_or ys k d)
+  stood_at_number d = sym (upto.rest k (next_is_other numbers (length xs) n k are at)) ∙ slice_get-get_or ys k d within_now

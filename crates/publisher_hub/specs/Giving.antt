@@ -8,7 +8,7 @@ use Rattle.flow_rules.specs.declared.feed.put.Put.{Put}
 use Rattle.flow_rules.specs.declared.feed.put.Put.TheVariants.{Full}
 use Rattle.flow_rules.specs.declared.item.Item.{Item}
 use Rattle.publisher_hub.specs.Lists.{EachBy, greatest}
-use Rattle.publisher_hub.specs.Offering.{Gives, lag_by, lags, missed, missed_by, started, started_by}
+use Rattle.publisher_hub.specs.Offering.{Second, dropped, dropped_by, lag_again_by, lag_by, lags, lags_again, missed, missed_by, started, started_again, started_again_by, started_by}
 use Rattle.publisher_hub.specs.declared.entry.Entry.{Entry}
 use Rattle.publisher_hub.specs.declared.giving.Giving.{Giving}
 use Rattle.publisher_hub.specs.declared.work.Work.{Work}
@@ -40,4 +40,25 @@ pub record Gathers {T : Type 0} (item : Item) (puts : List (Option (Put T))) (ne
   pub due : due_new.items ≡ due_old.items ++ started puts
   pub missed : new.missed.items ≡ missed puts
   pub lag : new.lag ≡ greatest (lags puts)
+  pub shares : AreShares item new.shares.items
+
+-- so many second offers have room: for the tasks that start, and shares
+pub record HasRoomAgain {T : Type 0} (many : ℕ) (giving : Giving) (due : Vec (Work T) Global) : Type 0 where
+  pub due_places : vec_len due + many ≤ vec_capacity due
+  pub enough_shares : many ≤ vec_len giving.shares
+
+-- what one second offer, or none, adds to what a round gathers
+pub record AddsAgain {T : Type 0} (item : Item) (number : ℕ) (second : Second T) (old new : Giving) (due_old due_new : Vec (Work T) Global) : Type 0 where
+  pub due : due_new.items ≡ due_old.items ++ started_again_by number second
+  pub lag : new.lag ≡ fold max old.lag (lag_again_by number second)
+  pub drops : new.drops ≡ old.drops + length (dropped_by number second)
+  pub missed : new.missed ≡ old.missed
+  pub shares : AreShares item new.shares.items
+
+-- what the second pass has gathered
+pub record GathersAgain {T : Type 0} (item : Item) (seconds : List (Second T)) (old new : Giving) (due_old due_new : Vec (Work T) Global) : Type 0 where
+  pub due : due_new.items ≡ due_old.items ++ started_again seconds
+  pub lag : new.lag ≡ fold max old.lag (lags_again seconds)
+  pub drops : new.drops ≡ length (dropped seconds)
+  pub missed : new.missed ≡ old.missed
   pub shares : AreShares item new.shares.items

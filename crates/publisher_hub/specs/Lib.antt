@@ -3,12 +3,16 @@ pub mod Closing
 pub mod Entry
 pub mod Giving
 pub mod Hub
+pub mod Lending
 pub mod Lists
 pub mod Looking
+pub mod Names
 pub mod Offering
 pub mod OpeningTicket
+pub mod Overview
 pub mod Publishing
 pub mod Readiness
 pub mod Sound
 pub mod Steps
 pub mod Subscribing
+pub mod Tickets

@@ -1,5 +1,5 @@
 -- What a publication does to each subscription of a Hub, and to the Hub.
-use Rattle.std.specs.Prelude.{◌≡◌, ◌⊎◌, ℕ, ◌+◌, ◌-◌, ◌<◌, ◌≤◌, true, false, Option, None, Some, List, [], ◌∷◌, ◌++◌, slice_get, slice_set}
+use Rattle.std.specs.Prelude.{◌≡◌, ◌⊎◌, ℕ, ◌+◌, ◌-◌, ◌<◌, ◌≤◌, true, false, Option, None, Some, List, [], ◌∷◌, ◌++◌, slice_get, slice_set, IsSome}
 use Rattle.flow_rules.specs.Call as Call
 use Rattle.flow_rules.specs.Call.{Call}
 use Rattle.flow_rules.specs.Feed as Feed
@@ -106,6 +106,41 @@ lags puts = gather lag_by 0 puts
 abbrev pub missed : {T : Type 0} → List (Option (Put T)) → List ℕ
 missed puts = gather missed_by 0 puts
 
+-- what a second pass did at a subscription: nothing, where it had not missed the item; else its drop stands without a second try,
+-- or it was offered the item once more and answered so
+abbrev pub Second : Type 0 → Type 0
+Second T = Option (Option (Put T))
+
+-- the number of a subscription whose drop stands
+abbrev pub dropped_by : {T : Type 0} → ℕ → Second T → List ℕ
+dropped_by number (Some None) = number ∷ []
+dropped_by number (Some (Some (Full back))) = number ∷ []
+dropped_by number _ = []
+
+-- what a second offer gathers: the task that it started, and the lag that it answered
+abbrev pub started_again_by : {T : Type 0} → ℕ → Second T → List (Work T)
+started_again_by number (Some answer) = started_by number answer
+started_again_by number None = []
+
+abbrev pub lag_again_by : {T : Type 0} → ℕ → Second T → List ℕ
+lag_again_by number (Some answer) = lag_by number answer
+lag_again_by number None = []
+
+-- what the second pass gathers, in order of subscription
+abbrev pub dropped : {T : Type 0} → List (Second T) → List ℕ
+dropped seconds = gather dropped_by 0 seconds
+
+abbrev pub started_again : {T : Type 0} → List (Second T) → List (Work T)
+started_again seconds = gather started_again_by 0 seconds
+
+abbrev pub lags_again : {T : Type 0} → List (Second T) → List ℕ
+lags_again seconds = gather lag_again_by 0 seconds
+
+-- the second pass did something at these numbers, and nowhere else
+pub record AreAsked {T : Type 0} (numbers : List ℕ) (seconds : List (Second T)) : Type 0 where
+  pub asked : (i k : ℕ) (second : Second T) → slice_get numbers i ≡ Some k → slice_get seconds k ≡ Some second → IsSome second
+  pub others : (k : ℕ) (second : Second T) → slice_get seconds k ≡ Some second → IsSome second → (i : ℕ) × (slice_get numbers i ≡ Some k)
+
 -- a subscription after an item was offered to its end, by what that answered: a full buffer is counted as a drop, and one that takes
 -- no more items is retired before the item
 abbrev pub entry_after_put : {F T : Type 0} → Item → Put T → F → Entry F → Entry F
@@ -129,7 +164,7 @@ module _ {F T : Type 0} (meaning : F → End) (does : F → Call T → F → Typ
   Gives x None old new = (old.retired ≡ true) × (new ≡ old)
   Gives x (Some answer) old new = Offered x answer old new
 
-  -- an item was offered once more to a subscription that had dropped it, which takes that drop back
-  abbrev pub GivesAgain : Item → Option (Put T) → Entry F → Entry F → Type 0
-  GivesAgain x None old new = new ≡ old
-  GivesAgain x (Some answer) old new = Offered x answer (record old { dropped = old.dropped - 1 }) new
+  -- what the second pass did to a subscription: a second try takes the drop back first
+  abbrev pub GivesAgain : Item → Second T → Entry F → Entry F → Type 0
+  GivesAgain x (Some (Some answer)) old new = Offered x answer (record old { dropped = old.dropped - 1 }) new
+  GivesAgain x _ old new = new ≡ old

@@ -1,5 +1,5 @@
 -- What has to hold of one subscription before a step of a round.
-use Rattle.std.specs.Prelude.{◌≡◌, ℕ, ◌<◌, false, Some, IsSome, List, length, slice_get}
+use Rattle.std.specs.Prelude.{◌≡◌, ℕ, ◌<◌, ◌≤◌, false, Some, IsSome, List, length, slice_get}
 use Rattle.flow_rules.specs.Feed.{End, MayStart}
 use Rattle.flow_rules.specs.declared.item.TheConstants.{PUBLICATIONS}
 use Rattle.publisher_hub.specs.Entry.{EntryState}
@@ -24,3 +24,15 @@ pub record CanGive (entry : EntryState) : Type 0 where
 
 abbrev pub CanAllGive : List EntryState → Type 0
 CanAllGive entries = (k : ℕ) (entry : EntryState) → slice_get entries k ≡ Some entry → CanGive entry
+
+-- it has dropped an item, and may be offered it once more
+pub record CanTryAgain (entry : EntryState) : Type 0 where
+  pub live : entry.retired ≡ false
+  pub take : CanTake entry
+  pub few : (end : End) → entry.feed ≡ Some end → length end.accepted < PUBLICATIONS
+  pub dropped : 0 < entry.dropped
+  pub few_drops : entry.dropped ≤ PUBLICATIONS
+
+-- so each of these
+abbrev pub CanEachTryAgain : List ℕ → List EntryState → Type 0
+CanEachTryAgain numbers entries = (i k : ℕ) (entry : EntryState) → slice_get numbers i ≡ Some k → slice_get entries k ≡ Some entry → CanTryAgain entry

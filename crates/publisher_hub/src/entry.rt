@@ -1,10 +1,10 @@
 //! One subscription of a Hub.
-ghost use Rattle.std.specs.Prelude.{◌≡◌, ◌-◌, ◌<◌, length, IfOk, IsSome, OnErr, Some, false};
+ghost use Rattle.std.specs.Prelude.{◌≡◌, ◌-◌, ◌<◌, ◌≤◌, length, IfOk, IsSome, OnErr, Some, false};
 ghost use Rattle.flow_rules.specs.Feed.{End};
 ghost use Rattle.flow_rules.specs.declared.item.TheConstants.{PUBLICATIONS};
 ghost use Rattle.publisher_hub.specs.Entry.{entry_of};
 ghost use Rattle.publisher_hub.specs.Looking.{FailsToPrepare, Glances, IsReadied, Prepares};
-ghost use Rattle.publisher_hub.specs.Offering.{Gives};
+ghost use Rattle.publisher_hub.specs.Offering.{Gives, GivesAgain};
 ghost use Rattle.publisher_hub.specs.Steps.{CanTake, IsHere};
 
 mod closing;
@@ -108,5 +108,20 @@ impl<F: Feed> Entry<F> {
             }
             None => unreachable!(),
         }
+    }
+
+    /// Offers an item once more to a subscription that has dropped it, which takes that drop back first.
+    #[must_use]
+    pub fn give_again(&mut self, item: Item) -> Option<Put<F::Task>>
+        requires take { CanTake (entry_of F.meaning self.old) }
+        requires few { (end : End) → (entry_of F.meaning self.old).feed ≡ Some end → length end.accepted < PUBLICATIONS }
+        requires live { self.old.retired ≡ false }
+        requires dropped { 0 < self.old.dropped }
+        requires few_drops { self.old.dropped ≤ PUBLICATIONS }
+        ensures some { IsSome result }
+        ensures again { GivesAgain F.meaning F.does item (Some result) self.old self.new }
+    {
+        self.dropped -= 1;
+        self.give(item)
     }
 }

@@ -1,9 +1,10 @@
 //! What a publication gathers as it goes round.
-ghost use Rattle.std.specs.Prelude.{◌≡◌, ◌+◌, ◌≤◌, ◌++◌, ◌<◌, List, [], length, max, fold, OnOk, Option, vec_len};
+ghost use Rattle.std.specs.Prelude.{◌≡◌, ◌+◌, ◌≤◌, ◌++◌, ◌<◌, List, [], length, max, fold, OnOk, Option, Some, vec_len};
 ghost use Rattle.std.specs.Vec.{vec_capacity};
 ghost use Rattle.flow_rules.specs.declared.item.Item.{Item};
+ghost use Rattle.flow_rules.specs.declared.item.TheConstants.{PUBLICATIONS};
 ghost use Rattle.publisher_hub.specs.Giving.{AreShares, back_by};
-ghost use Rattle.publisher_hub.specs.Offering.{lag_by, missed_by, started_by, work_of};
+ghost use Rattle.publisher_hub.specs.Offering.{dropped_by, lag_by, missed_by, started_by, work_of};
 
 use crate::work::Work;
 use flow_rules::{Item, NoMemory, Put};
@@ -18,6 +19,8 @@ pub(crate) struct Giving {
     pub missed: Vec<u32>,
     /// The greatest lag so far.
     pub lag: u64,
+    /// How many drops stand after the second tries so far.
+    pub drops: u64,
 }
 
 impl Giving {
@@ -27,6 +30,7 @@ impl Giving {
             shares: Vec::new(alloc),
             missed: Vec::new(alloc),
             lag: 0,
+            drops: 0,
         }
     }
 
@@ -37,6 +41,7 @@ impl Giving {
         ensures missed { OnOk result (self.new.missed.items ≡ []) }
         ensures room { OnOk result (many ≤ vec_capacity self.new.missed) }
         ensures lag { self.new.lag ≡ 0 }
+        ensures drops { self.new.drops ≡ 0 }
     {
         self.forget();
         self.missed.reserve(many)?;
@@ -49,10 +54,12 @@ impl Giving {
         ensures shares { self.new.shares.items ≡ [] }
         ensures missed { self.new.missed.items ≡ [] }
         ensures lag { self.new.lag ≡ 0 }
+        ensures drops { self.new.drops ≡ 0 }
     {
         self.shares.clear();
         self.missed.clear();
         self.lag = 0;
+        self.drops = 0;
     }
 
     /// Takes one share.
@@ -64,6 +71,7 @@ impl Giving {
         ensures capacity { vec_capacity self.new.shares ≡ vec_capacity self.old.shares }
         ensures missed { self.new.missed ≡ self.old.missed }
         ensures lag { self.new.lag ≡ self.old.lag }
+        ensures drops { self.new.drops ≡ self.old.drops }
     {
         match self.shares.pop() {
             Some(share) => share,
@@ -83,6 +91,7 @@ impl Giving {
         ensures due_capacity { vec_capacity due.new ≡ vec_capacity due.old }
         ensures missed_capacity { vec_capacity self.new.missed ≡ vec_capacity self.old.missed }
         ensures shares_capacity { vec_capacity self.new.shares ≡ vec_capacity self.old.shares }
+        ensures drops { self.new.drops ≡ self.old.drops }
     {
         match answer {
             Some(Put::Accepted { lag, start }) => {
@@ -94,6 +103,37 @@ impl Giving {
                 self.missed.push_reserved(number);
             }
             _ => {}
+        }
+    }
+
+    /// The drops stand without a second try.
+    pub fn decline(&mut self)
+        ensures drops { self.new.drops ≡ vec_len self.old.missed }
+        ensures lag { self.new.lag ≡ self.old.lag }
+        ensures missed { self.new.missed ≡ self.old.missed }
+        ensures shares { self.new.shares ≡ self.old.shares }
+    {
+        self.drops = self.missed.len() as u64;
+    }
+
+    /// Gathers what a second offer to one subscription was answered, or that its drop stands without one.
+    pub fn note_again<T: Drop>(&mut self, number: u32, answer: Option<Put<T>>, due: &mut Vec<Work<T>>)
+        requires due { vec_len due.old < vec_capacity due.old }
+        requires drops { self.old.drops < PUBLICATIONS }
+        ensures due { due.new.items ≡ due.old.items ++ started_by number answer }
+        ensures lag { self.new.lag ≡ fold max self.old.lag (lag_by number answer) }
+        ensures drops { self.new.drops ≡ self.old.drops + length (dropped_by number (Some answer)) }
+        ensures due_capacity { vec_capacity due.new ≡ vec_capacity due.old }
+        ensures missed { self.new.missed ≡ self.old.missed }
+        ensures shares { self.new.shares ≡ self.old.shares }
+    {
+        match answer {
+            Some(Put::Accepted { lag, start }) => {
+                self.lag = self.lag.max(lag);
+                push_started(due, number, start);
+            }
+            Some(Put::Gone(_)) => {}
+            _ => self.drops += 1,
         }
     }
 }

@@ -1,11 +1,15 @@
 //! The Hub.
 mod admitting;
 mod closing;
+mod ended;
+mod entries;
 mod leaving_out;
+mod looking;
 mod named;
 mod preparing;
 mod publishing;
 mod seeing;
+mod sources;
 mod subscribing;
 mod tickets;
 

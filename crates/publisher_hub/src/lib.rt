@@ -5,8 +5,10 @@
 mod entry;
 mod giving;
 mod hub;
+mod laws;
 mod rounds;
 mod work;
 
 pub use hub::{Hub, Unpublished};
+pub use laws::lent_feeds_keep_hubs_sound;
 pub use work::Work;

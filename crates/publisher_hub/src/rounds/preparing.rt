@@ -29,7 +29,7 @@ pub(crate) fn prepare_all<F: Feed>(entries: &mut [Entry<F>], live: &[u32], next:
 }
 
 /// Whether a look showed no full buffer.
-fn has_room(glance: &Option<Standing>, capacity: usize) -> bool
+pub(super) fn has_room(glance: &Option<Standing>, capacity: usize) -> bool
     ensures full { result ≡ false → (number : ℕ) → full_by capacity number glance.now ≡ number ∷ [] }
     ensures not_full { result ≡ true → (number : ℕ) → full_by capacity number glance.now ≡ [] }
 {

@@ -1,5 +1,5 @@
 -- The share that was offered is the item, and one that came back is a share again.
-use Rattle.std.proofs.Common.{◌≡◌, refl, subst}
+use Rattle.std.proofs.Common.{rules, ◌≡◌, subst}
 use Rattle.flow_rules.specs.declared.item.Item.{Item}
 use Rattle.publisher_hub.specs.Offering.{Gives}
 use Rattle.publisher_hub.proofs.Shares.{shares_back}
@@ -17,8 +17,8 @@ returns-clause-given g c =
       (gives,
         record {
           due = c.note.ensures.due;
-          missed = rw (c.note.ensures.missed, taken.missed) refl;
-          lag = rw (c.note.ensures.lag, taken.lag) refl;
+          missed = search rules;
+          lag = search rules;
           shares = rw (c.note.ensures.shares) (shares_back meaning does item answer c.args.entry.now c.give-answer.new.self _ gives (taken.rest item c.requires.shares));
         }),
     )

@@ -1,0 +1,145 @@
+-- A sound Hub stays sound where one subscription is replaced by one that accepted and dropped the same.
+use Rattle.std.proofs.Common.{rules, ◌≡◌, ◌⊎◌, ℕ, zero, suc, ◌<◌, ◌≤◌, true, false, Some, List, [], ◌∷◌, length, set, refl, ap, sym, subst, ◌∙◌, inl, inr}
+use Rattle.std.specs.Prelude.{IsSome, slice_get}
+use Rattle.std.proofs.lemmas.List.{length-set}
+use Rattle.flow_rules.specs.Feed.{End, is_gone}
+use Rattle.flow_rules.specs.declared.item.Item.{Item}
+use Rattle.publisher_hub.specs.Entry.{EntryState, until_of}
+use Rattle.publisher_hub.specs.Hub.{HubState, Progress}
+use Rattle.publisher_hub.specs.Lists.{Each}
+use Rattle.publisher_hub.specs.Sound.{AreLive, IsAccepted, IsCounted, IsEntry, IsOrdered, IsPublished, IsSound, MOST_ENTRIES}
+use Rattle.publisher_hub.proofs.PartialRounds.{same_some}
+use Rattle.publisher_hub.proofs.Places.{stood_at}
+
+-- a subscription after a call that neither gave it an item nor closed it, where its end is there
+pub record Succeeds (progress : Progress) (old new : EntryState) : Type 0 where
+  pub before : End
+  pub after : End
+  pub was : old.feed ≡ Some before
+  pub now : new.feed ≡ Some after
+  pub since : new.since ≡ old.since
+  pub dropped : new.dropped ≡ old.dropped
+  pub until : until_of progress.next new ≡ until_of progress.next old
+  pub gone : new.retired ≡ true → is_gone after ≡ true
+  pub lives : new.retired ≡ false → old.retired ≡ false
+  pub capacity : after.capacity ≡ before.capacity
+  pub accepted : after.accepted ≡ before.accepted
+  pub closing : after.closing ≡ before.closing
+
+-- it is counted as before
+counted_after : (p : Progress) (old new : EntryState) (s : Succeeds p old new) → IsCounted p old s.before → IsCounted p new s.after
+counted_after p old new s is = record {
+  capacity = s.capacity ∙ is.capacity;
+  ordered = subst (λ (items : List Item). IsOrdered items) (sym s.accepted) is.ordered;
+  items = λ i x at. published x (is.items i x (subst (λ (items : List Item). slice_get items i ≡ Some x) s.accepted at));
+  count = let count = is.count in rw (s.since, s.dropped, s.accepted, s.until) count;
+  until = subst (λ u. u ≤ p.next) (sym s.until) is.until;
+  gone = s.gone;
+  closed = λ some. s.until ∙ is.closed (subst (λ c. IsSome c) s.closing some);
+  unclosed = λ none. s.closing ∙ is.unclosed none;
+} where
+  published : (x : Item) → IsPublished p old x → IsPublished p new x
+  published x was = record {
+    since = subst (λ since. since ≤ x.serial) (sym s.since) was.since;
+    until = subst (λ until. x.serial < until) (sym s.until) was.until;
+    seq = was.seq;
+    source = was.source;
+  }
+
+entry_after : (p : Progress) (old new : EntryState) → Succeeds p old new → IsEntry p old → IsEntry p new
+entry_after p old new s is = record {
+  here = λ _. let there : IsSome {T = End} (Some s.after) = search rules in subst (λ feed. IsSome feed) (sym s.now) there;
+  counted = λ e was. subst (λ (end : End). IsCounted p new end) (same_some (sym s.now ∙ was)) (counted_after p old new s (is.counted s.before s.was));
+  drops = subst (λ dropped. dropped ≤ p.dropping) (sym s.dropped) is.drops;
+}
+
+-- a subscription is as it was, or was replaced so
+abbrev Stays : Progress → EntryState → EntryState → Type 0
+Stays p old new = (new ≡ old) ⊎ Succeeds p old new
+
+entry_stays : (p : Progress) (old new : EntryState) → Stays p old new → IsEntry p old → IsEntry p new
+entry_stays p old new (inl same) is = subst (λ (entry : EntryState). IsEntry p entry) (sym same) is
+entry_stays p old new (inr s) is = entry_after p old new s is
+
+-- it was live before
+was_live : (p : Progress) (old new : EntryState) → Stays p old new → new.retired ≡ false → old.retired ≡ false
+was_live p old new (inl same) lives = ap (λ (entry : EntryState). entry.retired) (sym same) ∙ lives
+was_live p old new (inr s) lives = s.lives lives
+
+-- it had accepted what it has accepted now
+had_accepted : (p : Progress) (old new : EntryState) (f : End) → Stays p old new → new.feed ≡ Some f → (e : End) × (old.feed ≡ Some e) × (f.accepted ≡ e.accepted)
+had_accepted p old new f (inl same) is = (f, sym (ap (λ (entry : EntryState). entry.feed) same) ∙ is, refl)
+had_accepted p old new f (inr s) is = (s.before, s.was, ap (λ (end : End). end.accepted) (same_some (sym is ∙ s.now)) ∙ s.accepted)
+
+was_accepted : (p : Progress) (xs ys : List EntryState) (x : Item) → Each (Stays p) xs ys → IsAccepted ys x → IsAccepted xs x
+was_accepted p xs ys x each is =
+    let stood = stood_at (Stays p) xs ys is.number is.entry each is.stands in
+    let before = had_accepted p stood.entry is.entry is.feed stood.became is.end_of in
+    record {
+      number = is.number;
+      place = is.place;
+      entry = stood.entry;
+      feed = before.0;
+      stands = stood.at;
+      end_of = before.1;
+      item = subst (λ (items : List Item). slice_get items is.place ≡ Some x) before.2 is.item;
+    }
+
+live_after : (p : Progress) (live : List ℕ) (xs ys : List EntryState) → Each (Stays p) xs ys → AreLive live xs → AreLive live ys
+live_after p live xs ys each are = record {
+  numbers = record {
+    rising = are.numbers.rising;
+    within = λ i n at. subst (λ many. n < many) (sym each.as_long) (are.numbers.within i n at);
+  };
+  covers = λ k entry at lives. let stood = stood_at (Stays p) xs ys k entry each at in
+      are.covers k stood.entry stood.at (was_live p stood.entry entry stood.became lives);
+}
+
+-- a list where an element was set to what it was
+pub set_same : {X : Type 0} (xs : List X) (k : ℕ) (x : X) → slice_get xs k ≡ Some x → set xs k x ≡ xs
+set_same [] k x at = refl
+set_same (first ∷ xs) zero x at = ap (λ y. y ∷ xs) (sym (same_some at))
+set_same (first ∷ xs) (suc k) x at = ap (λ ys. first ∷ ys) (set_same xs k x at)
+
+-- what stands in a list where one place was set
+set_or_stood : {X : Type 0} (xs : List X) (place : ℕ) (value : X) (i : ℕ) (y : X) → slice_get (set xs place value) i ≡ Some y → ((place ≡ i) × (value ≡ y)) ⊎ (slice_get xs i ≡ Some y)
+set_or_stood [] place value i y at = inr at
+set_or_stood (first ∷ xs) zero value zero y at = inl (refl, same_some at)
+set_or_stood (first ∷ xs) zero value (suc i) y at = inr at
+set_or_stood (first ∷ xs) (suc place) value zero y at = inr at
+set_or_stood {X} (first ∷ xs) (suc place) value (suc i) y at = by (set_or_stood xs place value i y at) where
+  by : ((place ≡ i) × (value ≡ y)) ⊎ (slice_get xs i ≡ Some y) → ((suc place ≡ suc i) × (value ≡ y)) ⊎ (slice_get xs i ≡ Some y)
+  by (inl now) = inl (ap suc now.0, now.1)
+  by (inr before) = inr before
+
+each_stays : (p : Progress) (xs : List EntryState) (number : ℕ) (old new : EntryState) → slice_get xs number ≡ Some old → Succeeds p old new → Each (Stays p) xs (set xs number new)
+each_stays p xs number old new stood s = record {
+  as_long = length-set xs number new;
+  each = λ k x y at at'. by k x y at (set_or_stood xs number new k y at');
+} where
+  by : (k : ℕ) (x y : EntryState) → slice_get xs k ≡ Some x → ((number ≡ k) × (new ≡ y)) ⊎ (slice_get xs k ≡ Some y) → Stays p x y
+  by k x y at (inl now) =
+      let same : old ≡ x = same_some (sym stood ∙ subst (λ j. slice_get xs j ≡ Some x) (sym now.0) at) in
+      inr (subst (λ (entry : EntryState). Succeeds p x entry) now.1 (subst (λ (entry : EntryState). Succeeds p entry new) same s))
+  by k x y at (inr before) = inl (same_some (sym before ∙ at))
+
+-- a sound Hub stays sound where one subscription is replaced so
+pub sound_replaced : (hub : HubState) (number : ℕ) (old new : EntryState) → IsSound hub → slice_get hub.entries number ≡ Some old → Succeeds hub.progress old new
+    → IsSound (record hub { entries = set hub.entries number new })
+sound_replaced hub number old new sound stood s =
+    let p = hub.progress in
+    let xs = hub.entries in
+    let ys = set xs number new in
+    let each = each_stays p xs number old new stood s in
+    record {
+      entries = λ k entry at. let before = stood_at (Stays p) xs ys k entry each at in entry_stays p before.entry entry before.became (sound.entries k before.entry before.at);
+      agreed = λ x y a b same. sound.agreed x y (was_accepted p xs ys x each a) (was_accepted p xs ys y each b) same;
+      live = live_after p hub.live xs ys each sound.live;
+      few_live = sound.few_live;
+      few_entries = subst (λ many. many ≤ MOST_ENTRIES) (sym each.as_long) sound.few_entries;
+      few_items = sound.few_items;
+      few_drops = sound.few_drops;
+      sources = sound.sources;
+      all_sources = sound.all_sources;
+      few_counts = sound.few_counts;
+    }

@@ -1,0 +1,78 @@
+//! One subscription of a Hub.
+ghost use Rattle.std.specs.Prelude.{◌≡◌, ◌↔◌, IsSome, Some, option_map, slice_get, true};
+ghost use Rattle.std.specs.Borrow.{sem};
+ghost use Rattle.std.specs.Option.{option_copied_mut};
+ghost use Rattle.publisher_hub.specs.Hub.{hub_of};
+
+use crate::entry::Entry;
+use crate::hub::Hub;
+use flow_rules::Feed;
+
+impl<F: Feed> Hub<F> {
+    ghost use Rattle.publisher_hub.specs.Entry.{EntryState};
+    ghost use Rattle.publisher_hub.specs.Lending.{feed_at, lends_feed_at, lends_feed_if};
+
+    /// How many publications found the buffer of the subscription of this number full, and `None` where no subscription has it.
+    pub fn dropped(&self, entry: u32) -> Option<u64>
+        ensures { result ≡ option_map (λ (entry : EntryState). entry.dropped) (slice_get (hub_of F.meaning self.now).entries entry) }
+    {
+        self.entries.get(entry as usize).map(|it| it.dropped)
+    }
+
+    /// The next serial number when the subscription of this number was made, and `None` where no subscription has it.
+    pub fn since(&self, entry: u32) -> Option<u64>
+        ensures { result ≡ option_map (λ (entry : EntryState). entry.since) (slice_get (hub_of F.meaning self.now).entries entry) }
+    {
+        self.entries.get(entry as usize).map(|it| it.since)
+    }
+
+    /// The producer's end of the subscription of this number, and `None` where no subscription has it or the end was taken out.
+    ///
+    /// What is done there stays sound where its capacity, what it accepted and how it was closed stay as they are, and no fewer
+    /// items are taken: see [`lent_feeds_keep_hubs_sound`](crate::lent_feeds_keep_hubs_sound).
+    pub fn feed_mut(&mut self, entry: u32) -> Option<&mut F>
+        ensures* writes_back { sem 𝓛 (lends_feed_if F.row self.entry entry result) }
+        ensures value { option_copied_mut result ≡ feed_at self.old entry }
+    {
+        if self.has_feed(entry) {
+            Some(self.feed_at(entry))
+        } else {
+            None
+        }
+    }
+
+    /// Whether the producer's end of the subscription of this number is there.
+    fn has_feed(&self, entry: u32) -> bool
+        ensures { (result ≡ true) ↔ IsSome (feed_at self.now entry) }
+    {
+        match self.entries.get(entry as usize) {
+            Some(entry) => entry.feed.is_some(),
+            None => false,
+        }
+    }
+
+    /// The producer's end of the subscription of this number.
+    fn feed_at(&mut self, entry: u32) -> &mut F
+        requires { IsSome (feed_at self.old entry) }
+        ensures* writes_back { sem 𝓛 (lends_feed_at F.row self.entry entry result) }
+        ensures value { feed_at self.old entry ≡ Some result.now }
+    {
+        self.entries[entry as usize].feed_mut()
+    }
+}
+
+impl<F: Feed> Entry<F> {
+    ghost use Rattle.publisher_hub.specs.Lending.{lends_feed};
+
+    /// The producer's end.
+    fn feed_mut(&mut self) -> &mut F
+        requires { IsSome self.old.feed }
+        ensures* writes_back { sem 𝓛 (lends_feed F.row self.entry result) }
+        ensures value { self.old.feed ≡ Some result.now }
+    {
+        match &mut self.feed {
+            Some(feed) => feed,
+            None => unreachable!(),
+        }
+    }
+}
