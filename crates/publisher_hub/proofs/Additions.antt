@@ -114,10 +114,10 @@ sound_grown {F} meaning hub entries live name feed ticket empty capacity unclose
     let few_entries = place.few_entries in
     let added = sound_added (hub_of meaning hub) name (meaning feed) ticket empty capacity unclosed place.few_live (omega arith) sound in
     let mapped : map (entry_of meaning) entries ≡ map (entry_of meaning) hub.entries.items ++ new_entry (hub_of meaning hub).progress name (meaning feed) ticket ∷ [] =
-        ap (λ (l : List (Entry F)). map (entry_of meaning) l) entries_are ∙ map-append (entry_of meaning) hub.entries.items (first_entry name hub.next feed ticket ∷ []) in
+    ap (λ (l : List (Entry F)). map (entry_of meaning) l) entries_are ∙ map-append (entry_of meaning) hub.entries.items (first_entry name hub.next feed ticket ∷ []) in
     let numbered : live ≡ hub.live.items ++ length (map (entry_of meaning) hub.entries.items) ∷ [] = live_is ∙ ap (λ n. hub.live.items ++ n ∷ []) (sym many) in
     subst (λ (l : List ℕ). IsSound (record (hub_of meaning hub) { entries = map (entry_of meaning) entries; live = l })) (sym numbered)
-        (subst (λ (l : List EntryState). IsSound (record (hub_of meaning hub) { entries = l; live = hub.live.items ++ length (map (entry_of meaning) hub.entries.items) ∷ [] })) (sym mapped) added)
+    (subst (λ (l : List EntryState). IsSound (record (hub_of meaning hub) { entries = l; live = hub.live.items ++ length (map (entry_of meaning) hub.entries.items) ∷ [] })) (sym mapped) added)
 
 -- the producer's end of a new subscription, closed where its Hub is, has accepted nothing
 pub new_is_empty : {F T : Type 0} (meaning : F → End) (does : F → Call T → F → Type 0) (ending : Option Ending) (feed after : F) (start : Option T) (capacity : ℕ) → IsFresh capacity (meaning feed)

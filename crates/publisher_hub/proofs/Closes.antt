@@ -126,6 +126,6 @@ module _ {F T : Type 0} (meaning : F → End) (does : F → Call T → F → Typ
         let new = get_before_map (entry_of meaning) ys k y at' in
         let answer = answered_at (Closes meaning does ending) answers xs ys k old.0 each old.1.0 in
         subst (λ (entry : EntryState). IsClosedBy ending entry y) old.1.1 (subst (λ (entry : EntryState). IsClosedBy ending (entry_of meaning old.0) entry) new.1.1
-            (closed_by answer.0 old.0 new.0 (λ e was. unclosed k (entry_of meaning old.0) e (at ∙ ap Some (sym old.1.1)) was)
-            (each.each k answer.0 old.0 new.0 answer.1 old.1.0 new.1.0)));
+        (closed_by answer.0 old.0 new.0 (λ e was. unclosed k (entry_of meaning old.0) e (at ∙ ap Some (sym old.1.1)) was)
+        (each.each k answer.0 old.0 new.0 answer.1 old.1.0 new.1.0)));
   }

@@ -39,7 +39,7 @@ module _ {F T : Type 0} (meaning : F → End) (does : F → Call T → F → Typ
       let looked : fails.sees.after ≡ fails.readied.before = same_some (sym (ap (λ (entry : Entry F). entry.feed) stays) ∙ fails.readied.was) in
       let kept : (meaning fails.sees.after).ready ≡ (meaning fails.sees.before).ready = ap (λ (end : End). end.ready) fails.sees.stands.look.rest in
       let is : (meaning fails.readied.before).ready ≡ true =
-          ap (λ f. (meaning f).ready) (sym looked) ∙ kept ∙ ap (λ (end : End). end.ready) (sym same) ∙ has.1.1 in
+      ap (λ f. (meaning f).ready) (sym looked) ∙ kept ∙ ap (λ (end : End). end.ready) (sym same) ∙ has.1.1 in
       not_both fails.answer (fails.readied.readies.stays is) fails.refused
 
   -- what was prepared is ready

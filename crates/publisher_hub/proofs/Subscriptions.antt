@@ -77,7 +77,7 @@ module _ {F T : Type 0} (meaning : F → End) (does : F → Call T → F → Typ
       let live = live_at new i number seen.all_live at in
       let same : live.0 ≡ named.0 = same_some (sym live.1.0 ∙ named.1.0) in
       still_unnamed name old new seen none number (entry_of meaning live.0) (get_mapped (entry_of meaning) new.entries.items number live.0 live.1.0) live.1.1
-          (ap (λ (e : Entry F). e.name) same ∙ named.1.1)
+      (ap (λ (e : Entry F). e.name) same ∙ named.1.1)
 
   -- a place that was there is there still after looks
   pub still_place : (old new : Hub F) → IsSeen meaning does old new → vec_capacity new.entries ≡ vec_capacity old.entries → vec_capacity new.live ≡ vec_capacity old.live

@@ -128,4 +128,4 @@ module _ {F T : Type 0} (meaning : F → End) (does : F → Call T → F → Typ
       → ys ≡ set hub.entries.items k new → IsSound (record (hub_of meaning hub) { entries = map (entry_of meaning) ys })
   sound_tells hub ys k start old new sound at told now =
       subst (λ (entries : List EntryState). IsSound (record (hub_of meaning hub) { entries = entries })) (sym (ap (λ l. map (entry_of meaning) l) now ∙ map_set (entry_of meaning) hub.entries.items k new))
-          (sound_told (hub_of meaning hub) k (entry_of meaning old) (entry_of meaning new) (get_mapped (entry_of meaning) hub.entries.items k old at) (was_told start old new told) sound)
+      (sound_told (hub_of meaning hub) k (entry_of meaning old) (entry_of meaning new) (get_mapped (entry_of meaning) hub.entries.items k old at) (was_told start old new told) sound)

@@ -25,6 +25,7 @@ use close_count::Opening;
 use flow_rules::{Ending, Feed, NoMemory, PUBLICATIONS, Refusal, capacity};
 pub use publishing::Unpublished;
 use std::alloc::Global;
+pub use subscribing::{MOST_ENTRIES, MOST_LIVE};
 
 /// How many sources a Hub has at most (submitters, where threads publish).
 pub const SOURCES: usize = 256;

@@ -19,7 +19,13 @@ impl<F: Feed> Hub<F> {
     /// the subscription is closed at once, in the same way.
     ///
     /// It is refused where, and as, [`may_subscribe`](Hub::may_subscribe) is. Then the producer's end and the ticket are dropped.
-    pub fn admit(&mut self, name: Name, feed: F, ticket: Option<Ticket>, due: &mut Vec<Work<F::Task>>) -> Result<u32, Refusal>
+    pub fn admit(
+        &mut self,
+        name: Name,
+        feed: F,
+        ticket: Option<Ticket>,
+        due: &mut Vec<Work<F::Task>>,
+    ) -> Result<u32, Refusal>
         requires sound { IsSound (hub_of F.meaning self.old) }
         requires fresh { IsFresh self.old.capacity (F.meaning feed) }
         ensures ok { IfOk result (λ number. Admits F.meaning F.does name feed ticket number due.old.items due.new.items self.old self.new) }
@@ -61,7 +67,12 @@ impl<F: Feed> Hub<F> {
 }
 
 /// The producer's end of a new subscription, which is closed where its Hub is. The task that this starts is due.
-fn close_new<F: Feed>(ending: Option<Ending>, mut feed: F, number: u32, due: &mut Vec<Work<F::Task>>) -> F
+fn close_new<F: Feed>(
+    ending: Option<Ending>,
+    mut feed: F,
+    number: u32,
+    due: &mut Vec<Work<F::Task>>,
+) -> F
     requires ready { (F.meaning feed).ready ≡ true }
     requires room { vec_len due.old < vec_capacity due.old }
     ensures { (start : Option F.Task) × (ClosesNew F.meaning F.does ending feed start result × (due.new.items ≡ due.old.items ++ work_of number start)) }

@@ -22,7 +22,11 @@ impl<F: Feed> Hub<F> {
     /// Only the first call does anything: a later one answers `None` and changes nothing.
     ///
     /// `NoMemory` where a place of `due` or what a started task needs is refused. Then nothing has changed but by looks.
-    pub fn end(&mut self, ending: Ending, due: &mut Vec<Work<F::Task>>) -> Result<Option<Opening>, Refusal>
+    pub fn end(
+        &mut self,
+        ending: Ending,
+        due: &mut Vec<Work<F::Task>>,
+    ) -> Result<Option<Opening>, Refusal>
         requires sound { IsSound (hub_of F.meaning self.old) }
         ensures first { self.old.ending ≡ None → IfOk result (λ opening. (opening ≡ self.old.opening) × ClosesAll F.meaning F.does ending due.old.items due.new.items self.old self.new) }
         ensures means { self.old.ending ≡ None → OnOk result (IsClosedLooking ending (hub_of F.meaning self.old) (hub_of F.meaning self.new)) }

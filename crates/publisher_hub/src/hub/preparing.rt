@@ -26,7 +26,11 @@ impl<F: Feed> Hub<F> {
         ensures ready { OnOk result (AreReady (hub_of F.meaning self.new).entries) }
     {
         let Hub {
-            entries, live, next, capacity, ..
+            entries,
+            live,
+            next,
+            capacity,
+            ..
         } = self;
         prepare_all(entries, live, *next, *capacity)
     }

@@ -13,7 +13,12 @@ use crate::work::Work;
 use flow_rules::{Ending, Feed};
 
 /// Closes all live subscriptions. The tasks that this starts are due.
-pub(crate) fn end_all<F: Feed>(entries: &mut [Entry<F>], live: &[u32], ending: Ending, due: &mut Vec<Work<F::Task>>)
+pub(crate) fn end_all<F: Feed>(
+    entries: &mut [Entry<F>],
+    live: &[u32],
+    ending: Ending,
+    due: &mut Vec<Work<F::Task>>,
+)
     requires live { AreLive live.now (map (entry_of F.meaning) entries.old) }
     requires take { CanAllTake (map (entry_of F.meaning) entries.old) }
     requires room { vec_len due.old + length live.now ≤ vec_capacity due.old }

@@ -15,12 +15,17 @@ tell_duplicate-requires-clause-live g c =
 
 pub returns-in-Some-clause-err : goal.returns-in-Some-clause-err
 returns-in-Some-clause-err g c =
-    let found = c.in-Some.ensures.found in
-    (c.see_all.new.self, (c.in_ok-see_all.ensures.seen, record {
-      number = c.in-Some.number;
-      named = subst (λ (l : List (Entry g.row.F.Denot)). IsNamed c.args.name c.in-Some.number l) c.deref.ensures.value found.1.1;
-      tells = subst (λ (due : _). TellsAt g.F.Feed.meaning g.F.Feed.does c.in-Some.number due c.tell_duplicate.new.due.items c.see_all.new.self c.tell_duplicate.new.self) c.see_all.ensures.due c.tell_duplicate.ensures.tells;
-    }))
+    let found = c.in-Some.ensures.found in (
+      c.see_all.new.self,
+      (
+        c.in_ok-see_all.ensures.seen,
+        record {
+          number = c.in-Some.number;
+          named = subst (λ (l : List (Entry g.row.F.Denot)). IsNamed c.args.name c.in-Some.number l) c.deref.ensures.value found.1.1;
+          tells = subst (λ (due : _). TellsAt g.F.Feed.meaning g.F.Feed.does c.in-Some.number due c.tell_duplicate.new.due.items c.see_all.new.self c.tell_duplicate.new.self) c.see_all.ensures.due c.tell_duplicate.ensures.tells;
+        },
+      ),
+    )
 
 pub returns-in-Some-clause-stays : goal.returns-in-Some-clause-stays
 returns-in-Some-clause-stays g c can =
@@ -33,8 +38,8 @@ unnamed : (g : _) (c : goal.After-make_place g) → IsUnnamed c.args.name (hub_o
 unnamed g c =
     let none : c.find_named.result ≡ None = search rules in
     unnamed_of g.F.Feed.meaning g.F.Feed.does c.args.name c.see_all.new.self c.in_ok-see_all.ensures.seen.all_live (λ i number at.
-        subst (λ (l : List (Entry g.row.F.Denot)). IsNotNamed c.args.name number l) c.deref.ensures.value
-        (c.find_named.ensures.none none i number (subst (λ (l : List ℕ). slice_get l i ≡ Some number) (sym c.deref-2.ensures.value) at)))
+    subst (λ (l : List (Entry g.row.F.Denot)). IsNotNamed c.args.name number l) c.deref.ensures.value
+    (c.find_named.ensures.none none i number (subst (λ (l : List ℕ). slice_get l i ≡ Some number) (sym c.deref-2.ensures.value) at)))
 
 seen : (g : _) (c : goal.After-make_place g) → IsSeen g.F.Feed.meaning g.F.Feed.does c.args.self.now c.make_place.new.self
 seen g c = seen_with_place g.F.Feed.meaning g.F.Feed.does c.args.self.now c.see_all.new.self c.make_place.new.self c.in_ok-see_all.ensures.seen

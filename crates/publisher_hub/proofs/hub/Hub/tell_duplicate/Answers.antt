@@ -10,7 +10,7 @@ use Rattle.publisher_hub.proofs.hub.Hub.tell_duplicate.Goals as goal
 pub duplicate-start-requires-clause-ready : goal.duplicate-start-requires-clause-ready
 duplicate-start-requires-clause-ready g c =
     c.requires.ready c.args.number (entry_of g.F.Feed.meaning c.index_mut.result.now) (get_mapped (entry_of g.F.Feed.meaning) c.args.self.now.entries.items c.args.number c.index_mut.result.now
-        (read_at c.args.self.now.entries.items c.args.number c.index_mut.result.now c.requires.live.0 c.requires.live.1.0 c.index_mut.ensures.value))
+    (read_at c.args.self.now.entries.items c.args.number c.index_mut.result.now c.requires.live.0 c.requires.live.1.0 c.index_mut.ensures.value))
 
 pub returns-clause-tells : goal.returns-clause-tells
 returns-clause-tells g c = record {

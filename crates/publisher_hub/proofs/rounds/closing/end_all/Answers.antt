@@ -34,18 +34,20 @@ loop-number-preserved g c =
     let numbers = numbers_of g.F.Feed.meaning c.args.live.now c.args.entries.now c.requires.live in
     let so_far = c.loop-number.invariant in
     let stood = next_stood (Closes g.F.Feed.meaning g.F.Feed.does c.args.ending) None c.args.live.now c.loop-number.number-index so_far.answers
-        c.args.entries.now c.loop-number.entries numbers c.loop-number-test.true so_far.upto c.index-entries-number.result in
+    c.args.entries.now c.loop-number.entries numbers c.loop-number-test.true so_far.upto c.index-entries-number.result in
     closing_next g.F.Feed.meaning g.F.Feed.does c.args.ending c.args.live.now c.loop-number.number-index _ c.args.entries.now c.loop-number.entries c.end-answer.result _ c.end-answer.new.self
-        c.args.due.now c.loop-number.due c.push_answered.new.due numbers (number_at c.args.live.now c.loop-number.number-index c.loop-number-test.true) stood
-        c.end-answer.ensures c.push_answered.ensures.due c.push_answered.ensures.len c.push_answered.ensures.capacity so_far
+    c.args.due.now c.loop-number.due c.push_answered.new.due numbers (number_at c.args.live.now c.loop-number.number-index c.loop-number-test.true) stood
+    c.end-answer.ensures c.push_answered.ensures.due c.push_answered.ensures.len c.push_answered.ensures.capacity so_far
 
 pub returns : goal.returns
 returns g c =
     let done : c.loop-number.number-index ≡ length c.args.live.now = search rules in
     let so_far = c.loop-number.invariant in (
       so_far.answers,
-      (upto_each (Closes g.F.Feed.meaning g.F.Feed.does c.args.ending) None c.args.live.now c.loop-number.number-index so_far.answers c.args.entries.now c.loop-number.entries
-          (λ k x at other. (others_retired g.F.Feed.meaning c.args.live.now c.args.entries.now k x c.requires.live at (subst (λ n. IsAmong c.args.live.now n k → ⊥) done other), refl))
-          so_far.upto,
-        so_far.due),
+      (
+        upto_each (Closes g.F.Feed.meaning g.F.Feed.does c.args.ending) None c.args.live.now c.loop-number.number-index so_far.answers c.args.entries.now c.loop-number.entries
+            (λ k x at other. (others_retired g.F.Feed.meaning c.args.live.now c.args.entries.now k x c.requires.live at (subst (λ n. IsAmong c.args.live.now n k → ⊥) done other), refl))
+            so_far.upto,
+        so_far.due,
+      ),
     )
