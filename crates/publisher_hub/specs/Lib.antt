@@ -1,3 +1,5 @@
+pub mod Adding
+pub mod Closing
 pub mod Entry
 pub mod Giving
 pub mod Hub
@@ -6,8 +8,11 @@ pub mod Lists
 pub mod Looking
 pub mod Names
 pub mod Offering
-pub mod Publishing
+pub mod OpeningTicket
 pub mod Overview
+pub mod Publishing
+pub mod Readiness
 pub mod Sound
 pub mod Steps
+pub mod Subscribing
 pub mod Tickets

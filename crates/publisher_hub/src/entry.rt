@@ -7,6 +7,9 @@ ghost use Rattle.publisher_hub.specs.Looking.{FailsToPrepare, Glances, IsReadied
 ghost use Rattle.publisher_hub.specs.Offering.{Gives, GivesAgain};
 ghost use Rattle.publisher_hub.specs.Steps.{CanTake, IsHere};
 
+mod closing;
+mod telling;
+
 use close_count::Ticket;
 use flow_rules::{Feed, Item, Name, NoMemory, Put, Standing};
 

@@ -152,7 +152,7 @@ fn share_out(shares: &mut Vec<Item>, item: &Item, many: usize) -> Result<(), NoM
 }
 
 /// A started task is due.
-fn push_started<T: Drop>(due: &mut Vec<Work<T>>, number: u32, start: Option<T>)
+pub(crate) fn push_started<T: Drop>(due: &mut Vec<Work<T>>, number: u32, start: Option<T>)
     requires { vec_len due.old < vec_capacity due.old }
     ensures due { due.new.items ≡ due.old.items ++ work_of number start }
     ensures capacity { vec_capacity due.new ≡ vec_capacity due.old }

@@ -1,11 +1,18 @@
 //! The Hub.
-mod offering;
-mod publishing;
+mod admitting;
+mod closing;
 mod ended;
 mod entries;
+mod leaving_out;
 mod looking;
+mod named;
+mod offering;
+mod preparing;
 mod publishing;
+mod seeing;
 mod sources;
+mod subscribing;
+mod tickets;
 
 ghost use Rattle.std.specs.Prelude.{◌≡◌, ◌≤◌, ◌↔◌, IfOk, IfErr, replicate};
 ghost use Rattle.flow_rules.specs.Capacity.{capacity_of};
@@ -19,6 +26,7 @@ use close_count::Opening;
 use flow_rules::{Ending, Feed, NoMemory, PUBLICATIONS, Refusal, capacity};
 pub use publishing::Unpublished;
 use std::alloc::Global;
+pub use subscribing::{MOST_ENTRIES, MOST_LIVE};
 
 /// How many sources a Hub has at most (submitters, where threads publish).
 pub const SOURCES: usize = 256;

@@ -1,9 +1,10 @@
 //! The round that looks at the live subscriptions, and makes them ready.
-ghost use Rattle.std.specs.Prelude.{◌≡◌, ◌||◌, ◌&&◌, List, Option, IfOk, OnErr, is_none, map, if◌then◌else◌, true, false, [], ◌∷◌, ℕ};
+ghost use Rattle.std.specs.Prelude.{◌≡◌, ◌||◌, ◌&&◌, List, Option, IfOk, IsOk, OnErr, is_none, map, if◌then◌else◌, true, false, [], ◌∷◌, ℕ};
 ghost use Rattle.flow_rules.specs.declared.feed.standing.Standing.{Standing};
 ghost use Rattle.publisher_hub.specs.Entry.{entry_of};
 ghost use Rattle.publisher_hub.specs.Lists.{Each, EachBy};
 ghost use Rattle.publisher_hub.specs.Looking.{MayPrepare, Prepares, IsRoom, full_by};
+ghost use Rattle.publisher_hub.specs.Readiness.{AreReady};
 ghost use Rattle.publisher_hub.specs.Sound.{AreLive};
 ghost use Rattle.publisher_hub.specs.Steps.{AreHere};
 
@@ -17,6 +18,7 @@ pub(crate) fn prepare_all<F: Feed>(entries: &mut [Entry<F>], live: &[u32], next:
     requires here { AreHere (map (entry_of F.meaning) entries.old) }
     ensures ok { IfOk result (λ room. (glances : List (Option Standing)) × (EachBy (Prepares F.meaning F.does next) glances entries.old entries.new × IsRoom room capacity glances)) }
     ensures err { OnErr result (Each (MayPrepare F.meaning F.does next) entries.old entries.new) }
+    ensures stays { AreReady (map (entry_of F.meaning) entries.old) → IsOk result }
 {
     let mut room = true;
     for number in live {

@@ -5,6 +5,7 @@ use Rattle.publisher_hub.specs.Looking.{MayPrepare, Prepares}
 use Rattle.publisher_hub.proofs.LiveRounds.{get_mapped, next_stood, number_at, number_within, numbers_of, others_retired}
 use Rattle.publisher_hub.proofs.PartialRounds.{upto_each}
 use Rattle.publisher_hub.proofs.Preparing.{preparing_next, preparing_none, stopped}
+use Rattle.publisher_hub.proofs.Readying.{ready_is_prepared}
 use Rattle.publisher_hub.proofs.rounds.preparing.prepare_all.Goals as goal
 
 on_err : {A E : Type 0} (r : Result A E) (P : Type 0) → P → OnErr r P
@@ -60,3 +61,11 @@ returns-clause-ok g c =
           so_far.upto,
         so_far.is_room),
     )
+
+pub returns-in_err-glance-clause-stays : goal.returns-in_err-glance-clause-stays
+returns-in_err-glance-clause-stays g c ready =
+    let numbers = numbers_of g.F.Feed.meaning c.args.live.now c.args.entries.now c.requires.live in
+    let stood = next_stood (Prepares g.F.Feed.meaning g.F.Feed.does c.args.next) None c.args.live.now c.loop-number.number-index c.loop-number.invariant.glances
+        c.args.entries.now c.loop-number.entries numbers c.loop-number-test.true c.loop-number.invariant.upto c.index-entries-number.result in
+    absurd (ready_is_prepared g.F.Feed.meaning g.F.Feed.does c.args.next _ c.prepare.new.self c.in_err-glance.ensures.err
+        (ready _ _ (get_mapped (entry_of g.F.Feed.meaning) c.args.entries.now _ _ stood)))

@@ -1,0 +1,32 @@
+-- The live subscriptions of a Hub are prepared.
+use Rattle.std.proofs.Common.{rules, ◌≡◌, List, Result, Ok, Err, IfOk, IsOk, OnErr, OnOk, map, refl, sym, subst, ◌∙◌}
+use Rattle.std.proofs.lemmas.List.{with_items_is}
+use Rattle.publisher_hub.specs.Entry.{entry_of}
+use Rattle.publisher_hub.specs.Hub.{hub_of}
+use Rattle.publisher_hub.specs.Lists.{Each}
+use Rattle.publisher_hub.specs.Looking.{IsKept, IsLookedAt}
+use Rattle.publisher_hub.specs.Readiness.{AreReady}
+use Rattle.publisher_hub.proofs.Kept.{round_kept}
+use Rattle.publisher_hub.proofs.Looks.{sound_looked_at}
+use Rattle.publisher_hub.proofs.Readying.{all_here, on_ok_ready}
+use Rattle.publisher_hub.proofs.hub.Hub.prepare_live.Goals as goal
+
+pub returns-clause-looked : goal.returns-clause-looked
+returns-clause-looked g c =
+    let whole = with_items_is c.args.self.now.entries c.prepare_all.new.entries (c.prepare_all.auto.entries ∙ c.deref_mut.ensures.len) in
+    record {
+      rest = refl;
+      entries = rw whole (rw (← c.deref_mut.ensures.value) (round_kept g.F.Feed.meaning g.F.Feed.does c.args.self.now.next c.args.self.now.capacity c.deref_mut.result.now c.prepare_all.new.entries c.prepare_all.result
+          (rw c.deref_mut.ensures.value (all_here (hub_of g.F.Feed.meaning c.args.self.now) c.requires.sound)) c.prepare_all.ensures.ok c.prepare_all.ensures.err));
+    }
+
+pub returns-clause-sound : goal.returns-clause-sound
+returns-clause-sound g c = sound_looked_at _ _ c.requires.sound (returns-clause-looked g c)
+
+pub returns-clause-stays : goal.returns-clause-stays
+returns-clause-stays g c ready = c.prepare_all.ensures.stays (rw c.deref_mut.ensures.value ready)
+
+pub returns-clause-ready : goal.returns-clause-ready
+returns-clause-ready g c =
+    let whole = with_items_is c.args.self.now.entries c.prepare_all.new.entries (c.prepare_all.auto.entries ∙ c.deref_mut.ensures.len) in
+    rw whole (on_ok_ready g.F.Feed.meaning g.F.Feed.does c.args.self.now.next c.args.self.now.capacity c.prepare_all.result c.deref_mut.result.now c.prepare_all.new.entries c.prepare_all.ensures.ok)

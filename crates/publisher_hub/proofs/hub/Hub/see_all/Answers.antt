@@ -1,0 +1,13 @@
+-- Where no place for a task is made, nothing was looked at.
+use Rattle.std.proofs.Common.{rules, ◌≡◌, Some, refl, sym, ◌∙◌, inl}
+use Rattle.publisher_hub.specs.Hub.{hub_of}
+use Rattle.publisher_hub.proofs.PartialRounds.{same_some}
+use Rattle.publisher_hub.proofs.Readying.{not_looked_at, on_err}
+use Rattle.publisher_hub.proofs.hub.Hub.see_all.Goals as goal
+
+pub returns-in_err-reserve_due-clause-err : goal.returns-in_err-reserve_due-clause-err
+returns-in_err-reserve_due-clause-err g c = on_err c.from_residual.result _ (record {
+  prepared = record { as_long = refl; each = λ k x y at at'. inl (same_some (sym at' ∙ at)) };
+  kept = (not_looked_at (hub_of g.F.Feed.meaning c.args.self.now) c.requires.sound).entries;
+  rest = refl;
+})

@@ -1,0 +1,89 @@
+-- What a close does to each subscription of a Hub, and to the Hub.
+use Rattle.std.specs.Prelude.{◌≡◌, ◌⊎◌, ℕ, true, false, Option, None, Some, List, [], ◌++◌}
+use Rattle.flow_rules.specs.Call as Call
+use Rattle.flow_rules.specs.Call.{Call}
+use Rattle.flow_rules.specs.Feed as Feed
+use Rattle.flow_rules.specs.Feed.{End}
+use Rattle.flow_rules.specs.declared.ending.Ending.{Ending}
+use Rattle.flow_rules.specs.declared.feed.standing.Standing.{Standing}
+use Rattle.publisher_hub.specs.Entry.{EntryState}
+use Rattle.publisher_hub.specs.Hub.{HubState, Progress, hub_of}
+use Rattle.publisher_hub.specs.Lists.{Each, EachBy, gather}
+use Rattle.publisher_hub.specs.Looking.{IsLookedAt, Prepares, StaysRetired}
+use Rattle.publisher_hub.specs.Offering.{work_of}
+use Rattle.publisher_hub.specs.declared.entry.Entry.{Entry}
+use Rattle.publisher_hub.specs.declared.hub.Hub.{Hub}
+use Rattle.publisher_hub.specs.declared.work.Work.{Work}
+
+-- the producer's end of a live subscription was closed
+pub record WasClosed (ending : Ending) (old new : EntryState) : Type 0 where
+  pub before : End
+  pub after : End
+  pub live : old.retired ≡ false
+  pub was : old.feed ≡ Some before
+  pub closed : after ≡ record before { closing = Some ending; ready = after.ready }
+  pub now : new ≡ record old { feed = Some after }
+
+-- what a close leaves of a subscription
+abbrev pub IsClosedBy : Ending → EntryState → EntryState → Type 0
+IsClosedBy ending old new = StaysRetired old new ⊎ WasClosed ending old new
+
+-- how far the publications have come, with this ending
+abbrev pub progress_closed : Ending → Progress → Progress
+progress_closed ending progress = record progress { ending = Some ending }
+
+-- a Hub without an ending was closed: each live subscription was, and the opening ticket is taken out
+pub record IsClosed (ending : Ending) (old new : HubState) : Type 0 where
+  pub unclosed : old.progress.ending ≡ None
+  pub rest : new ≡ record old { progress = progress_closed ending old.progress; opening = None; entries = new.entries }
+  pub entries : Each (IsClosedBy ending) old.entries new.entries
+
+-- the same after looks
+pub record IsClosedLooking (ending : Ending) (old new : HubState) : Type 0 where
+  pub middle : HubState
+  pub looked : IsLookedAt old middle
+  pub closed : IsClosed ending middle new
+
+-- the task that a close of a subscription started
+abbrev pub started_by_end : {T : Type 0} → ℕ → Option (Option T) → List (Work T)
+started_by_end number None = []
+started_by_end number (Some start) = work_of number start
+
+-- the tasks that the closes of a round started, in order of subscription
+abbrev pub started_by_ends : {T : Type 0} → List (Option (Option T)) → List (Work T)
+started_by_ends answers = gather started_by_end 0 answers
+
+module _ {F T : Type 0} (meaning : F → End) (does : F → Call T → F → Type 0) where
+  -- the producer's end of a live subscription was closed once, which answered this task
+  pub record Closed (ending : Ending) (start : Option T) (old new : Entry F) : Type 0 where
+    pub before : F
+    pub after : F
+    pub live : old.retired ≡ false
+    pub was : old.feed ≡ Some before
+    pub means : Feed.Ends (meaning before) ending start (meaning after)
+    pub exact : does before (Call.Ends ending start) after
+    pub now : new ≡ record old { feed = Some after }
+
+  -- the same of any subscription: a retired one answers nothing
+  abbrev pub Closes : Ending → Option (Option T) → Entry F → Entry F → Type 0
+  Closes ending None old new = (old.retired ≡ true) × (new ≡ old)
+  Closes ending (Some start) old new = Closed ending start old new
+
+  -- each live subscription was closed once, and the tasks that this started are due, in order of subscription
+  pub record ClosesLive (ending : Ending) (xs ys : List (Entry F)) (due_before due_after : List (Work T)) : Type 0 where
+    pub answers : List (Option (Option T))
+    pub each : EachBy (Closes ending) answers xs ys
+    pub due : due_after ≡ due_before ++ started_by_ends answers
+
+  -- the first close of a Hub: all live subscriptions were looked at and made ready, which left the middle list; then each that goes on was
+  -- closed; the ending is set and the opening ticket taken out, and nothing else changed
+  pub record ClosesAll (ending : Ending) (due_before due_after : List (Work T)) (old new : Hub F) : Type 0 where
+    pub middle : List (Entry F)
+    pub glances : List (Option Standing)
+    pub prepared : EachBy (Prepares meaning does old.next) glances old.entries.items middle
+    pub closes : ClosesLive ending middle new.entries.items due_before due_after
+    pub rest : hub_of meaning new ≡ record (hub_of meaning old) {
+      progress = progress_closed ending (hub_of meaning old).progress;
+      opening = None;
+      entries = (hub_of meaning new).entries;
+    }

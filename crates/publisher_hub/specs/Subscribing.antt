@@ -1,0 +1,159 @@
+-- What a subscribing does to a Hub, and when it is refused.
+use Rattle.std.specs.Prelude.{◌≡◌, ◌⊎◌, ℕ, ◌<◌, true, false, Option, None, Some, Result, Ok, Err, List, [], ◌∷◌, ◌++◌, length, slice_get, slice_set, map, Vec, vec_len}
+use Rattle.std.specs.declared.alloc.Global.{Global}
+use Rattle.std.specs.Vec.{vec_capacity}
+use Rattle.close_count.specs.declared.ticket.Ticket.{Ticket}
+use Rattle.flow_rules.specs.Call as Call
+use Rattle.flow_rules.specs.Call.{Call}
+use Rattle.flow_rules.specs.Feed as Feed
+use Rattle.flow_rules.specs.Feed.{End}
+use Rattle.flow_rules.specs.declared.ending.Ending.{Ending}
+use Rattle.flow_rules.specs.declared.feed.standing.Standing.{Standing}
+use Rattle.flow_rules.specs.declared.refusal.Refusal.{Refusal}
+use Rattle.flow_rules.specs.declared.refusal.Refusal.TheVariants as Refusal
+use Rattle.publisher_hub.specs.Adding.{AreAllLive, live_of}
+use Rattle.publisher_hub.specs.Entry.{EntryState, entry_of}
+use Rattle.publisher_hub.specs.Hub.{HubState, hub_of}
+use Rattle.publisher_hub.specs.Lists.{Each, EachBy}
+use Rattle.publisher_hub.specs.Looking.{IsKept, MayPrepare, Prepares}
+use Rattle.publisher_hub.specs.Offering.{work_of}
+use Rattle.publisher_hub.specs.Readiness.{AreReady}
+use Rattle.publisher_hub.specs.Sound.{MOST_ENTRIES, MOST_LIVE}
+use Rattle.publisher_hub.specs.declared.entry.Entry.{Entry}
+use Rattle.publisher_hub.specs.declared.hub.Hub.{Hub}
+use Rattle.publisher_hub.specs.declared.work.Work.{Work}
+
+-- the producer's end of a live subscription was told of a second subscribing
+pub record WasTold (old new : EntryState) : Type 0 where
+  pub before : End
+  pub after : End
+  pub live : old.retired ≡ false
+  pub was : old.feed ≡ Some before
+  pub told : after ≡ record before { state = true; ready = after.ready }
+  pub now : new ≡ record old { feed = Some after }
+
+-- the subscription of this number has this name, or has another
+abbrev pub IsNamed : {F : Type 0} → List ℕ → ℕ → List (Entry F) → Type 0
+IsNamed {F} name number entries = (entry : Entry F) × ((slice_get entries number ≡ Some entry) × (entry.name ≡ name))
+
+abbrev pub IsNotNamed : {F : Type 0} → List ℕ → ℕ → List (Entry F) → Type 0
+IsNotNamed {F} name number entries = (entry : Entry F) → slice_get entries number ≡ Some entry → entry.name ≡ name → ⊥
+
+-- no subscription that isn't retired has this name
+abbrev pub IsUnnamed : List ℕ → List EntryState → Type 0
+IsUnnamed name entries = (k : ℕ) (entry : EntryState) → slice_get entries k ≡ Some entry → entry.retired ≡ false → entry.name ≡ name → ⊥
+
+-- the subscription of this number isn't retired
+abbrev pub IsLiveAt : {F : Type 0} → ℕ → List (Entry F) → Type 0
+IsLiveAt {F} number entries = (entry : Entry F) × ((slice_get entries number ≡ Some entry) × (entry.retired ≡ false))
+
+-- there is a place for one subscription more
+pub record HasPlace {F : Type 0} (hub : Hub F) : Type 0 where
+  pub entry_place : vec_len hub.entries < vec_capacity hub.entries
+  pub number_place : vec_len hub.live < vec_capacity hub.live
+  pub few_live : length hub.live.items < MOST_LIVE
+  pub few_entries : length hub.entries.items < MOST_ENTRIES
+
+-- why there is none: there are as many live ones as there may be; else as many that were ever made; else memory is refused
+abbrev pub HasNoPlace : {F : Type 0} → Refusal → Hub F → Type 0
+HasNoPlace Refusal.TooMany hub = length hub.live.items ≡ MOST_LIVE
+HasNoPlace Refusal.Exhausted hub = (length hub.live.items < MOST_LIVE) × (length hub.entries.items ≡ MOST_ENTRIES)
+HasNoPlace Refusal.NoMemory hub = (length hub.live.items < MOST_LIVE) × (length hub.entries.items < MOST_ENTRIES)
+HasNoPlace _ hub = ⊥
+
+-- a subscription of this name may be added to a Hub, and one task may be started
+pub record CanAdmit {F T : Type 0} (meaning : F → End) (name : List ℕ) (hub : Hub F) (due : Vec (Work T) Global) : Type 0 where
+  pub due_place : vec_len due < vec_capacity due
+  pub place : HasPlace hub
+  pub ready : AreReady (hub_of meaning hub).entries
+  pub unnamed : IsUnnamed name (hub_of meaning hub).entries
+
+-- what is stored of a new subscription
+abbrev pub first_entry : {F : Type 0} → List ℕ → ℕ → F → Option Ticket → Entry F
+first_entry name next feed ticket = record {
+  name = name;
+  since = next;
+  until = next;
+  dropped = 0;
+  retired = false;
+  feed = Some feed;
+  ticket = ticket;
+}
+
+module _ {F T : Type 0} (meaning : F → End) (does : F → Call T → F → Type 0) where
+  -- all live subscriptions of a Hub were looked at, the ended ones retired, the others made ready, and the numbers of the retired ones
+  -- left out; nothing else changed
+  pub record IsSeen (old new : Hub F) : Type 0 where
+    pub glances : List (Option Standing)
+    pub prepared : EachBy (Prepares meaning does old.next) glances old.entries.items new.entries.items
+    pub left : new.live.items ≡ live_of (hub_of meaning new).entries old.live.items
+    pub kept : Each (IsKept old.next) (hub_of meaning old).entries (hub_of meaning new).entries
+    pub all_live : AreAllLive new.live.items (hub_of meaning new).entries
+    pub rest : hub_of meaning new ≡ record (hub_of meaning old) { entries = (hub_of meaning new).entries; live = new.live.items }
+
+  -- some live subscriptions of a Hub were looked at, the ended ones of these retired, and the others made ready; nothing else changed
+  pub record IsSeenInPart (old new : Hub F) : Type 0 where
+    pub prepared : Each (MayPrepare meaning does old.next) old.entries.items new.entries.items
+    pub kept : Each (IsKept old.next) (hub_of meaning old).entries (hub_of meaning new).entries
+    pub rest : hub_of meaning new ≡ record (hub_of meaning old) { entries = (hub_of meaning new).entries }
+
+  -- the producer's end of a live subscription was told once of a second subscribing, which answered this task
+  pub record Told (start : Option T) (old new : Entry F) : Type 0 where
+    pub before : F
+    pub after : F
+    pub live : old.retired ≡ false
+    pub was : old.feed ≡ Some before
+    pub means : Feed.Duplicates (meaning before) start (meaning after)
+    pub exact : does before (Call.Duplicates start) after
+    pub now : new ≡ record old { feed = Some after }
+
+  -- the live subscription of this number was told of a second subscribing; the task that this started is due, and nothing else changed
+  pub record TellsAt (number : ℕ) (due_before due_after : List (Work T)) (old new : Hub F) : Type 0 where
+    pub start : Option T
+    pub before : Entry F
+    pub after : Entry F
+    pub there : slice_get old.entries.items number ≡ Some before
+    pub told : Told start before after
+    pub entries : new.entries.items ≡ slice_set old.entries.items number after
+    pub due : due_after ≡ due_before ++ work_of number start
+    pub rest : hub_of meaning new ≡ record (hub_of meaning old) { entries = (hub_of meaning new).entries }
+
+  -- one live subscription of this name was told of a second subscribing
+  pub record TellsOne (name : List ℕ) (due_before due_after : List (Work T)) (old new : Hub F) : Type 0 where
+    pub number : ℕ
+    pub named : IsNamed name number old.entries.items
+    pub tells : TellsAt number due_before due_after old new
+
+  -- no live subscription of a Hub that was looked at has the name, and there is no place for one more
+  pub record FindsNoPlace (name : List ℕ) (refusal : Refusal) (old new : Hub F) : Type 0 where
+    pub seen : IsSeen old new
+    pub unnamed : IsUnnamed name (hub_of meaning new).entries
+    pub why : HasNoPlace refusal new
+
+  -- why a subscribing is refused, and what is left then: a live subscription has the name, and is told of it; else there is no place; or
+  -- memory was refused before all were looked at
+  abbrev pub Refuses : List ℕ → Refusal → List (Work T) → List (Work T) → Hub F → Hub F → Type 0
+  Refuses name Refusal.Duplicate due_before due_after old new = (middle : Hub F) × (IsSeen old middle × TellsOne name due_before due_after middle new)
+  Refuses name Refusal.NoMemory due_before due_after old new = (IsSeenInPart old new ⊎ FindsNoPlace name Refusal.NoMemory old new) × (due_after ≡ due_before)
+  Refuses name refusal due_before due_after old new = FindsNoPlace name refusal old new × (due_after ≡ due_before)
+
+  -- the producer's end of a new subscription is closed at once where its Hub was
+  abbrev pub ClosesNew : Option Ending → F → Option T → F → Type 0
+  ClosesNew None feed start after = (start ≡ None) × (after ≡ feed)
+  ClosesNew (Some ending) feed start after = Feed.Ends (meaning feed) ending start (meaning after) × does feed (Call.Ends ending start) after
+
+  -- a subscription was added to a Hub that had been looked at, and nothing else changed
+  pub record Admits (name : List ℕ) (feed : F) (ticket : Option Ticket) (number : ℕ) (due_before due_after : List (Work T)) (old new : Hub F) : Type 0 where
+    pub middle : Hub F
+    pub seen : IsSeen old middle
+    pub unnamed : IsUnnamed name (hub_of meaning middle).entries
+    pub few_live : length middle.live.items < MOST_LIVE
+    pub is_next : number ≡ length old.entries.items
+    pub few_entries : number < MOST_ENTRIES
+    pub start : Option T
+    pub after : F
+    pub closes : ClosesNew old.ending feed start after
+    pub due : due_after ≡ due_before ++ work_of number start
+    pub entries : new.entries.items ≡ middle.entries.items ++ first_entry name old.next after ticket ∷ []
+    pub live : new.live.items ≡ middle.live.items ++ number ∷ []
+    pub rest : hub_of meaning new ≡ record (hub_of meaning old) { entries = (hub_of meaning new).entries; live = new.live.items }

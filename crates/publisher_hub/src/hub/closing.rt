@@ -1,0 +1,71 @@
+//! How a Hub is closed.
+ghost use Rattle.std.specs.Prelude.{◌≡◌, ◌+◌, ◌≤◌, None, Ok, Err, IsOk, IsSome, List, OnErr, OnOk, IfOk, length, vec_len};
+ghost use Rattle.std.specs.Vec.{vec_capacity};
+ghost use Rattle.flow_rules.specs.declared.refusal.Refusal.TheVariants as Refusal;
+ghost use Rattle.publisher_hub.specs.Closing.{ClosesAll, ClosesLive, IsClosedLooking};
+ghost use Rattle.publisher_hub.specs.Hub.{hub_of};
+ghost use Rattle.publisher_hub.specs.Looking.{IsLookedAt, MayPrepare};
+ghost use Rattle.publisher_hub.specs.Lists.{Each};
+ghost use Rattle.publisher_hub.specs.Readiness.{AreReady};
+ghost use Rattle.publisher_hub.specs.Sound.{IsSound};
+
+use crate::hub::Hub;
+use crate::rounds::end_all;
+use crate::work::Work;
+use close_count::Opening;
+use flow_rules::{Ending, Feed, NoMemory, Refusal};
+
+impl<F: Feed> Hub<F> {
+    /// Closes the publisher (`SubmissionPublisher.close` and `closeExceptionally`, Java SE 17): each live subscription is closed, and
+    /// the opening ticket comes out, where there is one. What was accepted is still told before the ending.
+    ///
+    /// Only the first call does anything: a later one answers `None` and changes nothing.
+    ///
+    /// `NoMemory` where a place of `due` or what a started task needs is refused. Then nothing has changed but by looks.
+    pub fn end(
+        &mut self,
+        ending: Ending,
+        due: &mut Vec<Work<F::Task>>,
+    ) -> Result<Option<Opening>, Refusal>
+        requires sound { IsSound (hub_of F.meaning self.old) }
+        ensures first { self.old.ending ≡ None → IfOk result (λ opening. (opening ≡ self.old.opening) × ClosesAll F.meaning F.does ending due.old.items due.new.items self.old self.new) }
+        ensures means { self.old.ending ≡ None → OnOk result (IsClosedLooking ending (hub_of F.meaning self.old) (hub_of F.meaning self.new)) }
+        ensures later { IsSome self.old.ending → (result ≡ Ok None) × ((self.new ≡ self.old) × (due.new ≡ due.old)) }
+        ensures err { OnErr result (result ≡ Err Refusal.NoMemory) }
+        ensures looked { OnErr result (IsLookedAt (hub_of F.meaning self.old) (hub_of F.meaning self.new)) }
+        ensures exact { OnErr result (Each (MayPrepare F.meaning F.does self.old.next) self.old.entries.items self.new.entries.items) }
+        ensures due { OnErr result (due.new.items ≡ due.old.items) }
+        ensures sound { IsSound (hub_of F.meaning self.new) }
+    {
+        if self.ending.is_some() {
+            return Ok(None);
+        }
+        reserve_due(due, self.live.len())?;
+        self.prepare_live()?;
+        self.end_live(ending, due);
+        self.ending = Some(ending);
+        Ok(self.opening.take())
+    }
+
+    /// Closes the live subscriptions, which are ready. The tasks that this starts are due.
+    fn end_live(&mut self, ending: Ending, due: &mut Vec<Work<F::Task>>)
+        requires sound { IsSound (hub_of F.meaning self.old) }
+        requires ready { AreReady (hub_of F.meaning self.old).entries }
+        requires room { vec_len due.old + vec_len self.old.live ≤ vec_capacity due.old }
+        ensures closes { ClosesLive F.meaning F.does ending self.old.entries.items self.new.entries.items due.old.items due.new.items }
+        ensures rest { self.new ≡ record self.old { entries = self.new.entries } }
+    {
+        let Hub { entries, live, .. } = self;
+        end_all(entries, live, ending, due)
+    }
+}
+
+/// Makes room for so many tasks.
+pub(crate) fn reserve_due<T>(due: &mut Vec<Work<T>>, many: usize) -> Result<(), NoMemory>
+    ensures items { due.new.items ≡ due.old.items }
+    ensures room { OnOk result (vec_len due.new + many ≤ vec_capacity due.new) }
+    ensures stays { vec_len due.old + many ≤ vec_capacity due.old → IsOk result }
+    ensures capacity { vec_capacity due.old ≤ vec_capacity due.new }
+{
+    Ok(due.reserve(many)?)
+}
