@@ -1,6 +1,8 @@
 -- Lists of answers that gather nothing.
-use Rattle.std.proofs.Common.{◌≡◌, ℕ, zero, suc, ◌+◌, Some, List, [], ◌∷◌, ◌++◌, refl, ap, subst, ◌∙◌, arith}
+use Rattle.std.proofs.Common.{◌≡◌, ℕ, zero, suc, ◌+◌, ◌≤◌, max, fold, Some, List, [], ◌∷◌, ◌++◌, length, refl, ap, subst, ◌∙◌, arith}
 use Rattle.std.specs.Prelude.{slice_get}
+use Rattle.std.proofs.lemmas.List.{length-append}
+use Rattle.std.proofs.lemmas.List.Sums.{fold-append}
 use Rattle.publisher_hub.specs.Lists.{gather}
 
 -- where no answer gathers anything, all of them gather nothing
@@ -27,3 +29,31 @@ gathers_nothing each (first ∷ answers) place zero answer none at =
 gathers_nothing each (first ∷ answers) place (suc i) answer none at =
     let both = both_empty (each place first) (gather each (suc place) answers) none in
     subst (λ p. each p answer ≡ []) (omega arith) (gathers_nothing each answers (suc place) i answer both.1 at)
+
+-- where each answer gathers at most one, no more are gathered than there are answers
+pub gather_few : {B C : Type 0} (each : ℕ → B → List C) (answers : List B) (place : ℕ) → ((p : ℕ) (answer : B) → length (each p answer) ≤ 1) → length (gather each place answers) ≤ length answers
+unfolding gather
+gather_few each [] place few = omega arith
+gather_few each (answer ∷ answers) place few =
+    let first = few place answer in
+    let later = gather_few each answers (suc place) few in
+    let both = length-append (each place answer) (gather each (suc place) answers) in
+    omega arith
+
+-- folding from a number on is the greater of it and the greatest
+fold_from : (b : ℕ) (ns : List ℕ) → fold max b ns ≡ max b (fold max 0 ns)
+fold_from b [] = omega arith
+fold_from b (n ∷ ns) = let here = fold_from (max b n) ns in let there = fold_from (max 0 n) ns in omega arith
+
+pub greatest_from : (b m : ℕ) (ns : List ℕ) → b ≤ m → fold max 0 ns ≤ m → fold max b ns ≤ m
+greatest_from b m ns low few = let is = fold_from b ns in omega arith
+
+-- where what each answer gathers is at most this, so is the greatest of all
+pub greatest_below : {B : Type 0} (each : ℕ → B → List ℕ) (answers : List B) (place m : ℕ) → ((i : ℕ) (answer : B) → slice_get answers i ≡ Some answer → fold max 0 (each (place + i) answer) ≤ m)
+    → fold max 0 (gather each place answers) ≤ m
+unfolding gather
+greatest_below each [] place m few = omega arith
+greatest_below each (answer ∷ answers) place m few =
+    let first : fold max 0 (each place answer) ≤ m = subst (λ p. fold max 0 (each p answer) ≤ m) (omega arith) (few 0 answer refl) in
+    let later = greatest_below each answers (suc place) m (λ i a at. subst (λ p. fold max 0 (each p a) ≤ m) (omega arith) (few (suc i) a at)) in
+    rw (fold-append max 0 (each place answer) (gather each (suc place) answers)) (greatest_from (fold max 0 (each place answer)) m (gather each (suc place) answers) first later)

@@ -1,5 +1,5 @@
 -- The producer's end of one subscription of a Hub.
-use Rattle.std.proofs.Common.{◌≡◌, ◌||◌, ℕ, ◌<◌, Bool, true, false, Option, None, Some, is_some, length, map, option_map, refl, ap, sym, subst, ◌∙◌, slice_index_or}
+use Rattle.std.proofs.Common.{◌≡◌, ◌||◌, ℕ, ◌<◌, Bool, true, false, Option, None, Some, is_some, length, option_map, refl, ap, sym, subst, ◌∙◌, slice_index_or}
 use Rattle.std.specs.Prelude.{IsSome, slice_get}
 use Rattle.std.specs.Option.{option_and_then}
 use Rattle.std.proofs.lemmas.List.{map-set}

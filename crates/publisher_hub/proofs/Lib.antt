@@ -15,6 +15,7 @@ pub mod LooksAtAll
 pub mod Missed
 pub mod Naming
 pub mod Offered
+pub mod Offerings
 pub mod Offers
 pub mod PartialRounds
 pub mod Places
@@ -25,8 +26,10 @@ pub mod Readying
 pub mod Replaced
 pub mod RetryRounds
 pub mod SameLists
+pub mod SecondOffers
 pub mod Shares
 pub mod Starting
 pub mod Subscriptions
 pub mod Telling
 pub mod Tickets
+pub mod WholeOffers

@@ -6,8 +6,8 @@ use Rattle.std.proofs.lemmas.List.Sums.{fold-append}
 use Rattle.flow_rules.specs.Call.{Call}
 use Rattle.flow_rules.specs.Feed.{End}
 use Rattle.flow_rules.specs.declared.feed.standing.Standing.{Standing}
-use Rattle.publisher_hub.specs.Lists.{gather, greatest}
-use Rattle.publisher_hub.specs.Looking.{Glances, IsRoom, full, full_by, living, living_by, waiting, waiting_by}
+use Rattle.publisher_hub.specs.Lists.{greatest}
+use Rattle.publisher_hub.specs.Looking.{Glances, full, full_by, living, living_by, waiting, waiting_by}
 use Rattle.publisher_hub.specs.Overview.{CountsLook, Shows}
 use Rattle.publisher_hub.specs.Sound.{AreNumbers}
 use Rattle.publisher_hub.specs.declared.entry.Entry.{Entry}

@@ -1,17 +1,22 @@
 -- The numbers of the subscriptions that missed an item.
-use Rattle.std.proofs.Common.{rules, ◌≡◌, ◌⊎◌, ℕ, zero, suc, ◌+◌, ◌<◌, ◌≤◌, Option, None, Some, IsSome, List, [], ◌∷◌, ◌++◌, length, map, refl, ap, sym, subst, ◌∙◌, inl, inr, arith}
-use Rattle.std.specs.Prelude.{slice_get}
-use Rattle.std.proofs.lemmas.List.{length-map}
+use Rattle.std.proofs.Common.{rules, ◌≡◌, ◌⊎◌, ℕ, zero, suc, ◌+◌, ◌<◌, ◌≤◌, Option, None, Some, IsSome, List, [], ◌∷◌, ◌++◌, length, map, fold, max, Bool, refl, ap, sym, subst, ◌∙◌, inl, inr, arith}
+use Rattle.std.specs.Prelude.{Vec, slice_get, vec_len}
+use Rattle.std.specs.declared.alloc.Global.{Global}
+use Rattle.std.proofs.lemmas.List.{append-nil, length-map}
 use Rattle.std.proofs.lemmas.Option.{slice_get_within}
 use Rattle.flow_rules.specs.declared.feed.put.Put.{Put}
 use Rattle.flow_rules.specs.declared.feed.put.Put.TheVariants.{Accepted, Full, Gone}
 use Rattle.flow_rules.specs.Call.{Call}
 use Rattle.flow_rules.specs.Feed.{End}
 use Rattle.flow_rules.specs.declared.item.Item.{Item}
+use Rattle.publisher_hub.specs.Giving.{AreShares}
 use Rattle.publisher_hub.specs.Lists.{EachBy, gather}
-use Rattle.publisher_hub.specs.Offering.{AreAsked, GivesAgain, Second, dropped, dropped_by, lag_again_by, lags_again, missed, missed_by, started_again, started_again_by}
+use Rattle.publisher_hub.specs.Offering.{AreAsked, GivesAgain, Second, dropped, dropped_by, lag_again_by, lags_again, missed, missed_by, stands, started_again, started_again_by}
+use Rattle.publisher_hub.specs.Publishing.{PassesAgain}
 use Rattle.publisher_hub.specs.Sound.{AreNumbers}
 use Rattle.publisher_hub.specs.declared.entry.Entry.{Entry}
+use Rattle.publisher_hub.specs.declared.giving.Giving.{Giving}
+use Rattle.publisher_hub.specs.declared.work.Work.{Work}
 use Rattle.publisher_hub.proofs.LiveRounds.{get_before_map, get_mapped}
 use Rattle.publisher_hub.proofs.PartialRounds.{same_some}
 
@@ -67,18 +72,22 @@ module _ {T : Type 0} where
   missed_rise place (Some (Full back) ∷ puts) (suc i) zero n m at at' before = absurd (omega arith)
   missed_rise place (Some (Full back) ∷ puts) (suc i) (suc j) n m at at' before = missed_rise (suc place) puts i j n m at at' (omega arith)
 
+  -- at most one number is gathered for each place
+  pub missed_few : (place : ℕ) (puts : List (Option (Put T))) → length (gather missed_by place puts) ≤ length puts
+  unfolding gather
+  missed_few place [] = omega arith
+  missed_few place (None ∷ puts) = let few = missed_few (suc place) puts in omega arith
+  missed_few place (Some (Accepted lag start) ∷ puts) = let few = missed_few (suc place) puts in omega arith
+  missed_few place (Some (Gone back) ∷ puts) = let few = missed_few (suc place) puts in omega arith
+  missed_few place (Some (Full back) ∷ puts) = let few = missed_few (suc place) puts in omega arith
+
   pub missed_numbers : (puts : List (Option (Put T))) → AreNumbers (gather missed_by 0 puts) (length puts)
   missed_numbers puts = record {
     rising = λ i j n m at at' before. missed_rise 0 puts i j n m at at' before;
     within = λ i n at. let is = missed_at 0 puts i n at in let number = is.number in let within = slice_get_within puts is.at _ is.full in omega arith;
   }
 
-  -- without a second try, the drops stand
-  abbrev pub stands : Option (Put T) → Second T
-  stands (Some (Full back)) = Some None
-  stands put = None
-
-  -- then those are counted that missed the item, and nothing is gathered
+  -- where nobody is asked, those are counted that missed the item, and nothing is gathered
   dropped_stand : (place : ℕ) (puts : List (Option (Put T))) → gather dropped_by place (map stands puts) ≡ gather missed_by place puts
   unfolding gather
   dropped_stand place [] = refl
@@ -154,3 +163,23 @@ declined {F} {T} meaning does item puts xs long = record {
 
   by : (k : ℕ) (second : Second T) (x y : Entry F) → (old : Option (Put T)) × ((slice_get puts k ≡ Some old) × (stands old ≡ second)) → x ≡ y → GivesAgain meaning does item second x y
   by k second x y old same = subst (λ (entry : Entry F). GivesAgain meaning does item second x entry) same (subst (λ (s : Second T). GivesAgain meaning does item s x x) old.1.1 (quiet old.0 x))
+
+pub passes_declined : {F T : Type 0} (meaning : F → End) (does : F → Call T → F → Type 0) (item : Item) (declines : Bool) (puts : List (Option (Put T))) (xs : List (Entry F)) (old new : Giving) (due : Vec (Work T) Global)
+    → length puts ≡ length xs → new.drops ≡ vec_len old.missed → old.missed.items ≡ missed puts → new.lag ≡ old.lag → new.missed ≡ old.missed → new.shares ≡ old.shares → AreShares item old.shares.items
+    → PassesAgain meaning does item declines puts (map stands puts) xs xs old new due due
+passes_declined meaning does item declines puts xs old new due long drops are lag same_missed same_shares shares =
+    let none = declined meaning does item puts xs long in
+    record {
+      again = none.again;
+      asked = none.asked;
+      declined = λ _. refl;
+      gathers = record {
+        due = sym (append-nil due.items) ∙ ap (λ works. due.items ++ works) (sym none.due);
+        lag = lag ∙ ap (λ ns. fold max old.lag ns) (sym none.lag);
+        drops = drops ∙ many ∙ ap length are ∙ ap length (sym none.drops);
+        missed = same_missed;
+        shares = subst (λ items. AreShares item items) (ap (λ v. v.items) (sym same_shares)) shares;
+      };
+    } where
+      many : vec_len old.missed ≡ length old.missed.items
+      many = search rules

@@ -1,5 +1,5 @@
 -- The rounds over the names of the live subscriptions, as far as they have come.
-use Rattle.std.proofs.Common.{◌≡◌, ◌⊎◌, ℕ, zero, suc, ◌+◌, ◌<◌, Bool, true, false, Some, List, [], ◌∷◌, ◌++◌, length, map, replicate, set, refl, ap, sym, subst, ◌∙◌, inl, inr, arith, slice_index_or}
+use Rattle.std.proofs.Common.{◌≡◌, ◌⊎◌, ℕ, suc, ◌+◌, ◌<◌, Bool, true, false, Some, List, [], ◌∷◌, ◌++◌, length, map, replicate, set, refl, ap, sym, subst, ◌∙◌, inl, inr, arith, slice_index_or}
 use Rattle.std.specs.Prelude.{◌==◌, slice_get}
 use Rattle.std.specs.Cmp.Lexicographic.{pointwise}
 use Rattle.std.proofs.lemmas.Bool.Decides.{Decides-eqb}
@@ -8,9 +8,9 @@ use Rattle.std.proofs.lemmas.Option.{slice_get-get_or, slice_get_within}
 use Rattle.std.proofs.lemmas.Slice.Eq.{slice_eq-Decides}
 use Rattle.flow_rules.specs.Feed.{End}
 use Rattle.publisher_hub.specs.Entry.{EntryState, entry_of}
-use Rattle.publisher_hub.specs.Lists.{EachBy, gather}
+use Rattle.publisher_hub.specs.Lists.{gather}
 use Rattle.publisher_hub.specs.Names.{IsSubscribed, live_names, name_by}
-use Rattle.publisher_hub.specs.Sound.{AreLive, AreNumbers}
+use Rattle.publisher_hub.specs.Sound.{AreLive}
 use Rattle.publisher_hub.specs.declared.entry.Entry.{Entry}
 use Rattle.publisher_hub.proofs.LiveRounds.{get_mapped, number_at, numbers_of}
 use Rattle.publisher_hub.proofs.PartialRounds.{IsAmong, Upto, below_or_last, gather_next, gather_none, same_some, upto_each, upto_next, upto_none}

@@ -8,7 +8,7 @@ use Rattle.close_count.specs.declared.ticket.Ticket.{Ticket}
 use Rattle.flow_rules.specs.Call.{Call}
 use Rattle.flow_rules.specs.Feed.{End, Looked, is_gone}
 use Rattle.flow_rules.specs.declared.feed.standing.Standing.{Standing}
-use Rattle.publisher_hub.specs.Entry.{EntryState, entry_of, until_of}
+use Rattle.publisher_hub.specs.Entry.{entry_of, until_of}
 use Rattle.publisher_hub.specs.Hub.{HubState, Progress, hub_of}
 use Rattle.publisher_hub.specs.Sound.{IsEntry, IsSound}
 use Rattle.publisher_hub.specs.Tickets.{AsksForTicket, AsksForTicketAt, HandsOut}
@@ -105,7 +105,7 @@ module _ {F T : Type 0} (meaning : F → End) (does : F → Call T → F → Typ
         let there = get_mapped (entry_of meaning) old.entries.items number before at in
         subst (λ entries. IsSound (record (hub_of meaning old) { entries = entries })) (sym (map-set (entry_of meaning) old.entries.items number after))
         (sound_replaced (hub_of meaning old) number (entry_of meaning before) (entry_of meaning after) sound there
-            (asked_succeeds (hub_of meaning old).progress standing ticket before after (sound.entries number (entry_of meaning before) there) hands))
+        (asked_succeeds (hub_of meaning old).progress standing ticket before after (sound.entries number (entry_of meaning before) there) hands))
 
     by : (at : Option (Entry F)) → slice_get old.entries.items number ≡ at → IsSound (with_items new.entries.items)
     by None at = subst (λ items. IsSound (with_items items)) (sym (asks.none at).1) sound

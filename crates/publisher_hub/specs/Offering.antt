@@ -136,6 +136,11 @@ started_again seconds = gather started_again_by 0 seconds
 abbrev pub lags_again : {T : Type 0} → List (Second T) → List ℕ
 lags_again seconds = gather lag_again_by 0 seconds
 
+-- without a second try, the drops stand
+abbrev pub stands : {T : Type 0} → Option (Put T) → Second T
+stands (Some (Full back)) = Some None
+stands put = None
+
 -- the second pass did something at these numbers, and nowhere else
 pub record AreAsked {T : Type 0} (numbers : List ℕ) (seconds : List (Second T)) : Type 0 where
   pub asked : (i k : ℕ) (second : Second T) → slice_get numbers i ≡ Some k → slice_get seconds k ≡ Some second → IsSome second

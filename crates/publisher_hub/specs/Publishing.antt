@@ -1,5 +1,5 @@
 -- What the calls do that publish an item, and why they are refused.
-use Rattle.std.specs.Prelude.{◌≡◌, ℕ, ◌<◌, Option, None, Some, List, [], ◌++◌, Vec, length}
+use Rattle.std.specs.Prelude.{◌≡◌, ℕ, zero, suc, ◌+◌, ◌<◌, ℤ, pos, negsuc, Bool, true, Option, None, Some, List, [], ◌++◌, Vec, length, map}
 use Rattle.std.specs.declared.alloc.Global.{Global}
 use Rattle.flow_rules.specs.Call.{Call}
 use Rattle.flow_rules.specs.Feed.{End}
@@ -9,12 +9,13 @@ use Rattle.flow_rules.specs.declared.item.Item.{Item}
 use Rattle.flow_rules.specs.declared.item.TheConstants.{PUBLICATIONS}
 use Rattle.flow_rules.specs.declared.refusal.Refusal.{Refusal}
 use Rattle.flow_rules.specs.declared.refusal.Refusal.TheVariants as Refusal
-use Rattle.publisher_hub.specs.Giving.{AreShares, HasRoom}
+use Rattle.publisher_hub.specs.Giving.{AreShares, GathersAgain, HasRoom}
 use Rattle.publisher_hub.specs.Hub.{Progress, hub_of}
 use Rattle.publisher_hub.specs.Lists.{Each, EachBy, greatest}
 use Rattle.publisher_hub.specs.Looking.{IsLookedAt, MayPrepare, Prepares, full}
-use Rattle.publisher_hub.specs.Offering.{Gives, Offers, lags, missed, started}
+use Rattle.publisher_hub.specs.Offering.{AreAsked, Gives, GivesAgain, Offers, Second, dropped, lags, lags_again, missed, stands, started, started_again}
 use Rattle.publisher_hub.specs.declared.entry.Entry.{Entry}
+use Rattle.publisher_hub.specs.declared.giving.Giving.{Giving}
 use Rattle.publisher_hub.specs.declared.hub.Hub.{Hub}
 use Rattle.publisher_hub.specs.declared.hub.publishing.Unpublished.{Unpublished}
 use Rattle.publisher_hub.specs.declared.hub.publishing.Unpublished.TheVariants.{NoRoom, Refused}
@@ -26,6 +27,16 @@ IsRefused progress None = (progress.ending ≡ None) × (progress.next ≡ PUBLI
 IsRefused progress (Some (Refusal.Closed ending)) = progress.ending ≡ Some ending
 IsRefused progress (Some Refusal.Exhausted) = (progress.ending ≡ None) × (progress.next ≡ PUBLICATIONS)
 IsRefused progress (Some _) = ⊥
+
+-- how many offers found a buffer full, after one more where so many drops stand
+abbrev pub dropping_after : ℕ → ℕ → ℕ
+dropping_after zero dropping = dropping
+dropping_after (suc drops) dropping = dropping + 1
+
+-- the answer to an offer: the greatest lag, or minus the number of drops
+abbrev pub offer_answer : ℕ → ℕ → ℤ
+offer_answer zero lag = pos lag
+offer_answer (suc drops) lag = negsuc drops
 
 -- a publication of this item has all that it needs
 pub record CanPublish {F T : Type 0} (item : Item) (hub : Hub F) (due : Vec (Work T) Global) : Type 0 where
@@ -53,6 +64,34 @@ module _ {F T : Type 0} (meaning : F → End) (does : F → Call T → F → Typ
     pub due : due_new ≡ due_old ++ started puts
     pub greatest_lag : lag ≡ greatest (lags puts)
 
+  -- the second pass: it asks about those that missed the item, or about nobody; then their drops stand
+  pub record PassesAgain (item : Item) (declines : Bool) (puts : List (Option (Put T))) (seconds : List (Second T)) (xs ys : List (Entry F)) (giving giving_new : Giving) (due_old due_new : Vec (Work T) Global) : Type 0 where
+    pub again : EachBy (GivesAgain meaning does item) seconds xs ys
+    pub asked : AreAsked (missed puts) seconds
+    pub declined : declines ≡ true → seconds ≡ map stands puts
+    pub gathers : GathersAgain item seconds giving giving_new due_old due_new
+
+  -- an item of this source and text was offered, with this answer: each subscription was looked at and made ready; then each that goes on
+  -- was offered the item; and then those that missed it were asked about, and offered it once more where the answer was to try again
+  pub record OffersItem (source : ℕ) (text : List ℕ) (declines : Bool) (old new : Hub F) (due_old due_new : List (Work T)) (answer : ℤ) : Type 0 where
+    pub item : Item
+    pub from : item.source ≡ source
+    pub words : item.text ≡ text
+    pub glances : List (Option Standing)
+    pub puts : List (Option (Put T))
+    pub seconds : List (Second T)
+    pub ready : List (Entry F)
+    pub middle : List (Entry F)
+    pub looked : EachBy (Prepares meaning does old.next) glances old.entries.items ready
+    pub given : EachBy (Gives meaning does item) puts ready middle
+    pub again : EachBy (GivesAgain meaning does item) seconds middle new.entries.items
+    pub asked : AreAsked (missed puts) seconds
+    pub declined : declines ≡ true → seconds ≡ map stands puts
+    pub offers : Offers item (hub_of meaning old) (hub_of meaning new)
+    pub counted : new.dropping ≡ dropping_after (length (dropped seconds)) old.dropping
+    pub due : due_new ≡ due_old ++ started puts ++ started_again seconds
+    pub answers : answer ≡ offer_answer (length (dropped seconds)) (greatest (lags puts ++ lags_again seconds))
+
   -- each subscription was looked at and made ready, with these standings
   abbrev pub PreparesAll : List (Option Standing) → Hub F → Hub F → Type 0
   PreparesAll glances old new = EachBy (Prepares meaning does old.next) glances old.entries.items new.entries.items
@@ -64,6 +103,16 @@ module _ {F T : Type 0} (meaning : F → End) (does : F → Call T → F → Typ
   WhyRefused text old new (Refused refusal) = IsRefused (hub_of meaning old).progress (Some refusal) × ((glances : List (Option Standing)) × PreparesAll glances old new)
   WhyRefused text old new (NoRoom back) = (back ≡ text) × (IsRefused (hub_of meaning old).progress None
       × ((glances : List (Option Standing)) × (PreparesAll glances old new × (0 < length (full old.capacity glances)))))
+
+  -- why an item was not offered
+  abbrev pub WhyNotOffered : Hub F → Hub F → Refusal → Type 0
+  WhyNotOffered old new Refusal.NoMemory = Each (MayPrepare meaning does old.next) old.entries.items new.entries.items
+  WhyNotOffered old new refusal = IsRefused (hub_of meaning old).progress (Some refusal) × ((glances : List (Option Standing)) × PreparesAll glances old new)
+
+  -- an item was not offered: nothing has changed but by looks
+  pub record RefusesOffer (old new : Hub F) (refusal : Refusal) : Type 0 where
+    pub unchanged : IsLookedAt (hub_of meaning old) (hub_of meaning new)
+    pub why : WhyNotOffered old new refusal
 
   -- an item was not published: nothing has changed but by looks
   pub record RefusesItem (text : List ℕ) (old new : Hub F) (unpublished : Unpublished) : Type 0 where

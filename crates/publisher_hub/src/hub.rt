@@ -6,6 +6,7 @@ mod entries;
 mod leaving_out;
 mod looking;
 mod named;
+mod offering;
 mod preparing;
 mod publishing;
 mod seeing;

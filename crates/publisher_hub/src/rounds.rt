@@ -11,3 +11,4 @@ pub(crate) use giving::give_all;
 pub(crate) use looking::{Overview, look_all};
 pub(crate) use naming::{has_name, names_of};
 pub(crate) use preparing::prepare_all;
+pub(crate) use retrying::retry_all;

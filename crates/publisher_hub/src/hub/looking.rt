@@ -51,7 +51,7 @@ impl<F: Feed> Hub<F> {
         ensures named { (result ≡ true) ↔ IsSubscribed name (hub_of F.meaning self.new).entries }
         ensures sound { IsSound (hub_of F.meaning self.new) }
     {
-        let _ = self.look_at_all();
+        self.look_at_all();
         has_name(&self.entries, &self.live, name)
     }
 
@@ -64,7 +64,7 @@ impl<F: Feed> Hub<F> {
         ensures ok { IfOk result (λ names. names.items ≡ live_names (hub_of F.meaning self.new).entries) }
         ensures sound { IsSound (hub_of F.meaning self.new) }
     {
-        let _ = self.look_at_all();
+        self.look_at_all();
         names_of(alloc, &self.entries, &self.live)
     }
 

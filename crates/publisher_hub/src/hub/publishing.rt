@@ -58,7 +58,7 @@ impl<F: Feed> Hub<F> {
     }
 
     /// The next item of a source.
-    fn next_item(&self, source: u32, text: Text) -> Item
+    pub(super) fn next_item(&self, source: u32, text: Text) -> Item
         requires sound { IsSound (hub_of F.meaning self.now) }
         requires source { source < SOURCES }
         ensures source { result.source ≡ source }
@@ -75,7 +75,7 @@ impl<F: Feed> Hub<F> {
     }
 
     /// Takes all that a publication needs, and looks at each live subscription. The answer is whether all have room.
-    fn prepare(&mut self, item: &Item, due: &mut Vec<Work<F::Task>>) -> Result<bool, NoMemory>
+    pub(super) fn prepare(&mut self, item: &Item, due: &mut Vec<Work<F::Task>>) -> Result<bool, NoMemory>
         requires sound { IsSound (hub_of F.meaning self.old) }
         ensures ok { IfOk result (λ room. (glances : List (Option Standing)) × (EachBy (Prepares F.meaning F.does self.old.next) glances self.old.entries.items self.new.entries.items × IsRoom room self.old.capacity glances)) }
         ensures err { OnErr result (Each (MayPrepare F.meaning F.does self.old.next) self.old.entries.items self.new.entries.items) }
@@ -91,7 +91,7 @@ impl<F: Feed> Hub<F> {
     }
 
     /// Why the Hub takes no items any more.
-    fn refusal(&self) -> Option<Refusal>
+    pub(super) fn refusal(&self) -> Option<Refusal>
         ensures { IsRefused (hub_of F.meaning self.now).progress result }
     {
         if let Some(ending) = self.ending {
@@ -104,7 +104,7 @@ impl<F: Feed> Hub<F> {
     }
 
     /// Offers the item to each live subscription.
-    fn give(&mut self, item: &Item, due: &mut Vec<Work<F::Task>>)
+    pub(super) fn give(&mut self, item: &Item, due: &mut Vec<Work<F::Task>>)
         requires sound { IsSound (hub_of F.meaning self.old) }
         requires can { CanAllGive (map (entry_of F.meaning) self.old.entries.items) }
         requires ready { CanPublish item.now self.old due.old }
@@ -117,7 +117,7 @@ impl<F: Feed> Hub<F> {
     }
 
     /// Counts an item as published.
-    fn count(&mut self, item: &Item)
+    pub(super) fn count(&mut self, item: &Item)
         requires sound { length (hub_of F.meaning self.old).progress.counts ≡ SOURCES }
         requires next { IsNextItem (hub_of F.meaning self.old).progress item.now }
         requires source { item.now.source < SOURCES }

@@ -40,7 +40,12 @@ impl Overview {
 }
 
 /// Looks at all live subscriptions, and retires those that have ended.
-pub(crate) fn look_all<F: Feed>(entries: &mut [Entry<F>], live: &[u32], next: u64, capacity: usize) -> Overview
+pub(crate) fn look_all<F: Feed>(
+    entries: &mut [Entry<F>],
+    live: &[u32],
+    next: u64,
+    capacity: usize,
+) -> Overview
     requires live { AreLive live.now (map (entry_of F.meaning) entries.old) }
     requires here { AreHere (map (entry_of F.meaning) entries.old) }
     ensures { (glances : List (Option Standing)) × (EachBy (Glances F.meaning F.does next) glances entries.old entries.new × Shows capacity glances result) }

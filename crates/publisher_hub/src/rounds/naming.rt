@@ -9,7 +9,11 @@ use flow_rules::{Feed, Name, NoMemory};
 use std::alloc::Global;
 
 /// The names of the subscriptions that aren't retired, in order of subscription.
-pub(crate) fn names_of<F: Feed>(alloc: Global, entries: &[Entry<F>], live: &[u32]) -> Result<Vec<Name>, NoMemory>
+pub(crate) fn names_of<F: Feed>(
+    alloc: Global,
+    entries: &[Entry<F>],
+    live: &[u32],
+) -> Result<Vec<Name>, NoMemory>
     requires live { AreLive live.now (map (entry_of F.meaning) entries.now) }
     ensures ok { IfOk result (λ names. names.items ≡ live_names (map (entry_of F.meaning) entries.now)) }
 {

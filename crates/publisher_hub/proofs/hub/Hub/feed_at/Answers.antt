@@ -1,5 +1,5 @@
 -- The Hub ends with the producer's end that is left.
-use Rattle.std.proofs.Common.{◌≡◌, Option, Some, refl, ap, sym, ◌∙◌}
+use Rattle.std.proofs.Common.{Option, refl, ap, sym, ◌∙◌}
 use Rattle.std.specs.Option.{option_and_then}
 use Rattle.publisher_hub.specs.Lending.{with_feed}
 use Rattle.publisher_hub.specs.declared.entry.Entry.{Entry}

@@ -1,5 +1,5 @@
 -- One is found by its name, or none of the live subscriptions has it.
-use Rattle.std.proofs.Common.{rules, ◌≡◌, ◌<◌, map, length, refl, arith}
+use Rattle.std.proofs.Common.{rules, ◌≡◌, map, length, refl, arith}
 use Rattle.publisher_hub.specs.Entry.{entry_of}
 use Rattle.publisher_hub.proofs.LiveRounds.{number_at}
 use Rattle.publisher_hub.proofs.Naming.{entry_next, none_at_all, none_more, number_inside, other_names, same_names}
@@ -24,7 +24,7 @@ loop-number-preserved g c =
     let at = entry_next g.F.Feed.meaning c.args.live.now c.args.entries.now c.loop-number.number-index c.requires.live c.loop-number-test.true c.index-entries-number.result c.index-entries-number.is in
     let number = number_at c.args.live.now c.loop-number.number-index c.loop-number-test.true in
     elim c.else-not-entry.branch [
-      else-not-entry-via-then-not-entry+else-eq w ↦ none_more c.args.live.now (map (entry_of g.F.Feed.meaning) c.args.entries.now) c.requires.live c.args.name c.loop-number.number-index _
+      | else-not-entry-via-then-not-entry+else-eq w ↦ none_more c.args.live.now (map (entry_of g.F.Feed.meaning) c.args.entries.now) c.requires.live c.args.name c.loop-number.number-index _
           (entry_of g.F.Feed.meaning c.index-entries-number.result) number at (λ _. other_names _ _ _ w.eq.ensures w.if-eq.false) c.loop-number.invariant
       | else-not-entry-via-else-not-entry w ↦ none_more c.args.live.now (map (entry_of g.F.Feed.meaning) c.args.entries.now) c.requires.live c.args.name c.loop-number.number-index _
           (entry_of g.F.Feed.meaning c.index-entries-number.result) number at (λ live _. let is = w.if-not-entry.false in cc) c.loop-number.invariant

@@ -1,5 +1,5 @@
 -- Each of the live subscriptions that isn't retired is named once.
-use Rattle.std.proofs.Common.{rules, ◌≡◌, ◌<◌, map, length, arith, slice_index_or}
+use Rattle.std.proofs.Common.{rules, ◌≡◌, map, length, arith}
 use Rattle.publisher_hub.specs.Entry.{entry_of}
 use Rattle.publisher_hub.proofs.LiveRounds.{number_at}
 use Rattle.publisher_hub.proofs.Naming.{entry_next, named_all, named_less, named_more, named_none, number_inside}
@@ -20,7 +20,7 @@ loop-number-preserved g c =
     let at = entry_next g.F.Feed.meaning c.args.live.now c.args.entries.now c.loop-number.number-index c.requires.live c.loop-number-test.true c.index-entries-number.result c.index-entries-number.is in
     let number = number_at c.args.live.now c.loop-number.number-index c.loop-number-test.true in
     elim c.if-not-entry.branch [
-      then-not-entry+in_ok-push w ↦ rw (w.names-is, w.in_ok-push.ensures.items) (named_more c.args.live.now (map (entry_of g.F.Feed.meaning) c.args.entries.now) c.requires.live
+      | then-not-entry+in_ok-push w ↦ rw (w.names-is, w.in_ok-push.ensures.items) (named_more c.args.live.now (map (entry_of g.F.Feed.meaning) c.args.entries.now) c.requires.live
           c.loop-number.number-index _ c.loop-number.names.items (entry_of g.F.Feed.meaning c.index-entries-number.result) number at w.if-not-entry.true c.loop-number.invariant)
       | else-not-entry w ↦ rw w.names-is (named_less c.args.live.now (map (entry_of g.F.Feed.meaning) c.args.entries.now) c.requires.live c.loop-number.number-index _ c.loop-number.names.items
           (entry_of g.F.Feed.meaning c.index-entries-number.result) number at w.if-not-entry.false c.loop-number.invariant)
