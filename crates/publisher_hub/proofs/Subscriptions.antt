@@ -8,14 +8,13 @@ use Rattle.flow_rules.specs.Call.{Call}
 use Rattle.flow_rules.specs.Feed.{End}
 use Rattle.flow_rules.specs.declared.feed.standing.Standing.{Standing}
 use Rattle.flow_rules.specs.declared.refusal.Refusal.{Refusal}
-use Rattle.flow_rules.specs.declared.refusal.Refusal.TheVariants as Refusal
 use Rattle.publisher_hub.specs.Adding.{AreAllLive, goes_on, live_of}
 use Rattle.publisher_hub.specs.Entry.{EntryState, entry_of}
 use Rattle.publisher_hub.specs.Hub.{HubState, hub_of}
 use Rattle.publisher_hub.specs.Lists.{Each, EachBy}
 use Rattle.publisher_hub.specs.Looking.{IsKept, Prepares}
 use Rattle.publisher_hub.specs.Readiness.{AreReady}
-use Rattle.publisher_hub.specs.Subscribing.{CanAdmit, FindsNoPlace, HasNoPlace, HasPlace, IsLiveAt, IsNamed, IsNotNamed, IsSeen, IsUnnamed, Refuses}
+use Rattle.publisher_hub.specs.Subscribing.{CanAdmit, HasNoPlace, HasPlace, IsLiveAt, IsNamed, IsNotNamed, IsSeen, IsUnnamed, Refuses}
 use Rattle.publisher_hub.specs.declared.entry.Entry.{Entry}
 use Rattle.publisher_hub.specs.declared.hub.Hub.{Hub}
 use Rattle.publisher_hub.specs.declared.work.Work.{Work}
