@@ -1,18 +1,16 @@
 -- A sound Hub that a subscription is added to stays sound.
-use Rattle.std.proofs.Common.{◌≡◌, ◌⊎◌, ℕ, zero, suc, ◌+◌, ◌<◌, ◌≤◌, false, Option, None, Some, List, [], ◌∷◌, ◌++◌, length, map, refl, ap, sym, subst, ◌∙◌, inl, inr, arith}
+use Rattle.std.proofs.Common.{◌≡◌, ◌⊎◌, ℕ, zero, suc, ◌<◌, false, Option, None, Some, List, [], ◌∷◌, ◌++◌, length, map, refl, ap, sym, subst, ◌∙◌, inl, inr, arith}
 use Rattle.std.specs.Prelude.{slice_get}
 use Rattle.std.proofs.lemmas.List.{length-append, length-map, map-append}
 use Rattle.std.proofs.lemmas.Option.{slice_get_within}
 use Rattle.close_count.specs.declared.ticket.Ticket.{Ticket}
-use Rattle.flow_rules.specs.Call.{Call}
 use Rattle.flow_rules.specs.Feed.{End}
-use Rattle.flow_rules.specs.declared.ending.Ending.{Ending}
 use Rattle.flow_rules.specs.declared.item.Item.{Item}
-use Rattle.publisher_hub.specs.Adding.{IsFresh, hub_with, new_entry}
+use Rattle.publisher_hub.specs.Adding.{hub_with, new_entry}
 use Rattle.publisher_hub.specs.Entry.{EntryState, entry_of}
 use Rattle.publisher_hub.specs.Hub.{HubState, Progress, hub_of}
 use Rattle.publisher_hub.specs.Sound.{AreLive, IsAccepted, IsCounted, IsEntry, IsSound, MOST_ENTRIES, MOST_LIVE}
-use Rattle.publisher_hub.specs.Subscribing.{ClosesNew, HasPlace, first_entry}
+use Rattle.publisher_hub.specs.Subscribing.{HasPlace, first_entry}
 use Rattle.publisher_hub.specs.declared.entry.Entry.{Entry}
 use Rattle.publisher_hub.specs.declared.hub.Hub.{Hub}
 use Rattle.publisher_hub.proofs.Grown.{get_grown}
@@ -118,12 +116,3 @@ sound_grown {F} meaning hub entries live name feed ticket empty capacity unclose
     let numbered : live ≡ hub.live.items ++ length (map (entry_of meaning) hub.entries.items) ∷ [] = live_is ∙ ap (λ n. hub.live.items ++ n ∷ []) (sym many) in
     subst (λ (l : List ℕ). IsSound (record (hub_of meaning hub) { entries = map (entry_of meaning) entries; live = l })) (sym numbered)
     (subst (λ (l : List EntryState). IsSound (record (hub_of meaning hub) { entries = l; live = hub.live.items ++ length (map (entry_of meaning) hub.entries.items) ∷ [] })) (sym mapped) added)
-
--- the producer's end of a new subscription, closed where its Hub is, has accepted nothing
-pub new_is_empty : {F T : Type 0} (meaning : F → End) (does : F → Call T → F → Type 0) (ending : Option Ending) (feed after : F) (start : Option T) (capacity : ℕ) → IsFresh capacity (meaning feed)
-    → ClosesNew meaning does ending feed start after → ((meaning after).accepted ≡ []) × (((meaning after).capacity ≡ capacity) × (ending ≡ None → (meaning after).closing ≡ None))
-new_is_empty meaning does None feed after start capacity fresh closes =
-    (ap (λ f. (meaning f).accepted) closes.1 ∙ fresh.empty, (ap (λ f. (meaning f).capacity) closes.1 ∙ fresh.capacity_is, λ _. ap (λ f. (meaning f).closing) closes.1 ∙ fresh.unclosed))
-new_is_empty meaning does (Some ending) feed after start capacity fresh closes =
-    let now = closes.0.first fresh.unclosed in
-    (ap (λ (e : End). e.accepted) now ∙ fresh.empty, (ap (λ (e : End). e.capacity) now ∙ fresh.capacity_is, λ none. cc))

@@ -1,5 +1,5 @@
 -- A sound Hub that is closed stays sound.
-use Rattle.std.proofs.Common.{◌≡◌, ◌⊎◌, ℕ, ◌<◌, ◌≤◌, true, false, Option, None, Some, option_map, List, map, refl, ap, sym, subst, ◌∙◌, inl, inr, arith}
+use Rattle.std.proofs.Common.{◌≡◌, ℕ, ◌≤◌, Option, None, Some, option_map, List, map, refl, ap, sym, subst, ◌∙◌, inl, inr}
 use Rattle.std.specs.Prelude.{slice_get}
 use Rattle.std.proofs.lemmas.List.{length-map}
 use Rattle.flow_rules.specs.Call.{Call}
@@ -7,7 +7,7 @@ use Rattle.flow_rules.specs.Feed.{End}
 use Rattle.flow_rules.specs.declared.ending.Ending.{Ending}
 use Rattle.flow_rules.specs.declared.item.Item.{Item}
 use Rattle.publisher_hub.specs.Closing.{Closes, IsClosed, IsClosedBy, WasClosed, progress_closed}
-use Rattle.publisher_hub.specs.Entry.{EntryState, entry_of, until_of}
+use Rattle.publisher_hub.specs.Entry.{EntryState, entry_of}
 use Rattle.publisher_hub.specs.Hub.{HubState, Progress}
 use Rattle.publisher_hub.specs.Lists.{Each, EachBy}
 use Rattle.publisher_hub.specs.Sound.{IsCounted, IsEntry, IsOrdered, IsPublished, IsSound, MOST_ENTRIES}

@@ -1,11 +1,11 @@
 -- A sound Hub stays sound where the numbers of retired subscriptions are left out of those that may be live.
-use Rattle.std.proofs.Common.{◌≡◌, ◌⊎◌, ℕ, zero, suc, ◌+◌, ◌<◌, ◌≤◌, Bool, true, false, not, cond, Option, None, Some, List, [], ◌∷◌, length, filter, refl, ap, sym, subst, ◌∙◌, arith}
+use Rattle.std.proofs.Common.{◌≡◌, ℕ, zero, suc, ◌<◌, ◌≤◌, Bool, true, false, not, cond, Option, None, Some, List, [], ◌∷◌, length, filter, refl, ap, sym, subst, ◌∙◌, arith}
 use Rattle.std.specs.Prelude.{slice_get}
 use Rattle.std.proofs.lemmas.List.Filters.{length-filter_both}
 use Rattle.publisher_hub.specs.Adding.{AreAllLive, goes_on, live_of}
 use Rattle.publisher_hub.specs.Entry.{EntryState}
 use Rattle.publisher_hub.specs.Hub.{HubState}
-use Rattle.publisher_hub.specs.Sound.{AreLive, AreNumbers, IsSound, MOST_LIVE}
+use Rattle.publisher_hub.specs.Sound.{AreLive, IsSound}
 
 -- numbers rise
 abbrev IsRising : List ℕ → Type 0

@@ -1,6 +1,5 @@
 -- Subscriptions that were made ready.
-use Rattle.std.proofs.Common.{◌≡◌, ◌||◌, ℕ, Bool, true, false, Option, None, Some, option_map, Result, Ok, Err, IfOk, OnErr, OnOk, IsOk, IsErr, List, map, refl, ap, sym, subst, ◌∙◌, is_some, arith, length, ◌<◌}
-use Rattle.std.specs.Prelude.{slice_get}
+use Rattle.std.proofs.Common.{◌≡◌, ◌||◌, ℕ, Bool, true, false, Option, None, Some, option_map, Result, Ok, Err, IfOk, OnErr, OnOk, IsOk, IsErr, List, map, refl, ap, sym, subst, ◌∙◌, is_some, arith}
 use Rattle.std.proofs.lemmas.Option.{slice_get_within}
 use Rattle.flow_rules.specs.Call.{Call}
 use Rattle.flow_rules.specs.Feed.{End}
@@ -9,7 +8,7 @@ use Rattle.flow_rules.specs.declared.refusal.NoMemory.{NoMemory}
 use Rattle.publisher_hub.specs.Entry.{EntryState, entry_of}
 use Rattle.publisher_hub.specs.Hub.{HubState}
 use Rattle.publisher_hub.specs.Lists.{EachBy}
-use Rattle.publisher_hub.specs.Looking.{FailsToPrepare, IsKept, IsLookedAt, IsRoom, Prepares, Readies, SeesReady}
+use Rattle.publisher_hub.specs.Looking.{FailsToPrepare, IsKept, IsLookedAt, IsRoom, Prepares, Readies}
 use Rattle.publisher_hub.specs.Readiness.{AreReady, CanAllTake, IsReady}
 use Rattle.publisher_hub.specs.Sound.{IsSound}
 use Rattle.publisher_hub.specs.Steps.{AreHere}

@@ -1,5 +1,5 @@
 -- Subscriptions whose accepted items are those that they had before.
-use Rattle.std.proofs.Common.{◌≡◌, ℕ, ◌<◌, false, Some, List, length, sym, subst, arith}
+use Rattle.std.proofs.Common.{◌≡◌, ℕ, ◌<◌, false, Some, List, sym, subst}
 use Rattle.std.specs.Prelude.{slice_get}
 use Rattle.flow_rules.specs.Feed.{End}
 use Rattle.flow_rules.specs.declared.item.Item.{Item}

@@ -8,14 +8,13 @@ use Rattle.flow_rules.specs.Call.{Call}
 use Rattle.flow_rules.specs.Feed.{End}
 use Rattle.flow_rules.specs.declared.feed.standing.Standing.{Standing}
 use Rattle.flow_rules.specs.declared.refusal.Refusal.{Refusal}
-use Rattle.flow_rules.specs.declared.refusal.Refusal.TheVariants as Refusal
 use Rattle.publisher_hub.specs.Adding.{AreAllLive, goes_on, live_of}
 use Rattle.publisher_hub.specs.Entry.{EntryState, entry_of}
 use Rattle.publisher_hub.specs.Hub.{HubState, hub_of}
 use Rattle.publisher_hub.specs.Lists.{Each, EachBy}
 use Rattle.publisher_hub.specs.Looking.{IsKept, Prepares}
 use Rattle.publisher_hub.specs.Readiness.{AreReady}
-use Rattle.publisher_hub.specs.Subscribing.{CanAdmit, FindsNoPlace, HasNoPlace, HasPlace, IsLiveAt, IsNamed, IsNotNamed, IsSeen, IsUnnamed, Refuses}
+use Rattle.publisher_hub.specs.Subscribing.{CanAdmit, HasNoPlace, HasPlace, IsLiveAt, IsNamed, IsNotNamed, IsSeen, IsUnnamed, Refuses}
 use Rattle.publisher_hub.specs.declared.entry.Entry.{Entry}
 use Rattle.publisher_hub.specs.declared.hub.Hub.{Hub}
 use Rattle.publisher_hub.specs.declared.work.Work.{Work}
@@ -95,6 +94,19 @@ module _ {F T : Type 0} (meaning : F → End) (does : F → Call T → F → Typ
       let few_live = place.few_live in
       let few_entries = place.few_entries in
       record { entry_place = omega arith; number_place = omega arith; few_live = omega arith; few_entries = omega arith }
+
+  -- how far the publications have come, and the ending, are as they were
+  pub seen_next : (old new : Hub F) → IsSeen meaning does old new → new.next ≡ old.next
+  seen_next old new seen = ap (λ (hub : HubState). hub.progress.next) seen.rest
+
+  pub seen_ending : (old new : Hub F) → IsSeen meaning does old new → new.ending ≡ old.ending
+  seen_ending old new seen = ap (λ (hub : HubState). hub.progress.ending) seen.rest
+
+  -- what is left of a Hub that was looked at, where then only its subscriptions and the live numbers changed
+  pub rest_seen : (old middle new : Hub F) → IsSeen meaning does old middle → new ≡ record middle { entries = new.entries; live = new.live }
+      → hub_of meaning new ≡ record (hub_of meaning old) { entries = (hub_of meaning new).entries; live = new.live.items }
+  rest_seen old middle new seen rest = ap (λ (hub : Hub F). hub_of meaning hub) rest
+      ∙ ap (λ (hub : HubState). record hub { entries = (hub_of meaning new).entries; live = new.live.items }) seen.rest
 
   -- with a place, a subscription of a name that no live one has may be added
   pub can_admit : (name : List ℕ) (result : Result Unit Refusal) (middle new : Hub F) (due : Vec (Work T) Global) → OnOk result (HasPlace new) → vec_len due < vec_capacity due

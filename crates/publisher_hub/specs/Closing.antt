@@ -1,6 +1,5 @@
 -- What a close does to each subscription of a Hub, and to the Hub.
 use Rattle.std.specs.Prelude.{◌≡◌, ◌⊎◌, ℕ, true, false, Option, None, Some, List, [], ◌++◌}
-use Rattle.flow_rules.specs.Call as Call
 use Rattle.flow_rules.specs.Call.{Call}
 use Rattle.flow_rules.specs.Feed as Feed
 use Rattle.flow_rules.specs.Feed.{End}

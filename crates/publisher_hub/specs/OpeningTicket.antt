@@ -1,12 +1,11 @@
 -- What the adding of a ticket does to a Hub's opening ticket.
-use Rattle.std.specs.Prelude.{◌≡◌, ℕ, ◌+◌, ⊤, Option, None, Some}
+use Rattle.std.specs.Prelude.{◌≡◌, ◌+◌, ⊤, Option, None, Some}
 use Rattle.close_count.specs.Opening.{count_of_opening, tickets_made}
 use Rattle.close_count.specs.Ticket.{count_of_ticket}
 use Rattle.close_count.specs.declared.opening.Opening.{Opening}
 use Rattle.close_count.specs.declared.rule.TheConstants.{MOST_TICKETS}
 use Rattle.close_count.specs.declared.ticket.Ticket.{Ticket}
 use Rattle.flow_rules.specs.declared.refusal.Refusal.{Refusal}
-use Rattle.flow_rules.specs.declared.refusal.Refusal.TheVariants as Refusal
 
 -- the opening ticket that was held made one ticket of its count
 pub record MakesTicket (ticket : Ticket) (before after : Option Opening) : Type 0 where

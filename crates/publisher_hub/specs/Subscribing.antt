@@ -1,19 +1,17 @@
 -- What a subscribing does to a Hub, and when it is refused.
-use Rattle.std.specs.Prelude.{◌≡◌, ◌⊎◌, ℕ, ◌<◌, true, false, Option, None, Some, Result, Ok, Err, List, [], ◌∷◌, ◌++◌, length, slice_get, slice_set, map, Vec, vec_len}
+use Rattle.std.specs.Prelude.{◌≡◌, ◌⊎◌, ℕ, ◌<◌, true, false, Option, None, Some, List, [], ◌∷◌, ◌++◌, length, slice_get, slice_set, Vec, vec_len}
 use Rattle.std.specs.declared.alloc.Global.{Global}
 use Rattle.std.specs.Vec.{vec_capacity}
 use Rattle.close_count.specs.declared.ticket.Ticket.{Ticket}
-use Rattle.flow_rules.specs.Call as Call
 use Rattle.flow_rules.specs.Call.{Call}
 use Rattle.flow_rules.specs.Feed as Feed
 use Rattle.flow_rules.specs.Feed.{End}
 use Rattle.flow_rules.specs.declared.ending.Ending.{Ending}
 use Rattle.flow_rules.specs.declared.feed.standing.Standing.{Standing}
 use Rattle.flow_rules.specs.declared.refusal.Refusal.{Refusal}
-use Rattle.flow_rules.specs.declared.refusal.Refusal.TheVariants as Refusal
 use Rattle.publisher_hub.specs.Adding.{AreAllLive, live_of}
-use Rattle.publisher_hub.specs.Entry.{EntryState, entry_of}
-use Rattle.publisher_hub.specs.Hub.{HubState, hub_of}
+use Rattle.publisher_hub.specs.Entry.{EntryState}
+use Rattle.publisher_hub.specs.Hub.{hub_of}
 use Rattle.publisher_hub.specs.Lists.{Each, EachBy}
 use Rattle.publisher_hub.specs.Looking.{IsKept, MayPrepare, Prepares}
 use Rattle.publisher_hub.specs.Offering.{work_of}

@@ -1,5 +1,5 @@
 -- A subscription is added.
-use Rattle.std.proofs.Common.{rules, ◌≡◌, ◌++◌, ◌∷◌, [], List, ℕ, length}
+use Rattle.std.proofs.Common.{rules}
 use Rattle.publisher_hub.proofs.Additions.{sound_grown}
 use Rattle.publisher_hub.proofs.hub.Hub.add.Goals as goal
 

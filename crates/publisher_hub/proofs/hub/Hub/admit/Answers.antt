@@ -1,11 +1,9 @@
 -- A subscription is added to a Hub that was looked at.
-use Rattle.std.proofs.Common.{rules, ◌≡◌, ◌++◌, ◌∷◌, [], ℕ, ◌<◌, Option, List, length, map, sym, ap, subst, ◌∙◌, arith}
+use Rattle.std.proofs.Common.{◌≡◌, ◌++◌, ◌∷◌, [], ◌<◌, Option, length, sym, ap, subst, ◌∙◌, arith}
 use Rattle.flow_rules.specs.declared.ending.Ending.{Ending}
-use Rattle.publisher_hub.specs.Entry.{entry_of}
-use Rattle.publisher_hub.specs.Hub.{HubState, hub_of}
 use Rattle.publisher_hub.specs.Offering.{work_of}
 use Rattle.publisher_hub.specs.Subscribing.{ClosesNew, first_entry}
-use Rattle.publisher_hub.specs.declared.hub.Hub.{Hub}
+use Rattle.publisher_hub.proofs.Subscriptions.{rest_seen, seen_ending, seen_next}
 use Rattle.publisher_hub.proofs.hub.Hub.admit.Goals as goal
 
 pub returns-clause-ok : goal.returns-clause-ok
@@ -15,9 +13,8 @@ returns-clause-ok g c =
     let can = c.in_ok-may_subscribe.ensures.can in
     let seen = c.in_ok-may_subscribe.ensures.seen in
     let closed = c.close_new-feed.ensures in
-    let rest = seen.rest in
-    let ending : middle.ending ≡ old.ending = cc (ap (λ (h : HubState). h.progress.ending) rest) in
-    let next : middle.next ≡ old.next = cc (ap (λ (h : HubState). h.progress.next) rest) in
+    let ending = seen_ending g.F.Feed.meaning g.F.Feed.does old middle seen in
+    let next = seen_next g.F.Feed.meaning g.F.Feed.does old middle seen in
     let long : middle.entries.len ≡ length middle.entries.items = middle.entries.ok.0 in
     let as_long : length middle.entries.items ≡ length old.entries.items = seen.prepared.as_long in
     let few : length middle.entries.items < 4294967295 = can.place.few_entries in
@@ -35,6 +32,5 @@ returns-clause-ok g c =
       due = closed.1.1 ∙ ap (λ due. due ++ work_of c.len-number.result closed.0) c.in_ok-may_subscribe.ensures.nothing_due;
       entries = c.add.ensures.entries ∙ ap (λ n. middle.entries.items ++ first_entry c.args.name n c.close_new-feed.result c.args.ticket ∷ []) next;
       live = c.add.ensures.live ∙ ap (λ n. middle.live.items ++ n ∷ []) (sym (number ∙ long));
-      rest = ap (λ (h : Hub g.row.F.Denot). hub_of g.F.Feed.meaning h) c.add.ensures.rest
-          ∙ ap (λ (h : HubState). record h { entries = (hub_of g.F.Feed.meaning c.add.new.self).entries; live = c.add.new.self.live.items }) seen.rest;
+      rest = rest_seen g.F.Feed.meaning g.F.Feed.does old middle c.add.new.self seen c.add.ensures.rest;
     }

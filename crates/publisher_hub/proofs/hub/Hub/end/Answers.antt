@@ -1,5 +1,5 @@
 -- A close keeps a Hub sound.
-use Rattle.std.proofs.Common.{rules, ◌≡◌, None, Some, refl, ap, ◌∙◌}
+use Rattle.std.proofs.Common.{rules, ◌≡◌, None, Some, refl}
 use Rattle.publisher_hub.specs.Closing.{IsClosed}
 use Rattle.publisher_hub.specs.Hub.{hub_of}
 use Rattle.publisher_hub.proofs.Closes.{all_closed_by, none_closed, sound_closed}

@@ -1,5 +1,5 @@
 -- A sound Hub stays sound where the numbers of retired subscriptions are left out.
-use Rattle.std.proofs.Common.{rules, map, refl}
+use Rattle.std.proofs.Common.{map}
 use Rattle.publisher_hub.specs.Entry.{entry_of}
 use Rattle.publisher_hub.specs.Hub.{hub_of}
 use Rattle.publisher_hub.proofs.LeavingOut.{all_live_left, sound_left}

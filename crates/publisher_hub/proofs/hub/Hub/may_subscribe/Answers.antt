@@ -1,5 +1,5 @@
 -- A subscribing is refused in this order: a live one has the name, or there is no place.
-use Rattle.std.proofs.Common.{rules, ◌≡◌, ℕ, None, Some, List, sym, subst, ◌∙◌}
+use Rattle.std.proofs.Common.{rules, ◌≡◌, ℕ, None, Some, List, sym, subst}
 use Rattle.std.specs.Prelude.{slice_get}
 use Rattle.publisher_hub.specs.Hub.{hub_of}
 use Rattle.publisher_hub.specs.Subscribing.{IsNamed, IsNotNamed, IsSeen, IsUnnamed, TellsAt}

@@ -1,11 +1,7 @@
 -- The live subscriptions of a Hub are prepared.
-use Rattle.std.proofs.Common.{rules, ◌≡◌, List, Result, Ok, Err, IfOk, IsOk, OnErr, OnOk, map, refl, sym, subst, ◌∙◌}
+use Rattle.std.proofs.Common.{refl, ◌∙◌}
 use Rattle.std.proofs.lemmas.List.{with_items_is}
-use Rattle.publisher_hub.specs.Entry.{entry_of}
 use Rattle.publisher_hub.specs.Hub.{hub_of}
-use Rattle.publisher_hub.specs.Lists.{Each}
-use Rattle.publisher_hub.specs.Looking.{IsKept, IsLookedAt}
-use Rattle.publisher_hub.specs.Readiness.{AreReady}
 use Rattle.publisher_hub.proofs.Kept.{round_kept}
 use Rattle.publisher_hub.proofs.Looks.{sound_looked_at}
 use Rattle.publisher_hub.proofs.Readying.{all_here, on_ok_ready}

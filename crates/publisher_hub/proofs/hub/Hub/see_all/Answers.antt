@@ -1,5 +1,5 @@
 -- Where no place for a task is made, nothing was looked at.
-use Rattle.std.proofs.Common.{rules, ◌≡◌, Some, refl, sym, ◌∙◌, inl}
+use Rattle.std.proofs.Common.{refl, sym, ◌∙◌, inl}
 use Rattle.publisher_hub.specs.Hub.{hub_of}
 use Rattle.publisher_hub.proofs.PartialRounds.{same_some}
 use Rattle.publisher_hub.proofs.Readying.{not_looked_at, on_err}

@@ -1,8 +1,6 @@
 -- One subscription is told of a second subscribing.
-use Rattle.std.proofs.Common.{rules, ◌≡◌, Some, refl, set}
-use Rattle.std.specs.Prelude.{slice_get}
+use Rattle.std.proofs.Common.{rules, refl}
 use Rattle.publisher_hub.specs.Entry.{entry_of}
-use Rattle.publisher_hub.specs.Hub.{hub_of}
 use Rattle.publisher_hub.proofs.LiveRounds.{get_mapped}
 use Rattle.publisher_hub.proofs.Telling.{read_at, sound_tells}
 use Rattle.publisher_hub.proofs.hub.Hub.tell_duplicate.Goals as goal

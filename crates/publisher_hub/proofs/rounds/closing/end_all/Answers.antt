@@ -1,5 +1,5 @@
 -- Each of the live subscriptions is closed once.
-use Rattle.std.proofs.Common.{rules, ◌≡◌, ◌<◌, None, refl, subst, length, arith, slice_index_or}
+use Rattle.std.proofs.Common.{rules, ◌≡◌, ◌<◌, None, refl, subst, length, slice_index_or}
 use Rattle.publisher_hub.specs.Closing.{Closes}
 use Rattle.publisher_hub.specs.Entry.{entry_of}
 use Rattle.publisher_hub.proofs.ClosingRounds.{closing_next, closing_none}
