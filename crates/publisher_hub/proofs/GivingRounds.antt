@@ -1,5 +1,5 @@
 -- The round that offers an item to the live subscriptions, as far as it has come.
-use Rattle.std.proofs.Common.{◌≡◌, ℕ, ◌+◌, ◌-◌, ◌<◌, fold, max, Option, None, Some, List, [], ◌∷◌, ◌++◌, append_assoc, length, replicate, set, refl, ap, sym, subst, ◌∙◌, arith}
+use Rattle.std.proofs.Common.{◌≡◌, ℕ, ◌+◌, ◌-◌, ◌<◌, fold, max, Option, None, Some, List, [], ◌++◌, append_assoc, length, replicate, set, refl, ap, sym, subst, ◌∙◌, arith}
 use Rattle.std.specs.Prelude.{Vec, slice_get}
 use Rattle.std.proofs.lemmas.List.{append-nil}
 use Rattle.std.proofs.lemmas.List.Sums.{fold-append}
@@ -9,7 +9,7 @@ use Rattle.flow_rules.specs.Feed.{End}
 use Rattle.flow_rules.specs.declared.feed.put.Put.{Put}
 use Rattle.flow_rules.specs.declared.item.Item.{Item}
 use Rattle.publisher_hub.specs.Giving.{Adds, AreShares, Gathers, HasRoom}
-use Rattle.publisher_hub.specs.Offering.{Gives, lag_by, lags, missed, missed_by, started, started_by}
+use Rattle.publisher_hub.specs.Offering.{Gives, lag_by, lags, missed_by, started, started_by}
 use Rattle.publisher_hub.specs.Sound.{AreNumbers}
 use Rattle.publisher_hub.specs.declared.entry.Entry.{Entry}
 use Rattle.publisher_hub.specs.declared.giving.Giving.{Giving}

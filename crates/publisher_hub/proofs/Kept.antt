@@ -1,14 +1,13 @@
 -- What looks leave of a subscription, from what its producer's end answered.
-use Rattle.std.proofs.Common.{◌≡◌, ◌⊎◌, ◌||◌, ℕ, ◌+◌, ◌<◌, ◌≤◌, Bool, true, false, Option, None, Some, option_map, Result, Ok, Err, IsOk, IsErr, List, length, map, refl, ap, sym, subst, ◌∙◌, inl, inr, arith, is_some, IfOk, IsSome, OnErr}
-use Rattle.std.specs.Prelude.{slice_get}
+use Rattle.std.proofs.Common.{◌≡◌, ◌⊎◌, ◌||◌, ℕ, Bool, true, false, Option, None, Some, option_map, Result, Ok, Err, List, map, refl, ap, sym, subst, ◌∙◌, inl, inr, arith, is_some, IfOk, IsSome, OnErr}
 use Rattle.std.proofs.lemmas.List.{length-map}
 use Rattle.flow_rules.specs.Call.{Call}
-use Rattle.flow_rules.specs.Feed.{End, Looked, is_gone}
+use Rattle.flow_rules.specs.Feed.{End}
 use Rattle.flow_rules.specs.declared.feed.standing.Standing.{Standing}
 use Rattle.flow_rules.specs.declared.refusal.NoMemory.{NoMemory}
 use Rattle.publisher_hub.specs.Entry.{EntryState, entry_of}
 use Rattle.publisher_hub.specs.Lists.{Each, EachBy}
-use Rattle.publisher_hub.specs.Looking.{FailsToPrepare, Follows, Glances, IsKept, IsReadied, IsRoom, MayPrepare, Prepares, Readies, Sees, SeesReady, Stands}
+use Rattle.publisher_hub.specs.Looking.{Follows, Glances, IsKept, IsReadied, IsRoom, MayPrepare, Prepares, Readies, Sees}
 use Rattle.publisher_hub.specs.Steps.{AreHere, IsHere}
 use Rattle.publisher_hub.specs.declared.entry.Entry.{Entry}
 use Rattle.publisher_hub.proofs.Ends.{follows_look}
@@ -110,7 +109,7 @@ each_mapped meaning R S answers xs ys so each = record {
       let new = get_before_map (entry_of meaning) ys k y at' in
       let answer = answered_at R answers xs ys k old.0 each old.1.0 in
       subst (λ (entry : EntryState). S entry y) old.1.1 (subst (λ (entry : EntryState). S (entry_of meaning old.0) entry) new.1.1
-          (so answer.0 old.0 new.0 (each.each k answer.0 old.0 new.0 answer.1 old.1.0 new.1.0)));
+      (so answer.0 old.0 new.0 (each.each k answer.0 old.0 new.0 answer.1 old.1.0 new.1.0)));
 }
 
 -- a subscription that was not looked at is kept
@@ -140,8 +139,8 @@ each_may_prepare meaning does next xs ys here each = record {
       let old = get_before_map (entry_of meaning) xs k x at in
       let new = get_before_map (entry_of meaning) ys k y at' in
       by x y (here k x at) (subst (λ (entry : EntryState). (y ≡ entry) ⊎ IsKept next entry y) old.1.1
-          (subst (λ (entry : EntryState). (entry ≡ entry_of meaning old.0) ⊎ IsKept next (entry_of meaning old.0) entry) new.1.1
-          (may_prepare_kept meaning does next old.0 new.0 (each.each k old.0 new.0 old.1.0 new.1.0))));
+      (subst (λ (entry : EntryState). (entry ≡ entry_of meaning old.0) ⊎ IsKept next (entry_of meaning old.0) entry) new.1.1
+      (may_prepare_kept meaning does next old.0 new.0 (each.each k old.0 new.0 old.1.0 new.1.0))));
 } where
   by : (x y : EntryState) → IsHere x → (y ≡ x) ⊎ IsKept next x y → IsKept next x y
   by x y here (inl same) = subst (λ (entry : EntryState). IsKept next x entry) (sym same) (untouched_kept next x here)

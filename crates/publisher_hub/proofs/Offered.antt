@@ -1,29 +1,20 @@
 -- What a publication does to one subscription: it is looked at, and then offered the item.
-use Rattle.std.proofs.Common.{◌≡◌, ◌⊎◌, ◌||◌, ℕ, ◌+◌, ◌-◌, ◌<◌, ◌≤◌, Bool, true, false, Option, None, Some, option_map, Result, Ok, Err, IsOk, List, [], ◌∷◌, ◌++◌, length, map, is_some, refl, ap, sym, subst, ◌∙◌, inl, inr, arith}
-use Rattle.std.specs.Prelude.{IsSome, slice_get}
-use Rattle.std.proofs.lemmas.List.{length-map}
+use Rattle.std.proofs.Common.{◌≡◌, ◌||◌, ℕ, ◌+◌, ◌-◌, ◌<◌, Bool, true, false, Option, None, Some, option_map, Result, Ok, Err, IsOk, is_some, refl, ap, sym, subst, ◌∙◌, inl, inr, arith}
 use Rattle.flow_rules.specs.Call.{Call}
 use Rattle.flow_rules.specs.Feed.{End, Looked, LookedIfOpen, MayStart, Puts, held_count, is_gone}
 use Rattle.flow_rules.specs.declared.feed.put.Put.{Put}
 use Rattle.flow_rules.specs.declared.feed.put.Put.TheVariants.{Accepted, Full, Gone}
 use Rattle.flow_rules.specs.declared.feed.standing.Standing.{Standing}
 use Rattle.flow_rules.specs.declared.item.Item.{Item}
-use Rattle.flow_rules.specs.declared.item.TheConstants.{PUBLICATIONS}
 use Rattle.flow_rules.specs.declared.refusal.NoMemory.{NoMemory}
-use Rattle.publisher_hub.specs.Entry.{EntryState, entry_of}
-use Rattle.publisher_hub.specs.Hub.{HubState, Progress}
-use Rattle.publisher_hub.specs.Lists.{Each, EachBy}
-use Rattle.publisher_hub.specs.Looking.{Follows, IsReadied, Prepares, SeesReady}
-use Rattle.publisher_hub.specs.Offering.{Gives, HasDropped, HasEnded, HasGrown, IsOffered, Offered, entry_after_put}
-use Rattle.publisher_hub.specs.Sound.{IsCounted, IsEntry, IsSound}
-use Rattle.publisher_hub.specs.Steps.{CanGive, CanTake}
+use Rattle.publisher_hub.specs.Entry.{entry_of}
+use Rattle.publisher_hub.specs.Looking.{Follows, IsReadied, Prepares}
+use Rattle.publisher_hub.specs.Offering.{Gives, IsOffered, Offered, entry_after_put}
+use Rattle.publisher_hub.specs.Steps.{CanTake}
 use Rattle.publisher_hub.specs.declared.entry.Entry.{Entry}
 use Rattle.publisher_hub.proofs.Ends.{follows_look, look_counted, taken_fits}
-use Rattle.publisher_hub.proofs.Kept.{follows_on, follows_ready, prepares_kept}
-use Rattle.publisher_hub.proofs.LiveRounds.{get_before_map}
-use Rattle.publisher_hub.proofs.Looks.{entry_kept, until_next}
+use Rattle.publisher_hub.proofs.Kept.{follows_on, follows_ready}
 use Rattle.publisher_hub.proofs.PartialRounds.{same_some}
-use Rattle.publisher_hub.proofs.Places.{answered_at, stood_by}
 
 -- a subscription can't be retired and not
 pub not_both : {X : Type 0} {b : Bool} → b ≡ true → b ≡ false → X
@@ -32,10 +23,13 @@ not_both yes_it no_it = let e = sym yes_it ∙ no_it in cc
 module _ {F T : Type 0} (meaning : F → End) (does : F → Call T → F → Type 0) (next : ℕ) where
   -- what is ready may start a task
   ready_starts : (answer : Result Unit NoMemory) (old new : Entry F) → IsOk answer → IsReadied meaning does answer old new → CanTake (entry_of meaning new)
-  ready_starts (Ok x) old new ok readied live =
-      (meaning readied.after,
-        (ap (λ (entry : Entry F). option_map meaning entry.feed) readied.now,
-          ap (λ ready. ready || is_some (meaning readied.after).closing) (ap (λ (end : End). end.ready) readied.readies.ok)))
+  ready_starts (Ok x) old new ok readied live = (
+    meaning readied.after,
+    (
+      ap (λ (entry : Entry F). option_map meaning entry.feed) readied.now,
+      ap (λ ready. ready || is_some (meaning readied.after).closing) (ap (λ (end : End). end.ready) readied.readies.ok),
+    ),
+  )
   ready_starts (Err e) old new ok readied live = cc
 
   -- what was prepared may be offered an item
@@ -80,60 +74,66 @@ module _ {F T : Type 0} (meaning : F → End) (does : F → Call T → F → Typ
         → ((e : End) → (entry_of meaning old).feed ≡ Some e → e.closing ≡ None) → IsOffered x (entry_of meaning old) (entry_of meaning new)
     offered_live answer old ready new goes_on offered unclosed =
         by answer offered.means (ap (λ (entry : Entry F). entry_of meaning entry) offered.now) where
-      was : (entry_of meaning old).feed ≡ Some (meaning goes_on.before)
-      was = ap (λ feed. option_map meaning feed) goes_on.was
-      before_is : offered.before ≡ goes_on.after
-      before_is = same_some (sym offered.was ∙ ap (λ (entry : Entry F). entry.feed) goes_on.now)
-      follows : Follows (meaning goes_on.before) (meaning offered.before)
-      follows = subst (λ (f : F). Follows (meaning goes_on.before) (meaning f)) (sym before_is) goes_on.follows
-      is_unclosed : (meaning offered.before).closing ≡ None
-      is_unclosed = ap (λ (end : End). end.closing) follows.rest ∙ unclosed (meaning goes_on.before) was
-      look : (m : End) → LookedIfOpen (meaning offered.before) m → Looked (meaning offered.before) m
-      look m looked = looked.unclosed is_unclosed
-      follows_put : (m : End) → Looked (meaning offered.before) m → Follows (meaning goes_on.before) m
-      follows_put m looked = follows_on (meaning goes_on.before) (meaning offered.before) m follows (follows_look (meaning offered.before) m looked)
-      counted_put : (m : End) → Looked (meaning offered.before) m → (meaning goes_on.before).looks < m.looks
-      counted_put m looked = let later = look_counted (meaning offered.before) m looked in let first = follows.looks in omega arith
+          was : (entry_of meaning old).feed ≡ Some (meaning goes_on.before)
+          was = ap (λ feed. option_map meaning feed) goes_on.was
 
-      by : (answer : Put T) → Puts (meaning offered.before) x answer (meaning offered.after)
-          → entry_of meaning new ≡ entry_of meaning (entry_after_put x answer offered.after ready) → IsOffered x (entry_of meaning old) (entry_of meaning new)
-      by (Accepted lag start) means now = inr (inl (record {
-        before = meaning goes_on.before;
-        seen = means.0;
-        after = meaning offered.after;
-        live = goes_on.live;
-        was = was;
-        follows = follows_put means.0 (look means.0 means.1);
-        looked = counted_put means.0 (look means.0 means.1);
-        taking = means.2.open_before;
-        grown = means.2.taken;
-        fits = taken_fits means.0 (meaning offered.after) x lag start means.2;
-        now = now ∙ ap (λ (entry : Entry F). entry_of meaning (record entry { feed = Some offered.after })) goes_on.now;
-      }))
-      by (Full back) means now =
-          let same : meaning offered.after ≡ means.0 = means.2.unchanged in
-          inr (inr (inr (record {
+          before_is : offered.before ≡ goes_on.after
+          before_is = same_some (sym offered.was ∙ ap (λ (entry : Entry F). entry.feed) goes_on.now)
+
+          follows : Follows (meaning goes_on.before) (meaning offered.before)
+          follows = subst (λ (f : F). Follows (meaning goes_on.before) (meaning f)) (sym before_is) goes_on.follows
+
+          is_unclosed : (meaning offered.before).closing ≡ None
+          is_unclosed = ap (λ (end : End). end.closing) follows.rest ∙ unclosed (meaning goes_on.before) was
+
+          look : (m : End) → LookedIfOpen (meaning offered.before) m → Looked (meaning offered.before) m
+          look m looked = looked.unclosed is_unclosed
+
+          follows_put : (m : End) → Looked (meaning offered.before) m → Follows (meaning goes_on.before) m
+          follows_put m looked = follows_on (meaning goes_on.before) (meaning offered.before) m follows (follows_look (meaning offered.before) m looked)
+
+          counted_put : (m : End) → Looked (meaning offered.before) m → (meaning goes_on.before).looks < m.looks
+          counted_put m looked = let later = look_counted (meaning offered.before) m looked in let first = follows.looks in omega arith
+
+          by : (answer : Put T) → Puts (meaning offered.before) x answer (meaning offered.after)
+              → entry_of meaning new ≡ entry_of meaning (entry_after_put x answer offered.after ready) → IsOffered x (entry_of meaning old) (entry_of meaning new)
+          by (Accepted lag start) means now = inr (inl (record {
             before = meaning goes_on.before;
+            seen = means.0;
             after = meaning offered.after;
             live = goes_on.live;
             was = was;
-            follows = subst (λ (end : End). Follows (meaning goes_on.before) end) (sym same) (follows_put means.0 (look means.0 means.1));
-            looked = subst (λ (end : End). (meaning goes_on.before).looks < end.looks) (sym same) (counted_put means.0 (look means.0 means.1));
-            full = subst (λ (end : End). held_count end ≡ end.capacity) (sym same) means.2.full;
-            now = now ∙ ap (λ (entry : Entry F). entry_of meaning (record entry { feed = Some offered.after; dropped = entry.dropped + 1 })) goes_on.now;
-          })))
-      by (Gone back) means now =
-          let same : meaning offered.after ≡ means.0 = means.2.unchanged in
-          inr (inr (inl (record {
-            before = meaning goes_on.before;
-            after = meaning offered.after;
-            live = goes_on.live;
-            was = was;
-            follows = subst (λ (end : End). Follows (meaning goes_on.before) end) (sym same) (follows_put means.0 (look means.0 means.1));
-            looked = subst (λ (end : End). (meaning goes_on.before).looks < end.looks) (sym same) (counted_put means.0 (look means.0 means.1));
-            gone = subst (λ (end : End). is_gone end ≡ true) (sym same) means.2.gone;
-            now = now ∙ ap (λ (entry : Entry F). entry_of meaning (record entry { feed = Some offered.after; retired = true; until = x.serial })) goes_on.now;
-          })))
+            follows = follows_put means.0 (look means.0 means.1);
+            looked = counted_put means.0 (look means.0 means.1);
+            taking = means.2.open_before;
+            grown = means.2.taken;
+            fits = taken_fits means.0 (meaning offered.after) x lag start means.2;
+            now = now ∙ ap (λ (entry : Entry F). entry_of meaning (record entry { feed = Some offered.after })) goes_on.now;
+          }))
+          by (Full back) means now =
+              let same : meaning offered.after ≡ means.0 = means.2.unchanged in
+              inr (inr (inr (record {
+                before = meaning goes_on.before;
+                after = meaning offered.after;
+                live = goes_on.live;
+                was = was;
+                follows = subst (λ (end : End). Follows (meaning goes_on.before) end) (sym same) (follows_put means.0 (look means.0 means.1));
+                looked = subst (λ (end : End). (meaning goes_on.before).looks < end.looks) (sym same) (counted_put means.0 (look means.0 means.1));
+                full = subst (λ (end : End). held_count end ≡ end.capacity) (sym same) means.2.full;
+                now = now ∙ ap (λ (entry : Entry F). entry_of meaning (record entry { feed = Some offered.after; dropped = entry.dropped + 1 })) goes_on.now;
+              })))
+          by (Gone back) means now =
+              let same : meaning offered.after ≡ means.0 = means.2.unchanged in
+              inr (inr (inl (record {
+                before = meaning goes_on.before;
+                after = meaning offered.after;
+                live = goes_on.live;
+                was = was;
+                follows = subst (λ (end : End). Follows (meaning goes_on.before) end) (sym same) (follows_put means.0 (look means.0 means.1));
+                looked = subst (λ (end : End). (meaning goes_on.before).looks < end.looks) (sym same) (counted_put means.0 (look means.0 means.1));
+                gone = subst (λ (end : End). is_gone end ≡ true) (sym same) means.2.gone;
+                now = now ∙ ap (λ (entry : Entry F). entry_of meaning (record entry { feed = Some offered.after; retired = true; until = x.serial })) goes_on.now;
+              })))
 
     -- one that missed the item goes on as before, once its drop is taken back
     pub missed_goes_on : (back : Item) (old ready new : Entry F) → IsReadyFor old ready → Offered meaning does x (Full back) ready new
@@ -145,7 +145,7 @@ module _ {F T : Type 0} (meaning : F → End) (does : F → Call T → F → Typ
         let is_unclosed : (meaning offered.before).closing ≡ None = ap (λ (end : End). end.closing) follows.rest ∙ unclosed (meaning goes_on.before) was in
         let look : Looked (meaning offered.before) offered.means.0 = offered.means.1.unclosed is_unclosed in
         let now : new ≡ record old { feed = Some offered.after; dropped = old.dropped + 1 } =
-            offered.now ∙ ap (λ (entry : Entry F). record entry { feed = Some offered.after; dropped = entry.dropped + 1 }) goes_on.now in
+        offered.now ∙ ap (λ (entry : Entry F). record entry { feed = Some offered.after; dropped = entry.dropped + 1 }) goes_on.now in
         let back_to : old.dropped + 1 - 1 ≡ old.dropped = omega arith in
         record {
           before = goes_on.before;

@@ -1,38 +1,27 @@
 -- An offer, from the looks to the answer.
-use Rattle.std.proofs.Common.{rules, ◌≡◌, ◌⊎◌, ℕ, zero, suc, ◌+◌, ◌-◌, ◌<◌, ◌≤◌, ℤ, Bool, true, max, fold, Option, None, Some, IsSome, List, [], ◌∷◌, ◌++◌, append_assoc, length, map, refl, ap, sym, subst, ◌∙◌, inl, inr, arith}
+use Rattle.std.proofs.Common.{rules, ◌≡◌, ℕ, zero, suc, ◌+◌, ◌-◌, ◌<◌, ◌≤◌, max, fold, Option, None, Some, IsSome, List, [], ◌∷◌, ◌++◌, length, map, refl, ap, sym, subst, ◌∙◌, arith}
 use Rattle.std.specs.Prelude.{Vec, slice_get, vec_len}
-use Rattle.std.specs.declared.alloc.Global.{Global}
 use Rattle.std.proofs.lemmas.List.{length-append, length-map}
-use Rattle.std.proofs.lemmas.List.Sums.{fold-append}
 use Rattle.std.proofs.lemmas.Option.{slice_get_within}
 use Rattle.flow_rules.specs.Call.{Call}
-use Rattle.flow_rules.specs.Feed.{End, Puts, held_count}
+use Rattle.flow_rules.specs.Feed.{End}
 use Rattle.flow_rules.specs.declared.feed.put.Put.{Put}
 use Rattle.flow_rules.specs.declared.feed.put.Put.TheVariants.{Accepted, Full, Gone}
 use Rattle.flow_rules.specs.declared.feed.standing.Standing.{Standing}
 use Rattle.flow_rules.specs.declared.item.Item.{Item}
 use Rattle.flow_rules.specs.declared.item.TheConstants.{PUBLICATIONS}
 use Rattle.publisher_hub.specs.Entry.{EntryState, entry_of}
-use Rattle.publisher_hub.specs.Giving.{Gathers}
-use Rattle.publisher_hub.specs.Hub.{HubState, Progress, hub_of}
-use Rattle.publisher_hub.specs.Lists.{Each, EachBy, greatest}
-use Rattle.publisher_hub.specs.Looking.{IsLookedAt, Prepares}
-use Rattle.publisher_hub.specs.Offering.{AreAsked, Gives, GivesAgain, IsNextItem, IsOffered, Offered, Offers, Second, dropped, dropped_by, lag_again_by, lag_by, lags, lags_again, missed, progress_after, started, started_again}
-use Rattle.publisher_hub.specs.Publishing.{IsRefused, OffersItem, PassesAgain, dropping_after, offer_answer}
-use Rattle.publisher_hub.specs.Sound.{IsSound}
+use Rattle.publisher_hub.specs.Lists.{Each, EachBy}
+use Rattle.publisher_hub.specs.Looking.{Prepares}
+use Rattle.publisher_hub.specs.Offering.{AreAsked, Gives, GivesAgain, IsOffered, Offered, Second, dropped, dropped_by, lag_again_by, lag_by, lags, lags_again, missed}
+use Rattle.publisher_hub.specs.Publishing.{dropping_after}
 use Rattle.publisher_hub.specs.Steps.{CanAllGive, CanEachTryAgain}
 use Rattle.publisher_hub.specs.declared.entry.Entry.{Entry}
-use Rattle.publisher_hub.specs.declared.giving.Giving.{Giving}
-use Rattle.publisher_hub.specs.declared.hub.Hub.{Hub}
-use Rattle.publisher_hub.specs.declared.hub.TheConstants.{SOURCES}
-use Rattle.publisher_hub.specs.declared.work.Work.{Work}
-use Rattle.publisher_hub.proofs.Gathered.{gather_few, gathers_nothing, greatest_below, greatest_from}
+use Rattle.publisher_hub.proofs.Gathered.{gather_few, gathers_nothing, greatest_below}
 use Rattle.publisher_hub.proofs.LiveRounds.{get_before_map, get_mapped}
 use Rattle.publisher_hub.proofs.Missed.{missed_at, missed_is}
-use Rattle.publisher_hub.proofs.Offers.{sound_offered}
 use Rattle.publisher_hub.proofs.PartialRounds.{same_some}
 use Rattle.publisher_hub.proofs.Places.{stood_by, there}
-use Rattle.publisher_hub.proofs.Published.{below_most, counted_after, known_of}
 use Rattle.publisher_hub.proofs.SecondOffers.{twice_dropped, twice_offered}
 
 -- at most one drop more is counted
@@ -66,7 +55,7 @@ module _ {F T : Type 0} (meaning : F → End) (does : F → Call T → F → Typ
       let was : (entry_of meaning old).feed ≡ Some (meaning offered.before) = ap (λ feed. Rattle.std.specs.Prelude.option_map meaning feed) offered.was in
       let look = offered.means.1.unclosed (unclosed (meaning offered.before) was) in
       let grown : (meaning offered.after).accepted ≡ (meaning offered.before).accepted ++ x ∷ [] =
-          ap (λ (end : End). end.accepted) offered.means.2.taken ∙ ap (λ (end : End). end.accepted ++ x ∷ []) look.rest in
+      ap (λ (end : End). end.accepted) offered.means.2.taken ∙ ap (λ (end : End). end.accepted ++ x ∷ []) look.rest in
       let many : length (meaning offered.after).accepted ≡ length (meaning offered.before).accepted + 1 = ap length grown ∙ length-append (meaning offered.before).accepted (x ∷ []) in
       let below = few (meaning offered.before) was in
       let is = offered.means.2.lag_after in
@@ -134,9 +123,9 @@ module _ {F T : Type 0} (meaning : F → End) (does : F → Call T → F → Typ
           let was = stood k after.0 after.1.0 in
           let same : was.old ≡ before.0 = same_some (sym was.at ∙ before.1.0) in
           subst (λ (entry : EntryState). IsOffered x old entry) after.1.1
-              (subst (λ (entry : EntryState). IsOffered x entry (entry_of meaning after.0)) (ap (λ (entry : Entry F). entry_of meaning entry) same ∙ before.1.1)
-              (twice_offered meaning does x next serial was.glance was.put was.second was.old was.seen was.tried after.0 (unclosed k was.old was.at)
-              (was_full k was.put was.second was.said was.said_again) was.prepares was.gives was.gives_again));
+          (subst (λ (entry : EntryState). IsOffered x entry (entry_of meaning after.0)) (ap (λ (entry : Entry F). entry_of meaning entry) same ∙ before.1.1)
+          (twice_offered meaning does x next serial was.glance was.put was.second was.old was.seen was.tried after.0 (unclosed k was.old was.at)
+          (was_full k was.put was.second was.said was.said_again) was.prepares was.gives was.gives_again));
     }
 
     -- no drop of a subscription is above the number of offers that dropped
@@ -145,7 +134,7 @@ module _ {F T : Type 0} (meaning : F → End) (does : F → Call T → F → Typ
     drops_counted dropping few serial k y at =
         let was = stood k y at in
         let more = twice_dropped meaning does x next serial k was.glance was.put was.second was.old was.seen was.tried y (was_full k was.put was.second was.said was.said_again)
-            (was_asked k was.put was.second was.said was.said_again) was.prepares was.gives was.gives_again in
+        (was_asked k was.put was.second was.said was.said_again) was.prepares was.gives was.gives_again in
         by (length (dropped seconds)) refl was.old.dropped was.second more (few k was.old was.at) was.said_again where
           by : (many : ℕ) → length (dropped seconds) ≡ many → (old_dropped : ℕ) (second : Second T) → y.dropped ≡ old_dropped + length (dropped_by k second) → old_dropped ≤ dropping
               → slice_get seconds k ≡ Some second → y.dropped ≤ dropping_after many dropping
@@ -161,11 +150,12 @@ module _ {F T : Type 0} (meaning : F → End) (does : F → Call T → F → Typ
         → ((k : ℕ) (entry : Entry F) → slice_get ready k ≡ Some entry → (e : End) → (entry_of meaning entry).feed ≡ Some e → e.closing ≡ None)
         → ((k : ℕ) (entry : Entry F) → slice_get middle k ≡ Some entry → (e : End) → (entry_of meaning entry).feed ≡ Some e → e.closing ≡ None)
         → (fold max 0 (lags puts) ≤ PUBLICATIONS) × (fold max 0 (lags_again seconds) ≤ PUBLICATIONS)
-    lags_small can can_again unclosed unclosed_again =
-        (greatest_below lag_by puts 0 PUBLICATIONS (λ k put said. first k put said (there ready k (let within = slice_get_within puts k put said in let answered = given.answered in omega arith))
-            (there middle k (let within = slice_get_within puts k put said in let answered = given.answered in let long = given.as_long in omega arith))),
-          greatest_below lag_again_by seconds 0 PUBLICATIONS (λ k second said. later k second said (there middle k (let within = slice_get_within seconds k second said in let answered = again.answered in omega arith))
-            (there ys k (let within = slice_get_within seconds k second said in let answered = again.answered in let long = again.as_long in omega arith)))) where
+    lags_small can can_again unclosed unclosed_again = (
+      greatest_below lag_by puts 0 PUBLICATIONS (λ k put said. first k put said (there ready k (let within = slice_get_within puts k put said in let answered = given.answered in omega arith))
+          (there middle k (let within = slice_get_within puts k put said in let answered = given.answered in let long = given.as_long in omega arith))),
+      greatest_below lag_again_by seconds 0 PUBLICATIONS (λ k second said. later k second said (there middle k (let within = slice_get_within seconds k second said in let answered = again.answered in omega arith))
+          (there ys k (let within = slice_get_within seconds k second said in let answered = again.answered in let long = again.as_long in omega arith))),
+    ) where
       first : (k : ℕ) (put : Option (Put T)) → slice_get puts k ≡ Some put → (a : Entry F) × (slice_get ready k ≡ Some a) → (b : Entry F) × (slice_get middle k ≡ Some b) → fold max 0 (lag_by (0 + k) put) ≤ PUBLICATIONS
       first k None said old new = omega arith
       first k (Some answer) said old new =

@@ -2,7 +2,6 @@
 use Rattle.std.proofs.Common.{◌≡◌, ◌⊎◌, ℕ, zero, suc, ◌+◌, ◌<◌, ◌≤◌, Option, None, Some, List, [], ◌∷◌, ◌++◌, append_assoc, length, replicate, set, refl, ap, sym, subst, ◌∙◌, inl, inr, arith}
 use Rattle.std.specs.Prelude.{slice_get}
 use Rattle.std.proofs.lemmas.List.{append-nil, length-replicate, length-set}
-use Rattle.std.proofs.lemmas.Option.{slice_get_within}
 use Rattle.std.proofs.lemmas.Bool.{cases_lt}
 use Rattle.publisher_hub.specs.Lists.{EachBy, gather}
 use Rattle.publisher_hub.specs.Sound.{AreNumbers}
@@ -153,7 +152,7 @@ pub gather_next : {B A C : Type 0} (each : ℕ → B → List C) (R : B → A �
     → AreNumbers live (length xs) → slice_get live n ≡ Some k → Upto R quiet live n answers xs ys → gather each 0 (set answers k answer) ≡ gather each 0 answers ++ each k answer
 gather_next {B} each R quiet live n k answers xs ys answer none numbers number upto =
     gather_set each quiet answers 0 k answer none (let is_answered = upto.answered in let within = numbers.within n k number in omega arith)
-        (λ i a low at. upto.quiets i a (λ among. let rises = numbers.rising among.0 n i k among.1.1 number among.1.0 in absurd (omega arith)) at)
+    (λ i a low at. upto.quiets i a (λ among. let rises = numbers.rising among.0 n i k among.1.1 number among.1.0 in absurd (omega arith)) at)
     ∙ ap (λ p. gather each 0 answers ++ each p answer) (omega arith)
 
 -- at first nothing is gathered

@@ -1,6 +1,6 @@
 -- A publication to all subscriptions of a Hub.
-use Rattle.std.proofs.Common.{◌≡◌, ◌⊎◌, ◌||◌, ℕ, ◌+◌, ◌-◌, ◌<◌, ◌≤◌, Bool, true, false, Option, None, Some, option_map, Result, Ok, Err, IsOk, List, [], ◌∷◌, ◌++◌, length, map, is_some, nat_lt, if◌then◌else◌, refl, ap, sym, subst, ◌∙◌, inl, inr, arith}
-use Rattle.std.specs.Prelude.{IsSome, slice_get}
+use Rattle.std.proofs.Common.{◌≡◌, ◌||◌, ℕ, ◌+◌, ◌<◌, Bool, true, false, Option, None, Some, option_map, Result, Ok, Err, List, [], ◌∷◌, length, map, nat_lt, if◌then◌else◌, refl, ap, sym, subst, ◌∙◌, arith}
+use Rattle.std.specs.Prelude.{slice_get}
 use Rattle.std.proofs.lemmas.Bool.{ltb-true}
 use Rattle.std.proofs.lemmas.List.{length-map}
 use Rattle.std.proofs.lemmas.Option.{slice_get_within}
@@ -13,16 +13,16 @@ use Rattle.flow_rules.specs.declared.item.Item.{Item}
 use Rattle.flow_rules.specs.declared.item.TheConstants.{PUBLICATIONS}
 use Rattle.flow_rules.specs.declared.refusal.NoMemory.{NoMemory}
 use Rattle.publisher_hub.specs.Entry.{EntryState, entry_of}
-use Rattle.publisher_hub.specs.Hub.{HubState, Progress}
+use Rattle.publisher_hub.specs.Hub.{HubState}
 use Rattle.publisher_hub.specs.Lists.{Each, EachBy}
 use Rattle.publisher_hub.specs.Looking.{Follows, IsReadied, Prepares, Readies, full, full_by}
-use Rattle.publisher_hub.specs.Offering.{Gives, IsOffered, Offered, missed, missed_by}
-use Rattle.publisher_hub.specs.Sound.{IsCounted, IsEntry, IsSound}
+use Rattle.publisher_hub.specs.Offering.{Gives, IsOffered, missed, missed_by}
+use Rattle.publisher_hub.specs.Sound.{IsSound}
 use Rattle.publisher_hub.specs.Steps.{CanAllGive}
 use Rattle.publisher_hub.specs.declared.entry.Entry.{Entry}
 use Rattle.publisher_hub.proofs.Gathered.{gather_nothing, gathers_nothing}
 use Rattle.publisher_hub.proofs.Kept.{follows_ready}
-use Rattle.publisher_hub.proofs.LiveRounds.{get_before_map, get_mapped}
+use Rattle.publisher_hub.proofs.LiveRounds.{get_before_map}
 use Rattle.publisher_hub.proofs.Offered.{not_both, prepared_can_take, prepared_offered}
 use Rattle.publisher_hub.proofs.PartialRounds.{same_some}
 use Rattle.publisher_hub.proofs.Places.{stood_by, there}
@@ -79,7 +79,7 @@ module _ {F T : Type 0} (meaning : F → End) (does : F → Call T → F → Typ
       let last : readied.after ≡ f = same_some (sym (ap (λ (entry : Entry F). entry.feed) readied.now) ∙ was) in
       let follows = follows_ready meaning does answer readied.before readied.after readied.readies in
       ap (λ g. (meaning g).closing) (sym last) ∙ ap (λ (end : End). end.closing) follows.rest ∙ ap (λ g. (meaning g).closing) middle
-          ∙ ap (λ (end : End). end.closing) sees.stands.look.rest ∙ ap (λ (end : End). end.closing) (same_some (sym (ap (λ feed. option_map meaning feed) sees.was) ∙ stood))
+      ∙ ap (λ (end : End). end.closing) sees.stands.look.rest ∙ ap (λ (end : End). end.closing) (same_some (sym (ap (λ feed. option_map meaning feed) sees.was) ∙ stood))
 
   -- a put that looks where there was room doesn't find the buffer full
   room_stays : (e m : End) (x back : Item) (f : End) → Looked e m → held_count e < e.capacity → Rattle.flow_rules.specs.Feed.FindsFull m x back f → ⊥
@@ -156,8 +156,8 @@ module _ {F T : Type 0} (meaning : F → End) (does : F → Call T → F → Typ
           let was = stood k after.0 after.1.0 in
           let same : was.old ≡ before.0 = same_some (sym was.at ∙ before.1.0) in
           subst (λ (entry : EntryState). IsOffered x old entry) after.1.1
-              (subst (λ (entry : EntryState). IsOffered x entry (entry_of meaning after.0)) (ap (λ (entry : Entry F). entry_of meaning entry) same ∙ before.1.1)
-              (prepared_offered meaning does next x serial was.glance was.put was.old was.seen after.0 (unclosed k was.old was.at) was.prepares was.gives));
+          (subst (λ (entry : EntryState). IsOffered x entry (entry_of meaning after.0)) (ap (λ (entry : Entry F). entry_of meaning entry) same ∙ before.1.1)
+          (prepared_offered meaning does next x serial was.glance was.put was.old was.seen after.0 (unclosed k was.old was.at) was.prepares was.gives));
     }
 
     -- where the looks showed room everywhere, nobody missed the item
@@ -172,7 +172,7 @@ module _ {F T : Type 0} (meaning : F → End) (does : F → Call T → F → Typ
           let was = stood k stands.0 stands.1 in
           let same : was.put ≡ put = same_some (sym was.said ∙ said) in
           subst (λ p. missed_by (0 + k) p ≡ []) same (not_missed capacity next (0 + k) x was.glance was.put was.old was.seen stands.0 (here k was.old was.at)
-              (gathers_nothing (full_by capacity) glances 0 k was.glance room was.glanced) was.prepares was.gives)
+          (gathers_nothing (full_by capacity) glances 0 k was.glance room was.glanced) was.prepares was.gives)
 
     -- where nobody missed the item, no drop was counted
     pub no_drop_counted : missed puts ≡ [] → (k : ℕ) (y : Entry F) → slice_get ys k ≡ Some y → (old : Entry F) × ((slice_get xs k ≡ Some old) × (y.dropped ≡ old.dropped))

@@ -1,5 +1,5 @@
 -- A publication, from the looks to the count.
-use Rattle.std.proofs.Common.{◌≡◌, ◌⊎◌, ℕ, ◌+◌, ◌<◌, ◌≤◌, true, Option, None, Some, List, [], ◌++◌, map, refl, ap, sym, subst, ◌∙◌, inl, inr, arith}
+use Rattle.std.proofs.Common.{◌≡◌, ◌⊎◌, ℕ, ◌<◌, ◌≤◌, Option, None, Some, List, [], ◌++◌, map, refl, ap, sym, subst, ◌∙◌, inl, inr, arith}
 use Rattle.std.specs.Prelude.{Vec, slice_get}
 use Rattle.std.specs.declared.alloc.Global.{Global}
 use Rattle.std.proofs.lemmas.Bool.{cases_lt}
@@ -12,9 +12,9 @@ use Rattle.flow_rules.specs.declared.item.TheConstants.{PUBLICATIONS}
 use Rattle.publisher_hub.specs.Entry.{EntryState, entry_of}
 use Rattle.publisher_hub.specs.Giving.{Gathers}
 use Rattle.publisher_hub.specs.Hub.{HubState, Progress, hub_of}
-use Rattle.publisher_hub.specs.Lists.{Each, EachBy}
+use Rattle.publisher_hub.specs.Lists.{EachBy}
 use Rattle.publisher_hub.specs.Looking.{IsLookedAt, Prepares, full}
-use Rattle.publisher_hub.specs.Offering.{Gives, IsNextItem, IsOffered, Offers, missed, progress_after, started}
+use Rattle.publisher_hub.specs.Offering.{Gives, IsNextItem, Offers, missed, progress_after, started}
 use Rattle.publisher_hub.specs.Publishing.{IsRefused, Publishes}
 use Rattle.publisher_hub.specs.Sound.{IsSound}
 use Rattle.publisher_hub.specs.declared.entry.Entry.{Entry}
@@ -32,11 +32,11 @@ pub counted_after : (x : Item) (dropping : ℕ) (a b d e : HubState) → b ≡ r
 counted_after x dropping a b d e looked given counted =
     let d_is : d ≡ record a { entries = d.entries } = given ∙ ap (λ (s : HubState). record s { entries = d.entries }) looked in
     let e_is : e ≡ record a { progress = progress_after x dropping a.progress; entries = d.entries } =
-        counted ∙ ap (λ (s : HubState). record s { progress = progress_after x dropping s.progress }) d_is in
+    counted ∙ ap (λ (s : HubState). record s { progress = progress_after x dropping s.progress }) d_is in
     let dropping_is : e.progress.dropping ≡ dropping = ap (λ (s : HubState). s.progress.dropping) e_is in
     let entries_are : e.entries ≡ d.entries = ap (λ (s : HubState). s.entries) e_is in
     e_is ∙ ap (λ n. record a { progress = progress_after x n a.progress; entries = d.entries }) (sym dropping_is)
-        ∙ ap (λ all. record a { progress = progress_after x e.progress.dropping a.progress; entries = all }) (sym entries_are)
+    ∙ ap (λ all. record a { progress = progress_after x e.progress.dropping a.progress; entries = all }) (sym entries_are)
 
 -- a number that is at most the most, and is not the most, is below it
 pub below_most : (n : ℕ) → n ≤ PUBLICATIONS → (n ≡ PUBLICATIONS → ⊥) → n < PUBLICATIONS

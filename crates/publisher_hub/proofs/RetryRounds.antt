@@ -1,5 +1,5 @@
 -- The second pass over the subscriptions whose buffer was full, as far as it has come.
-use Rattle.std.proofs.Common.{rules, ◌≡◌, ◌⊎◌, ℕ, ◌+◌, ◌-◌, ◌<◌, fold, max, Option, None, Some, IsSome, List, [], ◌∷◌, ◌++◌, append_assoc, length, replicate, set, refl, ap, sym, subst, ◌∙◌, inl, inr, arith}
+use Rattle.std.proofs.Common.{rules, ◌≡◌, ◌⊎◌, ℕ, ◌+◌, fold, max, Option, None, Some, IsSome, List, ◌++◌, append_assoc, length, replicate, set, refl, ap, sym, ◌∙◌, inl, inr, arith}
 use Rattle.std.specs.Prelude.{Vec, slice_get}
 use Rattle.std.proofs.lemmas.Option.{slice_get_within}
 use Rattle.std.proofs.lemmas.List.{append-nil, length-append}

@@ -1,26 +1,24 @@
 -- An offer with its second pass, at one subscription.
-use Rattle.std.proofs.Common.{rules, ◌≡◌, ◌⊎◌, ◌||◌, ℕ, ◌+◌, ◌-◌, ◌<◌, ◌≤◌, Bool, true, false, Option, None, Some, IsSome, option_map, List, [], ◌∷◌, ◌++◌, length, map, is_some, refl, ap, sym, subst, ◌∙◌, inl, inr, arith}
+use Rattle.std.proofs.Common.{rules, ◌≡◌, ◌||◌, ℕ, ◌+◌, ◌-◌, ◌<◌, Bool, true, false, Option, None, Some, IsSome, option_map, List, length, map, is_some, refl, ap, sym, subst, ◌∙◌, arith}
 use Rattle.std.specs.Prelude.{slice_get}
-use Rattle.std.proofs.lemmas.List.{length-append, length-map}
-use Rattle.std.proofs.lemmas.Option.{slice_get_within}
 use Rattle.flow_rules.specs.Call.{Call}
-use Rattle.flow_rules.specs.Feed.{End, Looked, MayStart, held_count}
+use Rattle.flow_rules.specs.Feed.{End, Looked, MayStart}
 use Rattle.flow_rules.specs.declared.feed.put.Put.{Put}
 use Rattle.flow_rules.specs.declared.feed.put.Put.TheVariants.{Accepted, Full, Gone}
 use Rattle.flow_rules.specs.declared.feed.standing.Standing.{Standing}
 use Rattle.flow_rules.specs.declared.item.Item.{Item}
 use Rattle.flow_rules.specs.declared.item.TheConstants.{PUBLICATIONS}
 use Rattle.publisher_hub.specs.Entry.{EntryState, entry_of}
-use Rattle.publisher_hub.specs.Lists.{Each, EachBy}
+use Rattle.publisher_hub.specs.Lists.{EachBy}
 use Rattle.publisher_hub.specs.Looking.{Prepares}
-use Rattle.publisher_hub.specs.Offering.{AreAsked, Gives, GivesAgain, IsOffered, Offered, Second, dropped, dropped_by, missed, missed_by}
+use Rattle.publisher_hub.specs.Offering.{Gives, GivesAgain, IsOffered, Offered, Second, dropped_by, missed}
 use Rattle.publisher_hub.specs.Steps.{CanAllGive, CanEachTryAgain, CanGive, CanTryAgain}
 use Rattle.publisher_hub.specs.declared.entry.Entry.{Entry}
 use Rattle.publisher_hub.proofs.LiveRounds.{get_before_map, get_mapped}
-use Rattle.publisher_hub.proofs.Missed.{missed_at, missed_is}
-use Rattle.publisher_hub.proofs.Offered.{missed_goes_on, not_both, offered_live, prepared_live, prepared_offered}
+use Rattle.publisher_hub.proofs.Missed.{missed_at}
+use Rattle.publisher_hub.proofs.Offered.{missed_goes_on, offered_live, prepared_live, prepared_offered}
 use Rattle.publisher_hub.proofs.PartialRounds.{same_some}
-use Rattle.publisher_hub.proofs.Places.{stood_by, there}
+use Rattle.publisher_hub.proofs.Places.{stood_by}
 
 module _ {F T : Type 0} (meaning : F → End) (does : F → Call T → F → Type 0) (x : Item) where
   -- one that missed the item may be offered it once more
@@ -58,8 +56,8 @@ module _ {F T : Type 0} (meaning : F → End) (does : F → Call T → F → Typ
       let stood = stood_by (Gives meaning does x) puts ready middle k now.0 given now.1.0 in
       let said : stood.answer ≡ Some (Full full.back) = same_some (sym stood.said ∙ subst (λ j. slice_get puts j ≡ Some (Some (Full full.back))) (sym here) full.full) in
       subst (λ (state : EntryState). CanTryAgain state) now.1.1
-          (can_try_again full.back stood.entry now.0 (can k (entry_of meaning stood.entry) (get_mapped (entry_of meaning) ready k stood.entry stood.at)) (unclosed k stood.entry stood.at)
-          (subst (λ (put : Option (Put T)). Gives meaning does x put stood.entry now.0) said stood.became))
+      (can_try_again full.back stood.entry now.0 (can k (entry_of meaning stood.entry) (get_mapped (entry_of meaning) ready k stood.entry stood.at)) (unclosed k stood.entry stood.at)
+      (subst (λ (put : Option (Put T)). Gives meaning does x put stood.entry now.0) said stood.became))
 
   module _ (next : ℕ) (serial : x.serial ≡ next) where
     -- what became of the item at one subscription, after both passes

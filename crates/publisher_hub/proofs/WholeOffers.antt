@@ -1,5 +1,5 @@
 -- A whole offer, from what each of its steps says.
-use Rattle.std.proofs.Common.{rules, ◌≡◌, ℕ, ◌+◌, ◌<◌, ◌≤◌, ℤ, Bool, true, max, fold, Option, None, Some, List, [], ◌++◌, append_assoc, length, map, refl, ap, sym, subst, ◌∙◌, arith}
+use Rattle.std.proofs.Common.{rules, ◌≡◌, ℕ, ◌+◌, ◌<◌, ◌≤◌, Bool, max, fold, Option, None, Some, List, ◌++◌, length, map, refl, ap, sym, subst, ◌∙◌, arith}
 use Rattle.std.specs.Prelude.{Vec, option_map, slice_get, vec_len}
 use Rattle.std.specs.declared.alloc.Global.{Global}
 use Rattle.std.proofs.lemmas.List.{length-map}
@@ -53,7 +53,7 @@ module _ {F T : Type 0} (meaning : F → End) (does : F → Call T → F → Typ
       gave gathers rest_given passes rest_tried counted_is rest_new entries_same giving_same =
       let progress_seen : (hub_of meaning seen).progress ≡ (hub_of meaning old).progress = ap (λ (s : HubState). s.progress) looked.rest in
       let progress_tried : (hub_of meaning tried).progress ≡ (hub_of meaning old).progress =
-          ap (λ (s : HubState). s.progress) rest_tried ∙ ap (λ (s : HubState). s.progress) rest_given ∙ progress_seen in
+      ap (λ (s : HubState). s.progress) rest_tried ∙ ap (λ (s : HubState). s.progress) rest_given ∙ progress_seen in
       let tried_dropping : tried.dropping ≡ old.dropping = ap (λ (p : Progress). p.dropping) progress_tried in
       let unclosed : old.ending ≡ None = ap (λ (p : Progress). p.ending) (sym progress_seen) ∙ open_still.0 in
       let next_same : seen.next ≡ old.next = ap (λ (p : Progress). p.next) progress_seen in
@@ -64,19 +64,19 @@ module _ {F T : Type 0} (meaning : F → End) (does : F → Call T → F → Typ
         few = below_most old.next sound.few_items (λ most. open_still.1 (next_same ∙ most));
       } in
       let passed : hub_of meaning tried ≡ record (hub_of meaning seen) { entries = (hub_of meaning tried).entries } =
-          rest_tried ∙ ap (λ (s : HubState). record s { entries = (hub_of meaning tried).entries }) rest_given in
+      rest_tried ∙ ap (λ (s : HubState). record s { entries = (hub_of meaning tried).entries }) rest_given in
       let whole : hub_of meaning new ≡ record (hub_of meaning tried) { progress = progress_after x counted.dropping (hub_of meaning tried).progress } =
-          rest_new ∙ ap (λ (h : Hub F). record (hub_of meaning h) { progress = progress_after x counted.dropping (hub_of meaning h).progress }) counted_is in
+      rest_new ∙ ap (λ (h : Hub F). record (hub_of meaning h) { progress = progress_after x counted.dropping (hub_of meaning h).progress }) counted_is in
       let rest = counted_after x counted.dropping (hub_of meaning old) (hub_of meaning seen) (hub_of meaning tried) (hub_of meaning new) looked.rest passed whole in
       let drops : tried.giving.drops ≡ length (dropped seconds) = passes.gathers.drops in
       let dropping_new : new.dropping ≡ dropping_after (length (dropped seconds)) old.dropping =
-          ap (λ (s : HubState). s.progress.dropping) whole ∙ ap (λ (h : Hub F). h.dropping) counted_is
-          ∙ ap (λ n. dropping_after n tried.dropping) drops ∙ ap (λ n. dropping_after (length (dropped seconds)) n) tried_dropping in
+      ap (λ (s : HubState). s.progress.dropping) whole ∙ ap (λ (h : Hub F). h.dropping) counted_is
+      ∙ ap (λ n. dropping_after n tried.dropping) drops ∙ ap (λ n. dropping_after (length (dropped seconds)) n) tried_dropping in
       let more = dropping_more (length (dropped seconds)) old.dropping in
       let entries_new : new.entries ≡ tried.entries = entries_same ∙ ap (λ (h : Hub F). h.entries) counted_is in
       let giving_new : new.giving ≡ tried.giving = giving_same ∙ ap (λ (h : Hub F). h.giving) counted_is in
       let again : EachBy (GivesAgain meaning does x) seconds given.entries.items new.entries.items =
-          subst (λ (v : Vec (Entry F) Global). EachBy (GivesAgain meaning does x) seconds given.entries.items v.items) (sym entries_new) passes.again in
+      subst (λ (v : Vec (Entry F) Global). EachBy (GivesAgain meaning does x) seconds given.entries.items v.items) (sym entries_new) passes.again in
       let known = known_of meaning does (hub_of meaning old) old.entries.items sound refl unclosed in
       let offers : Offers x (hub_of meaning old) (hub_of meaning new) = record {
         next = next;
@@ -87,12 +87,12 @@ module _ {F T : Type 0} (meaning : F → End) (does : F → Call T → F → Typ
         dropped = λ k entry at.
             let raw = get_before_map (entry_of meaning) new.entries.items k entry at in
             let few = drops_counted meaning does x glances puts seconds old.next old.entries.items seen.entries.items given.entries.items new.entries.items prepared gave again passes.asked old.dropping
-                (λ j was at_j. (sound.entries j (entry_of meaning was) (get_mapped (entry_of meaning) old.entries.items j was at_j)).drops) serial k raw.0 raw.1.0 in
+            (λ j was at_j. (sound.entries j (entry_of meaning was) (get_mapped (entry_of meaning) old.entries.items j was at_j)).drops) serial k raw.0 raw.1.0 in
             subst (λ (state : EntryState). state.dropped ≤ new.dropping) raw.1.1 (subst (λ n. raw.0.dropped ≤ n) (sym dropping_new) few);
       } in
       let drops_new : new.giving.drops ≡ length (dropped seconds) = ap (λ (g : Giving). g.drops) giving_new ∙ drops in
       let lag_new : new.giving.lag ≡ greatest (lags puts ++ lags_again seconds) =
-          ap (λ (g : Giving). g.lag) giving_new ∙ passes.gathers.lag ∙ ap (λ n. fold max n (lags_again seconds)) gathers.lag ∙ sym (fold-append max 0 (lags puts) (lags_again seconds)) in (
+      ap (λ (g : Giving). g.lag) giving_new ∙ passes.gathers.lag ∙ ap (λ n. fold max n (lags_again seconds)) gathers.lag ∙ sym (fold-append max 0 (lags puts) (lags_again seconds)) in (
         sound_offered (hub_of meaning old) (hub_of meaning new) x (subst (λ s. s < SOURCES) (sym from) within) sound offers,
         record {
           item = x;
@@ -132,8 +132,10 @@ module _ {F T : Type 0} (meaning : F → End) (does : F → Call T → F → Typ
   gives_closing x (Some answer) old new unclosed offered e at = by answer offered.means offered.now where
     was : (entry_of meaning old).feed ≡ Some (meaning offered.before)
     was = ap (λ feed. option_map meaning feed) offered.was
+
     closed_as : (m : End) → LookedIfOpen (meaning offered.before) m → m.closing ≡ None
     closed_as m looked = let is = unclosed (meaning offered.before) was in ap (λ (end : End). end.closing) (looked.unclosed is).rest ∙ is
+
     is_after : (entry_of meaning new).feed ≡ Some (meaning offered.after) → (meaning offered.after).closing ≡ None → e.closing ≡ None
     is_after now none = ap (λ (end : End). end.closing) (same_some (sym at ∙ now)) ∙ none
 
@@ -156,11 +158,11 @@ module _ {F T : Type 0} (meaning : F → End) (does : F → Call T → F → Typ
       let known = known_of meaning does (hub_of meaning seen) seen.entries.items sound refl open_still.0 in
       let unclosed : (k : ℕ) (entry : Entry F) → slice_get seen.entries.items k ≡ Some entry → (e : End) → (entry_of meaning entry).feed ≡ Some e → e.closing ≡ None = λ k entry at e was. (known k entry at e was).0 in
       let small = lags_small meaning does x glances puts seconds next xs seen.entries.items given.entries.items tried.entries.items prepared gave passes.again passes.asked can
-          (can_each_try_again meaning does x puts seen.entries.items given.entries.items can gave unclosed) unclosed
-          (λ k entry at. let stood = stood_by (Gives meaning does x) puts seen.entries.items given.entries.items k entry gave at in
-              gives_closing x stood.answer stood.entry entry (unclosed k stood.entry stood.at) stood.became) in
+      (can_each_try_again meaning does x puts seen.entries.items given.entries.items can gave unclosed) unclosed
+      (λ k entry at. let stood = stood_by (Gives meaning does x) puts seen.entries.items given.entries.items k entry gave at in
+      gives_closing x stood.answer stood.entry entry (unclosed k stood.entry stood.at) stood.became) in
       let lag_new : new.giving.lag ≡ fold max (fold max 0 (lags puts)) (lags_again seconds) =
-          ap (λ (g : Giving). g.lag) giving_new ∙ passes.gathers.lag ∙ ap (λ n. fold max n (lags_again seconds)) gathers.lag in
+      ap (λ (g : Giving). g.lag) giving_new ∙ passes.gathers.lag ∙ ap (λ n. fold max n (lags_again seconds)) gathers.lag in
       let drops_new : new.giving.drops ≡ length (dropped seconds) = ap (λ (g : Giving). g.drops) giving_new ∙ passes.gathers.drops in
       let at_most = few_dropped meaning does seconds in
       let answered = passes.again.answered in

@@ -2,14 +2,11 @@
 use Rattle.std.specs.Prelude.{◌≡◌, ℕ, ◌+◌, ◌≤◌, fold, max, Option, Some, List, [], ◌∷◌, ◌++◌, length, slice_get, Vec, vec_len}
 use Rattle.std.specs.declared.alloc.Global.{Global}
 use Rattle.std.specs.Vec.{vec_capacity}
-use Rattle.flow_rules.specs.Call.{Call}
-use Rattle.flow_rules.specs.Feed.{End}
 use Rattle.flow_rules.specs.declared.feed.put.Put.{Put}
 use Rattle.flow_rules.specs.declared.feed.put.Put.TheVariants.{Full}
 use Rattle.flow_rules.specs.declared.item.Item.{Item}
-use Rattle.publisher_hub.specs.Lists.{EachBy, greatest}
+use Rattle.publisher_hub.specs.Lists.{greatest}
 use Rattle.publisher_hub.specs.Offering.{Second, dropped, dropped_by, lag_again_by, lag_by, lags, lags_again, missed, missed_by, started, started_again, started_again_by, started_by}
-use Rattle.publisher_hub.specs.declared.entry.Entry.{Entry}
 use Rattle.publisher_hub.specs.declared.giving.Giving.{Giving}
 use Rattle.publisher_hub.specs.declared.work.Work.{Work}
 

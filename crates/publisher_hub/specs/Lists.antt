@@ -1,5 +1,5 @@
 -- Lists whose elements stand in a relation place by place, and what a list of answers gathers.
-use Rattle.std.specs.Prelude.{◌≡◌, ℕ, zero, suc, max, fold, Some, List, [], ◌∷◌, ◌++◌, length, slice_get}
+use Rattle.std.specs.Prelude.{◌≡◌, ℕ, suc, max, fold, Some, List, [], ◌∷◌, ◌++◌, length, slice_get}
 
 -- two lists are as long, and this holds of the elements at each place
 pub record Each {A : Type 0} (R : A → A → Type 0) (xs ys : List A) : Type 0 where

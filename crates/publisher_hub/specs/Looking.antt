@@ -1,6 +1,5 @@
 -- What looks do to the subscriptions of a Hub.
 use Rattle.std.specs.Prelude.{◌≡◌, ◌⊎◌, ℕ, ◌<◌, ◌≤◌, Bool, true, false, ◌||◌, nat_lt, if◌then◌else◌, Option, None, Some, Result, List, [], ◌∷◌, length, OnOk, OnErr, IsOk, IsErr}
-use Rattle.flow_rules.specs.Call as Call
 use Rattle.flow_rules.specs.Call.{Call}
 use Rattle.flow_rules.specs.Feed.{End, Looked, held_count, is_gone}
 use Rattle.flow_rules.specs.declared.feed.standing.Standing.{Standing}

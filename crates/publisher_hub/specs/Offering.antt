@@ -1,6 +1,5 @@
 -- What a publication does to each subscription of a Hub, and to the Hub.
 use Rattle.std.specs.Prelude.{◌≡◌, ◌⊎◌, ℕ, ◌+◌, ◌-◌, ◌<◌, ◌≤◌, true, false, Option, None, Some, List, [], ◌∷◌, ◌++◌, slice_get, slice_set, IsSome}
-use Rattle.flow_rules.specs.Call as Call
 use Rattle.flow_rules.specs.Call.{Call}
 use Rattle.flow_rules.specs.Feed as Feed
 use Rattle.flow_rules.specs.Feed.{End, held_count, is_gone}

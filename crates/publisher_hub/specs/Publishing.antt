@@ -8,7 +8,6 @@ use Rattle.flow_rules.specs.declared.feed.standing.Standing.{Standing}
 use Rattle.flow_rules.specs.declared.item.Item.{Item}
 use Rattle.flow_rules.specs.declared.item.TheConstants.{PUBLICATIONS}
 use Rattle.flow_rules.specs.declared.refusal.Refusal.{Refusal}
-use Rattle.flow_rules.specs.declared.refusal.Refusal.TheVariants as Refusal
 use Rattle.publisher_hub.specs.Giving.{AreShares, GathersAgain, HasRoom}
 use Rattle.publisher_hub.specs.Hub.{Progress, hub_of}
 use Rattle.publisher_hub.specs.Lists.{Each, EachBy, greatest}

@@ -117,7 +117,12 @@ impl Giving {
     }
 
     /// Gathers what a second offer to one subscription was answered, or that its drop stands without one.
-    pub fn note_again<T: Drop>(&mut self, number: u32, answer: Option<Put<T>>, due: &mut Vec<Work<T>>)
+    pub fn note_again<T: Drop>(
+        &mut self,
+        number: u32,
+        answer: Option<Put<T>>,
+        due: &mut Vec<Work<T>>,
+    )
         requires due { vec_len due.old < vec_capacity due.old }
         requires drops { self.old.drops < PUBLICATIONS }
         ensures due { due.new.items ≡ due.old.items ++ started_by number answer }

@@ -23,7 +23,13 @@ impl<F: Feed> Hub<F> {
     /// true the item is offered once more. The answer is the greatest lag, in items, or, where it was dropped, minus the number of
     /// drops. Refused 5 where a growth is refused, 2 where the Hub is closed, and 13 once
     /// [`PUBLICATIONS`](flow_rules::PUBLICATIONS) were made; then no list and no count has changed.
-    pub fn offer(&mut self, source: u32, text: Text, handler: Option<&mut Box<dyn DropHandler>>, due: &mut Vec<Work<F::Task>>) -> Result<i64, Refusal>
+    pub fn offer(
+        &mut self,
+        source: u32,
+        text: Text,
+        handler: Option<&mut Box<dyn DropHandler>>,
+        due: &mut Vec<Work<F::Task>>,
+    ) -> Result<i64, Refusal>
         requires sound { IsSound (hub_of F.meaning self.old) }
         requires source { source < SOURCES }
         ensures sound { IsSound (hub_of F.meaning self.new) }
@@ -44,7 +50,12 @@ impl<F: Feed> Hub<F> {
     }
 
     /// Asks about each subscription that missed the item, and offers it once more where the answer is to try again.
-    fn try_again(&mut self, item: &Item, handler: Option<&mut Box<dyn DropHandler>>, due: &mut Vec<Work<F::Task>>)
+    fn try_again(
+        &mut self,
+        item: &Item,
+        handler: Option<&mut Box<dyn DropHandler>>,
+        due: &mut Vec<Work<F::Task>>,
+    )
         requires numbers { AreNumbers self.old.giving.missed.items (length self.old.entries.items) }
         requires can { CanEachTryAgain self.old.giving.missed.items (map (entry_of F.meaning) self.old.entries.items) }
         requires shares { AreShares item.now self.old.giving.shares.items }
@@ -54,7 +65,11 @@ impl<F: Feed> Hub<F> {
             → (seconds : List (Second F.Task)) × PassesAgain F.meaning F.does item.now (is_none handler.entry) puts seconds self.old.entries.items self.new.entries.items self.old.giving self.new.giving due.old due.new }
         ensures rest { hub_of F.meaning self.new ≡ record (hub_of F.meaning self.old) { entries = (hub_of F.meaning self.new).entries } }
     {
-        let Hub { entries, giving, .. } = self;
+        let Hub {
+            entries,
+            giving,
+            ..
+        } = self;
         giving.drops = 0;
         match handler {
             Some(handler) => retry_all(entries, item, handler, giving, due),

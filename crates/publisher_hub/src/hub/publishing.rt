@@ -33,7 +33,12 @@ impl<F: Feed> Hub<F> {
     /// The answer is the greatest lag, in items, or 0 where there are no subscriptions. Refused 5 where a growth is refused, 2 where the Hub
     /// is closed, and 13 once [`PUBLICATIONS`](flow_rules::PUBLICATIONS) were made; else `NoRoom` where a buffer is full. Then no list and
     /// no count has changed.
-    pub fn publish(&mut self, source: u32, text: Text, due: &mut Vec<Work<F::Task>>) -> Result<u64, Unpublished>
+    pub fn publish(
+        &mut self,
+        source: u32,
+        text: Text,
+        due: &mut Vec<Work<F::Task>>,
+    ) -> Result<u64, Unpublished>
         requires sound { IsSound (hub_of F.meaning self.old) }
         requires source { source < SOURCES }
         ensures sound { IsSound (hub_of F.meaning self.new) }
@@ -75,7 +80,11 @@ impl<F: Feed> Hub<F> {
     }
 
     /// Takes all that a publication needs, and looks at each live subscription. The answer is whether all have room.
-    pub(super) fn prepare(&mut self, item: &Item, due: &mut Vec<Work<F::Task>>) -> Result<bool, NoMemory>
+    pub(super) fn prepare(
+        &mut self,
+        item: &Item,
+        due: &mut Vec<Work<F::Task>>,
+    ) -> Result<bool, NoMemory>
         requires sound { IsSound (hub_of F.meaning self.old) }
         ensures ok { IfOk result (λ room. (glances : List (Option Standing)) × (EachBy (Prepares F.meaning F.does self.old.next) glances self.old.entries.items self.new.entries.items × IsRoom room self.old.capacity glances)) }
         ensures err { OnErr result (Each (MayPrepare F.meaning F.does self.old.next) self.old.entries.items self.new.entries.items) }
@@ -86,7 +95,13 @@ impl<F: Feed> Hub<F> {
     {
         due.reserve(self.live.len())?;
         self.giving.begin(item, self.live.len())?;
-        let Hub { entries, live, next, capacity, .. } = self;
+        let Hub {
+            entries,
+            live,
+            next,
+            capacity,
+            ..
+        } = self;
         prepare_all(entries, live, *next, *capacity)
     }
 
@@ -112,7 +127,12 @@ impl<F: Feed> Hub<F> {
         ensures rest { hub_of F.meaning self.new ≡ record (hub_of F.meaning self.old) { entries = (hub_of F.meaning self.new).entries } }
         ensures room { HasRoom 0 self.new.giving due.new }
     {
-        let Hub { entries, live, giving, .. } = self;
+        let Hub {
+            entries,
+            live,
+            giving,
+            ..
+        } = self;
         give_all(entries, live, item, giving, due);
     }
 

@@ -14,7 +14,13 @@ use crate::work::Work;
 use flow_rules::{Feed, Item};
 
 /// Offers an item to all live subscriptions. Of each that is full the number is gathered, and its drop is counted.
-pub(crate) fn give_all<F: Feed>(entries: &mut [Entry<F>], live: &[u32], item: &Item, giving: &mut Giving, due: &mut Vec<Work<F::Task>>)
+pub(crate) fn give_all<F: Feed>(
+    entries: &mut [Entry<F>],
+    live: &[u32],
+    item: &Item,
+    giving: &mut Giving,
+    due: &mut Vec<Work<F::Task>>,
+)
     requires live { AreLive live.now (map (entry_of F.meaning) entries.old) }
     requires can { CanAllGive (map (entry_of F.meaning) entries.old) }
     requires shares { AreShares item.now giving.old.shares.items }
@@ -30,7 +36,13 @@ pub(crate) fn give_all<F: Feed>(entries: &mut [Entry<F>], live: &[u32], item: &I
 }
 
 /// Offers a share of an item to one subscription, and gathers what it answered.
-fn give_one<F: Feed>(entry: &mut Entry<F>, number: u32, item: &Item, giving: &mut Giving, due: &mut Vec<Work<F::Task>>)
+fn give_one<F: Feed>(
+    entry: &mut Entry<F>,
+    number: u32,
+    item: &Item,
+    giving: &mut Giving,
+    due: &mut Vec<Work<F::Task>>,
+)
     requires can { CanGive (entry_of F.meaning entry.old) }
     requires shares { AreShares item.now giving.old.shares.items }
     requires room { (many : ℕ) × HasRoom (many + 1) giving.old due.old }

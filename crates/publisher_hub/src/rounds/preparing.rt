@@ -13,7 +13,12 @@ use flow_rules::{Feed, NoMemory, Standing};
 
 /// Looks at all live subscriptions, and makes each that goes on ready for one task. The answer is whether none
 /// of them is full.
-pub(crate) fn prepare_all<F: Feed>(entries: &mut [Entry<F>], live: &[u32], next: u64, capacity: usize) -> Result<bool, NoMemory>
+pub(crate) fn prepare_all<F: Feed>(
+    entries: &mut [Entry<F>],
+    live: &[u32],
+    next: u64,
+    capacity: usize,
+) -> Result<bool, NoMemory>
     requires live { AreLive live.now (map (entry_of F.meaning) entries.old) }
     requires here { AreHere (map (entry_of F.meaning) entries.old) }
     ensures ok { IfOk result (λ room. (glances : List (Option Standing)) × (EachBy (Prepares F.meaning F.does next) glances entries.old entries.new × IsRoom room capacity glances)) }

@@ -16,7 +16,13 @@ use crate::work::Work;
 use flow_rules::{DropHandler, Feed, Item, Put};
 
 /// Asks a handler about each subscription whose buffer was full, in order, and where it says so offers a share of the item once more.
-pub(crate) fn retry_all<F: Feed>(entries: &mut [Entry<F>], item: &Item, handler: &mut Box<dyn DropHandler>, giving: &mut Giving, due: &mut Vec<Work<F::Task>>)
+pub(crate) fn retry_all<F: Feed>(
+    entries: &mut [Entry<F>],
+    item: &Item,
+    handler: &mut Box<dyn DropHandler>,
+    giving: &mut Giving,
+    due: &mut Vec<Work<F::Task>>,
+)
     requires numbers { AreNumbers giving.old.missed.items (length entries.old) }
     requires can { CanEachTryAgain giving.old.missed.items (map (entry_of F.meaning) entries.old) }
     requires shares { AreShares item.now giving.old.shares.items }
@@ -27,13 +33,27 @@ pub(crate) fn retry_all<F: Feed>(entries: &mut [Entry<F>], item: &Item, handler:
 {
     for place in 0..giving.missed.len() {
         let number = giving.missed[place];
-        retry_one(&mut entries[number as usize], number, item, handler, giving, due);
+        retry_one(
+            &mut entries[number as usize],
+            number,
+            item,
+            handler,
+            giving,
+            due,
+        );
     }
 }
 
 /// Asks a handler about a subscription whose buffer was full, offers a share of the item once more where it says so, and gathers what
 /// came of it.
-fn retry_one<F: Feed>(entry: &mut Entry<F>, number: u32, item: &Item, handler: &mut Box<dyn DropHandler>, giving: &mut Giving, due: &mut Vec<Work<F::Task>>)
+fn retry_one<F: Feed>(
+    entry: &mut Entry<F>,
+    number: u32,
+    item: &Item,
+    handler: &mut Box<dyn DropHandler>,
+    giving: &mut Giving,
+    due: &mut Vec<Work<F::Task>>,
+)
     requires can { CanTryAgain (entry_of F.meaning entry.old) }
     requires shares { AreShares item.now giving.old.shares.items }
     requires room { (many : ℕ) × HasRoomAgain (many + 1) giving.old due.old }
@@ -48,7 +68,12 @@ fn retry_one<F: Feed>(entry: &mut Entry<F>, number: u32, item: &Item, handler: &
 
 /// Asks a handler about a subscription whose buffer was full, and offers a share of the item once more where it says so.
 #[must_use]
-fn try_again<F: Feed>(entry: &mut Entry<F>, item: &Item, handler: &mut Box<dyn DropHandler>, giving: &mut Giving) -> Option<Put<F::Task>>
+fn try_again<F: Feed>(
+    entry: &mut Entry<F>,
+    item: &Item,
+    handler: &mut Box<dyn DropHandler>,
+    giving: &mut Giving,
+) -> Option<Put<F::Task>>
     requires can { CanTryAgain (entry_of F.meaning entry.old) }
     requires shares { AreShares item.now giving.old.shares.items }
     requires some { 0 < vec_len giving.old.shares }

@@ -1,6 +1,5 @@
 -- One that goes on was asked to be ready.
-use Rattle.std.proofs.Common.{rules, ◌≡◌, Result, Ok, Err, OnErr, IsErr, refl}
-use Rattle.flow_rules.specs.declared.feed.standing.Standing.{Standing}
+use Rattle.std.proofs.Common.{rules, Result, Ok, Err, OnErr}
 use Rattle.publisher_hub.proofs.entry.Entry.prepare.Goals as goal
 
 on_err : {A E : Type 0} (r : Result A E) (P : Type 0) → P → OnErr r P

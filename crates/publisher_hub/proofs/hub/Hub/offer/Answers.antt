@@ -17,13 +17,13 @@ give-requires-clause-can g c =
     let looks = c.in_ok-prepare.ensures.ok in
     let sound = c.prepare.ensures.sound in
     can_all_give g.F.Feed.meaning g.F.Feed.does (hub_of g.F.Feed.meaning seen) c.args.self.now.next looks.0 c.args.self.now.entries.items seen.entries.items sound refl
-        (below_most seen.next sound.few_items c.in_default.ensures.1) looks.1.0
+    (below_most seen.next sound.few_items c.in_default.ensures.1) looks.1.0
 
 pub try_again-requires-clause-numbers : goal.try_again-requires-clause-numbers
 try_again-requires-clause-numbers g c =
     let given = c.give.ensures.given in
     subst (λ numbers. AreNumbers numbers (length c.give.new.self.entries.items)) (sym given.1.1.missed)
-        (subst (λ many. AreNumbers (missed given.0) many) (given.1.0.answered ∙ sym given.1.0.as_long) (missed_numbers given.0))
+    (subst (λ many. AreNumbers (missed given.0) many) (given.1.0.answered ∙ sym given.1.0.as_long) (missed_numbers given.0))
 
 pub try_again-requires-clause-few : goal.try_again-requires-clause-few
 try_again-requires-clause-few g c =
@@ -38,10 +38,10 @@ try_again-requires-clause-can g c i k entry at stands =
     let sound = c.prepare.ensures.sound in
     let given = c.give.ensures.given in
     let can = can_all_give meaning g.F.Feed.does (hub_of meaning seen) c.args.self.now.next looks.0 c.args.self.now.entries.items seen.entries.items sound refl
-        (below_most seen.next sound.few_items c.in_default.ensures.1) looks.1.0 in
+    (below_most seen.next sound.few_items c.in_default.ensures.1) looks.1.0 in
     can_each_try_again meaning g.F.Feed.does c.next_item-item.result given.0 seen.entries.items c.give.new.self.entries.items can given.1.0
-        (λ j one at_j e was. (known_of meaning g.F.Feed.does (hub_of meaning seen) seen.entries.items sound refl c.in_default.ensures.0 j one at_j e was).0)
-        i k entry (subst (λ numbers. slice_get numbers i ≡ Some k) given.1.1.missed at) stands
+    (λ j one at_j e was. (known_of meaning g.F.Feed.does (hub_of meaning seen) seen.entries.items sound refl c.in_default.ensures.0 j one at_j e was).0)
+    i k entry (subst (λ numbers. slice_get numbers i ≡ Some k) given.1.1.missed at) stands
 
 pub answer-requires-clause-lag : goal.answer-requires-clause-lag
 answer-requires-clause-lag g c =
@@ -49,8 +49,8 @@ answer-requires-clause-lag g c =
     let given = c.give.ensures.given in
     let passes = c.try_again.ensures.passes given.0 given.1.1.missed (given.1.0.answered ∙ sym given.1.0.as_long) in
     (answer_fits g.F.Feed.meaning g.F.Feed.does c.prepare.new.self c.give.new.self c.try_again.new.self c.count_drops.new.self c.count.new.self c.next_item-item.result _
-        c.prepare.new.due c.give.new.due c.try_again.new.due c.args.self.now.next c.args.self.now.entries.items looks.0 given.0 passes.0 c.prepare.ensures.sound looks.1.0 c.in_default.ensures given.1.0 given.1.1
-        passes.1 c.count_drops.ensures c.count.ensures.giving).0
+    c.prepare.new.due c.give.new.due c.try_again.new.due c.args.self.now.next c.args.self.now.entries.items looks.0 given.0 passes.0 c.prepare.ensures.sound looks.1.0 c.in_default.ensures given.1.0 given.1.1
+    passes.1 c.count_drops.ensures c.count.ensures.giving).0
 
 pub answer-requires-clause-drops : goal.answer-requires-clause-drops
 answer-requires-clause-drops g c =
@@ -58,8 +58,8 @@ answer-requires-clause-drops g c =
     let given = c.give.ensures.given in
     let passes = c.try_again.ensures.passes given.0 given.1.1.missed (given.1.0.answered ∙ sym given.1.0.as_long) in
     (answer_fits g.F.Feed.meaning g.F.Feed.does c.prepare.new.self c.give.new.self c.try_again.new.self c.count_drops.new.self c.count.new.self c.next_item-item.result _
-        c.prepare.new.due c.give.new.due c.try_again.new.due c.args.self.now.next c.args.self.now.entries.items looks.0 given.0 passes.0 c.prepare.ensures.sound looks.1.0 c.in_default.ensures given.1.0 given.1.1
-        passes.1 c.count_drops.ensures c.count.ensures.giving).1
+    c.prepare.new.due c.give.new.due c.try_again.new.due c.args.self.now.next c.args.self.now.entries.items looks.0 given.0 passes.0 c.prepare.ensures.sound looks.1.0 c.in_default.ensures given.1.0 given.1.1
+    passes.1 c.count_drops.ensures c.count.ensures.giving).1
 
 pub returns-clause-sound : goal.returns-clause-sound
 returns-clause-sound g c =
@@ -68,9 +68,9 @@ returns-clause-sound g c =
     let given = c.give.ensures.given in
     let passes = c.try_again.ensures.passes given.0 given.1.1.missed (given.1.0.answered ∙ sym given.1.0.as_long) in
     (offers_item g.F.Feed.meaning g.F.Feed.does c.args.self.now c.prepare.new.self c.give.new.self c.try_again.new.self c.count_drops.new.self c.count.new.self c.next_item-item.result c.args.source c.args.text _
-        c.args.due.now c.prepare.new.due c.give.new.due c.try_again.new.due looks.0 given.0 passes.0 c.requires.sound c.requires.source item.source item.text item.serial item.seq c.prepare.ensures.looked
-        looks.1.0 c.prepare.ensures.due c.in_default.ensures given.1.0 given.1.1 c.give.ensures.rest passes.1 c.try_again.ensures.rest c.count_drops.ensures c.count.ensures.rest c.count.ensures.entries
-        c.count.ensures.giving).0
+    c.args.due.now c.prepare.new.due c.give.new.due c.try_again.new.due looks.0 given.0 passes.0 c.requires.sound c.requires.source item.source item.text item.serial item.seq c.prepare.ensures.looked
+    looks.1.0 c.prepare.ensures.due c.in_default.ensures given.1.0 given.1.1 c.give.ensures.rest passes.1 c.try_again.ensures.rest c.count_drops.ensures c.count.ensures.rest c.count.ensures.entries
+    c.count.ensures.giving).0
 
 pub returns-clause-ok : goal.returns-clause-ok
 returns-clause-ok g c =
@@ -81,6 +81,6 @@ returns-clause-ok g c =
     let given = c.give.ensures.given in
     let passes = c.try_again.ensures.passes given.0 given.1.1.missed (given.1.0.answered ∙ sym given.1.0.as_long) in
     rw (same, c.answer.ensures) ((offers_item g.F.Feed.meaning g.F.Feed.does c.args.self.now c.prepare.new.self c.give.new.self c.try_again.new.self c.count_drops.new.self c.count.new.self c.next_item-item.result c.args.source c.args.text _
-        c.args.due.now c.prepare.new.due c.give.new.due c.try_again.new.due looks.0 given.0 passes.0 c.requires.sound c.requires.source item.source item.text item.serial item.seq c.prepare.ensures.looked
-        looks.1.0 c.prepare.ensures.due c.in_default.ensures given.1.0 given.1.1 c.give.ensures.rest passes.1 c.try_again.ensures.rest c.count_drops.ensures c.count.ensures.rest c.count.ensures.entries
-        c.count.ensures.giving).1)
+    c.args.due.now c.prepare.new.due c.give.new.due c.try_again.new.due looks.0 given.0 passes.0 c.requires.sound c.requires.source item.source item.text item.serial item.seq c.prepare.ensures.looked
+    looks.1.0 c.prepare.ensures.due c.in_default.ensures given.1.0 given.1.1 c.give.ensures.rest passes.1 c.try_again.ensures.rest c.count_drops.ensures c.count.ensures.rest c.count.ensures.entries
+    c.count.ensures.giving).1)

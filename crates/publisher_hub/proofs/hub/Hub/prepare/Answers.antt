@@ -1,6 +1,5 @@
 -- A Hub that was looked at is sound.
-use Rattle.std.proofs.Common.{◌≡◌, ◌∙◌, List, map, ap, refl, sym, subst}
-
+use Rattle.std.proofs.Common.{◌∙◌, List, map, refl, sym, subst}
 use Rattle.std.proofs.lemmas.List.{with_items_is}
 use Rattle.publisher_hub.specs.Entry.{entry_of}
 use Rattle.publisher_hub.specs.Hub.{hub_of}
@@ -32,7 +31,7 @@ returns-clause-looked g c =
     let after = c.prepare_all.new.entries in
     let here : AreHere (map (entry_of meaning) before) = λ k entry at. (c.requires.sound.entries k entry at).here in
     let kept = round_kept meaning g.F.Feed.does c.args.self.now.next c.args.self.now.capacity lent after c.prepare_all.result
-        (subst (λ (items : List (Entry g.row.F.Denot)). AreHere (map (entry_of meaning) items)) (sym c.deref_mut.ensures.value) here) c.prepare_all.ensures.ok c.prepare_all.ensures.err in
+    (subst (λ (items : List (Entry g.row.F.Denot)). AreHere (map (entry_of meaning) items)) (sym c.deref_mut.ensures.value) here) c.prepare_all.ensures.ok c.prepare_all.ensures.err in
     record {
       rest = refl;
       entries = subst (λ (items : List (Entry g.row.F.Denot)). Each (IsKept c.args.self.now.next) (map (entry_of meaning) before) (map (entry_of meaning) items))

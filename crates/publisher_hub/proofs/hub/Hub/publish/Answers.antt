@@ -1,7 +1,6 @@
 -- An item that is published comes after all that were.
-use Rattle.std.proofs.Common.{◌≡◌, refl}
-use Rattle.publisher_hub.specs.Hub.{HubState, hub_of}
-
+use Rattle.std.proofs.Common.{refl}
+use Rattle.publisher_hub.specs.Hub.{hub_of}
 use Rattle.publisher_hub.specs.Publishing.{Publishes}
 use Rattle.publisher_hub.specs.Sound.{IsSound}
 use Rattle.publisher_hub.proofs.Publications.{can_all_give}
@@ -15,7 +14,7 @@ give-requires-clause-can g c =
     let glances = c.in-Ok.ensures.ok in
     let sound = c.prepare.ensures.sound in
     can_all_give meaning g.F.Feed.does (hub_of meaning seen) c.args.self.now.next glances.0 c.args.self.now.entries.items seen.entries.items sound refl
-        (below_most seen.next sound.few_items c.in_default.ensures.1) glances.1.0
+    (below_most seen.next sound.few_items c.in_default.ensures.1) glances.1.0
 
 whole : (g : Rattle.publisher_hub.proofs.hub.Hub.publish.Given.Over) (c : goal.After-drop-item-2 g)
     → IsSound (hub_of g.F.Feed.meaning c.count.new.self)
@@ -26,8 +25,8 @@ whole g c =
     let looks = c.in-Ok.ensures.ok in
     let given = c.give.ensures.given in
     publishes meaning g.F.Feed.does c.args.self.now c.prepare.new.self c.give.new.self c.count.new.self c.next_item-item.result c.args.source c.args.text
-        c.args.due.now c.prepare.new.due c.give.new.due looks.0 given.0 c.requires.sound c.requires.source item.source item.text item.serial item.seq c.prepare.ensures.looked
-        looks.1.0 (looks.1.1.there c.if-not-room.false) c.prepare.ensures.due c.in_default.ensures given.1.0 given.1.1 c.give.ensures.rest c.count.ensures.rest c.count.ensures.entries c.count.ensures.giving
+    c.args.due.now c.prepare.new.due c.give.new.due looks.0 given.0 c.requires.sound c.requires.source item.source item.text item.serial item.seq c.prepare.ensures.looked
+    looks.1.0 (looks.1.1.there c.if-not-room.false) c.prepare.ensures.due c.in_default.ensures given.1.0 given.1.1 c.give.ensures.rest c.count.ensures.rest c.count.ensures.entries c.count.ensures.giving
 
 pub returns-clause-sound : goal.returns-clause-sound
 returns-clause-sound g c = (whole g c).0

@@ -32,16 +32,17 @@ give_one-requires-clause-can g c = c.requires.can _ _ (get_mapped (entry_of g.F.
     c.index-entries-number.result))
 
 pub give_one-requires-clause-room : goal.give_one-requires-clause-room
-give_one-requires-clause-room g c =
-    (length c.args.live.now - (c.loop-number.number-index + 1),
-      room_next (length c.args.live.now) c.loop-number.number-index c.loop-number.giving c.loop-number.due c.loop-number-test.true c.loop-number.invariant.room)
+give_one-requires-clause-room g c = (
+  length c.args.live.now - (c.loop-number.number-index + 1),
+  room_next (length c.args.live.now) c.loop-number.number-index c.loop-number.giving c.loop-number.due c.loop-number-test.true c.loop-number.invariant.room,
+)
 
 pub loop-number-preserved : goal.loop-number-preserved
 loop-number-preserved g c =
     let numbers = numbers_of g.F.Feed.meaning c.args.live.now c.args.entries.now c.requires.live in
     let so_far = c.loop-number.invariant.given in
     let stood = next_stood (Gives g.F.Feed.meaning g.F.Feed.does c.args.item.now) None c.args.live.now c.loop-number.number-index so_far.puts
-        c.args.entries.now c.loop-number.entries numbers c.loop-number-test.true so_far.upto c.index-entries-number.result in
+    c.args.entries.now c.loop-number.entries numbers c.loop-number-test.true so_far.upto c.index-entries-number.result in
     let given = c.give_one.ensures.given in
     record {
       given = giving_next g.F.Feed.meaning g.F.Feed.does c.args.item.now c.args.live.now c.loop-number.number-index _ c.args.entries.now c.loop-number.entries given.0 _ c.give_one.new.entry
@@ -56,8 +57,10 @@ returns-clause-given g c =
     let done : c.loop-number.number-index ≡ length c.args.live.now = search rules in
     let so_far = c.loop-number.invariant.given in (
       so_far.puts,
-      (upto_each (Gives g.F.Feed.meaning g.F.Feed.does c.args.item.now) None c.args.live.now c.loop-number.number-index so_far.puts c.args.entries.now c.loop-number.entries
-          (λ k x at other. (others_retired g.F.Feed.meaning c.args.live.now c.args.entries.now k x c.requires.live at (subst (λ n. IsAmong c.args.live.now n k → ⊥) done other), refl))
-          so_far.upto,
-        so_far.gathers),
+      (
+        upto_each (Gives g.F.Feed.meaning g.F.Feed.does c.args.item.now) None c.args.live.now c.loop-number.number-index so_far.puts c.args.entries.now c.loop-number.entries
+            (λ k x at other. (others_retired g.F.Feed.meaning c.args.live.now c.args.entries.now k x c.requires.live at (subst (λ n. IsAmong c.args.live.now n k → ⊥) done other), refl))
+            so_far.upto,
+        so_far.gathers,
+      ),
     )

@@ -1,5 +1,5 @@
 -- The share that was offered is the item, and one that came back is a share again.
-use Rattle.std.proofs.Common.{rules, ◌≡◌, subst}
+use Rattle.std.proofs.Common.{rules, subst}
 use Rattle.flow_rules.specs.declared.item.Item.{Item}
 use Rattle.publisher_hub.specs.Offering.{Gives}
 use Rattle.publisher_hub.proofs.Shares.{shares_back}
@@ -14,11 +14,13 @@ returns-clause-given g c =
     let taken = c.take_share-share.ensures in
     let gives = subst (λ (share : Item). Gives meaning does share answer c.args.entry.now c.give-answer.new.self) (taken.share item c.requires.shares) c.give-answer.ensures in (
       answer,
-      (gives,
+      (
+        gives,
         record {
           due = c.note.ensures.due;
           missed = search rules;
           lag = search rules;
           shares = rw (c.note.ensures.shares) (shares_back meaning does item answer c.args.entry.now c.give-answer.new.self _ gives (taken.rest item c.requires.shares));
-        }),
+        },
+      ),
     )

@@ -1,7 +1,7 @@
 -- Each of the live subscriptions is prepared once.
-use Rattle.std.proofs.Common.{rules, ◌≡◌, ◌<◌, Result, Ok, Err, OnErr, None, refl, sym, subst, ◌∙◌, length, inl, inr, arith, slice_index_or}
+use Rattle.std.proofs.Common.{rules, ◌≡◌, ◌<◌, Result, Ok, Err, OnErr, None, refl, subst, length, slice_index_or}
 use Rattle.publisher_hub.specs.Entry.{entry_of}
-use Rattle.publisher_hub.specs.Looking.{MayPrepare, Prepares}
+use Rattle.publisher_hub.specs.Looking.{Prepares}
 use Rattle.publisher_hub.proofs.LiveRounds.{get_mapped, next_stood, number_at, number_within, numbers_of, others_retired}
 use Rattle.publisher_hub.proofs.PartialRounds.{upto_each}
 use Rattle.publisher_hub.proofs.Preparing.{preparing_next, preparing_none, stopped}
@@ -38,34 +38,36 @@ pub returns-in_err-glance-clause-err : goal.returns-in_err-glance-clause-err
 returns-in_err-glance-clause-err g c =
     let numbers = numbers_of g.F.Feed.meaning c.args.live.now c.args.entries.now c.requires.live in
     let stood = next_stood (Prepares g.F.Feed.meaning g.F.Feed.does c.args.next) None c.args.live.now c.loop-number.number-index c.loop-number.invariant.glances
-        c.args.entries.now c.loop-number.entries numbers c.loop-number-test.true c.loop-number.invariant.upto c.index-entries-number.result in
+    c.args.entries.now c.loop-number.entries numbers c.loop-number-test.true c.loop-number.invariant.upto c.index-entries-number.result in
     on_err c.from_residual.result _ (stopped g.F.Feed.meaning g.F.Feed.does c.args.next c.args.capacity c.args.live.now c.loop-number.number-index _ c.loop-number.room c.args.entries.now c.loop-number.entries
-        _ c.prepare.new.self numbers (number_at c.args.live.now c.loop-number.number-index c.loop-number-test.true) stood c.in_err-glance.ensures.err c.loop-number.invariant)
+    _ c.prepare.new.self numbers (number_at c.args.live.now c.loop-number.number-index c.loop-number-test.true) stood c.in_err-glance.ensures.err c.loop-number.invariant)
 
 pub loop-number-preserved : goal.loop-number-preserved
 loop-number-preserved g c =
     let numbers = numbers_of g.F.Feed.meaning c.args.live.now c.args.entries.now c.requires.live in
     let stood = next_stood (Prepares g.F.Feed.meaning g.F.Feed.does c.args.next) None c.args.live.now c.loop-number.number-index c.loop-number.invariant.glances
-        c.args.entries.now c.loop-number.entries numbers c.loop-number-test.true c.loop-number.invariant.upto c.index-entries-number.result in
+    c.args.entries.now c.loop-number.entries numbers c.loop-number-test.true c.loop-number.invariant.upto c.index-entries-number.result in
     preparing_next g.F.Feed.meaning g.F.Feed.does c.args.next c.args.capacity c.args.live.now c.loop-number.number-index _ c.loop-number.room c.has_room-room.result c.args.entries.now c.loop-number.entries
-        c.in_ok-glance.glance _ c.prepare.new.self numbers (number_at c.args.live.now c.loop-number.number-index c.loop-number-test.true) stood c.in_ok-glance.ensures.ok
-        c.has_room-room.ensures.full c.has_room-room.ensures.not_full c.loop-number.invariant
+    c.in_ok-glance.glance _ c.prepare.new.self numbers (number_at c.args.live.now c.loop-number.number-index c.loop-number-test.true) stood c.in_ok-glance.ensures.ok
+    c.has_room-room.ensures.full c.has_room-room.ensures.not_full c.loop-number.invariant
 
 pub returns-clause-ok : goal.returns-clause-ok
 returns-clause-ok g c =
     let done : c.loop-number.number-index ≡ length c.args.live.now = search rules in
     let so_far = c.loop-number.invariant in (
       so_far.glances,
-      (upto_each (Prepares g.F.Feed.meaning g.F.Feed.does c.args.next) None c.args.live.now c.loop-number.number-index so_far.glances c.args.entries.now c.loop-number.entries
-          (λ k x at other. (others_retired g.F.Feed.meaning c.args.live.now c.args.entries.now k x c.requires.live at (subst (λ n. Rattle.publisher_hub.proofs.PartialRounds.IsAmong c.args.live.now n k → ⊥) done other), refl))
-          so_far.upto,
-        so_far.is_room),
+      (
+        upto_each (Prepares g.F.Feed.meaning g.F.Feed.does c.args.next) None c.args.live.now c.loop-number.number-index so_far.glances c.args.entries.now c.loop-number.entries
+            (λ k x at other. (others_retired g.F.Feed.meaning c.args.live.now c.args.entries.now k x c.requires.live at (subst (λ n. Rattle.publisher_hub.proofs.PartialRounds.IsAmong c.args.live.now n k → ⊥) done other), refl))
+            so_far.upto,
+        so_far.is_room,
+      ),
     )
 
 pub returns-in_err-glance-clause-stays : goal.returns-in_err-glance-clause-stays
 returns-in_err-glance-clause-stays g c ready =
     let numbers = numbers_of g.F.Feed.meaning c.args.live.now c.args.entries.now c.requires.live in
     let stood = next_stood (Prepares g.F.Feed.meaning g.F.Feed.does c.args.next) None c.args.live.now c.loop-number.number-index c.loop-number.invariant.glances
-        c.args.entries.now c.loop-number.entries numbers c.loop-number-test.true c.loop-number.invariant.upto c.index-entries-number.result in
+    c.args.entries.now c.loop-number.entries numbers c.loop-number-test.true c.loop-number.invariant.upto c.index-entries-number.result in
     absurd (ready_is_prepared g.F.Feed.meaning g.F.Feed.does c.args.next _ c.prepare.new.self c.in_err-glance.ensures.err
-        (ready _ _ (get_mapped (entry_of g.F.Feed.meaning) c.args.entries.now _ _ stood)))
+    (ready _ _ (get_mapped (entry_of g.F.Feed.meaning) c.args.entries.now _ _ stood)))

@@ -1,6 +1,5 @@
 -- Each of the subscriptions that missed the item is asked about once.
-use Rattle.std.proofs.Common.{rules, ◌≡◌, ◌+◌, ◌-◌, ◌<◌, ◌≤◌, Some, None, List, ℕ, refl, ap, subst, sym, ◌∙◌, length, arith, slice_index_or}
-use Rattle.std.specs.Prelude.{slice_get, vec_len}
+use Rattle.std.proofs.Common.{rules, ◌≡◌, ◌+◌, ◌-◌, ◌<◌, None, refl, ap, subst, ◌∙◌, length, arith}
 use Rattle.publisher_hub.specs.Entry.{entry_of}
 use Rattle.publisher_hub.specs.Giving.{HasRoomAgain}
 use Rattle.publisher_hub.proofs.LiveRounds.{get_mapped, number_read, stood_at_number, within_now}
@@ -30,7 +29,7 @@ bounds-entries-number g c =
     let here : c.loop-place.place < length missed = search rules in
     let at = number_read missed c.loop-place.giving.missed.items c.loop-place.place c.index-number.result.now (ap (λ v. v.items) c.loop-place.invariant.missed) here c.index-number.ensures in
     within_now (IsAsked g.F.Feed.meaning g.F.Feed.does c.args.item.now missed) None missed c.loop-place.place c.index-number.result.now c.loop-place.invariant.given.seconds c.args.entries.now c.loop-place.entries
-        c.requires.numbers at c.loop-place.invariant.given.upto
+    c.requires.numbers at c.loop-place.invariant.given.upto
 
 pub retry_one-requires-clause-can : goal.retry_one-requires-clause-can
 retry_one-requires-clause-can g c =
@@ -38,7 +37,7 @@ retry_one-requires-clause-can g c =
     let here : c.loop-place.place < length missed = search rules in
     let at = number_read missed c.loop-place.giving.missed.items c.loop-place.place c.index-number.result.now (ap (λ v. v.items) c.loop-place.invariant.missed) here c.index-number.ensures in
     let stood = stood_at_number (IsAsked g.F.Feed.meaning g.F.Feed.does c.args.item.now missed) None missed c.loop-place.place c.index-number.result.now c.loop-place.invariant.given.seconds c.args.entries.now
-        c.loop-place.entries c.requires.numbers at c.loop-place.invariant.given.upto c.index-entries-number.result in
+    c.loop-place.entries c.requires.numbers at c.loop-place.invariant.given.upto c.index-entries-number.result in
     c.requires.can c.loop-place.place c.index-number.result.now _ at (get_mapped (entry_of g.F.Feed.meaning) c.args.entries.now c.index-number.result.now _ stood)
 
 pub retry_one-requires-clause-room : goal.retry_one-requires-clause-room
@@ -54,7 +53,7 @@ loop-place-preserved g c =
     let at = number_read missed c.loop-place.giving.missed.items c.loop-place.place c.index-number.result.now (ap (λ v. v.items) c.loop-place.invariant.missed) here c.index-number.ensures in
     let so_far = c.loop-place.invariant.given in
     let stood = stood_at_number (IsAsked g.F.Feed.meaning g.F.Feed.does c.args.item.now missed) None missed c.loop-place.place c.index-number.result.now so_far.seconds c.args.entries.now
-        c.loop-place.entries c.requires.numbers at so_far.upto c.index-entries-number.result in
+    c.loop-place.entries c.requires.numbers at so_far.upto c.index-entries-number.result in
     let given = c.retry_one.ensures.given in
     let more = c.retry_one.ensures.drops in
     let few = c.loop-place.invariant.drops in
@@ -73,7 +72,11 @@ returns g c =
     let so_far = c.loop-place.invariant.given in
     let done : c.loop-place.place ≡ length missed = search rules in
     record {
-      given = (so_far.seconds,
-        (all_asked g.F.Feed.meaning g.F.Feed.does c.args.item.now missed so_far.seconds c.args.entries.now c.loop-place.entries c.loop-place.place so_far.upto,
-          (are_asked g.F.Feed.meaning g.F.Feed.does c.args.item.now missed so_far.seconds c.args.entries.now c.loop-place.entries c.loop-place.place done c.requires.numbers so_far.upto, so_far.gathers)));
+      given = (
+        so_far.seconds,
+        (
+          all_asked g.F.Feed.meaning g.F.Feed.does c.args.item.now missed so_far.seconds c.args.entries.now c.loop-place.entries c.loop-place.place so_far.upto,
+          (are_asked g.F.Feed.meaning g.F.Feed.does c.args.item.now missed so_far.seconds c.args.entries.now c.loop-place.entries c.loop-place.place done c.requires.numbers so_far.upto, so_far.gathers),
+        ),
+      );
     }
