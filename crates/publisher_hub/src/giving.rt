@@ -10,7 +10,7 @@ use crate::work::Work;
 use flow_rules::{Item, NoMemory, Put};
 use std::alloc::Global;
 
-/// What a publication gathers as it goes round. Its room is kept from one publication to the next.
+/// What a publication gathers as it goes round. Its room is kept for the next one, which drops the shares that were left over.
 #[derive(Drop)]
 pub(crate) struct Giving {
     /// Shares of the item that were not given yet.
