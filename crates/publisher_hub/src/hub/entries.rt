@@ -12,24 +12,27 @@ impl<F: Feed> Hub<F> {
     ghost use Rattle.publisher_hub.specs.Entry.{EntryState};
     ghost use Rattle.publisher_hub.specs.Lending.{feed_at, lends_feed_at, lends_feed_if};
 
-    /// How many publications found the buffer of the subscription of this number full, and `None` where no subscription has it.
+    /// How many publications found the buffer of the subscription of this number full, and `None` where no subscription has this
+    /// number.
     pub fn dropped(&self, entry: u32) -> Option<u64>
         ensures { result ≡ option_map (λ (entry : EntryState). entry.dropped) (slice_get (hub_of F.meaning self.now).entries entry) }
     {
         self.entries.get(entry as usize).map(|it| it.dropped)
     }
 
-    /// The next serial number when the subscription of this number was made, and `None` where no subscription has it.
+    /// The next serial number when the subscription of this number was made, and `None` where no subscription has this number.
     pub fn since(&self, entry: u32) -> Option<u64>
         ensures { result ≡ option_map (λ (entry : EntryState). entry.since) (slice_get (hub_of F.meaning self.now).entries entry) }
     {
         self.entries.get(entry as usize).map(|it| it.since)
     }
 
-    /// The producer's end of the subscription of this number, and `None` where no subscription has it or the end was taken out.
+    /// The producer's end of the subscription of this number, and `None` where no subscription has this number or the end was
+    /// taken out.
     ///
-    /// What is done there stays sound where its capacity, what it accepted and how it was closed stay as they are, and no fewer
-    /// items are taken: see [`lent_feeds_keep_hubs_sound`](crate::lent_feeds_keep_hubs_sound).
+    /// Nothing else of the Hub changes. It stays sound where the end is left with its capacity, what it accepted and how it was
+    /// closed, and where neither an item that was taken nor its end is taken back
+    /// ([`lent_feeds_keep_hubs_sound`](crate::lent_feeds_keep_hubs_sound)).
     pub fn feed_mut(&mut self, entry: u32) -> Option<&mut F>
         ensures* writes_back { sem 𝓛 (lends_feed_if F.row self.entry entry result) }
         ensures value { option_copied_mut result ≡ feed_at self.old entry }
