@@ -14,7 +14,7 @@ mod sources;
 mod subscribing;
 mod tickets;
 
-ghost use Rattle.std.specs.Prelude.{◌≡◌, ◌≤◌, ◌↔◌, IfOk, IfErr, replicate};
+ghost use Rattle.std.specs.Prelude.{Err, ◌⊎◌, ◌≡◌, ◌≤◌, ◌↔◌, IfOk, IfErr, replicate};
 ghost use Rattle.flow_rules.specs.Capacity.{capacity_of};
 ghost use Rattle.flow_rules.specs.declared.refusal.Refusal.TheVariants as Refusal;
 ghost use Rattle.publisher_hub.specs.Hub.{hub_of, hub_at_start};
@@ -66,7 +66,8 @@ impl<F: Feed> Hub<F> {
     pub fn new(alloc: Global, asked: usize) -> Result<Hub<F>, Refusal>
         ensures ok { IfOk result (λ hub. hub_of F.meaning hub ≡ hub_at_start (capacity_of asked) 0) }
         ensures sound { IfOk result (λ hub. IsSound (hub_of F.meaning hub)) }
-        ensures zero { asked ≡ 0 → IfErr result (λ refusal. refusal ≡ Refusal.BadCapacity) }
+        ensures zero { asked ≡ 0 → result ≡ Err Refusal.BadCapacity }
+        ensures other { IfErr result (λ refusal. (refusal ≡ Refusal.BadCapacity → asked ≡ 0) × ((refusal ≡ Refusal.BadCapacity) ⊎ (refusal ≡ Refusal.NoMemory))) }
     {
         Hub::starting_at(alloc, asked, 0)
     }
@@ -76,7 +77,8 @@ impl<F: Feed> Hub<F> {
         requires { serial ≤ PUBLICATIONS }
         ensures ok { IfOk result (λ hub. hub_of F.meaning hub ≡ hub_at_start (capacity_of asked) serial) }
         ensures sound { IfOk result (λ hub. IsSound (hub_of F.meaning hub)) }
-        ensures zero { asked ≡ 0 → IfErr result (λ refusal. refusal ≡ Refusal.BadCapacity) }
+        ensures zero { asked ≡ 0 → result ≡ Err Refusal.BadCapacity }
+        ensures other { IfErr result (λ refusal. (refusal ≡ Refusal.BadCapacity → asked ≡ 0) × ((refusal ≡ Refusal.BadCapacity) ⊎ (refusal ≡ Refusal.NoMemory))) }
     {
         let capacity = capacity(asked)?;
         Ok(Hub {
