@@ -9,6 +9,7 @@ mod answering;
 mod letters;
 mod refused;
 mod row;
+mod trial;
 #[cfg(test)]
 mod tests;
 
@@ -16,3 +17,4 @@ pub use answering::Answering;
 pub use letters::{item_with, signals};
 pub use refused::Refused;
 pub use row::{Row, answers, desk_of};
+pub use trial::{Ask, Trial, Why, desks_of};

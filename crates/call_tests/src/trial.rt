@@ -1,0 +1,183 @@
+//! A Hub as tests call it: its calls as rows, with what each has to answer.
+ghost use Rattle.std.specs.Prelude.{◌≡◌, ◌≤◌};
+ghost use Rattle.flow_rules.specs.declared.item.TheConstants.{PUBLICATIONS};
+ghost use Rattle.publisher_hub.specs.Adding.{IsFresh};
+ghost use Rattle.publisher_hub.specs.Hub.{hub_of};
+ghost use Rattle.publisher_hub.specs.Sound.{IsSound};
+
+use crate::row::desk_of;
+use close_count::Count;
+use feed_core::Desk;
+use flow_rules::{Collector, DropHandler, Ending, Feed, Name, NoMemory, Refusal, Text};
+use publisher_hub::{Hub, Unpublished, Work};
+use std::alloc::Global;
+
+/// A Hub, with the tasks that its calls start.
+#[derive(Drop)]
+pub struct Trial<F: Feed> {
+    alloc: Global,
+    hub: Hub<F>,
+    due: Vec<Work<F::Task>>,
+    ghost sound: { IsSound (hub_of F.meaning hub) },
+}
+
+/// Why an item is given to nobody.
+#[derive(Clone, Copy, PartialEq, Eq)]
+pub enum Why {
+    /// A buffer is full.
+    Full,
+    /// The Hub was closed in this way.
+    Closed(Ending),
+    /// It is refused with this number.
+    Number(u32),
+}
+
+/// A call of a Hub, and what it has to answer.
+#[derive(Clone, Copy)]
+pub enum Ask<'a> {
+    /// A subscriber of this name may subscribe, or is refused with this number.
+    MaySubscribe(u8, Option<u32>),
+    /// An item is published with this lag, or to nobody.
+    Publishes(Result<u64, Why>),
+    /// An offer of an item without a handler answers this, or is made to nobody.
+    Offers(Result<i64, Why>),
+    /// So many are live, so many items wait for one of them at most, and all have room or not.
+    Shows(usize, u64, bool),
+    /// The live subscriptions have these names, of one letter each.
+    Names(&'a [u8]),
+    /// A live subscription has this name, or none has.
+    Subscribed(u8, bool),
+    /// The subscription of this number has dropped so many items, or is not there.
+    Dropped(u32, Option<u64>),
+    /// The Hub is closed, and the opening comes out, which is the last ticket, or none comes out.
+    Ends(bool),
+}
+
+impl<F: Feed> Trial<F> {
+    /// A Hub with its next serial number, which holds the opening of a count of its own.
+    pub fn starting_at(alloc: Global, asked: usize, serial: u64) -> Result<Trial<F>, Refusal>
+        requires { serial ≤ PUBLICATIONS }
+    {
+        let mut hub = Hub::starting_at(alloc, asked, serial)?;
+        hub.set_opening(Count::new(alloc)?);
+        Ok(Trial {
+            alloc,
+            hub,
+            due: Vec::new(alloc),
+        })
+    }
+
+    /// Adds a subscription of this name.
+    pub fn admit(&mut self, letter: u8, feed: F) -> Result<u32, Refusal>
+        requires { IsFresh self.old.hub.capacity (F.meaning feed) }
+    {
+        self.hub.admit(name_of(letter)?, feed, None, &mut self.due)
+    }
+
+    /// What an offer of an item answers.
+    pub fn offer(&mut self, handler: Option<&mut Box<dyn DropHandler>>) -> Result<i64, Why> {
+        let text = text_of(self.alloc)?;
+        Ok(self.hub.offer(0, text, handler, &mut self.due)?)
+    }
+
+    /// Whether a row's call is answered as the row says.
+    pub fn answers(&mut self, ask: Ask<'_>) -> Result<bool, Refusal> {
+        Ok(match ask {
+            Ask::MaySubscribe(letter, number) => self.may_subscribe(letter)? == number,
+            Ask::Publishes(want) => self.publish() == want,
+            Ask::Offers(want) => self.offer(None) == want,
+            Ask::Shows(many, lag, room) => self.show() == (many, lag, room),
+            Ask::Names(letters) => self.are_names(letters)?,
+            Ask::Subscribed(letter, want) => self.hub.is_subscribed(name_of(letter)?) == want,
+            Ask::Dropped(number, want) => self.hub.dropped(number) == want,
+            Ask::Ends(want) => self.end()? == want,
+        })
+    }
+
+    /// The number that a subscriber of this name is refused with, if it is.
+    fn may_subscribe(&mut self, letter: u8) -> Result<Option<u32>, Refusal> {
+        match self.hub.may_subscribe(name_of(letter)?, &mut self.due) {
+            Ok(()) => Ok(None),
+            Err(refusal) => Ok(Some(refusal.number())),
+        }
+    }
+
+    /// What a publication answers.
+    fn publish(&mut self) -> Result<u64, Why> {
+        let text = text_of(self.alloc)?;
+        match self.hub.publish(0, text, &mut self.due) {
+            Ok(lag) => Ok(lag),
+            Err(Unpublished::NoRoom(_)) => Err(Why::Full),
+            Err(Unpublished::Refused(refusal)) => Err(refusal.into()),
+        }
+    }
+
+    /// How many are live, how many items wait for one of them at most, and whether all have room.
+    fn show(&mut self) -> (usize, u64, bool) {
+        let many = self.hub.number_of_subscribers();
+        let lag = self.hub.max_lag();
+        (many, lag, self.hub.has_room())
+    }
+
+    /// Whether the live subscriptions have these names, of one letter each.
+    fn are_names(&mut self, letters: &[u8]) -> Result<bool, Refusal> {
+        let mut names = Vec::new(self.alloc);
+        for letter in letters {
+            let name = name_of(*letter)?;
+            names.push(name).map_err(|_| Refusal::NoMemory)?;
+        }
+        Ok(self.hub.names(self.alloc)? == names)
+    }
+
+    /// Closes the Hub. Whether the opening comes out, and is the last ticket.
+    fn end(&mut self) -> Result<bool, Refusal> {
+        match self.hub.end(Ending::Normal, &mut self.due)? {
+            Some(opening) => Ok(opening.try_complete()),
+            None => Ok(false),
+        }
+    }
+}
+
+/// A Hub of capacity `asked` with a Desk for each of these names, of one letter each, which are numbered in their order.
+pub fn desks_of(
+    alloc: Global,
+    asked: usize,
+    letters: &[u8],
+) -> Result<Trial<Desk<Collector>>, Refusal> {
+    let mut trial = Trial::starting_at(alloc, asked, 0)?;
+    for (place, letter) in letters.iter().enumerate() {
+        let desk = desk_of(alloc, asked, Collector::new(alloc))?;
+        if desk.capacity() != trial.hub.capacity() {
+            return Err(Refusal::BadCapacity);
+        }
+        if trial.admit(*letter, desk)? as usize != place {
+            return Err(Refusal::Unknown);
+        }
+    }
+    Ok(trial)
+}
+
+/// The name of one letter.
+fn name_of(letter: u8) -> Result<Name, Refusal> {
+    Name::new(&[letter]).ok_or(Refusal::Unknown)
+}
+
+/// A text.
+fn text_of(alloc: Global) -> Result<Text, NoMemory> {
+    Text::new(alloc, b"x")
+}
+
+impl From<Refusal> for Why {
+    fn from(refusal: Refusal) -> Why {
+        match refusal {
+            Refusal::Closed(ending) => Why::Closed(ending),
+            other => Why::Number(other.number()),
+        }
+    }
+}
+
+impl From<NoMemory> for Why {
+    fn from(_: NoMemory) -> Why {
+        Why::Number(5)
+    }
+}
