@@ -6,14 +6,16 @@
 #![tactic(auto)]
 
 mod answering;
+mod asking;
 mod letters;
 mod refused;
 mod row;
-mod trial;
 #[cfg(test)]
 mod tests;
+mod trial;
 
 pub use answering::Answering;
+pub use asking::{Asked, Asking};
 pub use letters::{item_with, signals};
 pub use refused::Refused;
 pub use row::{Row, answers, desk_of};
