@@ -7,6 +7,7 @@
 
 mod answering;
 mod asking;
+mod counting;
 mod letters;
 mod refused;
 mod row;
@@ -15,8 +16,9 @@ mod tests;
 mod trial;
 
 pub use answering::Answering;
-pub use asking::{Asked, Asking};
+pub use asking::{Asking, Notes};
+pub use counting::Counting;
 pub use letters::{item_with, signals};
 pub use refused::Refused;
 pub use row::{Row, answers, desk_of};
-pub use trial::{Ask, Trial, Why, desks_of};
+pub use trial::{Ask, Trial, Why, counting_hub, desks_of};

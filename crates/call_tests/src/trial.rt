@@ -1,10 +1,14 @@
 //! A Hub as tests call it: its calls as rows, with what each has to answer.
-ghost use Rattle.std.specs.Prelude.{◌≡◌, ◌≤◌};
+ghost use Rattle.std.specs.Prelude.{◌≡◌, ◌≤◌, IfOk};
+ghost use Rattle.call_tests.specs.Counting.{end_of_counting};
+ghost use Rattle.feed_core.specs.Feed.{end_of};
 ghost use Rattle.flow_rules.specs.declared.item.TheConstants.{PUBLICATIONS};
 ghost use Rattle.publisher_hub.specs.Adding.{IsFresh};
 ghost use Rattle.publisher_hub.specs.Hub.{hub_of};
 ghost use Rattle.publisher_hub.specs.Sound.{IsSound};
 
+use crate::asking::Notes;
+use crate::counting::Counting;
 use crate::row::desk_of;
 use close_count::Count;
 use feed_core::Desk;
@@ -16,9 +20,9 @@ use std::alloc::Global;
 #[derive(Drop)]
 pub struct Trial<F: Feed> {
     alloc: Global,
-    hub: Hub<F>,
+    /// The Hub.
+    pub hub: Hub<F>,
     due: Vec<Work<F::Task>>,
-    ghost sound: { IsSound (hub_of F.meaning hub) },
 }
 
 /// Why an item is given to nobody.
@@ -57,6 +61,7 @@ impl<F: Feed> Trial<F> {
     /// A Hub with its next serial number, which holds the opening of a count of its own.
     pub fn starting_at(alloc: Global, asked: usize, serial: u64) -> Result<Trial<F>, Refusal>
         requires { serial ≤ PUBLICATIONS }
+        ensures { IfOk result (λ trial. IsSound (hub_of F.meaning trial.hub)) }
     {
         let mut hub = Hub::starting_at(alloc, asked, serial)?;
         hub.set_opening(Count::new(alloc)?);
@@ -69,19 +74,27 @@ impl<F: Feed> Trial<F> {
 
     /// Adds a subscription of this name.
     pub fn admit(&mut self, letter: u8, feed: F) -> Result<u32, Refusal>
-        requires { IsFresh self.old.hub.capacity (F.meaning feed) }
+        requires sound { IsSound (hub_of F.meaning self.old.hub) }
+        requires fresh { IsFresh self.old.hub.capacity (F.meaning feed) }
+        ensures sound { IsSound (hub_of F.meaning self.new.hub) }
     {
         self.hub.admit(name_of(letter)?, feed, None, &mut self.due)
     }
 
     /// What an offer of an item answers.
-    pub fn offer(&mut self, handler: Option<&mut Box<dyn DropHandler>>) -> Result<i64, Why> {
+    pub fn offer(&mut self, handler: Option<&mut Box<dyn DropHandler>>) -> Result<i64, Why>
+        requires sound { IsSound (hub_of F.meaning self.old.hub) }
+        ensures sound { IsSound (hub_of F.meaning self.new.hub) }
+    {
         let text = text_of(self.alloc)?;
         Ok(self.hub.offer(0, text, handler, &mut self.due)?)
     }
 
     /// Whether a row's call is answered as the row says.
-    pub fn answers(&mut self, ask: Ask<'_>) -> Result<bool, Refusal> {
+    pub fn answers(&mut self, ask: Ask<'_>) -> Result<bool, Refusal>
+        requires sound { IsSound (hub_of F.meaning self.old.hub) }
+        ensures sound { IsSound (hub_of F.meaning self.new.hub) }
+    {
         Ok(match ask {
             Ask::MaySubscribe(letter, number) => self.may_subscribe(letter)? == number,
             Ask::Publishes(want) => self.publish() == want,
@@ -95,7 +108,10 @@ impl<F: Feed> Trial<F> {
     }
 
     /// The number that a subscriber of this name is refused with, if it is.
-    fn may_subscribe(&mut self, letter: u8) -> Result<Option<u32>, Refusal> {
+    fn may_subscribe(&mut self, letter: u8) -> Result<Option<u32>, Refusal>
+        requires sound { IsSound (hub_of F.meaning self.old.hub) }
+        ensures sound { IsSound (hub_of F.meaning self.new.hub) }
+    {
         match self.hub.may_subscribe(name_of(letter)?, &mut self.due) {
             Ok(()) => Ok(None),
             Err(refusal) => Ok(Some(refusal.number())),
@@ -103,7 +119,10 @@ impl<F: Feed> Trial<F> {
     }
 
     /// What a publication answers.
-    fn publish(&mut self) -> Result<u64, Why> {
+    fn publish(&mut self) -> Result<u64, Why>
+        requires sound { IsSound (hub_of F.meaning self.old.hub) }
+        ensures sound { IsSound (hub_of F.meaning self.new.hub) }
+    {
         let text = text_of(self.alloc)?;
         match self.hub.publish(0, text, &mut self.due) {
             Ok(lag) => Ok(lag),
@@ -113,14 +132,20 @@ impl<F: Feed> Trial<F> {
     }
 
     /// How many are live, how many items wait for one of them at most, and whether all have room.
-    fn show(&mut self) -> (usize, u64, bool) {
+    fn show(&mut self) -> (usize, u64, bool)
+        requires sound { IsSound (hub_of F.meaning self.old.hub) }
+        ensures sound { IsSound (hub_of F.meaning self.new.hub) }
+    {
         let many = self.hub.number_of_subscribers();
         let lag = self.hub.max_lag();
         (many, lag, self.hub.has_room())
     }
 
     /// Whether the live subscriptions have these names, of one letter each.
-    fn are_names(&mut self, letters: &[u8]) -> Result<bool, Refusal> {
+    fn are_names(&mut self, letters: &[u8]) -> Result<bool, Refusal>
+        requires sound { IsSound (hub_of F.meaning self.old.hub) }
+        ensures sound { IsSound (hub_of F.meaning self.new.hub) }
+    {
         let mut names = Vec::new(self.alloc);
         for letter in letters {
             let name = name_of(*letter)?;
@@ -130,7 +155,10 @@ impl<F: Feed> Trial<F> {
     }
 
     /// Closes the Hub. Whether the opening comes out, and is the last ticket.
-    fn end(&mut self) -> Result<bool, Refusal> {
+    fn end(&mut self) -> Result<bool, Refusal>
+        requires sound { IsSound (hub_of F.meaning self.old.hub) }
+        ensures sound { IsSound (hub_of F.meaning self.new.hub) }
+    {
         match self.hub.end(Ending::Normal, &mut self.due)? {
             Some(opening) => Ok(opening.try_complete()),
             None => Ok(false),
@@ -138,23 +166,69 @@ impl<F: Feed> Trial<F> {
     }
 }
 
-/// A Hub of capacity `asked` with a Desk for each of these names, of one letter each, which are numbered in their order.
-pub fn desks_of(
-    alloc: Global,
-    asked: usize,
-    letters: &[u8],
-) -> Result<Trial<Desk<Collector>>, Refusal> {
+/// A Hub of this capacity with three Desks, whose subscriptions are named a, b and c and numbered 0, 1 and 2.
+pub fn desks_of(alloc: Global, asked: usize) -> Result<Trial<Desk<Collector>>, Refusal>
+    ensures { IfOk result (λ trial. IsSound (hub_of end_of trial.hub)) }
+{
     let mut trial = Trial::starting_at(alloc, asked, 0)?;
-    for (place, letter) in letters.iter().enumerate() {
-        let desk = desk_of(alloc, asked, Collector::new(alloc))?;
-        if desk.capacity() != trial.hub.capacity() {
-            return Err(Refusal::BadCapacity);
-        }
-        if trial.admit(*letter, desk)? as usize != place {
-            return Err(Refusal::Unknown);
-        }
-    }
+    admit_desk(&mut trial, asked, b'a', 0)?;
+    admit_desk(&mut trial, asked, b'b', 1)?;
+    admit_desk(&mut trial, asked, b'c', 2)?;
     Ok(trial)
+}
+
+/// Adds a Desk under a name, which has to get this number.
+fn admit_desk(
+    trial: &mut Trial<Desk<Collector>>,
+    asked: usize,
+    letter: u8,
+    number: u32,
+) -> Result<(), Refusal>
+    requires sound { IsSound (hub_of end_of trial.old.hub) }
+    ensures sound { IsSound (hub_of end_of trial.new.hub) }
+{
+    let desk = desk_of(trial.alloc, asked, Collector::new(trial.alloc))?;
+    if desk.capacity() != trial.hub.capacity() {
+        return Err(Refusal::BadCapacity);
+    }
+    if trial.admit(letter, desk)? != number {
+        return Err(Refusal::Unknown);
+    }
+    Ok(())
+}
+
+/// A Hub with three subscriptions of capacity 1, named a, b and c, which note their puts with the letters A, B and C. All their items are
+/// taken just before the put of this number.
+pub fn counting_hub(alloc: Global, notes: &Notes, frees_at: u64) -> Result<Trial<Counting>, Refusal>
+    ensures { IfOk result (λ trial. IsSound (hub_of end_of_counting trial.hub)) }
+{
+    let mut trial = Trial::starting_at(alloc, 1, 0)?;
+    admit_counting(&mut trial, notes, (b'a', b'A'), frees_at)?;
+    admit_counting(&mut trial, notes, (b'b', b'B'), frees_at)?;
+    admit_counting(&mut trial, notes, (b'c', b'C'), frees_at)?;
+    Ok(trial)
+}
+
+/// Adds a subscription of a name that notes its puts with a letter.
+fn admit_counting(
+    trial: &mut Trial<Counting>,
+    notes: &Notes,
+    letters: (u8, u8),
+    frees_at: u64,
+) -> Result<(), Refusal>
+    requires sound { IsSound (hub_of end_of_counting trial.old.hub) }
+    ensures sound { IsSound (hub_of end_of_counting trial.new.hub) }
+{
+    let notes = notes.share()?;
+    let feed = Counting::new(
+        trial.alloc,
+        trial.hub.capacity(),
+        notes,
+        letters.1,
+        frees_at,
+    );
+    let _ = trial.admit(letters.0, feed)?;
+    Ok(())
 }
 
 /// The name of one letter.

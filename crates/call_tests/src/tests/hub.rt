@@ -1,5 +1,8 @@
 //! The calls of a Hub, as rows.
-use crate::{Ask, Asked, Trial, Why, desks_of};
+ghost use Rattle.publisher_hub.specs.Hub.{hub_of};
+ghost use Rattle.publisher_hub.specs.Sound.{IsSound};
+
+use crate::{Ask, Notes, Trial, Why, counting_hub, desks_of};
 use feed_core::Desk;
 use flow_rules::{Collector, DropHandler, Ending, Feed, NoMemory, PUBLICATIONS, Refusal};
 use std::alloc::Global;
@@ -36,15 +39,17 @@ const WHOLE_LIFE: [Ask<'static>; 21] = [
     Ask::Offers(Err(Why::Closed(Ending::Normal))),
 ];
 
-const DROPPED_FIVE_TIMES: [Ask<'static>; 4] = [
+const DROPPED_TWICE: [Ask<'static>; 4] = [
     Ask::Offers(Ok(-3)),
-    Ask::Dropped(0, Some(5)),
-    Ask::Dropped(1, Some(5)),
-    Ask::Dropped(2, Some(5)),
+    Ask::Dropped(0, Some(2)),
+    Ask::Dropped(1, Some(2)),
+    Ask::Dropped(2, Some(2)),
 ];
 
 /// The place of the first row that a Hub does not answer as the row says.
-fn first_wrong<F: Feed>(trial: &mut Trial<F>, asks: &[Ask<'_>]) -> Result<Option<usize>, Refusal> {
+fn first_wrong<F: Feed>(trial: &mut Trial<F>, asks: &[Ask<'_>]) -> Result<Option<usize>, Refusal>
+    requires { IsSound (hub_of F.meaning trial.old.hub) }
+{
     for (place, ask) in asks.iter().enumerate() {
         if !trial.answers(*ask)? {
             return Ok(Some(place));
@@ -54,7 +59,9 @@ fn first_wrong<F: Feed>(trial: &mut Trial<F>, asks: &[Ask<'_>]) -> Result<Option
 }
 
 /// Makes the calls on a Hub, and compares each with its row.
-fn play<F: Feed>(rt: &impl Abort, mut trial: Trial<F>, asks: &[Ask<'_>]) -> Result<(), Fail> {
+fn play<F: Feed>(rt: &impl Abort, mut trial: Trial<F>, asks: &[Ask<'_>]) -> Result<(), Fail>
+    requires { IsSound (hub_of F.meaning trial.hub) }
+{
     let wrong = first_wrong(&mut trial, asks)?;
     assert!(rt; wrong.is_none(), "row {wrong:?}");
     Ok(())
@@ -68,36 +75,57 @@ fn the_last_serial_number_is_given_once(rt: HostRuntime) -> Result<(), Fail> {
 
 #[test]
 fn a_hub_serves_three_subscriptions_until_it_is_closed(rt: HostRuntime) -> Result<(), Fail> {
-    play(&rt, desks_of(rt.alloc(), 2, b"abc")?, &WHOLE_LIFE)
+    play(&rt, desks_of(rt.alloc(), 2)?, &WHOLE_LIFE)
 }
 
-/// Whether an offer with a handler of these answers finds three full buffers in the order of their subscription, and drops the item.
-fn is_dropped_by_all<F: Feed>(
+/// Whether an offer with a handler of these answers is answered so, and notes these letters.
+fn is_offered<F: Feed>(
     alloc: Global,
     trial: &mut Trial<F>,
+    notes: &Notes,
     answers: [bool; 3],
-) -> Result<bool, NoMemory> {
-    let asked = Asked::new(alloc)?;
-    let mut handler: Box<dyn DropHandler> = Box::new(alloc, asked.handler(answers)?)?;
-    Ok(trial.offer(Some(&mut handler)) == Ok(-3) && asked.are(b"abc"))
+    want: (i64, &[u8]),
+) -> Result<bool, NoMemory>
+    requires sound { IsSound (hub_of F.meaning trial.old.hub) }
+    ensures sound { IsSound (hub_of F.meaning trial.new.hub) }
+{
+    let mut handler: Box<dyn DropHandler> = Box::new(alloc, notes.handler(answers)?)?;
+    Ok(trial.offer(Some(&mut handler)) == Ok(want.0) && notes.take(want.1))
 }
 
 #[test]
 fn a_handler_is_asked_once_for_each_full_buffer(rt: HostRuntime) -> Result<(), Fail> {
     let alloc = rt.alloc();
-    let mut trial = desks_of(alloc, 1, b"abc")?;
-    assert!(rt; trial.answers(Ask::Publishes(Ok(1)))?);
-    let rows = [
-        [false; 3],
-        [true; 3],
-        [true, false, true],
-        [false, true, false],
-    ];
-    for answers in rows {
-        assert!(rt;
-            is_dropped_by_all(alloc, &mut trial, answers)?,
-            "at {answers:?}"
-        );
+    for answers in [[false; 3], [true; 3], [true, false, true]] {
+        let notes = Notes::new(alloc)?;
+        let mut trial = desks_of(alloc, 1)?;
+        assert!(rt; trial.answers(Ask::Publishes(Ok(1)))?);
+        let is_right = is_offered(alloc, &mut trial, &notes, answers, (-3, b"abc"))?;
+        assert!(rt; is_right, "at {answers:?}");
+        play(&rt, trial, &DROPPED_TWICE)?;
     }
-    play(&rt, trial, &DROPPED_FIVE_TIMES)
+    Ok(())
+}
+
+#[test]
+fn one_retry_follows_each_true(rt: HostRuntime) -> Result<(), Fail> {
+    let alloc = rt.alloc();
+    // The put that finds a place, if one does, what the handler answers, what the offer answers, and the calls in order: a put is a
+    // large letter, and a call of the handler a small one.
+    let rows: [(u64, [bool; 3], i64, &[u8]); 6] = [
+        (0, [false; 3], -3, b"ABCabc"),
+        (0, [true; 3], -3, b"ABCaAbBcC"),
+        (0, [true, false, true], -3, b"ABCaAbcC"),
+        (3, [true; 3], 1, b"ABCaAbBcC"),
+        (3, [true, false, true], -1, b"ABCaAbcC"),
+        (2, [true; 3], 1, b"ABC"),
+    ];
+    for (frees_at, answers, answer, calls) in rows {
+        let notes = Notes::new(alloc)?;
+        let mut trial = counting_hub(alloc, &notes, frees_at)?;
+        assert!(rt; trial.answers(Ask::Publishes(Ok(1)))? && notes.take(b"ABC"));
+        let is_right = is_offered(alloc, &mut trial, &notes, answers, (answer, calls))?;
+        assert!(rt; is_right, "at {answers:?} {frees_at}");
+    }
+    Ok(())
 }
