@@ -1,7 +1,5 @@
 //! A producer's end that notes its puts.
 ghost use Rattle.std.specs.Prelude.{◌+◌, ◌≤◌, ◌≡◌, [], false, length};
-ghost use Rattle.call_tests.specs.Counting.{end_of_counting};
-ghost use Rattle.publisher_hub.specs.Adding.{IsFresh};
 
 use crate::asking::Notes;
 use flow_rules::{Amount, Ending, Feed, Item, NoMemory, Put, Standing};
@@ -30,6 +28,9 @@ pub struct Counting {
 }
 
 impl Counting {
+    ghost use Rattle.call_tests.specs.Counting.{end_of_counting};
+    ghost use Rattle.publisher_hub.specs.Adding.{IsFresh};
+
     /// One of this capacity that accepted nothing.
     pub fn new(alloc: Global, capacity: usize, notes: Notes, letter: u8, frees_at: u64) -> Counting
         ensures { IsFresh capacity (end_of_counting result) }
@@ -51,6 +52,8 @@ impl Counting {
 }
 
 impl Feed for Counting {
+    ghost use Rattle.call_tests.specs.Counting.{end_of_counting};
+
     type Task = ();
 
     ghost meaning = { end_of_counting };
