@@ -1,5 +1,5 @@
 //! A producer's end that notes its puts.
-ghost use Rattle.std.specs.Prelude.{◌+◌, ◌≤◌, ◌≡◌, [], false, length};
+ghost use Rattle.std.specs.Prelude.{◌+◌, ◌<◌, ◌≤◌, ◌≡◌, [], None, false, length, vec_capacity, vec_len};
 
 use crate::asking::Notes;
 use flow_rules::{Amount, Ending, Feed, Item, NoMemory, Put, Standing};
@@ -29,6 +29,7 @@ pub struct Counting {
 
 impl Counting {
     ghost use Rattle.call_tests.specs.Counting.{end_of_counting};
+    ghost use Rattle.flow_rules.specs.Feed.{Answers, Looked};
     ghost use Rattle.publisher_hub.specs.Adding.{IsFresh};
 
     /// One of this capacity that accepted nothing.
@@ -47,6 +48,40 @@ impl Counting {
             state: false,
             puts: 0,
             frees_at,
+        }
+    }
+
+    /// Looks before a put. One that is refused the place of an item has ended.
+    fn look(&mut self)
+        ensures looked { Looked (end_of_counting self.old) (end_of_counting self.new) }
+        ensures place { self.new.over ≡ false → vec_len self.new.accepted < vec_capacity self.new.accepted }
+    {
+        self.looks.add_one();
+        if self.puts == self.frees_at {
+            self.taken = self.accepted.len();
+        }
+        if self.accepted.reserve(1).is_err() {
+            self.over = true;
+        }
+    }
+
+    /// Takes an item, where there is room.
+    fn take(&mut self, item: Item) -> Put<()>
+        requires unclosed { self.old.closing ≡ None }
+        requires place { self.old.over ≡ false → vec_len self.old.accepted < vec_capacity self.old.accepted }
+        ensures { Answers (end_of_counting self.old) item result (end_of_counting self.new) }
+    {
+        if self.over {
+            return Put::Gone(item);
+        }
+        let held = self.accepted.len() - self.taken;
+        if held == self.capacity {
+            return Put::Full(item);
+        }
+        self.accepted.push_reserved(item);
+        Put::Accepted {
+            lag: held as u64 + 1,
+            start: None,
         }
     }
 }
@@ -68,25 +103,8 @@ impl Feed for Counting {
         if self.closing.is_some() {
             return Put::Gone(item);
         }
-        self.looks.add_one();
-        if self.puts == self.frees_at {
-            self.taken = self.accepted.len();
-        }
-        if self.over {
-            return Put::Gone(item);
-        }
-        let held = self.accepted.len() - self.taken;
-        if held == self.capacity {
-            return Put::Full(item);
-        }
-        if let Err(refused) = self.accepted.push(item) {
-            self.over = true;
-            return Put::Gone(refused.value);
-        }
-        Put::Accepted {
-            lag: held as u64 + 1,
-            start: None,
-        }
+        self.look();
+        self.take(item)
     }
 
     fn end(&mut self, ending: Ending) -> Option<()> {

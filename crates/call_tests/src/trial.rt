@@ -95,16 +95,16 @@ impl<F: Feed> Trial<F> {
         requires sound { IsSound (hub_of F.meaning self.old.hub) }
         ensures sound { IsSound (hub_of F.meaning self.new.hub) }
     {
-        Ok(match ask {
-            Ask::MaySubscribe(letter, number) => self.may_subscribe(letter)? == number,
-            Ask::Publishes(want) => self.publish() == want,
-            Ask::Offers(want) => self.offer(None) == want,
-            Ask::Shows(many, lag, room) => self.show() == (many, lag, room),
-            Ask::Names(letters) => self.are_names(letters)?,
-            Ask::Subscribed(letter, want) => self.hub.is_subscribed(name_of(letter)?) == want,
-            Ask::Dropped(number, want) => self.hub.dropped(number) == want,
-            Ask::Ends(want) => self.end()? == want,
-        })
+        match ask {
+            Ask::MaySubscribe(letter, number) => Ok(self.may_subscribe(letter)? == number),
+            Ask::Publishes(want) => Ok(self.publish() == want),
+            Ask::Offers(want) => Ok(self.offer(None) == want),
+            Ask::Shows(many, lag, room) => Ok(self.show() == (many, lag, room)),
+            Ask::Names(letters) => self.are_names(letters),
+            Ask::Subscribed(letter, want) => Ok(self.hub.is_subscribed(name_of(letter)?) == want),
+            Ask::Dropped(number, want) => Ok(self.hub.dropped(number) == want),
+            Ask::Ends(want) => Ok(self.end()? == want),
+        }
     }
 
     /// The number that a subscriber of this name is refused with, if it is.
