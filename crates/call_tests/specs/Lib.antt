@@ -1,3 +1,4 @@
+pub mod Counting
 pub mod Letters
 pub mod Refusing
 pub mod Row

@@ -6,13 +6,19 @@
 #![tactic(auto)]
 
 mod answering;
+mod asking;
+mod counting;
 mod letters;
 mod refused;
 mod row;
 #[cfg(test)]
 mod tests;
+mod trial;
 
 pub use answering::Answering;
+pub use asking::{Asking, Notes};
+pub use counting::Counting;
 pub use letters::{item_with, signals};
 pub use refused::Refused;
 pub use row::{Row, answers, desk_of};
+pub use trial::{Ask, Trial, Why, counting_hub, desks_of};

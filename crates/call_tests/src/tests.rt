@@ -1,6 +1,7 @@
 //! Tests of the public calls, one subject a file: what no clause can say.
 mod count;
 mod desks;
+mod hub;
 mod listeners;
 mod names;
 mod numbers;
