@@ -12,7 +12,7 @@ use Rattle.flow_rules.proofs.Items.{items_of_append}
 use Rattle.feed_core.proofs.WholeTurns.{IsOpenList, EndsSo, told_is_open, grown_told, items_of_greeted, sound_after, turn_parts}
 
 -- the signal that was not told has an item, or none
-next_few : (next : Signal) → length (items_of (next ∷ [])) ≤ 1
+pub next_few : (next : Signal) → length (items_of (next ∷ [])) ≤ 1
 next_few Subscribed = omega arith
 next_few (Next item) = omega arith
 next_few Complete = omega arith
@@ -62,14 +62,14 @@ some_of_nexts (item ∷ items) last (signal ∷ told) next rest e short quiet =
     }
 
 -- what was told of a greeting, some onNexts and a last signal, before the one that was not
-record Missed (before : List Signal) (items : List Item) (told : List Signal) (next : Signal) : Type 0 where
+pub record Missed (before : List Signal) (items : List Item) (told : List Signal) (next : Signal) : Type 0 where
   pub told_items : List Item
   pub left : List Item
   pub parts : items ≡ told_items ++ left
   pub is : (told ≡ greeting before ++ map Next told_items) ⊎ ((before ≡ []) × (told ≡ []) × (told_items ≡ []))
   pub fits : length told_items + length (items_of (next ∷ [])) ≤ length items
 
-missed_shape : (before : List Signal) (items : List Item) (last told : List Signal) (next : Signal) (rest : List Signal) → told ++ (next ∷ rest) ≡ greeting before ++ (map Next items ++ last) → length last ≤ 1 → items_of last ≡ [] → Missed before items told next
+pub missed_shape : (before : List Signal) (items : List Item) (last told : List Signal) (next : Signal) (rest : List Signal) → told ++ (next ∷ rest) ≡ greeting before ++ (map Next items ++ last) → length last ≤ 1 → items_of last ≡ [] → Missed before items told next
 missed_shape (s ∷ before) items last told next rest e short quiet =
     let some = some_of_nexts items last told next rest e short quiet in
     record { told_items = some.told_items; left = some.left; parts = some.parts; is = inl some.is; fits = some.fits }
@@ -84,20 +84,20 @@ missed_shape [] items last (signal ∷ told) next rest e short quiet =
     record { told_items = some.told_items; left = some.left; parts = some.parts; is = inl (λ k. head k ∷ some.is k); fits = some.fits }
 
 -- one signal more than was told
-take_next : (told : List Signal) (next : Signal) (rest : List Signal) → take (length told + 1) (told ++ (next ∷ rest)) ≡ told ++ (next ∷ [])
+pub take_next : (told : List Signal) (next : Signal) (rest : List Signal) → take (length told + 1) (told ++ (next ∷ rest)) ≡ told ++ (next ∷ [])
 take_next [] next rest = refl
 take_next (signal ∷ told) next rest =
     let on : suc (length told) + 1 ≡ suc (length told + 1) = omega arith in
     ap (λ n. take n (signal ∷ (told ++ (next ∷ rest)))) on ∙ ap (λ t. signal ∷ t) (take_next told next rest)
 
 -- what was told before the refusal: its items, and that with what was told before it is the text of its own items
-missed_items : (before told : List Signal) (items : List Item) (next : Signal) (m : Missed before items told next) → items_of told ≡ m.told_items
+pub missed_items : (before told : List Signal) (items : List Item) (next : Signal) (m : Missed before items told next) → items_of told ≡ m.told_items
 missed_items before told items next m = elim m.is [
   | inl e ↦ ap items_of (e ∙ ap (λ t. greeting before ++ t) (sym (append-nil (map Next m.told_items)))) ∙ items_of_greeted before m.told_items [] refl
   | inr e ↦ ap items_of e.1 ∙ sym e.2
 ]
 
-missed_told : (before told : List Signal) (items : List Item) (next : Signal) (m : Missed before items told next) → IsOpenList before → before ++ told ≡ signals_of (is_begun (before ++ told)) (items_of (before ++ told)) (Some How.OutOfMemory)
+pub missed_told : (before told : List Signal) (items : List Item) (next : Signal) (m : Missed before items told next) → IsOpenList before → before ++ told ≡ signals_of (is_begun (before ++ told)) (items_of (before ++ told)) (Some How.OutOfMemory)
 missed_told before told items next m begins = elim m.is [
   | inl e ↦ subst (λ t. before ++ t ≡ signals_of (is_begun (before ++ t)) (items_of (before ++ t)) (Some How.OutOfMemory)) (sym (e ∙ ap (λ t. greeting before ++ t) (sym (append-nil (map Next m.told_items)))))
       (grown_told before m.told_items (Some How.OutOfMemory) begins)

@@ -43,7 +43,7 @@ MayEnd lane (How.Failed _) = Unit {0}
 MayEnd lane How.OutOfMemory = Unit {0}
 
 -- an end at once has its cause
-stops_may : (lane : LaneState) (how : How) → stops lane.causes ≡ Some how → MayEnd lane how
+pub stops_may : (lane : LaneState) (how : How) → stops lane.causes ≡ Some how → MayEnd lane how
 stops_may lane how e = by lane.causes.cancel lane.causes.argument lane.causes.state lane.causes.closing refl refl refl refl e where
   by : (cancel argument state : Bool) (closing : Option Ending) → lane.causes.cancel ≡ cancel
       → lane.causes.argument ≡ argument → lane.causes.state ≡ state → lane.causes.closing ≡ closing
@@ -70,7 +70,7 @@ owed_may lane how (inl e) = stops_may lane how e
 owed_may lane how (inr e) = closes_may lane how e.1 e.2
 
 -- a lane that ends as it may has a cause for it
-has_cause : (lane : LaneState) (how : How) (told : List Signal) (accepted : List Item) → length accepted ≡ length lane.accepted → MayEnd lane how
+pub has_cause : (lane : LaneState) (how : How) (told : List Signal) (accepted : List Item) → length accepted ≡ length lane.accepted → MayEnd lane how
     → HasCause (record { accepted = accepted; given = lane.given; asked = lane.asked; causes = with_cause_of how lane.causes; how = Some how; told = told })
 has_cause lane how told accepted long may = record {
   completed = λ e. let is : How.Completed ≡ how = cc in subst (λ h. MayEnd lane h → (with_cause_of h lane.causes).closing ≡ Some Ending.Normal) is (λ m. m.0) may;

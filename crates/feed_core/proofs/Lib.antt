@@ -5,7 +5,10 @@ pub mod FlowRules
 pub mod Looks
 pub mod PlainTurns
 pub mod ProducerEnds
+pub mod RestingTurns
 pub mod SignalLists
+pub mod SoundDesks
 pub mod SoundLanes
+pub mod StoppedTurns
 pub mod TurnLoop
 pub mod WholeTurns

@@ -1,8 +1,8 @@
 -- The calls of a subscription keep its lane sound.
-use Rattle.std.proofs.Common.{◌≡◌, ℕ, ◌≤◌, [], ◌∷◌, ◌++◌, ap, sym, ◌∙◌, append_assoc, length-append, arith, None}
+use Rattle.std.proofs.Common.{◌≡◌, ℕ, ◌≤◌, [], ◌∷◌, ◌++◌, ap, sym, ◌∙◌, append_assoc, length-append, arith, refl, None}
 use Rattle.feed_core.specs.Prelude.{Item, Ending, items_of}
 use Rattle.feed_core.specs.Lane.{LaneState}
-use Rattle.feed_core.specs.LaneCalls.{lane_with_item, lane_with_closing}
+use Rattle.feed_core.specs.LaneCalls.{lane_with_item, lane_with_closing, lane_with_duplicate}
 use Rattle.feed_core.specs.Sound.{IsSound}
 use Rattle.feed_core.proofs.DeskSteps.{no_cause}
 
@@ -54,6 +54,20 @@ sound_lane_with_closing lane ending sound unclosed =
         failed = cause.failed;
         refused = cause.refused;
       };
+      unfailed = sound.unfailed;
+      remembered = sound.remembered;
+    }
+
+-- a lane stays sound when its subscriber subscribes a second time
+pub sound_lane_with_duplicate : (lane : LaneState) → IsSound lane → IsSound (lane_with_duplicate lane)
+sound_lane_with_duplicate lane sound =
+    let counts = sound.counts in
+    let cause = sound.cause in
+    record {
+      told_is = sound.told_is;
+      in_order = sound.in_order;
+      counts = record { tells = counts.tells; loses = counts.loses; taken = counts.taken; requested = counts.requested };
+      cause = record { completed = cause.completed; whole = cause.whole; published = cause.published; argument = cause.argument; state = λ e. refl; cancelled = cause.cancelled; failed = cause.failed; refused = cause.refused };
       unfailed = sound.unfailed;
       remembered = sound.remembered;
     }

@@ -124,7 +124,7 @@ turn_parts lane sound calm =
     }
 
 -- what is taken where all of a turn was told
-taken_all : (turn : Turn) → taken_in turn turn.told ≡ length (items_of turn.told)
+pub taken_all : (turn : Turn) → taken_in turn turn.told ≡ length (items_of turn.told)
 taken_all turn = ap (λ t. length (items_of t)) (take_all (length turn.told + 1) turn.told (omega arith))
 
 -- a lane stays calm after items that do not end it

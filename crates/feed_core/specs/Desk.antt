@@ -4,7 +4,7 @@ use Rattle.feed_core.specs.Prelude.{Item, Signal, Ending}
 use Rattle.feed_core.specs.declared.turn.outlook.Outlook.{Outlook}
 use Rattle.feed_core.specs.declared.turn.outlook.Outlook.TheVariants.{Again, Resting, Ended}
 use Rattle.feed_core.specs.Lane.{LaneState}
-use Rattle.feed_core.specs.LaneCalls.{empty_lane, lag_of, accepts, IsOpen, lane_with_item, lane_with_closing, lane_with_demand}
+use Rattle.feed_core.specs.LaneCalls.{empty_lane, lag_of, accepts, IsOpen, lane_with_item, lane_with_closing, lane_with_duplicate, lane_with_demand}
 use Rattle.feed_core.specs.Turn.{lane_after_turn}
 
 -- a subscription: its lane, the capacity of its buffer, whether its task was started and is not at rest since
@@ -79,6 +79,10 @@ desk_after_put item desk = if accepts desk.capacity desk.lane then desk_after_si
 -- the subscription after it was closed so: only the first time changes it
 abbrev pub desk_after_end : Ending → DeskState → DeskState
 desk_after_end ending desk = if is_some desk.lane.causes.closing then desk else desk_after_signal desk (lane_with_closing ending desk.lane)
+
+-- the subscription after a second subscribing of its subscriber
+abbrev pub desk_after_duplicate : DeskState → DeskState
+desk_after_duplicate desk = desk_after_signal desk (lane_with_duplicate desk.lane)
 
 -- the subscription after this many more items were requested
 abbrev pub desk_after_request : ℕ → DeskState → DeskState

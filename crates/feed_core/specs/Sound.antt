@@ -1,9 +1,10 @@
 -- What holds of a lane between any two calls, from which the Flow rules follow, and what a Desk keeps beside it.
 use Rattle.std.specs.Prelude.{◌≡◌, ℕ, ◌+◌, ◌<◌, ◌≤◌, min, Bool, true, false, Option, None, Some, IsSome, List, [], ◌∷◌, ◌++◌, length, map}
 use mathlib.Core.List.{IsPrefix}
-use Rattle.feed_core.specs.Prelude.{Item, Signal, Subscribed, Next, Published, IllegalArgument, IllegalState, Ending, How, items_of}
+use Rattle.feed_core.specs.Prelude.{UNBOUNDED, Item, Signal, Subscribed, Next, Published, IllegalArgument, IllegalState, Ending, How, items_of}
 use Rattle.feed_core.specs.declared.cause.Causes.{Causes}
 use Rattle.feed_core.specs.Cause.{stops, closes}
+use Rattle.feed_core.specs.Desk.{DeskState}
 use Rattle.feed_core.specs.Lane.{LaneState}
 use Rattle.feed_core.specs.PlainTurn.{terminal_of}
 
@@ -90,3 +91,10 @@ pub record IsStored (lane : LaneState) (held : List Item) (accepted capacity roo
   pub counted : length lane.accepted ≡ accepted
   pub roomy : capacity ≤ room
   pub greeted : begun ≡ is_begun lane.told
+
+-- a subscription is sound: its lane is, the buffer holds no more than it may, the demand is bounded, and a task that was not started is at rest
+pub record IsSoundDesk (desk : DeskState) : Type 0 where
+  pub sound : IsSound desk.lane
+  pub fits : length desk.lane.accepted ≤ desk.lane.given + desk.capacity
+  pub bounded : desk.lane.asked ≤ UNBOUNDED
+  pub rests : desk.started ≡ false → IsAtRest desk.lane

@@ -7,13 +7,13 @@ use Rattle.lines_demo.specs.Line.{is_line_feed, with_first_byte, lines_of, witho
 use Rattle.lines_demo.specs.Writing.{Writes, line_of}
 use Rattle.lines_demo.specs.Script.Command.{command_of}
 use Rattle.lines_demo.specs.Script.Reply.{reply_text}
-use Rattle.lines_demo.specs.Script.Session.{SessionState, LineResult, empty_result, result_then}
-use Rattle.lines_demo.specs.Script.Calls.{command_result}
-use Rattle.lines_demo.specs.Script.Turns.{run_turns}
-use Rattle.lines_demo.specs.Script.Output.{reply_result, turns_before, spelled_result, line_result, lines_result}
+use Rattle.lines_demo.specs.Script.State.{SessionState, LineResult, empty_result, result_then}
+use Rattle.lines_demo.specs.Script.Obeying.{command_result}
+use Rattle.lines_demo.specs.Script.Running.{run_turns}
+use Rattle.lines_demo.specs.Script.Answering.{reply_result, turns_before, spelled_result, line_result, lines_result}
 use Rattle.lines_demo.specs.Script.Playing.{Replies, Answers}
 use Rattle.lines_demo.specs.declared.script.command.Command.{Command}
-use Rattle.lines_demo.specs.declared.script.command.Command.TheVariants.{Cap, Sub, Offer, Submit, Request, Close, Run}
+use Rattle.lines_demo.specs.declared.script.command.Command.TheVariants.{Cap, Sub, Offer, Retry, Submit, Request, Close, Run}
 use Rattle.lines_demo.specs.declared.script.player.TheConstants.{LONGEST_LINE}
 use Rattle.lines_demo.specs.declared.script.reply.Reply.{Reply}
 use Rattle.lines_demo.specs.declared.script.reply.Reply.TheVariants.{Refused}
@@ -26,6 +26,7 @@ no_turns : (command : Command) (state : SessionState) → (command ≡ Run → �
 no_turns (Cap capacity) state other refusals = refl
 no_turns (Sub name number) state other refusals = refl
 no_turns (Offer text) state other refusals = refl
+no_turns (Retry text) state other refusals = refl
 no_turns (Submit text) state other refusals = refl
 no_turns (Request name number) state other refusals = refl
 no_turns Close state other refusals = refl

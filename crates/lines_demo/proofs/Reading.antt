@@ -1,16 +1,19 @@
 -- What was read is all that the reader had.
-use Rattle.std.proofs.Common.{◌≡◌, ℕ, ◌<◌, ◌≤◌, List, length, take, refl, sym, ap, ◌∙◌, arith, [], inl, inr, Option, Some, None, Err, Bool, true, ◌++◌}
+use Rattle.std.proofs.Common.{◌≡◌, ℕ, ◌<◌, ◌≤◌, List, length, take, refl, sym, ap, ◌∙◌, arith, [], inl, inr, Option, Some, None, Err, Bool, true, false, ◌++◌}
 use mathlib.Core.List.{IsPrefix}
 use Rattle.std.specs.Prelude.{IfSome, option_map, Result, Ok, ⊤}
 use Rattle.std.proofs.lemmas.List.{append-nil, length-take, take_all}
 use Rattle.std.proofs.KnownBytes.{Appends-nil}
 use Rattle.lines_demo.specs.declared.script.fault.ScriptFault.{ScriptFault}
 use Rattle.lines_demo.specs.declared.script.fault.ScriptFault.TheVariants.{Read, Write, Memory}
+use Rattle.lines_demo.specs.declared.writing.OutputFault.{OutputFault}
+use Rattle.lines_demo.specs.declared.writing.OutputFault.TheVariants as OutputFault
+use Rattle.lines_demo.specs.Script.Fault.{script_fault}
 use Rattle.lines_demo.specs.Script.RunScript.{PlaysScript, IsScriptOf, IsAsMuch}
-use Rattle.lines_demo.specs.Script.Session.{SessionState, LineResult}
+use Rattle.lines_demo.specs.Script.State.{SessionState, LineResult}
 use Rattle.lines_demo.specs.Script.Playing.{Answers}
 use Rattle.lines_demo.specs.declared.script.run.TheConstants.{LONGEST_SCRIPT}
-use Rattle.lines_demo.specs.Script.Output.{script_output, script_result}
+use Rattle.lines_demo.specs.Script.Answering.{script_output, script_result}
 
 -- the result of a script of which all lines were played, or the writing failed
 abbrev pub IsPlayed : Result (Unit {0}) ScriptFault → Bool → Type 0
@@ -18,6 +21,11 @@ IsPlayed (Ok _) done = done ≡ true
 IsPlayed (Err Read) done = ⊥
 IsPlayed (Err Write) done = ⊤
 IsPlayed (Err Memory) done = ⊤
+
+-- a fault of writing is one of a script that was played
+pub fault_played : (fault : OutputFault) → IsPlayed (Err (script_fault fault)) false
+fault_played OutputFault.Write = tt
+fault_played OutputFault.Memory = tt
 
 -- a read that stopped short of its limit has taken all
 pub all_read : (known : Option (List ℕ)) (limit : ℕ) (items : List ℕ) → IfSome (option_map (take limit) known) (λ xs. items ≡ xs) → length items < limit → IfSome known (λ all. all ≡ items)

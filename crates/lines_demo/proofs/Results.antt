@@ -5,8 +5,8 @@ use Rattle.std.specs.Io.KnownBytes.{Appends}
 use Rattle.std.proofs.KnownBytes.{Appends-nil, Appends-trans}
 use Rattle.lines_demo.specs.Writing.{Writes, line_of}
 use Rattle.lines_demo.specs.Script.Reply.{reply_text}
-use Rattle.lines_demo.specs.Script.Session.{SessionState, CommandResult, LineResult, empty_result, result_after_bytes, result_then}
-use Rattle.lines_demo.specs.Script.Output.{reply_result}
+use Rattle.lines_demo.specs.Script.State.{SessionState, CommandResult, LineResult, empty_result, result_after_bytes, result_then}
+use Rattle.lines_demo.specs.Script.Answering.{reply_result}
 use Rattle.lines_demo.specs.Script.Playing.{Replies, Answers}
 use Rattle.lines_demo.specs.declared.script.reply.Reply.{Reply}
 

@@ -1,11 +1,16 @@
 -- A script: its commands, what each one changes, and what it is answered.
-pub mod Calls
+pub mod Answering
 pub mod Command
 pub mod Fault
-pub mod Law
-pub mod Output
+pub mod Kept
+pub mod Laws
+pub mod Obeying
 pub mod Playing
+pub mod Publishing
 pub mod Reply
 pub mod RunScript
-pub mod Session
+pub mod Running
+pub mod State
+pub mod Subscribing
 pub mod Turns
+pub mod Waking

@@ -31,6 +31,7 @@ const SCRIPTS: &str = "Commands of a script, one a line, and their answers:
   cap N           cap C     asks for a capacity of the buffer, before any other command
   sub NAME N      sub NAME  subscribes, and requests N items
   offer TEXT      offer R   publishes; R is the lag, -1 where there was no room, 0 where nobody takes it
+  retry TEXT      retry R calls K  publishes as offer does, and once more, K times, where there was no room
   submit TEXT     submit R  publishes, and is refused where it would wait for room
   request NAME N  ok        requests N items more, at least 1
   close           ok        closes the publisher

@@ -1,7 +1,7 @@
 //! A script: commands, one a line, that are played on a publisher's one subscription, and what they are answered.
 mod command;
 mod fault;
-mod law;
+mod laws;
 mod player;
 mod reply;
 mod run;
@@ -10,6 +10,7 @@ mod standard_input;
 mod subscription;
 mod text_bytes;
 mod turn_lines;
+mod woken;
 
 pub use fault::ScriptFault;
 pub use run::run_script;

@@ -6,7 +6,7 @@ use Rattle.flow_rules.specs.Name.{is_name}
 use Rattle.lines_demo.specs.Prelude.{UNBOUNDED}
 use Rattle.lines_demo.specs.Number.{spelled_number}
 use Rattle.lines_demo.specs.declared.script.command.Command.{Command}
-use Rattle.lines_demo.specs.declared.script.command.Command.TheVariants.{Cap, Sub, Offer, Submit, Request, Close, Run}
+use Rattle.lines_demo.specs.declared.script.command.Command.TheVariants.{Cap, Sub, Offer, Retry, Submit, Request, Close, Run}
 
 -- a space
 abbrev pub is_space : ℕ → Bool
@@ -61,17 +61,19 @@ command_of line =
     if is_word line (codes "run") then Some Run
     else (if is_word line (codes "close") then Some Close
     else (if is_word word (codes "offer") then with_text Offer (spelled_text rest)
+    else (if is_word word (codes "retry") then with_text Retry (spelled_text rest)
     else (if is_word word (codes "submit") then with_text Submit (spelled_text rest)
     else (if is_word word (codes "cap") then with_number Cap (spelled_number rest)
     else (if is_word word (codes "sub") then with_name Sub (spelled_name (first_word rest)) (spelled_number (after_space rest))
     else (if is_word word (codes "request") then with_name Request (spelled_name (first_word rest)) (positive (spelled_number (after_space rest)))
-    else None))))))
+    else None)))))))
 
 -- the numbers of a command are in range
 abbrev pub IsInRange : Command → Type 0
 IsInRange (Cap capacity) = capacity ≤ UNBOUNDED
 IsInRange (Sub name number) = number ≤ UNBOUNDED
 IsInRange (Offer text) = ⊤
+IsInRange (Retry text) = ⊤
 IsInRange (Submit text) = ⊤
 IsInRange (Request name number) = (1 ≤ number) × (number ≤ UNBOUNDED)
 IsInRange Close = ⊤

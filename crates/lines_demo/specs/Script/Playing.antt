@@ -1,14 +1,15 @@
 -- What the code has to do with a definition that may choose: there are refusals under which the definition says just that.
 use mathlib.Core.List.{IsPrefix}
-use Rattle.std.specs.Prelude.{◌≡◌, ℕ, ◌<◌, ◌≤◌, Bool, true, Option, Some, None, Result, Ok, Err, List, ◌++◌, length}
+use Rattle.std.specs.Prelude.{◌≡◌, ℕ, ◌<◌, ◌≤◌, Bool, true, Option, Some, None, Result, Ok, Err, List, ◌∷◌, ◌++◌, length, slice_get}
 use Rattle.std.specs.Io.KnownBytes.{Appends}
 use Rattle.feed_core.specs.PlainTurn.{plain_turn_of}
 use Rattle.feed_core.specs.Turn.{MeetsPlainTurn}
 use Rattle.lines_demo.specs.Prelude.{Item, Signal, Refusal, Outlook, LONGEST_TEXT}
 use Rattle.lines_demo.specs.Writing.{Writes}
-use Rattle.lines_demo.specs.Script.Session.{SubscriptionState, SessionState, CommandResult, LineResult}
-use Rattle.lines_demo.specs.Script.Calls.{publication_refusal, next_item}
-use Rattle.lines_demo.specs.Script.Turns.{subscription_after_turn, signal_lines, untold_end_line}
+use Rattle.lines_demo.specs.Script.State.{SubscriptionState, SessionState, CommandResult, LineResult}
+use Rattle.lines_demo.specs.Script.Publishing.{publication_refusal, next_item}
+use Rattle.lines_demo.specs.Script.Turns.{signal_lines, untold_end_line}
+use Rattle.lines_demo.specs.Script.Running.{state_after_turn}
 use Rattle.lines_demo.specs.declared.script.reply.Reply.{Reply}
 
 -- under some refusals this is the reply, and the script goes on from this state
@@ -31,20 +32,26 @@ IsItemOf state text (Err Refusal.LineTooLong) = LONGEST_TEXT < length text
 IsItemOf state text (Err Refusal.NoMemory) = length text ≤ LONGEST_TEXT
 IsItemOf state text (Err refusal) = (length text ≤ LONGEST_TEXT) × (publication_refusal state ≡ Some refusal)
 
--- the subscription of this name made a turn, which told these signals and had this outlook; nothing else changed
+-- the first of the woken, of this name, made a turn, which told these signals and had this outlook; nothing else changed
 pub record MakesTurn (old new : SessionState) (name : List ℕ) (told : List Signal) (outlook : Outlook) : Type 0 where
+  pub number : ℕ
+  pub rest : List ℕ
   pub before : SubscriptionState
-  pub subscribed : old.subscription ≡ Some before
+  pub woken : old.woken ≡ number ∷ rest
+  pub stands : slice_get old.subscriptions number ≡ Some before
   pub named : before.name ≡ name
   pub plain : MeetsPlainTurn (plain_turn_of before.desk.lane) told outlook
-  pub after : new ≡ record old { subscription = Some (subscription_after_turn before told outlook) }
+  pub after : new ≡ state_after_turn number before told outlook (record old { woken = rest })
 
--- the lines of a turn are those of the signals by which what its subscriber was told has grown, and then one for want of memory
+-- the lines of a turn are those of the signals by which what the first of the woken was told has grown, and then one for want of memory
 pub record PrintsTurn (is_done : Bool) (before after : SessionState) (old new : Option (List ℕ)) : Type 0 where
+  pub number : ℕ
+  pub rest : List ℕ
   pub first : SubscriptionState
   pub next : SubscriptionState
   pub told : List Signal
-  pub subscribed : before.subscription ≡ Some first
-  pub goes_on : after.subscription ≡ Some next
+  pub woken : before.woken ≡ number ∷ rest
+  pub stood : slice_get before.subscriptions number ≡ Some first
+  pub stands : slice_get after.subscriptions number ≡ Some next
   pub grown : next.desk.lane.told ≡ first.desk.lane.told ++ told
   pub lines : Writes is_done old new (signal_lines first.name told ++ untold_end_line first.name next.desk.lane.how)

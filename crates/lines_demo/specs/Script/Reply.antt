@@ -4,13 +4,14 @@ use Rattle.std.specs.Fmt.{signed_decimal}
 use Rattle.flow_rules.specs.Refusal.{refusal_line}
 use Rattle.lines_demo.specs.Prelude.{Refusal}
 use Rattle.lines_demo.specs.declared.script.reply.Reply.{Reply}
-use Rattle.lines_demo.specs.declared.script.reply.Reply.TheVariants.{Capacity, Name, Offered, Submitted, Done, Idle, Refused}
+use Rattle.lines_demo.specs.declared.script.reply.Reply.TheVariants.{Capacity, Name, Offered, Retried, Submitted, Done, Idle, Refused}
 
 -- the text of a reply
 abbrev pub reply_text : Reply → List ℕ
 reply_text (Capacity capacity) = codes "cap " ++ decimal capacity
 reply_text (Name name) = codes "sub " ++ name
 reply_text (Offered answer) = codes "offer " ++ signed_decimal answer
+reply_text (Retried answer calls) = codes "retry " ++ signed_decimal answer ++ codes " calls " ++ decimal calls
 reply_text (Submitted answer) = codes "submit " ++ signed_decimal answer
 reply_text Done = codes "ok"
 reply_text Idle = codes "idle"

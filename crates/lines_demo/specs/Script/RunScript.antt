@@ -2,7 +2,7 @@
 use mathlib.Core.List.{IsPrefix}
 use Rattle.std.specs.Prelude.{◌≡◌, ◌⊎◌, ℕ, ◌≤◌, Bool, Option, Result, Ok, Err, IfSome, List, [], length, ⊤}
 use Rattle.std.specs.Io.KnownBytes.{Appends}
-use Rattle.lines_demo.specs.Script.Output.{script_output}
+use Rattle.lines_demo.specs.Script.Answering.{script_output}
 use Rattle.lines_demo.specs.declared.script.fault.ScriptFault.{ScriptFault}
 use Rattle.lines_demo.specs.declared.script.fault.ScriptFault.TheVariants.{Read, Write, Memory}
 use Rattle.lines_demo.specs.declared.script.run.TheConstants.{LONGEST_SCRIPT}

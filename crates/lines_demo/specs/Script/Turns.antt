@@ -1,10 +1,9 @@
--- The turns that a `run` makes, and their lines.
+-- What is told of a turn, and its lines.
 use Rattle.std.specs.Prelude.{ℕ, zero, suc, ◌+◌, Bool, true, false, if◌then◌else◌, Option, Some, None, List, [], ◌∷◌, ◌++◌, codes, decimal}
 use Rattle.feed_core.specs.PlainTurn.{plain_turn_of}
 use Rattle.feed_core.specs.Turn.{how_after}
 use Rattle.lines_demo.specs.Prelude.{Signal, Subscribed, Next, Complete, Error, Fault, Published, IllegalArgument, IllegalState, How, Outlook, owes, desk_after_turn, lag_of}
 use Rattle.lines_demo.specs.Writing.{line_of}
-use Rattle.lines_demo.specs.Script.Session.{SubscriptionState, SessionState, LineResult, empty_result, result_then}
 
 -- what is said of a fault
 abbrev pub fault_text : Fault → List ℕ
@@ -62,42 +61,3 @@ parts_of_turn (true ∷ refusals) (signal ∷ signals) = record { told = []; mis
 abbrev pub outlook_where : List Signal → Outlook → Outlook
 outlook_where [] outlook = outlook
 outlook_where (_ ∷ _) outlook = Outlook.Ended How.OutOfMemory
-
--- the subscription after a turn that told these signals, and had this outlook
-abbrev pub subscription_after_turn : SubscriptionState → List Signal → Outlook → SubscriptionState
-subscription_after_turn subscription told outlook = record subscription { desk = desk_after_turn subscription.desk told outlook }
-
--- one turn, if there is a subscription
-abbrev pub turn_result : SessionState → Option SubscriptionState → List Bool → LineResult
-turn_result state None refusals = empty_result state refusals
-turn_result state (Some subscription) refusals =
-    let plain = plain_turn_of subscription.desk.lane in
-    let parts = parts_of_turn refusals plain.told in
-    let outlook = outlook_where parts.missed plain.outlook in
-    record {
-      output = turn_lines subscription.name parts.told outlook;
-      state = record state { subscription = Some (subscription_after_turn subscription parts.told outlook) };
-      refusals = parts.refusals;
-    }
-
--- whether a turn is owed
-abbrev pub owes_turn : Option SubscriptionState → Bool
-owes_turn None = false
-owes_turn (Some subscription) = owes subscription.desk
-
--- how many items wait
-abbrev pub waiting_items : Option SubscriptionState → ℕ
-waiting_items None = 0
-waiting_items (Some subscription) = lag_of subscription.desk.lane
-
--- turns as long as one is owed, and at most so many
-abbrev pub turns_result : ℕ → SessionState → List Bool → LineResult
-turns_result zero state refusals = empty_result state refusals
-turns_result (suc most) state refusals =
-    if owes_turn state.subscription
-    then result_then (turn_result state state.subscription refusals) (turns_result most)
-    else empty_result state refusals
-
--- all turns that are owed: each but the last gives an item that waits, so there are at most as many as items, and one more
-abbrev pub run_turns : SessionState → List Bool → LineResult
-run_turns state refusals = turns_result (waiting_items state.subscription + 1) state refusals

@@ -16,6 +16,8 @@ pub enum Command<'a> {
     Sub(Name, u64),
     /// `offer TEXT`: drops the text where there is no room.
     Offer(TextBytes<'a>),
+    /// `retry TEXT`: offers once more where there is no room, and then drops the text there.
+    Retry(TextBytes<'a>),
     /// `submit TEXT`: is refused where there is no room.
     Submit(TextBytes<'a>),
     /// `request NAME N`, N at least 1
@@ -45,6 +47,9 @@ impl<'a> Command<'a> {
         let (word, rest) = split_word(line);
         if word == b"offer".as_slice() {
             return Some(Command::Offer(parse_text(rest)?));
+        }
+        if word == b"retry".as_slice() {
+            return Some(Command::Retry(parse_text(rest)?));
         }
         if word == b"submit".as_slice() {
             return Some(Command::Submit(parse_text(rest)?));

@@ -3,12 +3,13 @@ ghost use Rattle.std.specs.Prelude.{◌≡◌, ◌<◌, Some, [], true, All, len
 ghost use Rattle.lines_demo.specs.Line.{lines_of};
 ghost use Rattle.lines_demo.specs.Writing.{Writes, line_of};
 ghost use Rattle.lines_demo.specs.Script.Command.{IsInRange};
-ghost use Rattle.lines_demo.specs.Script.Law.{IsNumbered, IsSettledSession};
-ghost use Rattle.lines_demo.specs.Script.Output.{line_result, lines_result, spelled_result};
+ghost use Rattle.lines_demo.specs.Script.Answering.{line_result, lines_result, spelled_result};
+ghost use Rattle.lines_demo.specs.Script.Laws.{IsSettledSession};
 ghost use Rattle.lines_demo.specs.Script.Playing.{Answers, PrintsTurn};
 ghost use Rattle.lines_demo.specs.Script.Reply.{reply_text};
-ghost use Rattle.lines_demo.specs.Script.Session.{state_at_start};
-ghost use Rattle.lines_demo.specs.Script.Turns.{owes_turn, run_turns, turn_result, waiting_items};
+ghost use Rattle.lines_demo.specs.Script.Running.{first_turn_result, most_turns, run_turns};
+ghost use Rattle.lines_demo.specs.Script.State.{state_at_start};
+ghost use Rattle.lines_demo.specs.Script.Waking.{has_woken};
 
 use super::command::Command;
 use super::reply::Reply;
@@ -38,12 +39,11 @@ impl<B: Listener> Player<B> {
     pub fn new(alloc: Global, stock: Vec<B>) -> Result<Player<B>, NoMemory>
         requires untold { All (λ b. B.told b ≡ []) stock.items }
         requires steady { All (λ b. B.is_steady b ≡ true) stock.items }
-        ensures start { IfOk result (λ player. player.session ≡ state_at_start (length stock.items)) }
-        ensures numbered { IfOk result (λ player. IsNumbered player.session) }
+        ensures { IfOk result (λ player. player.session ≡ state_at_start (length stock.items)) }
     {
         Ok(Player {
             seen: Seen::new(alloc)?,
-            session: Session::new(stock),
+            session: Session::new(alloc, stock)?,
             alloc,
             buffer: Vec::new(alloc),
         })
@@ -51,9 +51,8 @@ impl<B: Listener> Player<B> {
 
     /// Plays the lines of these bytes.
     pub fn play_lines<W: Write>(&mut self, bytes: &[u8], writer: &mut W) -> Result<(), OutputFault>
-        ensures lines { Answers (is_ok result) (λ refusals. lines_result (lines_of bytes.now) self.old.session refusals)
+        ensures { Answers (is_ok result) (λ refusals. lines_result (lines_of bytes.now) self.old.session refusals)
             (W.contents writer.old) (W.contents writer.new) self.new.session }
-        ensures numbered { OnOk result (IsNumbered self.old.session → IsNumbered self.new.session) }
     {
         let mut rest = bytes;
         while !rest.is_empty() {
@@ -98,27 +97,26 @@ impl<B: Listener> Player<B> {
         self.answer(reply, writer)
     }
 
-    /// Makes turns until none is owed, and writes the lines of each.
+    /// Makes turns until nobody is woken, and writes the lines of each.
     fn play_turns<W: Write>(&mut self, writer: &mut W) -> Result<(), OutputFault>
         ensures turns { Answers (is_ok result) (λ refusals. run_turns self.old.session refusals)
             (W.contents writer.old) (W.contents writer.new) self.new.session }
-        ensures rests { OnOk result (owes_turn self.new.session.subscription ≡ false) }
+        ensures rests { OnOk result (has_woken self.new.session.woken ≡ false) }
         ensures settled { OnOk result (IsSettledSession self.new.session) }
     {
-        while self.session.owes_turn() {
+        while self.session.has_woken() {
             self.play_turn(writer)?;
         }
         Ok(())
     }
 
-    /// Makes a turn, and writes its lines.
+    /// Makes the turn of the first of the woken, and writes its lines.
     fn play_turn<W: Write>(&mut self, writer: &mut W) -> Result<(), OutputFault>
-        requires { owes_turn self.old.session.subscription ≡ true }
-        ensures turn { Answers (is_ok result) (λ refusals. turn_result self.old.session self.old.session.subscription refusals)
+        requires { has_woken self.old.session.woken ≡ true }
+        ensures turn { Answers (is_ok result) (λ refusals. first_turn_result self.old.session.woken self.old.session refusals)
             (W.contents writer.old) (W.contents writer.new) self.new.session }
         ensures prints { PrintsTurn (is_ok result) self.old.session self.new.session (W.contents writer.old) (W.contents writer.new) }
-        ensures fewer { owes_turn self.new.session.subscription ≡ true
-            → waiting_items self.new.session.subscription < waiting_items self.old.session.subscription }
+        ensures fewer { most_turns self.new.session < most_turns self.old.session }
     {
         let (name, outlook) = self.session.turn(&mut self.seen);
         write_turn(

@@ -14,6 +14,8 @@ pub enum Reply {
     Name(Name),
     /// `offer R`: the lag, -1 where the item was dropped for want of room, or 0 where nobody takes it.
     Offered(i64),
+    /// `retry R calls K`: what an offer answers, and how often the text was offered once more.
+    Retried(i64, u64),
     /// `submit R`: the lag, or 0 where nobody takes the item.
     Submitted(i64),
     /// `ok`
@@ -32,6 +34,7 @@ impl fmt::Display for Reply {
             Reply::Capacity(capacity) => write!(f, "cap {capacity}"),
             Reply::Name(name) => write!(f, "sub {name}"),
             Reply::Offered(answer) => write!(f, "offer {answer}"),
+            Reply::Retried(answer, calls) => write!(f, "retry {answer} calls {calls}"),
             Reply::Submitted(answer) => write!(f, "submit {answer}"),
             Reply::Done => f.write_str("ok"),
             Reply::Idle => f.write_str("idle"),

@@ -10,7 +10,7 @@ use std::io::{BufWriter, Read, Write};
 
 /// How many subscribers a script has. It has one subscription at most, and a `sub` that was refused gives its subscriber back, so
 /// more would never be used.
-const STOCK: usize = 1;
+const STOCK: usize = 1024;
 
 /// What the subscribers of a script keep of what they are told.
 #[derive(Clone, Copy)]

@@ -3,14 +3,13 @@ use Rattle.std.proofs.lemmas.Result.{err_from_is_err_and}
 use Rattle.lines_demo.proofs.Results.{progress_start}
 use Rattle.lines_demo.proofs.Writers.{empty_is}
 use Rattle.lines_demo.proofs.Lines.{lines_more, lines_fault, lines_end}
-use Rattle.lines_demo.proofs.Serials.{numbered_after}
 use Rattle.lines_demo.proofs.script.player.Player.play_lines.Goals as goal
 
 pub loop-rest-init : goal.loop-rest-init
 loop-rest-init g c = progress_start _ _
 
-pub returns-in_err-play_line-clause-lines : goal.returns-in_err-play_line-clause-lines
-returns-in_err-play_line-clause-lines g c =
+pub returns-in_err-play_line : goal.returns-in_err-play_line
+returns-in_err-play_line g c =
     let failed = err_from_is_err_and c.from_residual.result c.from_residual.ensures.1 in
     let some : 0 < length c.loop-rest.rest.now = search rules in
     let answers = rw c.strip_return.ensures at c.in_err-play_line.ensures in
@@ -22,13 +21,7 @@ loop-rest-preserved g c =
     let answers = rw c.strip_return.ensures at c.in_ok-play_line.ensures in
     lines_more _ _ _ _ _ _ _ _ _ c.loop-rest.invariant some c.split_line.ensures.line c.split_line.ensures.rest answers
 
-pub returns-clause-lines : goal.returns-clause-lines
-returns-clause-lines g c =
+pub returns : goal.returns
+returns g c =
     let none : c.loop-rest.rest.now ≡ [] = empty_is _ c.loop-rest-test.ensures in
     lines_end _ _ _ _ _ c.loop-rest.invariant none
-
-pub returns-clause-numbered : goal.returns-clause-numbered
-returns-clause-numbered g c =
-    let none : c.loop-rest.rest.now ≡ [] = empty_is _ c.loop-rest-test.ensures in
-    let answers = lines_end _ _ _ _ _ c.loop-rest.invariant none in
-    λ numbered. numbered_after c.args.bytes.now c.args.self.now.session c.loop-rest.self.session _ _ answers numbered

@@ -1,6 +1,6 @@
-use Rattle.std.proofs.Common.{refl, sym}
+use Rattle.std.proofs.Common.{sym}
 use Rattle.std.proofs.lemmas.Result.{err_from_is_err_and}
-use Rattle.lines_demo.proofs.Turns.{running_start, running_more, running_smaller, running_end, running_fault}
+use Rattle.lines_demo.proofs.Turns.{running_start, running_more, running_end, running_fault}
 use Rattle.lines_demo.proofs.script.player.Player.play_turns.Goals as goal
 
 pub loop-self-init : goal.loop-self-init
@@ -12,7 +12,7 @@ loop-self-preserved g c =
     running_more _ _ _ _ _ _ c.loop-self.invariant (sym c.loop-self-test.ensures.value) turn.turn turn.fewer
 
 pub loop-self-smaller : goal.loop-self-smaller
-loop-self-smaller g c = running_smaller c.loop-self.self.session c.play_turn.new.self.session (sym c.loop-self-test.ensures.value) c.in_ok-play_turn.ensures.fewer
+loop-self-smaller g c = c.in_ok-play_turn.ensures.fewer
 
 pub returns-in_err-play_turn-clause-turns : goal.returns-in_err-play_turn-clause-turns
 returns-in_err-play_turn-clause-turns g c =
@@ -23,4 +23,4 @@ pub returns-clause-turns : goal.returns-clause-turns
 returns-clause-turns g c = running_end _ _ _ _ c.loop-self.invariant (sym c.loop-self-test.ensures.value)
 
 pub returns-clause-settled : goal.returns-clause-settled
-returns-clause-settled g c = c.loop-self-test.ensures.settled refl
+returns-clause-settled g c = c.loop-self-test.ensures.settled

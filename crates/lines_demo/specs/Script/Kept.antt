@@ -1,0 +1,32 @@
+-- What holds wherever a script may stand.
+use Rattle.std.specs.Prelude.{◌≡◌, ℕ, ◌+◌, ◌<◌, ◌≤◌, Option, None, List, All, length}
+use Rattle.feed_core.specs.Sound.{IsSoundDesk}
+use Rattle.lines_demo.specs.Prelude.{Item, Ending}
+use Rattle.lines_demo.specs.Script.State.{SubscriptionState, SessionState}
+use Rattle.lines_demo.specs.Script.Laws.{SerialsRise, WakesWhoOwes, FewAreLive, OneLiveOfName}
+
+-- an item of a script with the texts that were published, by their serial numbers; it was published since this one and before that one
+pub record IsPublished (texts : ℕ → List ℕ) (first next : ℕ) (item : Item) : Type 0 where
+  pub is : item ≡ record { source = 0; seq = item.serial; serial = item.serial; text = texts item.serial }
+  pub since : first ≤ item.serial
+  pub before : item.serial < next
+
+-- what a subscription keeps while the next serial number is this and the publisher was closed so
+pub record IsKept (texts : ℕ → List ℕ) (next : ℕ) (closed : Option Ending) (subscription : SubscriptionState) : Type 0 where
+  pub sound : IsSoundDesk subscription.desk
+  pub rise : SerialsRise subscription.desk.lane.accepted
+  pub published : All (IsPublished texts subscription.since next) subscription.desk.lane.accepted
+  pub most : subscription.since + (length subscription.desk.lane.accepted + subscription.dropped) ≤ next
+  pub all : subscription.desk.lane.how ≡ None → subscription.since + (length subscription.desk.lane.accepted + subscription.dropped) ≡ next
+  pub closing : subscription.desk.lane.how ≡ None → subscription.desk.lane.causes.closing ≡ closed
+
+-- where a script may stand that has published these texts
+pub record IsLawful (texts : ℕ → List ℕ) (state : SessionState) : Type 0 where
+  pub subscriptions : All (IsKept texts state.serial state.closing) state.subscriptions
+  pub woken : WakesWhoOwes state
+  pub few : FewAreLive state
+  pub names : OneLiveOfName state
+
+-- where a script may stand
+abbrev pub IsReached : SessionState → Type 0
+IsReached state = (texts : ℕ → List ℕ) × IsLawful texts state

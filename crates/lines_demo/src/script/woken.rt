@@ -1,0 +1,62 @@
+//! The list of the woken.
+ghost use Rattle.std.specs.Prelude.{◌≡◌, ◌<◌, ◌↔◌, ◌∷◌, ◌++◌, [], true, length, option_to_list, IfOk, IfNone};
+
+use flow_rules::NoMemory;
+use std::alloc::Global;
+use std::collections::VecDeque;
+use std::marker::Model;
+
+/// How many subscriptions may be live, and so how many may be woken.
+pub const MOST_LIVE: usize = 64;
+
+/// The numbers of the subscriptions that are woken, the one whose turn is next first. Its room is made when it is made.
+#[derive(Drop)]
+pub struct Woken {
+    numbers: VecDeque<u32>,
+}
+
+impl Model for Woken {
+    ghost use Rattle.std.specs.Prelude.{◌≤◌, List, ℕ};
+    ghost use Rattle.std.specs.VecDeque.{deque_capacity};
+    ghost use Rattle.lines_demo.specs.declared.script.woken.TheConstants.{MOST_LIVE};
+
+    ghost Value = { List ℕ };
+
+    ghost view = { λ w. w.numbers.items };
+
+    ghost invariant = { λ w. MOST_LIVE ≤ deque_capacity w.numbers };
+}
+
+impl Woken {
+    /// Nobody, with room for all that may be live.
+    pub fn new(alloc: Global) -> Result<Woken, NoMemory>
+        ensures { IfOk result (λ woken. woken ≡ []) }
+    {
+        Ok(Woken {
+            numbers: VecDeque::with_capacity(alloc, MOST_LIVE)?,
+        })
+    }
+
+    /// The subscription of this number is woken, after all others.
+    pub fn push(&mut self, number: u32)
+        requires room { length self.old < MOST_LIVE }
+        ensures { self.new ≡ self.old ++ number ∷ [] }
+    {
+        self.numbers.push_back_reserved(number);
+    }
+
+    /// Takes the one whose turn is next, if anybody is woken.
+    pub fn pop(&mut self) -> Option<u32>
+        ensures first { self.old ≡ option_to_list result ++ self.new }
+        ensures nobody { IfNone result (self.old ≡ []) }
+    {
+        self.numbers.pop_front()
+    }
+
+    /// Whether nobody is woken.
+    pub fn is_empty(&self) -> bool
+        ensures { (result ≡ true) ↔ (self.now ≡ []) }
+    {
+        self.numbers.is_empty()
+    }
+}
