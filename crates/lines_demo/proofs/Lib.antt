@@ -1,4 +1,5 @@
 pub mod Digits
+pub mod EachMaps
 pub mod FewWoken
 pub mod Inside
 pub mod KeptCommands

@@ -10,6 +10,7 @@ pub mod Publishing
 pub mod Reply
 pub mod RunScript
 pub mod Running
+pub mod Session
 pub mod State
 pub mod Subscribing
 pub mod Turns

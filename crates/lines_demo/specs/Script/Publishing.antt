@@ -102,3 +102,8 @@ submitted_reply item subscriptions = Submitted (pos (greatest_lag item subscript
 
 abbrev pub submit_result : SessionState → List Bool → List ℕ → CommandResult
 submit_result state refusals text = publication_result submit_refusal submitted_reply state refusals text
+
+-- how many drops an answer to an offer tells
+abbrev pub drops_in : ℤ → ℕ
+drops_in (pos lag) = 0
+drops_in (negsuc drops) = suc drops

@@ -1,7 +1,9 @@
 //! The list of the woken.
-ghost use Rattle.std.specs.Prelude.{◌≡◌, ◌<◌, ◌↔◌, ◌∷◌, ◌++◌, [], true, length, option_to_list, IfOk, IfNone};
+ghost use Rattle.std.specs.Prelude.{◌≡◌, ◌+◌, ◌<◌, ◌≤◌, ◌↔◌, ◌∷◌, ◌++◌, [], true, length, option_to_list, IfOk, IfNone};
+ghost use Rattle.lines_demo.specs.Script.Session.{numbers_of};
 
 use flow_rules::NoMemory;
+use publisher_hub::Work;
 use std::alloc::Global;
 use std::collections::VecDeque;
 use std::marker::Model;
@@ -43,6 +45,18 @@ impl Woken {
         ensures { self.new ≡ self.old ++ number ∷ [] }
     {
         self.numbers.push_back_reserved(number);
+    }
+
+    /// The subscriptions whose tasks are due are woken, after all others. Nothing is due then.
+    pub fn push_all(&mut self, due: &mut Vec<Work<()>>)
+        requires room { length self.old + length due.old.items ≤ MOST_LIVE }
+        ensures woken { self.new ≡ self.old ++ numbers_of due.old.items }
+        ensures nothing_due { due.new.items ≡ [] }
+    {
+        for work in due.as_slice() {
+            self.push(work.entry);
+        }
+        due.clear();
     }
 
     /// Takes the one whose turn is next, if anybody is woken.

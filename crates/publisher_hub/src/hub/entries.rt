@@ -6,7 +6,7 @@ ghost use Rattle.publisher_hub.specs.Hub.{hub_of};
 
 use crate::entry::Entry;
 use crate::hub::Hub;
-use flow_rules::Feed;
+use flow_rules::{Feed, Name};
 
 impl<F: Feed> Hub<F> {
     ghost use Rattle.publisher_hub.specs.Entry.{EntryState};
@@ -25,6 +25,13 @@ impl<F: Feed> Hub<F> {
         ensures { result ≡ option_map (λ (entry : EntryState). entry.since) (slice_get (hub_of F.meaning self.now).entries entry) }
     {
         self.entries.get(entry as usize).map(|it| it.since)
+    }
+
+    /// The name that the subscriber of this number subscribed with, and `None` where no subscription has this number.
+    pub fn name_of(&self, entry: u32) -> Option<Name>
+        ensures { result ≡ option_map (λ (entry : EntryState). entry.name) (slice_get (hub_of F.meaning self.now).entries entry) }
+    {
+        self.entries.get(entry as usize).map(|it| it.name)
     }
 
     /// The producer's end of the subscription of this number, and `None` where no subscription has this number or the end was

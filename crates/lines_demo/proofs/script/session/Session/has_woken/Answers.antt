@@ -4,19 +4,19 @@ use Rattle.lines_demo.proofs.ScriptLaws.{reached_flow, reached_settled, reached_
 use Rattle.lines_demo.proofs.script.session.Session.has_woken.Goals as goal
 
 pub returns-clause-flow : goal.returns-clause-flow
-returns-clause-flow g c = subst KeepsFlow c.self.view_is (reached_flow _ c.self.invariant.2)
+returns-clause-flow g c = subst KeepsFlow c.self.view_is (reached_flow _ c.self.invariant.2.reached)
 
 pub returns-clause-settled : goal.returns-clause-settled
-returns-clause-settled g c = subst IsSettledSession c.self.view_is (reached_settled _ c.self.invariant.2)
+returns-clause-settled g c = subst IsSettledSession c.self.view_is (reached_settled _ c.self.invariant.2.reached)
 
 pub returns-clause-rise : goal.returns-clause-rise
-returns-clause-rise g c = subst SerialsRiseIn c.self.view_is (reached_rise _ c.self.invariant.2)
+returns-clause-rise g c = subst SerialsRiseIn c.self.view_is (reached_rise _ c.self.invariant.2.reached)
 
 pub returns-clause-agrees : goal.returns-clause-agrees
-returns-clause-agrees g c = subst AgreesOnItems c.self.view_is (reached_agrees _ c.self.invariant.2)
+returns-clause-agrees g c = subst AgreesOnItems c.self.view_is (reached_agrees _ c.self.invariant.2.reached)
 
 pub returns-clause-order : goal.returns-clause-order
-returns-clause-order g c = subst TellsInOneOrder c.self.view_is (reached_order _ c.self.invariant.2)
+returns-clause-order g c = subst TellsInOneOrder c.self.view_is (reached_order _ c.self.invariant.2.reached)
 
 pub returns-clause-counted : goal.returns-clause-counted
-returns-clause-counted g c = subst CountsPublications c.self.view_is (reached_counted _ c.self.invariant.2)
+returns-clause-counted g c = subst CountsPublications c.self.view_is (reached_counted _ c.self.invariant.2.reached)
