@@ -1,7 +1,9 @@
 -- Lists whose elements stand in a relation place by place, as maps of one another.
 use Rattle.std.proofs.Common.{◌≡◌, ℕ, zero, suc, ◌<◌, Some, List, [], ◌∷◌, ◌++◌, length, map, refl, ap, ◌∙◌, arith}
 use Rattle.std.specs.Prelude.{slice_get}
+use Rattle.std.proofs.lemmas.Option.{slice_get_within}
 use Rattle.publisher_hub.specs.Lists.{Each, EachBy}
+use Rattle.publisher_hub.proofs.Places.{there}
 
 -- where the relation says what a function sees of each, it says what it sees of the list
 pub each_map : {A C : Type 0} (see : A → C) (change : C → C) (R : A → A → Type 0) (xs ys : List A) → Each R xs ys
@@ -27,3 +29,11 @@ each_by_map see change R (answer ∷ answers) (x ∷ xs) (y ∷ ys) each says =
     ∙ ap (λ cs. change (see x) ∷ cs) (each_by_map see change R answers xs ys rest (λ k b a a' at r. says (suc k) b a a' at r)) where
       rest : EachBy R answers xs ys
       rest = record { answered = (let many = each.answered in omega arith); as_long = (let long = each.as_long in omega arith); each = λ k b a a' there at at'. each.each (suc k) b a a' there at at' }
+
+-- what stood at a place where this stands now
+pub each_stood : {A : Type 0} (R : A → A → Type 0) (xs ys : List A) (k : ℕ) (y : A) → Each R xs ys → slice_get ys k ≡ Some y → (x : A) × (slice_get xs k ≡ Some x) × R x y
+each_stood R xs ys k y each at =
+    let within : k < length ys = slice_get_within ys k y at in
+    let long = each.as_long in
+    let old = there xs k (omega arith) in
+    (old.0, old.1, each.each k old.0 y old.1 at)

@@ -1,6 +1,7 @@
 pub mod Digits
 pub mod EachMaps
 pub mod FewWoken
+pub mod HubLooks
 pub mod Inside
 pub mod KeptCommands
 pub mod KeptScripts
@@ -18,6 +19,7 @@ pub mod RunEnds
 pub mod ScriptLaws
 pub mod SessionTurns
 pub mod StartedNumbers
+pub mod StartedTasks
 pub mod Turns
 pub mod WokenLists
 pub mod Writers
