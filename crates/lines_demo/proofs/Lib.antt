@@ -22,4 +22,5 @@ pub mod StartedNumbers
 pub mod StartedTasks
 pub mod Turns
 pub mod WokenLists
+pub mod WokenTasks
 pub mod Writers
