@@ -18,6 +18,7 @@ pub mod Results
 pub mod RunEnds
 pub mod ScriptLaws
 pub mod SessionTurns
+pub mod Sessions
 pub mod StartedNumbers
 pub mod StartedTasks
 pub mod Turns
