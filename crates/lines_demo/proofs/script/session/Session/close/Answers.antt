@@ -1,4 +1,4 @@
-use Rattle.std.proofs.Common.{◌≡◌, None, false, [], length, refl, sym, ap, subst, ◌∙◌}
+use Rattle.std.proofs.Common.{◌≡◌, None, true, false, [], length, refl, sym, ap, subst, ◌∙◌}
 use Rattle.std.specs.Prelude.{is_some}
 use Rattle.std.proofs.lemmas.Result.{err_from_is_err_and}
 use Rattle.feed_core.specs.Feed.{DoesCall, end_of}
@@ -12,7 +12,10 @@ use Rattle.lines_demo.proofs.Inside.{state_inside}
 use Rattle.lines_demo.proofs.KeptCommands.{closing_reached}
 use Rattle.lines_demo.proofs.LookedSessions.{IsSameSession, session_looked}
 use Rattle.lines_demo.proofs.Replying.{closing_again, closing_done, closing_no_memory, replies_reached}
+use Rattle.lines_demo.specs.Script.Session.{IsSession}
+use Rattle.lines_demo.specs.Script.State.{SessionState}
 use Rattle.lines_demo.proofs.SessionStates.{no_value, room_for}
+use Rattle.lines_demo.proofs.Sessions.{session_at}
 use Rattle.lines_demo.proofs.script.session.Session.close.Given.{Over}
 use Rattle.lines_demo.proofs.script.session.Session.close.Goals as goal
 
@@ -33,7 +36,8 @@ invariant_of-self g c = (c.self.invariant.0, c.self.invariant.1, (looked g c).se
 pub returns-in_err-end : goal.returns-in_err-end
 returns-in_err-end g c =
     let failed = err_from_is_err_and c.from_residual.result c.from_residual.ensures.1 in
-    rw (← c.self.view_is, failed.1, failed.2, (looked g c).state) (closing_no_memory Ending.Normal (state_inside c.self.inside) (sym (c.is_some.ensures ∙ ap is_some c.ending.ensures) ∙ c.if-is_some.false))
+    let why : c.in_err-end.field-0.0 ≡ Refusal.NoMemory = (let same = c.in_err-end.ensures.err in cc) in
+    rw (← c.self.view_is, failed.1, failed.2, why, (looked g c).state) (closing_no_memory Ending.Normal (state_inside c.self.inside) (sym (c.is_some.ensures ∙ ap is_some c.ending.ensures) ∙ c.if-is_some.false))
 
 -- the publisher was not closed before
 unclosed : (g : Over) (c : goal.After-push_all-arg-2-1 g) → c.self.inside.hub.ending ≡ None
@@ -59,7 +63,16 @@ push_all-requires g c =
     record { room = room_for (state_after_closing Ending.Normal (state_inside c.self.inside)) c.self.inside.woken c.end.new.due.items (reached g c) (ap (λ s. s.woken) (closed g c).state) }
 
 pub invariant_of-self-2 : goal.invariant_of-self-2
-invariant_of-self-2 g c = ?
+invariant_of-self-2 g c =
+    let state = state_inside c.self.inside in
+    let done = closed g c in
+    let begun : c.self.inside.has_begun ≡ true = ap (λ (s : SessionState). s.has_begun) c.self.view_is ∙ c.requires.begun in (
+      c.self.invariant.0,
+      c.self.invariant.1,
+      subst (λ woken. IsSession c.end.new.self (length c.self.inside.stock.items) woken c.self.inside.has_begun) (sym c.push_all.ensures.woken)
+      (session_at c.end.new.self (length c.self.inside.stock.items) _ c.self.inside.has_begun (state_after_closing Ending.Normal state) done.publisher done.state (reached g c) begun),
+      c.push_all.ensures.nothing_due,
+    )
 
 pub returns : goal.returns
-returns g c = ?
+returns g c = rw (← c.self.view_is, c.push_all.ensures.woken, (closed g c).state) (closing_done Ending.Normal (state_inside c.self.inside) (ap is_some (unclosed g c)))
