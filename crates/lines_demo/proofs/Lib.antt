@@ -19,6 +19,7 @@ pub mod Replying
 pub mod Results
 pub mod RunEnds
 pub mod ScriptLaws
+pub mod SearchedNames
 pub mod SessionStates
 pub mod SessionTurns
 pub mod Sessions
