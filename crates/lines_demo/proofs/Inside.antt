@@ -6,5 +6,5 @@ use Rattle.lines_demo.specs.Prelude.{DeskState}
 use Rattle.lines_demo.specs.declared.script.session.Session.TheInside.{Inside}
 
 -- as the session's model has it
-abbrev pub state_inside : {B : Type 0} → Inside B DeskState → SessionState
+abbrev pub state_inside : {B : Type 0} → Inside B → SessionState
 state_inside s = state_of s.hub (length s.stock.items) s.woken s.has_begun

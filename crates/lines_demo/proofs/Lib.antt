@@ -1,4 +1,6 @@
+pub mod Admissions
 pub mod Digits
+pub mod Duplicates
 pub mod EachMaps
 pub mod FewWoken
 pub mod HubLooks
@@ -9,6 +11,7 @@ pub mod KeptSubscriptions
 pub mod KeptTurns
 pub mod LatestNames
 pub mod Lines
+pub mod LiveNumbers
 pub mod LiveSubscriptions
 pub mod OneName
 pub mod Places
@@ -17,10 +20,12 @@ pub mod Replying
 pub mod Results
 pub mod RunEnds
 pub mod ScriptLaws
+pub mod SeenPublishers
 pub mod SessionTurns
 pub mod Sessions
 pub mod StartedNumbers
 pub mod StartedTasks
+pub mod SubscribingSessions
 pub mod Turns
 pub mod WokenLists
 pub mod WokenTasks

@@ -1,0 +1,133 @@
+use Rattle.std.proofs.Common.{◌≡◌, ◌≤◌, ◌<◌, ◌+◌, ◌-◌, [], ◌∷◌, ◌++◌, true, None, List, length, length-append, length-drop, ap, sym, subst, ◌∙◌, arith}
+use Rattle.std.proofs.lemmas.List.Elements.{All-rest, All-push, All-head, All-same}
+use Rattle.feed_core.specs.Feed.{DoesCall, end_of}
+use Rattle.publisher_hub.specs.Subscribing.{Admits, Refuses}
+use Rattle.publisher_hub.specs.declared.work.Work.{Work}
+use Rattle.lines_demo.specs.Prelude.{DeskState, Refusal, desk_after_request}
+use Rattle.lines_demo.specs.Script.Session.{IsSession, numbers_of, state_of}
+use Rattle.lines_demo.specs.Script.State.{SessionState}
+use Rattle.lines_demo.specs.Script.Subscribing.{desk_at_start}
+use Rattle.lines_demo.specs.declared.script.reply.Reply.TheVariants.{Name, Refused}
+use Rattle.lines_demo.proofs.Inside.{state_inside}
+use Rattle.lines_demo.proofs.SubscribingSessions.{AnswersSub, refused, finds_nobody, gets_no_buffer, admitted, admitted_starts_nothing, few_are_woken, room_for}
+use Rattle.lines_demo.proofs.script.session.Session.subscribe.Given.{Over}
+use Rattle.lines_demo.proofs.script.session.Session.subscribe.Goals as goal
+
+-- ---- the publisher refused
+
+refused_then : (g : Over) (c : goal.After-push_all-arg-in-Err-1 g)
+    → AnswersSub (state_inside c.self.inside) c.args.name c.args.number (Refused c.in-Err.refusal) c.may_subscribe.new.self (length c.self.inside.stock.items) (c.self.inside.woken ++ numbers_of c.may_subscribe.new.due.items)
+refused_then g c =
+    refused c.self.inside.hub (length c.self.inside.stock.items) c.self.inside.woken c.self.inside.has_begun c.args.name c.args.number c.self.invariant.2
+    (ap (λ (s : SessionState). s.has_begun) c.self.view_is ∙ c.requires.begun) c.may_subscribe.new.self c.may_subscribe.new.due.items c.in-Err.refusal c.may_subscribe.ensures.sound
+    (subst (λ (d : List (Work Unit)). Refuses end_of DoesCall c.args.name c.in-Err.refusal d c.may_subscribe.new.due.items c.self.inside.hub c.may_subscribe.new.self) c.self.invariant.3 c.in-Err.ensures.err)
+
+pub push_all-requires : goal.push_all-requires
+push_all-requires g c = record { room = room_for (state_inside c.self.inside) c.args.name c.args.number (Refused c.in-Err.refusal) c.may_subscribe.new.self (length c.self.inside.stock.items) c.self.inside.woken c.may_subscribe.new.due.items (refused_then g c) }
+
+refused_at_last : (g : Over) (c : goal.After-push_all g)
+    → AnswersSub (state_inside c.self.inside) c.args.name c.args.number (Refused c.in-Err.refusal) c.may_subscribe.new.self (length c.self.inside.stock.items) c.push_all.new.self
+refused_at_last g c = rw c.push_all.ensures.woken (
+    refused c.self.inside.hub (length c.self.inside.stock.items) c.self.inside.woken c.self.inside.has_begun c.args.name c.args.number c.self.invariant.2
+    (ap (λ (s : SessionState). s.has_begun) c.self.view_is ∙ c.requires.begun) c.may_subscribe.new.self c.may_subscribe.new.due.items c.in-Err.refusal c.may_subscribe.ensures.sound
+    (subst (λ (d : List (Work Unit)). Refuses end_of DoesCall c.args.name c.in-Err.refusal d c.may_subscribe.new.due.items c.self.inside.hub c.may_subscribe.new.self) c.self.invariant.3 c.in-Err.ensures.err))
+
+pub invariant_of-self : goal.invariant_of-self
+invariant_of-self g c = (c.self.invariant.0, c.self.invariant.1, (refused_at_last g c).session, c.push_all.ensures.nothing_due)
+
+pub returns-in-Err : goal.returns-in-Err
+returns-in-Err g c = rw (← c.self.view_is) (refused_at_last g c).replies
+
+-- ---- nobody is left
+
+nobody_left : (g : Over) (c : goal.In_default-pop_front g)
+    → AnswersSub (state_inside c.self.inside) c.args.name c.args.number (Refused Refusal.TooMany) c.may_subscribe.new.self (length c.pop_front.new.self.items) c.self.inside.woken
+nobody_left g c =
+    let stock = c.self.inside.stock.items in
+    let rest : length stock ≡ length stock - 1 = ap length (c.in_default-pop_front.ensures.items ∙ c.in_default-pop_front.ensures.rest) ∙ length-drop 1 stock in
+    rw (← c.in_default-pop_front.ensures.items) (
+    finds_nobody c.self.inside.hub (length c.self.inside.stock.items) c.self.inside.woken c.self.inside.has_begun c.args.name c.args.number c.self.invariant.2
+    (ap (λ (s : SessionState). s.has_begun) c.self.view_is ∙ c.requires.begun) c.may_subscribe.new.self c.may_subscribe.new.due c.in_default.ensures.seen c.in_default.ensures.can c.may_subscribe.ensures.sound
+    (omega (arith, rest)))
+
+pub invariant_of-self-in_default-pop_front : goal.invariant_of-self-in_default-pop_front
+invariant_of-self-in_default-pop_front g c = (
+  All-same (λ b. g.B.Listener.told b ≡ []) _ _ (sym c.in_default-pop_front.ensures.items) c.self.invariant.0,
+  All-same (λ b. g.B.Listener.is_steady b ≡ true) _ _ (sym c.in_default-pop_front.ensures.items) c.self.invariant.1,
+  (nobody_left g c).session,
+  c.in_default.ensures.nothing_due ∙ c.self.invariant.3,
+)
+
+pub returns-in_default-pop_front : goal.returns-in_default-pop_front
+returns-in_default-pop_front g c = rw (← c.self.view_is) (nobody_left g c).replies
+
+-- ---- the next one subscribes
+
+pub push-requires : goal.push-requires
+push-requires g c = record { room =
+    few_are_woken c.self.inside.hub (length c.self.inside.stock.items) c.self.inside.woken c.self.inside.has_begun c.args.name c.args.number c.self.invariant.2
+    (ap (λ (s : SessionState). s.has_begun) c.self.view_is ∙ c.requires.begun) c.may_subscribe.new.self c.may_subscribe.new.due c.in_default.ensures.seen c.in_default.ensures.can c.may_subscribe.ensures.sound }
+
+-- what it has requested, and that it was added
+requested : (g : Over) (c : goal.After-push g) → c.in-Ok.desk ≡ desk_after_request c.args.number (desk_at_start c.may_subscribe.new.self.capacity)
+requested g c = c.in-Ok.ensures.ok ∙ ap (λ n. desk_after_request c.args.number (desk_at_start n)) c.capacity.ensures
+
+added : (g : Over) (c : goal.After-push g)
+    → Admits end_of DoesCall c.args.name c.in-Ok.desk None c.in_ok-entry-in-Ok.entry [] c.admit.new.due.items c.may_subscribe.new.self c.admit.new.self
+added g c =
+    subst (λ (d : List (Work Unit)). Admits end_of DoesCall c.args.name c.in-Ok.desk None c.in_ok-entry-in-Ok.entry d c.admit.new.due.items c.may_subscribe.new.self c.admit.new.self)
+    (c.in_default.ensures.nothing_due ∙ c.self.invariant.3) c.in_ok-entry-in-Ok.ensures.ok
+
+subscribed : (g : Over) (c : goal.After-push g)
+    → AnswersSub (state_inside c.self.inside) c.args.name c.args.number (Name c.args.name) c.admit.new.self (length c.pop_front.new.self.items) c.push.new.self
+subscribed g c =
+    let cut : length c.self.inside.stock.items ≡ length (c.in-Some.subscriber ∷ c.pop_front.new.self.items) = ap length c.in-Some.ensures.items in
+    let fewer : length c.pop_front.new.self.items ≡ length c.self.inside.stock.items - 1 = omega (arith, cut) in
+    rw (c.push.ensures, fewer) (
+    admitted c.self.inside.hub (length c.self.inside.stock.items) c.self.inside.woken c.self.inside.has_begun c.args.name c.args.number c.self.invariant.2
+    (ap (λ (s : SessionState). s.has_begun) c.self.view_is ∙ c.requires.begun) c.may_subscribe.new.self c.may_subscribe.new.due c.in_default.ensures.seen c.in_default.ensures.can c.may_subscribe.ensures.sound
+    c.admit.new.self c.in_ok-entry-in-Ok.entry c.in-Ok.desk c.admit.new.due.items (omega (arith, cut)) (requested g c) (added g c) c.admit.ensures.sound)
+
+pub invariant_of-self-in-Ok : goal.invariant_of-self-in-Ok
+invariant_of-self-in-Ok g c = (
+  All-rest (λ b. g.B.Listener.told b ≡ []) _ _ _ c.in-Some.ensures.items c.self.invariant.0,
+  All-rest (λ b. g.B.Listener.is_steady b ≡ true) _ _ _ c.in-Some.ensures.items c.self.invariant.1,
+  (subscribed g c).session,
+  admitted_starts_nothing c.self.inside.hub (length c.self.inside.stock.items) c.self.inside.woken c.self.inside.has_begun c.args.name c.args.number c.self.invariant.2
+  (ap (λ (s : SessionState). s.has_begun) c.self.view_is ∙ c.requires.begun) c.may_subscribe.new.self c.may_subscribe.new.due c.in_default.ensures.seen c.in_default.ensures.can c.may_subscribe.ensures.sound
+  c.admit.new.self c.in_ok-entry-in-Ok.entry c.in-Ok.desk c.admit.new.due.items (requested g c) (added g c),
+)
+
+pub returns-in_ok-entry-in-Ok : goal.returns-in_ok-entry-in-Ok
+returns-in_ok-entry-in-Ok g c = rw (← c.self.view_is) (subscribed g c).replies
+
+-- ---- memory is refused for its buffer
+
+no_buffer : (g : Over) (c : goal.After-push_back_reserved g)
+    → AnswersSub (state_inside c.self.inside) c.args.name c.args.number (Refused Refusal.NoMemory) c.may_subscribe.new.self (length c.push_back_reserved.new.self.items) c.self.inside.woken
+no_buffer g c =
+    let cut : length c.self.inside.stock.items ≡ length (c.in-Some.subscriber ∷ c.pop_front.new.self.items) = ap length c.in-Some.ensures.items in
+    let back : length c.push_back_reserved.new.self.items ≡ length (c.pop_front.new.self.items ++ (c.in-Err-new_desk.subscriber ∷ [])) = ap length c.push_back_reserved.ensures.items in
+    let same : length c.push_back_reserved.new.self.items ≡ length c.self.inside.stock.items =
+    omega (arith, back, cut, length-append c.pop_front.new.self.items (c.in-Err-new_desk.subscriber ∷ [])) in
+    rw same (
+    gets_no_buffer c.self.inside.hub (length c.self.inside.stock.items) c.self.inside.woken c.self.inside.has_begun c.args.name c.args.number c.self.invariant.2
+    (ap (λ (s : SessionState). s.has_begun) c.self.view_is ∙ c.requires.begun) c.may_subscribe.new.self c.may_subscribe.new.due c.in_default.ensures.seen c.in_default.ensures.can c.may_subscribe.ensures.sound
+    (omega (arith, cut)))
+
+pub invariant_of-self-in-Err-new_desk : goal.invariant_of-self-in-Err-new_desk
+invariant_of-self-in-Err-new_desk g c =
+    let untold : g.row.B.Denot → Type 0 = λ b. g.B.Listener.told b ≡ [] in
+    let steady : g.row.B.Denot → Type 0 = λ b. g.B.Listener.is_steady b ≡ true in
+    let cut = c.in-Some.ensures.items in
+    let untold_first = All-head untold _ _ (All-same untold _ _ (sym cut) c.self.invariant.0) in
+    let steady_first = All-head steady _ _ (All-same steady _ _ (sym cut) c.self.invariant.1) in
+    let session = (no_buffer g c).session in (
+      rw (c.push_back_reserved.ensures.items, c.in-Err-new_desk.ensures.err) (All-push untold _ _ (All-rest untold _ _ _ cut c.self.invariant.0) untold_first),
+      rw (c.push_back_reserved.ensures.items, c.in-Err-new_desk.ensures.err) (All-push steady _ _ (All-rest steady _ _ _ cut c.self.invariant.1) steady_first),
+      session,
+      c.in_default.ensures.nothing_due ∙ c.self.invariant.3,
+    )
+
+pub returns-in-Err-new_desk : goal.returns-in-Err-new_desk
+returns-in-Err-new_desk g c = rw (← c.self.view_is) (no_buffer g c).replies
