@@ -1,6 +1,6 @@
 -- What a script sees where a subscription is added to its publisher, and when none may be.
-use Rattle.std.proofs.Common.{rules, ◌≡◌, ◌==◌, ◌⊎◌, inl, inr, ℕ, zero, suc, ◌+◌, ◌-◌, ◌<◌, ◌≤◌, Bool, true, false, not, ◌&&◌, if◌then◌else◌, nat_le, Option, None, Some, List, [], ◌∷◌, ◌++◌, length, map, refl, sym, ap, subst, ◌∙◌, arith}
-use Rattle.std.specs.Prelude.{slice_get, count_by, is_none, IsSome, ◌↔◌}
+use Rattle.std.proofs.Common.{rules, ◌≡◌, ◌==◌, ◌⊎◌, inl, inr, ℕ, ◌-◌, ◌<◌, Bool, true, false, nat_le, Option, None, Some, List, [], ◌∷◌, ◌++◌, length, map, refl, sym, ap, subst, ◌∙◌, arith}
+use Rattle.std.specs.Prelude.{slice_get, count_by, IsSome, ◌↔◌}
 use Rattle.std.proofs.lemmas.Bool.Decides.{nat_tests}
 use Rattle.std.proofs.lemmas.List.{length-map, map-append}
 use Rattle.feed_core.specs.Desk.{Rests, desk_after_signal}
@@ -9,17 +9,17 @@ use Rattle.feed_core.specs.Feed.{DoesCall, end_of}
 use Rattle.publisher_hub.specs.Hub.{HubState, hub_of}
 use Rattle.publisher_hub.specs.Offering.{work_of}
 use Rattle.publisher_hub.specs.Sound.{IsSound}
-use Rattle.publisher_hub.specs.Subscribing.{Admits, ClosesNew, IsSeen, first_entry}
+use Rattle.publisher_hub.specs.Subscribing.{Admits, ClosesNew, first_entry}
 use Rattle.publisher_hub.specs.declared.entry.Entry.{Entry}
 use Rattle.publisher_hub.specs.declared.hub.Hub.{Hub}
 use Rattle.publisher_hub.specs.declared.work.Work.{Work}
 use Rattle.publisher_hub.proofs.Grown.{get_grown}
 use Rattle.lines_demo.specs.Prelude.{DeskState, Ending, Refusal, owes, desk_after_request, desk_without_looks}
-use Rattle.lines_demo.specs.Script.Session.{AreScriptEntries, IsScriptEntry, IsScriptHub, numbers_of, state_of, subscription_of}
-use Rattle.lines_demo.specs.Script.State.{SubscriptionState, SessionState}
+use Rattle.lines_demo.specs.Script.Session.{AreScriptEntries, IsScriptEntry, IsScriptHub, state_of, subscription_of}
+use Rattle.lines_demo.specs.Script.State.{SessionState}
 use Rattle.lines_demo.specs.Script.Subscribing.{MOST_LIVE, MOST_SUBSCRIPTIONS, desk_at_start, desk_at_subscribing, new_subscription, state_after_subscribing, subscribing_refusal}
 use Rattle.lines_demo.specs.Script.Waking.{is_live, newly_woken}
-use Rattle.lines_demo.proofs.SeenPublishers.{CameAsFar, script_publisher, seen_as_far, seen_same, state_as_far}
+use Rattle.lines_demo.proofs.SeenPublishers.{CameAsFar, script_publisher, seen_same, state_as_far}
 use Rattle.lines_demo.proofs.StartedNumbers.{newly_woken_new}
 
 -- ---- who may subscribe

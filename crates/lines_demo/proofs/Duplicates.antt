@@ -1,5 +1,5 @@
 -- What a script sees where a second subscribing of a name is refused.
-use Rattle.std.proofs.Common.{rules, ◌≡◌, ◌==◌, ◌⊎◌, inl, inr, ℕ, zero, suc, ◌+◌, ◌<◌, ◌≤◌, Bool, true, false, not, ◌&&◌, ◌||◌, if◌then◌else◌, Option, None, Some, List, [], ◌∷◌, ◌++◌, length, map, set, get_or, refl, sym, ap, subst, ◌∙◌, arith}
+use Rattle.std.proofs.Common.{rules, ◌≡◌, ◌⊎◌, inl, inr, ℕ, zero, suc, ◌+◌, ◌≤◌, Bool, true, false, not, ◌&&◌, ◌||◌, if◌then◌else◌, Option, None, Some, List, [], ◌∷◌, ◌++◌, map, set, refl, sym, ap, subst, ◌∙◌, arith}
 use Rattle.std.specs.Prelude.{slice_get, count_by, is_none, IsSome, ◌↔◌}
 use Rattle.std.specs.List.{list_any}
 use Rattle.std.proofs.lemmas.List.Sums.{sum_by-cons}
@@ -17,7 +17,7 @@ use Rattle.publisher_hub.proofs.Grown.{get_elsewhere, get_there}
 use Rattle.publisher_hub.proofs.LiveRounds.{get_mapped}
 use Rattle.publisher_hub.proofs.PartialRounds.{same_some}
 use Rattle.publisher_hub.proofs.Telling.{map_set}
-use Rattle.lines_demo.specs.Prelude.{DeskState, How, owes, desk_without_looks}
+use Rattle.lines_demo.specs.Prelude.{DeskState, How, owes}
 use Rattle.lines_demo.specs.Script.Command.{is_word}
 use Rattle.lines_demo.specs.Script.Kept.{IsReached}
 use Rattle.lines_demo.specs.Script.Session.{AreScriptEntries, IsScriptEntry, IsScriptHub, numbers_of, state_of, subscription_of}

@@ -2,7 +2,6 @@
 use Rattle.std.proofs.Common.{length}
 use Rattle.lines_demo.specs.Script.Session.{state_of}
 use Rattle.lines_demo.specs.Script.State.{SessionState}
-use Rattle.lines_demo.specs.Prelude.{DeskState}
 use Rattle.lines_demo.specs.declared.script.session.Session.TheInside.{Inside}
 
 -- as the session's model has it

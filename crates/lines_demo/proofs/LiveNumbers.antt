@@ -12,7 +12,6 @@ use Rattle.publisher_hub.proofs.LiveRounds.{get_mapped, get_before_map}
 use Rattle.publisher_hub.proofs.PartialRounds.{same_some}
 use Rattle.lines_demo.specs.Prelude.{DeskState}
 use Rattle.lines_demo.specs.Script.Session.{subscription_of}
-use Rattle.lines_demo.specs.Script.State.{SubscriptionState}
 use Rattle.lines_demo.specs.Script.Waking.{is_live}
 
 -- something stands at this place, and passes the test
@@ -117,12 +116,17 @@ live_count hub retired all = many_places is_live 0 (map subscription_of hub.entr
   live_at n state at lives =
       let found = get_before_map (entry_of end_of) hub.entries.items n state at in
       let raw = found.0 in
-      let same : raw.retired ≡ false = ap (λ (e : EntryState). e.retired) found.1.1 ∙ lives in
-      (n, (omega arith, record {
-        one = subscription_of raw;
-        stands = get_mapped subscription_of hub.entries.items n raw found.1.0;
-        passes = not_true (is_live (subscription_of raw)) (sym (retired n raw found.1.0) ∙ same);
-      }))
+      let same : raw.retired ≡ false = ap (λ (e : EntryState). e.retired) found.1.1 ∙ lives in (
+        n,
+        (
+          omega arith,
+          record {
+            one = subscription_of raw;
+            stands = get_mapped subscription_of hub.entries.items n raw found.1.0;
+            passes = not_true (is_live (subscription_of raw)) (sym (retired n raw found.1.0) ∙ same);
+          },
+        ),
+      )
 
   listed : (place : ℕ) → Passes is_live (map subscription_of hub.entries.items) place → (i : ℕ) × (slice_get hub.live.items i ≡ Some place)
   listed place passes =

@@ -1,12 +1,12 @@
 -- What `sub` leaves of a session.
-use Rattle.std.proofs.Common.{◌≡◌, ◌⊎◌, inl, inr, ℕ, ◌+◌, ◌-◌, ◌<◌, ◌≤◌, Bool, true, false, None, Some, List, [], ◌∷◌, ◌++◌, length, length-append, map, refl, sym, ap, subst, ◌∙◌, arith}
+use Rattle.std.proofs.Common.{◌≡◌, inl, inr, ℕ, ◌+◌, ◌-◌, ◌<◌, ◌≤◌, Bool, true, false, None, List, [], ◌∷◌, ◌++◌, length, length-append, sym, ap, subst, ◌∙◌, arith}
 use Rattle.std.specs.Prelude.{count_by, Vec}
 use Rattle.std.specs.declared.alloc.Global.{Global}
 use Rattle.std.proofs.lemmas.List.{append-nil, length-map}
 use Rattle.feed_core.specs.Feed.{DoesCall, end_of}
 use Rattle.publisher_hub.specs.Hub.{hub_of}
 use Rattle.publisher_hub.specs.Sound.{IsSound}
-use Rattle.publisher_hub.specs.Subscribing.{Admits, CanAdmit, FindsNoPlace, IsSeen, Refuses}
+use Rattle.publisher_hub.specs.Subscribing.{Admits, CanAdmit, IsSeen, Refuses}
 use Rattle.publisher_hub.specs.declared.hub.Hub.{Hub}
 use Rattle.publisher_hub.specs.declared.work.Work.{Work}
 use Rattle.lines_demo.specs.Prelude.{DeskState, Refusal, desk_after_request}
@@ -14,7 +14,7 @@ use Rattle.lines_demo.specs.Script.Kept.{IsReached}
 use Rattle.lines_demo.specs.Script.Obeying.{begun_state}
 use Rattle.lines_demo.specs.Script.Playing.{Replies}
 use Rattle.lines_demo.specs.Script.Session.{IsScriptHub, IsSession, numbers_of, state_of, subscription_of}
-use Rattle.lines_demo.specs.Script.State.{SubscriptionState, SessionState, CommandResult}
+use Rattle.lines_demo.specs.Script.State.{SubscriptionState, SessionState}
 use Rattle.lines_demo.specs.Script.Subscribing.{MOST_LIVE, MOST_SUBSCRIPTIONS, desk_at_start, is_subscribed, state_after_subscribing, sub_result}
 use Rattle.lines_demo.specs.Script.Waking.{is_live}
 use Rattle.lines_demo.specs.declared.script.command.Command.TheVariants.{Sub}

@@ -1,10 +1,10 @@
-use Rattle.std.proofs.Common.{◌≡◌, ◌≤◌, ◌<◌, ◌+◌, ◌-◌, [], ◌∷◌, ◌++◌, true, None, List, length, length-append, length-drop, ap, sym, subst, ◌∙◌, arith}
+use Rattle.std.proofs.Common.{◌≡◌, ◌-◌, [], ◌∷◌, ◌++◌, true, None, List, length, length-append, length-drop, ap, sym, subst, ◌∙◌, arith}
 use Rattle.std.proofs.lemmas.List.Elements.{All-rest, All-push, All-head, All-same}
 use Rattle.feed_core.specs.Feed.{DoesCall, end_of}
 use Rattle.publisher_hub.specs.Subscribing.{Admits, Refuses}
 use Rattle.publisher_hub.specs.declared.work.Work.{Work}
-use Rattle.lines_demo.specs.Prelude.{DeskState, Refusal, desk_after_request}
-use Rattle.lines_demo.specs.Script.Session.{IsSession, numbers_of, state_of}
+use Rattle.lines_demo.specs.Prelude.{Refusal, desk_after_request}
+use Rattle.lines_demo.specs.Script.Session.{numbers_of}
 use Rattle.lines_demo.specs.Script.State.{SessionState}
 use Rattle.lines_demo.specs.Script.Subscribing.{desk_at_start}
 use Rattle.lines_demo.specs.declared.script.reply.Reply.TheVariants.{Name, Refused}
@@ -64,9 +64,11 @@ returns-in_default-pop_front g c = rw (← c.self.view_is) (nobody_left g c).rep
 -- ---- the next one subscribes
 
 pub push-requires : goal.push-requires
-push-requires g c = record { room =
-    few_are_woken c.self.inside.hub (length c.self.inside.stock.items) c.self.inside.woken c.self.inside.has_begun c.args.name c.args.number c.self.invariant.2
-    (ap (λ (s : SessionState). s.has_begun) c.self.view_is ∙ c.requires.begun) c.may_subscribe.new.self c.may_subscribe.new.due c.in_default.ensures.seen c.in_default.ensures.can c.may_subscribe.ensures.sound }
+push-requires g c = record {
+  room =
+      few_are_woken c.self.inside.hub (length c.self.inside.stock.items) c.self.inside.woken c.self.inside.has_begun c.args.name c.args.number c.self.invariant.2
+      (ap (λ (s : SessionState). s.has_begun) c.self.view_is ∙ c.requires.begun) c.may_subscribe.new.self c.may_subscribe.new.due c.in_default.ensures.seen c.in_default.ensures.can c.may_subscribe.ensures.sound;
+}
 
 -- what it has requested, and that it was added
 requested : (g : Over) (c : goal.After-push g) → c.in-Ok.desk ≡ desk_after_request c.args.number (desk_at_start c.may_subscribe.new.self.capacity)
@@ -94,8 +96,8 @@ invariant_of-self-in-Ok g c = (
   All-rest (λ b. g.B.Listener.is_steady b ≡ true) _ _ _ c.in-Some.ensures.items c.self.invariant.1,
   (subscribed g c).session,
   admitted_starts_nothing c.self.inside.hub (length c.self.inside.stock.items) c.self.inside.woken c.self.inside.has_begun c.args.name c.args.number c.self.invariant.2
-  (ap (λ (s : SessionState). s.has_begun) c.self.view_is ∙ c.requires.begun) c.may_subscribe.new.self c.may_subscribe.new.due c.in_default.ensures.seen c.in_default.ensures.can c.may_subscribe.ensures.sound
-  c.admit.new.self c.in_ok-entry-in-Ok.entry c.in-Ok.desk c.admit.new.due.items (requested g c) (added g c),
+      (ap (λ (s : SessionState). s.has_begun) c.self.view_is ∙ c.requires.begun) c.may_subscribe.new.self c.may_subscribe.new.due c.in_default.ensures.seen c.in_default.ensures.can c.may_subscribe.ensures.sound
+      c.admit.new.self c.in_ok-entry-in-Ok.entry c.in-Ok.desk c.admit.new.due.items (requested g c) (added g c),
 )
 
 pub returns-in_ok-entry-in-Ok : goal.returns-in_ok-entry-in-Ok
