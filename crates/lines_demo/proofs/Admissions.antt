@@ -61,6 +61,7 @@ pub record IsNewDesk (closing : Option Ending) (capacity number : ℕ) (start : 
   pub started : start ≡ None
   pub owing : owes desk ≡ true
 
+-- it is so, whichever came first
 pub new_desk : (closing : Option Ending) (capacity number : ℕ) (feed after : DeskState) (start : Option Unit) → feed ≡ desk_after_request number (desk_at_start capacity)
     → ClosesNew end_of DoesCall closing feed start after → IsNewDesk closing capacity number start after
 new_desk None capacity number feed after start is closes =
@@ -79,9 +80,11 @@ new_desk (Some ending) capacity number feed after start is closes =
 
 module _ (old new : Hub DeskState) (name : List ℕ) (number entry : ℕ) (feed : DeskState) (due : List (Work Unit)) (is : IsScriptHub old) (requested : feed ≡ desk_after_request number (desk_at_start old.capacity))
     (admits : Admits end_of DoesCall name feed None entry [] due old new) where
+  -- a script sees the same of the others
   seen_entries : map subscription_of admits.middle.entries.items ≡ map subscription_of old.entries.items
   seen_entries = (seen_same old admits.middle is admits.seen).same
 
+  -- the desk of the new one
   desk : IsNewDesk old.ending old.capacity number admits.start admits.after
   desk = new_desk old.ending old.capacity number feed admits.after admits.start requested admits.closes
 
@@ -108,6 +111,7 @@ module _ (old new : Hub DeskState) (name : List ℕ) (number entry : ℕ) (feed 
       steady None = refl
       steady (Some ending) = refl
 
+  -- and the publisher is a script's
   pub admitted_publisher : IsSound (hub_of end_of new) → IsScriptHub new
   admitted_publisher sound = script_publisher old new is sound admitted_as_far admitted_entries
 

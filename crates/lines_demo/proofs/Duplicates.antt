@@ -2,6 +2,8 @@
 use Rattle.std.proofs.Common.{rules, ◌≡◌, ◌⊎◌, inl, inr, ℕ, zero, suc, ◌+◌, ◌≤◌, Bool, true, false, not, ◌&&◌, ◌||◌, if◌then◌else◌, Option, None, Some, List, [], ◌∷◌, ◌++◌, map, set, refl, sym, ap, subst, ◌∙◌, arith}
 use Rattle.std.specs.Prelude.{slice_get, count_by, is_none, IsSome, ◌↔◌}
 use Rattle.std.specs.List.{list_any}
+use Rattle.std.proofs.lemmas.Bool.{cases_eq}
+use Rattle.std.proofs.lemmas.List.{map-set}
 use Rattle.std.proofs.lemmas.List.Sums.{sum_by-cons}
 use Rattle.std.proofs.lemmas.Option.{slice_get_within}
 use Rattle.feed_core.specs.Desk.{Rests, desk_after_duplicate}
@@ -16,7 +18,6 @@ use Rattle.publisher_hub.specs.declared.work.Work.{Work}
 use Rattle.publisher_hub.proofs.Grown.{get_elsewhere, get_there}
 use Rattle.publisher_hub.proofs.LiveRounds.{get_mapped}
 use Rattle.publisher_hub.proofs.PartialRounds.{same_some}
-use Rattle.publisher_hub.proofs.Telling.{map_set}
 use Rattle.lines_demo.specs.Prelude.{DeskState, How, owes}
 use Rattle.lines_demo.specs.Script.Command.{is_word}
 use Rattle.lines_demo.specs.Script.Kept.{IsReached}
@@ -89,6 +90,15 @@ found_any test (x ∷ xs) (suc place) s at passes = ap (λ b. test x || b) (foun
   or_true true = refl
   or_true false = refl
 
+-- where one of them is replaced by one of a script, all are those of a script
+pub set_entries : (xs : List (Entry DeskState)) (place : ℕ) (before after : Entry DeskState) → AreScriptEntries xs → slice_get xs place ≡ Some before → IsScriptEntry after → AreScriptEntries (set xs place after)
+set_entries xs place before after are stands is = λ k entry at. by k entry at (cases_eq place k) where
+  by : (k : ℕ) (entry : Entry DeskState) → slice_get (set xs place after) k ≡ Some entry → (place ≡ k) ⊎ (place ≡ k → ⊥) → IsScriptEntry entry
+  by k entry at (inl same) =
+      let here : slice_get (set xs place after) k ≡ Some after = ap (λ j. slice_get (set xs place after) j) (sym same) ∙ get_there xs place after (slice_get_within xs place before stands) in
+      subst (λ (e : Entry DeskState). IsScriptEntry e) (same_some (sym here ∙ at)) is
+  by k entry at (inr other) = are k entry (sym (get_elsewhere xs place k after other) ∙ at)
+
 -- ---- the one that is told
 
 -- a subscription that is told keeps its desk, with the error as a cause
@@ -136,18 +146,21 @@ module _ (old middle new : Hub DeskState) (name : List ℕ) (due : List (Work Un
   abbrev one : Entry DeskState
   one = tells.tells.before
 
+  -- it is live
   one_lives : is_live (subscription_of one) ≡ true
   one_lives = by (is_live (subscription_of one)) refl where
     by : (live : Bool) → is_live (subscription_of one) ≡ live → live ≡ true
     by true e = refl
     by false e = let never : false ≡ true = sym tells.tells.told.live ∙ seen_retired old middle is seen tells.number one tells.tells.there ∙ ap not e in cc
 
+  -- and has the name
   one_named : is_live_as name (subscription_of one) ≡ true
   one_named =
       let same : tells.named.0 ≡ one = same_some (sym tells.named.1.0 ∙ tells.tells.there) in
       let named : one.name ≡ name = ap (λ (e : Entry DeskState). e.name) (sym same) ∙ tells.named.1.1 in
       ap (λ b. b && is_word one.name name) one_lives ∙ word_itself one.name name named
 
+  -- a script sees it at its place
   one_at : slice_get (map subscription_of old.entries.items) tells.number ≡ Some (subscription_of one)
   one_at =
       ap (λ subscriptions. slice_get subscriptions tells.number) (sym (seen_same old middle is seen).same)
@@ -163,28 +176,12 @@ module _ (old middle new : Hub DeskState) (name : List ℕ) (due : List (Work Un
 
   -- the subscriptions are those of a script
   told_entries : AreScriptEntries new.entries.items
-  told_entries k entry at = by (same_or_not k tells.number) where
-    now : slice_get (set middle.entries.items tells.number tells.tells.after) k ≡ Some entry
-    now = ap (λ xs. slice_get xs k) (sym tells.tells.entries) ∙ at
+  told_entries =
+      let seen_entries = (seen_same old middle is seen).entries in
+      subst (λ (xs : List (Entry DeskState)). AreScriptEntries xs) (sym tells.tells.entries) (set_entries middle.entries.items tells.number one tells.tells.after seen_entries tells.tells.there
+      (told_entry tells.tells.start one tells.tells.after (seen_entries tells.number one tells.tells.there) tells.tells.told))
 
-    same_or_not : (i j : ℕ) → (j ≡ i) ⊎ (j ≡ i → ⊥)
-    same_or_not zero zero = inl refl
-    same_or_not zero (suc j) = inr (λ e. cc)
-    same_or_not (suc i) zero = inr (λ e. cc)
-    same_or_not (suc i) (suc j) = next (same_or_not i j) where
-      next : (j ≡ i) ⊎ (j ≡ i → ⊥) → (suc j ≡ suc i) ⊎ (suc j ≡ suc i → ⊥)
-      next (inl same) = inl (ap suc same)
-      next (inr other) = inr (λ same. other (omega arith))
-
-    by : (tells.number ≡ k) ⊎ (tells.number ≡ k → ⊥) → IsScriptEntry entry
-    by (inl same) =
-        let within = slice_get_within middle.entries.items tells.number one tells.tells.there in
-        let after : tells.tells.after ≡ entry = same_some (sym (get_there middle.entries.items tells.number tells.tells.after within) ∙ subst (λ j. slice_get (set middle.entries.items tells.number tells.tells.after) j ≡ Some entry) (sym same) now) in
-        subst (λ (e : Entry DeskState). IsScriptEntry e) after
-        (told_entry tells.tells.start one tells.tells.after ((seen_same old middle is seen).entries tells.number one tells.tells.there) tells.tells.told)
-    by (inr other) =
-        (seen_same old middle is seen).entries k entry (sym (get_elsewhere middle.entries.items tells.number k tells.tells.after other) ∙ now)
-
+  -- and the publisher is a script's
   pub told_publisher : IsSound (hub_of end_of new) → IsScriptHub new
   told_publisher sound = script_publisher old new is sound told_as_far told_entries
 
@@ -194,7 +191,7 @@ module _ (old middle new : Hub DeskState) (name : List ℕ) (due : List (Work Un
   told_subscriptions most =
       let before = map subscription_of old.entries.items in
       let change : SubscriptionState → SubscriptionState = λ s. record s { desk = desk_after_duplicate s.desk } in
-      ap (λ xs. map subscription_of xs) tells.tells.entries ∙ map_set subscription_of middle.entries.items tells.number tells.tells.after
+      ap (λ xs. map subscription_of xs) tells.tells.entries ∙ map-set subscription_of middle.entries.items tells.number tells.tells.after
       ∙ ap (λ xs. set xs tells.number (subscription_of tells.tells.after)) (seen_same old middle is seen).same
       ∙ ap (λ s. set before tells.number s) (told_desk tells.tells.start one tells.tells.after tells.tells.told)
       ∙ sym (change_one (is_live_as name) change before tells.number (subscription_of one) one_at one_named most)

@@ -25,6 +25,7 @@ use Rattle.lines_demo.specs.Script.Waking.{is_live}
 use Rattle.lines_demo.specs.declared.script.session.publishing.TheConstants.{SOURCE}
 use Rattle.lines_demo.proofs.HubLooks.{ListSeesSame, may_prepare_all_same, prepared_all_same, prepared_retired}
 use Rattle.lines_demo.proofs.LiveNumbers.{live_count}
+use Rattle.lines_demo.proofs.OneName.{word_same}
 
 -- ---- publishers that came equally far
 
@@ -92,10 +93,7 @@ seen_count old new is seen =
 
 -- ---- names
 
--- equal bytes are one word
-pub word_is : (bytes word : List ℕ) → is_word bytes word ≡ true → bytes ≡ word
-word_is bytes word e = (slice_eq-Decides Decides-eqb bytes word (is_word bytes word) refl).0 e
-
+-- a word is equal to itself
 pub word_itself : (bytes word : List ℕ) → bytes ≡ word → is_word bytes word ≡ true
 word_itself bytes word e = (slice_eq-Decides Decides-eqb bytes word (is_word bytes word) refl).1 e
 
@@ -116,4 +114,4 @@ seen_unnamed old new name is seen unnamed =
             by true true lives named =
                 let found = get_before_map subscription_of new.entries.items k s at in
                 absurd (unnamed k (entry_of end_of found.0) (get_mapped (entry_of end_of) new.entries.items k found.0 found.1.0)
-                (seen_retired old new is seen k found.0 found.1.0 ∙ ap not lives) (word_is found.0.name name named))
+                (seen_retired old new is seen k found.0 found.1.0 ∙ ap not lives) (word_same found.0.name name named))

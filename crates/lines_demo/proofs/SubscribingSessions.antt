@@ -1,8 +1,9 @@
 -- What `sub` leaves of a session.
-use Rattle.std.proofs.Common.{◌≡◌, inl, inr, ℕ, ◌+◌, ◌-◌, ◌<◌, ◌≤◌, Bool, true, false, None, List, [], ◌∷◌, ◌++◌, length, length-append, sym, ap, subst, ◌∙◌, arith}
-use Rattle.std.specs.Prelude.{count_by, Vec}
+use Rattle.std.proofs.Common.{◌≡◌, inl, inr, ℕ, ◌+◌, ◌-◌, ◌<◌, ◌≤◌, Bool, true, false, None, List, [], ◌∷◌, ◌++◌, length, length-append, length-drop, drop, sym, ap, subst, ◌∙◌, arith}
+use Rattle.std.specs.Prelude.{All, count_by, Vec}
 use Rattle.std.specs.declared.alloc.Global.{Global}
 use Rattle.std.proofs.lemmas.List.{append-nil, length-map}
+use Rattle.std.proofs.lemmas.List.Elements.{All-head, All-push, All-tail}
 use Rattle.feed_core.specs.Feed.{DoesCall, end_of}
 use Rattle.publisher_hub.specs.Hub.{hub_of}
 use Rattle.publisher_hub.specs.Sound.{IsSound}
@@ -31,6 +32,27 @@ use Rattle.lines_demo.proofs.SeenPublishers.{same_state, script_publisher, seen_
 pub woken_fit : (state : SessionState) → IsReached state → length state.woken ≤ MOST_LIVE
 woken_fit state is = let few = few_woken state is.1.woken in let most = is.1.few in omega (arith, few, most)
 
+-- nobody is left where the first can't be taken
+pub nobody : {A : Type 0} (stock rest : List A) → stock ≡ rest → rest ≡ drop 1 stock → length stock ≡ 0
+nobody stock rest same dropped = let fewer : length stock ≡ length stock - 1 = ap length (same ∙ dropped) ∙ length-drop 1 stock in omega (arith, fewer)
+
+-- one fewer is left where it is
+pub one_fewer : {A : Type 0} (first : A) (stock rest : List A) → stock ≡ first ∷ rest → (0 < length stock) × (length rest ≡ length stock - 1)
+one_fewer first stock rest cut = let more : length stock ≡ length rest + 1 = ap length cut ∙ omega arith in (omega (arith, more), omega (arith, more))
+
+-- and as many as before where one goes to the end
+pub one_back : {A : Type 0} (first last : A) (stock rest now : List A) → stock ≡ first ∷ rest → now ≡ rest ++ last ∷ [] → length now ≡ length stock
+one_back first last stock rest now cut back =
+    let more : length stock ≡ length rest + 1 = ap length cut ∙ omega arith in
+    let again : length now ≡ length rest + 1 = ap length back ∙ length-append rest (last ∷ []) in
+    omega (arith, more, again)
+
+-- what held of all holds of all then
+pub all_back : {A : Type 0} (P : A → Type 0) (first last : A) (stock rest now : List A) → stock ≡ first ∷ rest → last ≡ first → now ≡ rest ++ last ∷ [] → All P stock → All P now
+all_back P first last stock rest now cut same back all =
+    let cut_all : All P (first ∷ rest) = subst (All P) cut all in
+    subst (All P) (sym back) (All-push P rest last (All-tail P first rest cut_all) (subst P (sym same) (All-head P first rest cut_all)))
+
 -- a session after `sub` was answered so
 pub record AnswersSub (old : SessionState) (name : List ℕ) (number : ℕ) (reply : Reply) (hub : Hub DeskState) (stock : ℕ) (woken : List ℕ) : Type 0 where
   pub session : IsSession hub stock woken old.has_begun
@@ -52,6 +74,7 @@ answers old name number reply hub stock woken begun reached publisher replies =
     }
 
 module _ (old : Hub DeskState) (stock : ℕ) (woken : List ℕ) (has_begun : Bool) (name : List ℕ) (number : ℕ) (is : IsSession old stock woken has_begun) (begun : has_begun ≡ true) where
+  -- where the script stands before
   abbrev start : SessionState
   start = state_of old stock woken has_begun
 
@@ -66,9 +89,11 @@ module _ (old : Hub DeskState) (stock : ℕ) (woken : List ℕ) (has_begun : Boo
       answers start name number (Refused refusal) new stock (woken ++ numbers_of due) begun is.reached publisher
       (subst (λ (s : SessionState). Replies (λ refusals. sub_result start refusals name number) (Refused refusal) s) state_same replies)
 
+  -- looks leave a script's publisher
   seen_publisher : (new : Hub DeskState) → IsSeen end_of DoesCall old new → IsSound (hub_of end_of new) → IsScriptHub new
   seen_publisher new seen sound = script_publisher old new is.publisher sound (seen_as_far old new seen) (seen_same old new is.publisher seen).entries
 
+  -- and the script where it stood
   seen_state : (new : Hub DeskState) → IsSeen end_of DoesCall old new → state_of new stock woken has_begun ≡ start
   seen_state new seen = same_state old new stock woken has_begun (seen_as_far old new seen) (seen_same old new is.publisher seen).same
 
@@ -77,6 +102,7 @@ module _ (old : Hub DeskState) (stock : ℕ) (woken : List ℕ) (has_begun : Boo
   seen_made new seen =
       sym (length-map new.entries.items subscription_of) ∙ ap (λ (s : List SubscriptionState). length s) (seen_same old new is.publisher seen).same
 
+  -- whatever the refusal, it is answered, and leaves what the definition says
   pub refused : (new : Hub DeskState) (due : List (Work Unit)) (refusal : Refusal) → IsSound (hub_of end_of new) → Refuses end_of DoesCall name refusal [] due old new
       → AnswersSub start name number (Refused refusal) new stock (woken ++ numbers_of due)
   refused new due Refusal.Duplicate sound (middle, (seen, tells)) =
@@ -111,12 +137,15 @@ module _ (old : Hub DeskState) (stock : ℕ) (woken : List ℕ) (has_begun : Boo
   -- ---- the publisher allows it
 
   module _ (new : Hub DeskState) (due : Vec (Work Unit) Global) (seen : IsSeen end_of DoesCall old new) (can : CanAdmit end_of name new due) (sound : IsSound (hub_of end_of new)) where
+    -- nobody live has the name
     free : is_subscribed name start.subscriptions ≡ false
     free = seen_unnamed old new name is.publisher seen can.unnamed
 
+    -- fewer are live than may be
     few : count_by is_live start.subscriptions < MOST_LIVE
     few = subst (λ n. n < MOST_LIVE) (seen_count old new is.publisher seen) can.place.few_live
 
+    -- fewer were made than may be
     made : length start.subscriptions < MOST_SUBSCRIPTIONS
     made = subst (λ n. n < MOST_SUBSCRIPTIONS) (seen_made new seen) can.place.few_entries
 

@@ -9,7 +9,7 @@ use Rattle.lines_demo.specs.Script.State.{SessionState}
 use Rattle.lines_demo.specs.Script.Subscribing.{desk_at_start}
 use Rattle.lines_demo.specs.declared.script.reply.Reply.TheVariants.{Name, Refused}
 use Rattle.lines_demo.proofs.Inside.{state_inside}
-use Rattle.lines_demo.proofs.SubscribingSessions.{AnswersSub, refused, finds_nobody, gets_no_buffer, admitted, admitted_starts_nothing, few_are_woken, room_for}
+use Rattle.lines_demo.proofs.SubscribingSessions.{AnswersSub, refused, finds_nobody, gets_no_buffer, admitted, admitted_starts_nothing, all_back, few_are_woken, nobody, one_back, one_fewer, room_for}
 use Rattle.lines_demo.proofs.script.session.Session.subscribe.Given.{Over}
 use Rattle.lines_demo.proofs.script.session.Session.subscribe.Goals as goal
 
@@ -43,12 +43,10 @@ returns-in-Err g c = rw (← c.self.view_is) (refused_at_last g c).replies
 nobody_left : (g : Over) (c : goal.In_default-pop_front g)
     → AnswersSub (state_inside c.self.inside) c.args.name c.args.number (Refused Refusal.TooMany) c.may_subscribe.new.self (length c.pop_front.new.self.items) c.self.inside.woken
 nobody_left g c =
-    let stock = c.self.inside.stock.items in
-    let rest : length stock ≡ length stock - 1 = ap length (c.in_default-pop_front.ensures.items ∙ c.in_default-pop_front.ensures.rest) ∙ length-drop 1 stock in
     rw (← c.in_default-pop_front.ensures.items) (
     finds_nobody c.self.inside.hub (length c.self.inside.stock.items) c.self.inside.woken c.self.inside.has_begun c.args.name c.args.number c.self.invariant.2
     (ap (λ (s : SessionState). s.has_begun) c.self.view_is ∙ c.requires.begun) c.may_subscribe.new.self c.may_subscribe.new.due c.in_default.ensures.seen c.in_default.ensures.can c.may_subscribe.ensures.sound
-    (omega (arith, rest)))
+    (nobody c.self.inside.stock.items c.pop_front.new.self.items c.in_default-pop_front.ensures.items c.in_default-pop_front.ensures.rest))
 
 pub invariant_of-self-in_default-pop_front : goal.invariant_of-self-in_default-pop_front
 invariant_of-self-in_default-pop_front g c = (
@@ -83,12 +81,11 @@ added g c =
 subscribed : (g : Over) (c : goal.After-push g)
     → AnswersSub (state_inside c.self.inside) c.args.name c.args.number (Name c.args.name) c.admit.new.self (length c.pop_front.new.self.items) c.push.new.self
 subscribed g c =
-    let cut : length c.self.inside.stock.items ≡ length (c.in-Some.subscriber ∷ c.pop_front.new.self.items) = ap length c.in-Some.ensures.items in
-    let fewer : length c.pop_front.new.self.items ≡ length c.self.inside.stock.items - 1 = omega (arith, cut) in
-    rw (c.push.ensures, fewer) (
+    let left = one_fewer c.in-Some.subscriber c.self.inside.stock.items c.pop_front.new.self.items c.in-Some.ensures.items in
+    rw (c.push.ensures, left.1) (
     admitted c.self.inside.hub (length c.self.inside.stock.items) c.self.inside.woken c.self.inside.has_begun c.args.name c.args.number c.self.invariant.2
     (ap (λ (s : SessionState). s.has_begun) c.self.view_is ∙ c.requires.begun) c.may_subscribe.new.self c.may_subscribe.new.due c.in_default.ensures.seen c.in_default.ensures.can c.may_subscribe.ensures.sound
-    c.admit.new.self c.in_ok-entry-in-Ok.entry c.in-Ok.desk c.admit.new.due.items (omega (arith, cut)) (requested g c) (added g c) c.admit.ensures.sound)
+    c.admit.new.self c.in_ok-entry-in-Ok.entry c.in-Ok.desk c.admit.new.due.items left.0 (requested g c) (added g c) c.admit.ensures.sound)
 
 pub invariant_of-self-in-Ok : goal.invariant_of-self-in-Ok
 invariant_of-self-in-Ok g c = (
@@ -108,27 +105,20 @@ returns-in_ok-entry-in-Ok g c = rw (← c.self.view_is) (subscribed g c).replies
 no_buffer : (g : Over) (c : goal.After-push_back_reserved g)
     → AnswersSub (state_inside c.self.inside) c.args.name c.args.number (Refused Refusal.NoMemory) c.may_subscribe.new.self (length c.push_back_reserved.new.self.items) c.self.inside.woken
 no_buffer g c =
-    let cut : length c.self.inside.stock.items ≡ length (c.in-Some.subscriber ∷ c.pop_front.new.self.items) = ap length c.in-Some.ensures.items in
-    let back : length c.push_back_reserved.new.self.items ≡ length (c.pop_front.new.self.items ++ (c.in-Err-new_desk.subscriber ∷ [])) = ap length c.push_back_reserved.ensures.items in
-    let same : length c.push_back_reserved.new.self.items ≡ length c.self.inside.stock.items =
-    omega (arith, back, cut, length-append c.pop_front.new.self.items (c.in-Err-new_desk.subscriber ∷ [])) in
-    rw same (
+    let left = one_fewer c.in-Some.subscriber c.self.inside.stock.items c.pop_front.new.self.items c.in-Some.ensures.items in
+    rw (one_back c.in-Some.subscriber c.in-Err-new_desk.subscriber c.self.inside.stock.items c.pop_front.new.self.items c.push_back_reserved.new.self.items c.in-Some.ensures.items c.push_back_reserved.ensures.items) (
     gets_no_buffer c.self.inside.hub (length c.self.inside.stock.items) c.self.inside.woken c.self.inside.has_begun c.args.name c.args.number c.self.invariant.2
     (ap (λ (s : SessionState). s.has_begun) c.self.view_is ∙ c.requires.begun) c.may_subscribe.new.self c.may_subscribe.new.due c.in_default.ensures.seen c.in_default.ensures.can c.may_subscribe.ensures.sound
-    (omega (arith, cut)))
+    left.0)
 
 pub invariant_of-self-in-Err-new_desk : goal.invariant_of-self-in-Err-new_desk
 invariant_of-self-in-Err-new_desk g c =
-    let untold : g.row.B.Denot → Type 0 = λ b. g.B.Listener.told b ≡ [] in
-    let steady : g.row.B.Denot → Type 0 = λ b. g.B.Listener.is_steady b ≡ true in
-    let cut = c.in-Some.ensures.items in
-    let untold_first = All-head untold _ _ (All-same untold _ _ (sym cut) c.self.invariant.0) in
-    let steady_first = All-head steady _ _ (All-same steady _ _ (sym cut) c.self.invariant.1) in
-    let session = (no_buffer g c).session in (
-      rw (c.push_back_reserved.ensures.items, c.in-Err-new_desk.ensures.err) (All-push untold _ _ (All-rest untold _ _ _ cut c.self.invariant.0) untold_first),
-      rw (c.push_back_reserved.ensures.items, c.in-Err-new_desk.ensures.err) (All-push steady _ _ (All-rest steady _ _ _ cut c.self.invariant.1) steady_first),
-      session,
-      c.in_default.ensures.nothing_due ∙ c.self.invariant.3,
+    let back = λ (P : g.row.B.Denot → Type 0).
+    all_back P c.in-Some.subscriber c.in-Err-new_desk.subscriber c.self.inside.stock.items c.pop_front.new.self.items c.push_back_reserved.new.self.items c.in-Some.ensures.items c.in-Err-new_desk.ensures.err c.push_back_reserved.ensures.items in (
+      back (λ b. g.B.Listener.told b ≡ []) c.self.invariant.0,
+      back (λ b. g.B.Listener.is_steady b ≡ true) c.self.invariant.1,
+      (no_buffer g c).session,
+      ◌∙◌ {A = List (Work Unit)} c.in_default.ensures.nothing_due c.self.invariant.3,
     )
 
 pub returns-in-Err-new_desk : goal.returns-in-Err-new_desk
