@@ -1,5 +1,5 @@
-use Rattle.std.proofs.Common.{◌≡◌, ◌-◌, [], ◌∷◌, ◌++◌, true, None, List, length, length-append, length-drop, ap, sym, subst, ◌∙◌, arith}
-use Rattle.std.proofs.lemmas.List.Elements.{All-rest, All-push, All-head, All-same}
+use Rattle.std.proofs.Common.{◌≡◌, [], ◌++◌, true, None, List, length, ap, sym, subst, ◌∙◌}
+use Rattle.std.proofs.lemmas.List.Elements.{All-rest, All-same}
 use Rattle.feed_core.specs.Feed.{DoesCall, end_of}
 use Rattle.publisher_hub.specs.Subscribing.{Admits, Refuses}
 use Rattle.publisher_hub.specs.declared.work.Work.{Work}
