@@ -3,6 +3,7 @@ pub mod Digits
 pub mod Duplicates
 pub mod EachMaps
 pub mod FewWoken
+pub mod HubCloses
 pub mod HubLooks
 pub mod Inside
 pub mod KeptCommands
@@ -13,6 +14,7 @@ pub mod LatestNames
 pub mod Lines
 pub mod LiveNumbers
 pub mod LiveSubscriptions
+pub mod LookedSessions
 pub mod OneName
 pub mod Places
 pub mod Reading
@@ -21,8 +23,10 @@ pub mod Results
 pub mod RunEnds
 pub mod ScriptLaws
 pub mod SeenPublishers
+pub mod SessionStates
 pub mod SessionTurns
 pub mod Sessions
+pub mod Signals
 pub mod StartedNumbers
 pub mod StartedTasks
 pub mod SubscribingSessions
