@@ -6,7 +6,7 @@ use Rattle.std.proofs.lemmas.List.{length-map, map-append}
 use Rattle.feed_core.specs.Desk.{Rests, desk_after_signal}
 use Rattle.feed_core.specs.LaneCalls.{lane_with_closing}
 use Rattle.feed_core.specs.Feed.{DoesCall, end_of}
-use Rattle.publisher_hub.specs.Hub.{HubState, hub_of}
+use Rattle.publisher_hub.specs.Hub.{HubState, Progress, hub_of}
 use Rattle.publisher_hub.specs.Offering.{work_of}
 use Rattle.publisher_hub.specs.Sound.{IsSound}
 use Rattle.publisher_hub.specs.Subscribing.{Admits, ClosesNew, first_entry}
@@ -19,7 +19,8 @@ use Rattle.lines_demo.specs.Script.Session.{AreScriptEntries, IsScriptEntry, IsS
 use Rattle.lines_demo.specs.Script.State.{SessionState}
 use Rattle.lines_demo.specs.Script.Subscribing.{MOST_LIVE, MOST_SUBSCRIPTIONS, desk_at_start, desk_at_subscribing, new_subscription, state_after_subscribing, subscribing_refusal}
 use Rattle.lines_demo.specs.Script.Waking.{is_live, newly_woken}
-use Rattle.lines_demo.proofs.SeenPublishers.{CameAsFar, script_publisher, seen_same, state_as_far}
+use Rattle.lines_demo.proofs.SeenPublishers.{CameAsFar, script_publisher, seen_same}
+use Rattle.lines_demo.proofs.SessionStates.{state_of_is}
 use Rattle.lines_demo.proofs.StartedNumbers.{newly_woken_new}
 
 -- ---- who may subscribe
@@ -119,12 +120,9 @@ module _ (old new : Hub DeskState) (name : List ℕ) (number entry : ℕ) (feed 
   pub admitted_state : (stock : ℕ) (woken : List ℕ) (has_begun : Bool)
       → state_of new (stock - 1) (woken ++ entry ∷ []) has_begun ≡ state_after_subscribing name number (state_of old stock woken has_begun)
   admitted_state stock woken has_begun =
-      let before = map subscription_of old.entries.items in
-      let start : SessionState = state_of old stock woken has_begun in
-      let one = new_subscription start name number in
-      state_as_far old new (stock - 1) (woken ++ entry ∷ []) has_begun admitted_as_far
-      ∙ ap (λ now. record start { stock = stock - 1; subscriptions = now; woken = woken ++ entry ∷ [] }) grown
-      ∙ ap (λ numbers. record start { stock = stock - 1; subscriptions = before ++ one ∷ []; woken = woken ++ numbers }) wakes where
+      let far = admitted_as_far in
+      state_of_is new (stock - 1) (woken ++ entry ∷ []) has_begun (state_after_subscribing name number (state_of old stock woken has_begun)) (ap (λ (p : Progress). p.capacity) far) refl
+      (ap (λ (p : Progress). p.ending) far) (ap (λ (p : Progress). p.next) far) refl grown (ap (λ numbers. woken ++ numbers) wakes) where
         without_looks : (closing : Option Ending) → desk_without_looks (desk_after_request number (desk_at_subscribing closing old.capacity)) ≡ desk_after_request number (desk_at_subscribing closing old.capacity)
         without_looks None = refl
         without_looks (Some ending) = refl

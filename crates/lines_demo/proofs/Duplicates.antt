@@ -8,7 +8,8 @@ use Rattle.std.proofs.lemmas.List.Sums.{sum_by-cons}
 use Rattle.std.proofs.lemmas.Option.{slice_get_within}
 use Rattle.feed_core.specs.Desk.{Rests, desk_after_duplicate}
 use Rattle.feed_core.specs.Feed.{DoesCall, end_of}
-use Rattle.publisher_hub.specs.Hub.{HubState, hub_of}
+use Rattle.feed_core.specs.LaneCalls.{lane_with_duplicate}
+use Rattle.publisher_hub.specs.Hub.{HubState, Progress, hub_of}
 use Rattle.publisher_hub.specs.Offering.{work_of}
 use Rattle.publisher_hub.specs.Sound.{IsSound}
 use Rattle.publisher_hub.specs.Subscribing.{IsSeen, TellsOne, Told}
@@ -26,7 +27,9 @@ use Rattle.lines_demo.specs.Script.State.{SubscriptionState, SessionState}
 use Rattle.lines_demo.specs.Script.Subscribing.{is_live_as, is_subscribed, state_after_duplicate, subscription_after_duplicate}
 use Rattle.lines_demo.specs.Script.Waking.{is_live, newly_woken}
 use Rattle.lines_demo.proofs.HubLooks.{same_desk, seen_with, with_desk}
-use Rattle.lines_demo.proofs.SeenPublishers.{CameAsFar, script_publisher, seen_as_far, seen_retired, seen_same, state_as_far, word_itself}
+use Rattle.lines_demo.proofs.SeenPublishers.{CameAsFar, script_publisher, seen_as_far, seen_retired, seen_same, word_itself}
+use Rattle.lines_demo.proofs.SessionStates.{state_of_is}
+use Rattle.lines_demo.proofs.Signals.{signal_wakes}
 use Rattle.lines_demo.proofs.StartedNumbers.{newly_woken_one}
 use Rattle.lines_demo.proofs.WokenLists.{bit}
 
@@ -121,23 +124,12 @@ told_entry start old new is told = subst (λ (e : Entry DeskState). IsScriptEntr
 })
 
 -- its task starts where it was at rest
-told_starts : (number : ℕ) (start : Option Unit) (old new : Entry DeskState) → is_live (subscription_of old) ≡ true → Told end_of DoesCall start old new
+told_starts : (number : ℕ) (start : Option Unit) (old new : Entry DeskState) → Told end_of DoesCall start old new
     → numbers_of (work_of number start) ≡ (if owes (desk_after_duplicate (subscription_of old).desk) && not (owes (subscription_of old).desk) then number ∷ [] else [])
-told_starts number start old new live told = by start told.before.started told.before.lane.how refl refl told.exact.starts lives ∙ sym shown where
-  lives : is_none told.before.lane.how ≡ true
-  lives = ap is_live (sym (seen_with old told.before told.was)) ∙ live
-
-  shown : (if owes (desk_after_duplicate (subscription_of old).desk) && not (owes (subscription_of old).desk) then number ∷ [] else [])
-      ≡ (if (true && is_none told.before.lane.how) && not (told.before.started && is_none told.before.lane.how) then number ∷ [] else [])
-  shown = ap (λ (s : SubscriptionState). if owes (desk_after_duplicate s.desk) && not (owes s.desk) then number ∷ [] else []) (seen_with old told.before told.was)
-
-  by : (start : Option Unit) (started : Bool) (how : Option How) → told.before.started ≡ started → told.before.lane.how ≡ how → IsSome start ↔ Rests told.before → is_none how ≡ true
-      → numbers_of (work_of number start) ≡ (if (true && is_none how) && not (started && is_none how) then number ∷ [] else [])
-  by start started (Some how) is_started ended starts runs = cc
-  by None true None is_started unended starts runs = refl
-  by None false None is_started unended starts runs = let some = starts.1 (is_started, unended) in cc
-  by (Some task) true None is_started unended starts runs = let rests = starts.0 (search rules) in let e : true ≡ false = sym is_started ∙ rests.0 in cc
-  by (Some task) false None is_started unended starts runs = refl
+told_starts number start old new told =
+    let before : DeskState = told.before in
+    signal_wakes before (lane_with_duplicate before.lane) number start refl told.exact.starts
+    ∙ ap (λ (s : SubscriptionState). if owes (desk_after_duplicate s.desk) && not (owes s.desk) then number ∷ [] else []) (sym (seen_with old before told.was))
 
 -- ---- the publisher
 
@@ -202,7 +194,7 @@ module _ (old middle new : Hub DeskState) (name : List ℕ) (due : List (Work Un
   told_woken most =
       let before = map subscription_of old.entries.items in
       let change : SubscriptionState → SubscriptionState = λ s. record s { desk = desk_after_duplicate s.desk } in
-      ap numbers_of tells.tells.due ∙ told_starts tells.number tells.tells.start one tells.tells.after one_lives tells.tells.told
+      ap numbers_of tells.tells.due ∙ told_starts tells.number tells.tells.start one tells.tells.after tells.tells.told
       ∙ sym (newly_woken_one before tells.number (subscription_of one) (change (subscription_of one)) one_at)
       ∙ ap (λ xs. newly_woken before xs) (sym (change_one (is_live_as name) change before tells.number (subscription_of one) one_at one_named most))
 
@@ -212,7 +204,6 @@ module _ (old middle new : Hub DeskState) (name : List ℕ) (due : List (Work Un
   told_state stock woken has_begun reached =
       let before = map subscription_of old.entries.items in
       let most : count_by (is_live_as name) before ≤ 1 = reached.1.names name in
-      let start : SessionState = state_of old stock woken has_begun in
-      state_as_far old new stock (woken ++ numbers_of due) has_begun told_as_far
-      ∙ ap (λ now. record start { subscriptions = now; woken = woken ++ numbers_of due }) (told_subscriptions most)
-      ∙ ap (λ numbers. record start { subscriptions = map (subscription_after_duplicate name) before; woken = woken ++ numbers }) (told_woken most)
+      let far = told_as_far in
+      state_of_is new stock (woken ++ numbers_of due) has_begun (state_after_duplicate name (state_of old stock woken has_begun)) (ap (λ (p : Progress). p.capacity) far) refl (ap (λ (p : Progress). p.ending) far)
+      (ap (λ (p : Progress). p.next) far) refl (told_subscriptions most) (ap (λ numbers. woken ++ numbers) (told_woken most))

@@ -33,27 +33,6 @@ use Rattle.lines_demo.proofs.OneName.{word_same}
 abbrev pub CameAsFar : Hub DeskState → Hub DeskState → Type 0
 CameAsFar old new = (hub_of end_of new).progress ≡ (hub_of end_of old).progress
 
--- where a script stands with such a publisher
-pub state_as_far : (old new : Hub DeskState) (stock : ℕ) (woken : List ℕ) (has_begun : Bool) → CameAsFar old new
-    → state_of new stock woken has_begun ≡ record (state_of old stock woken has_begun) { subscriptions = map subscription_of new.entries.items }
-state_as_far old new stock woken has_begun far = ap at far where
-  at : Progress → SessionState
-  at p = record {
-    capacity = p.capacity;
-    has_begun = has_begun;
-    closing = p.ending;
-    serial = p.next;
-    stock = stock;
-    subscriptions = map subscription_of new.entries.items;
-    woken = woken;
-  }
-
--- it stands where it stood, where it sees the same subscriptions
-pub same_state : (old new : Hub DeskState) (stock : ℕ) (woken : List ℕ) (has_begun : Bool) → CameAsFar old new → map subscription_of new.entries.items ≡ map subscription_of old.entries.items
-    → state_of new stock woken has_begun ≡ state_of old stock woken has_begun
-same_state old new stock woken has_begun far same =
-    state_as_far old new stock woken has_begun far ∙ ap (λ subscriptions. record (state_of old stock woken has_begun) { subscriptions = subscriptions }) same
-
 -- such a sound one is a script's, where its subscriptions are
 pub script_publisher : (old new : Hub DeskState) → IsScriptHub old → IsSound (hub_of end_of new) → CameAsFar old new → AreScriptEntries new.entries.items → IsScriptHub new
 script_publisher old new is sound far entries = record {

@@ -1,5 +1,5 @@
 -- What `sub` leaves of a session.
-use Rattle.std.proofs.Common.{◌≡◌, inl, inr, ℕ, ◌+◌, ◌-◌, ◌<◌, ◌≤◌, Bool, true, false, None, List, [], ◌∷◌, ◌++◌, length, length-append, length-drop, drop, sym, ap, subst, ◌∙◌, arith}
+use Rattle.std.proofs.Common.{◌≡◌, inl, inr, ℕ, ◌+◌, ◌-◌, ◌<◌, ◌≤◌, Bool, true, false, None, List, [], ◌∷◌, ◌++◌, length, length-append, length-drop, drop, refl, sym, ap, subst, ◌∙◌, arith}
 use Rattle.std.specs.Prelude.{All, count_by, Vec}
 use Rattle.std.specs.declared.alloc.Global.{Global}
 use Rattle.std.proofs.lemmas.List.{append-nil, length-map}
@@ -25,12 +25,10 @@ use Rattle.lines_demo.proofs.Admissions.{admitted_due, admitted_publisher, admit
 use Rattle.lines_demo.proofs.Duplicates.{told_publisher, told_state, told_subscribed}
 use Rattle.lines_demo.proofs.FewWoken.{few_woken}
 use Rattle.lines_demo.proofs.KeptCommands.{command_reached}
+use Rattle.lines_demo.proofs.LookedSessions.{IsSameSession, session_looked}
 use Rattle.lines_demo.proofs.Replying.{replies_reached, sub_against, sub_done, sub_duplicate, sub_no_buffer, sub_no_memory}
-use Rattle.lines_demo.proofs.SeenPublishers.{same_state, script_publisher, seen_as_far, seen_count, seen_in_part_as_far, seen_in_part_same, seen_same, seen_unnamed}
-
--- at most as many are woken as may be live
-pub woken_fit : (state : SessionState) → IsReached state → length state.woken ≤ MOST_LIVE
-woken_fit state is = let few = few_woken state is.1.woken in let most = is.1.few in omega (arith, few, most)
+use Rattle.lines_demo.proofs.SeenPublishers.{seen_as_far, seen_count, seen_in_part_as_far, seen_in_part_same, seen_same, seen_unnamed}
+use Rattle.lines_demo.proofs.SessionStates.{room_for}
 
 -- nobody is left where the first can't be taken
 pub nobody : {A : Type 0} (stock rest : List A) → stock ≡ rest → rest ≡ drop 1 stock → length stock ≡ 0
@@ -57,7 +55,6 @@ all_back P first last stock rest now cut same back all =
 pub record AnswersSub (old : SessionState) (name : List ℕ) (number : ℕ) (reply : Reply) (hub : Hub DeskState) (stock : ℕ) (woken : List ℕ) : Type 0 where
   pub session : IsSession hub stock woken old.has_begun
   pub replies : Replies (λ refusals. sub_result old refusals name number) reply (state_of hub stock woken old.has_begun)
-  pub fits : length woken ≤ MOST_LIVE
 
 -- a reply that the definition gives leaves a session
 answers : (old : SessionState) (name : List ℕ) (number : ℕ) (reply : Reply) (hub : Hub DeskState) (stock : ℕ) (woken : List ℕ) → old.has_begun ≡ true → IsReached old → IsScriptHub hub
@@ -70,7 +67,6 @@ answers old name number reply hub stock woken begun reached publisher replies =
     record {
       session = record { publisher = publisher; reached = now; fresh = λ never. (let e : true ≡ false = sym begun ∙ never in cc) };
       replies = replies;
-      fits = woken_fit (state_of hub stock woken old.has_begun) now;
     }
 
 module _ (old : Hub DeskState) (stock : ℕ) (woken : List ℕ) (has_begun : Bool) (name : List ℕ) (number : ℕ) (is : IsSession old stock woken has_begun) (begun : has_begun ≡ true) where
@@ -81,21 +77,16 @@ module _ (old : Hub DeskState) (stock : ℕ) (woken : List ℕ) (has_begun : Boo
   -- ---- the publisher refuses
 
   -- a script sees nothing of what has changed
-  unseen : (new : Hub DeskState) (due : List (Work Unit)) (refusal : Refusal) (publisher : IsScriptHub new) → state_of new stock woken has_begun ≡ start → due ≡ []
+  unseen : (new : Hub DeskState) (due : List (Work Unit)) (refusal : Refusal) → IsSameSession old new stock woken has_begun → due ≡ []
       → Replies (λ refusals. sub_result start refusals name number) (Refused refusal) start → AnswersSub start name number (Refused refusal) new stock (woken ++ numbers_of due)
-  unseen new due refusal publisher same none replies =
+  unseen new due refusal same none replies =
       let woken_same : woken ++ numbers_of due ≡ woken = ap (λ d. woken ++ numbers_of d) none ∙ append-nil woken in
-      let state_same : start ≡ state_of new stock (woken ++ numbers_of due) has_begun = sym same ∙ ap (λ w. state_of new stock w has_begun) (sym woken_same) in
-      answers start name number (Refused refusal) new stock (woken ++ numbers_of due) begun is.reached publisher
-      (subst (λ (s : SessionState). Replies (λ refusals. sub_result start refusals name number) (Refused refusal) s) state_same replies)
+      rw woken_same (answers start name number (Refused refusal) new stock woken begun is.reached same.session.publisher
+      (subst (λ (s : SessionState). Replies (λ refusals. sub_result start refusals name number) (Refused refusal) s) (sym same.state) replies))
 
-  -- looks leave a script's publisher
-  seen_publisher : (new : Hub DeskState) → IsSeen end_of DoesCall old new → IsSound (hub_of end_of new) → IsScriptHub new
-  seen_publisher new seen sound = script_publisher old new is.publisher sound (seen_as_far old new seen) (seen_same old new is.publisher seen).entries
-
-  -- and the script where it stood
-  seen_state : (new : Hub DeskState) → IsSeen end_of DoesCall old new → state_of new stock woken has_begun ≡ start
-  seen_state new seen = same_state old new stock woken has_begun (seen_as_far old new seen) (seen_same old new is.publisher seen).same
+  -- looks leave the script where it stood
+  seen_session : (new : Hub DeskState) → IsSeen end_of DoesCall old new → IsSound (hub_of end_of new) → IsSameSession old new stock woken has_begun
+  seen_session new seen sound = session_looked old new stock woken has_begun is sound (seen_as_far old new seen) (seen_same old new is.publisher seen)
 
   -- as many were made as are stored
   seen_made : (new : Hub DeskState) → IsSeen end_of DoesCall old new → length new.entries.items ≡ length start.subscriptions
@@ -110,19 +101,18 @@ module _ (old : Hub DeskState) (stock : ℕ) (woken : List ℕ) (has_begun : Boo
       answers start name number (Refused Refusal.Duplicate) new stock (woken ++ numbers_of due) begun is.reached (told_publisher old middle new name due is.publisher seen tells sound)
       (subst (λ (s : SessionState). Replies (λ refusals. sub_result start refusals name number) (Refused Refusal.Duplicate) s) (sym (told_state old middle new name due is.publisher seen tells stock woken has_begun is.reached)) replies)
   refused new due Refusal.NoMemory sound (inl part, none) =
-      let same = seen_in_part_same old new is.publisher part in
-      let far = seen_in_part_as_far old new part in
-      unseen new due Refusal.NoMemory (script_publisher old new is.publisher sound far same.entries) (same_state old new stock woken has_begun far same.same) none (sub_no_memory start name number)
+      let same = session_looked old new stock woken has_begun is sound (seen_in_part_as_far old new part) (seen_in_part_same old new is.publisher part) in
+      unseen new due Refusal.NoMemory same none (sub_no_memory start name number)
   refused new due Refusal.NoMemory sound (inr finds, none) =
-      unseen new due Refusal.NoMemory (seen_publisher new finds.seen sound) (seen_state new finds.seen) none (sub_no_memory start name number)
+      unseen new due Refusal.NoMemory (seen_session new finds.seen sound) none (sub_no_memory start name number)
   refused new due Refusal.TooMany sound (finds, none) =
       let full : count_by is_live start.subscriptions ≡ MOST_LIVE = sym (seen_count old new is.publisher finds.seen) ∙ finds.why in
-      unseen new due Refusal.TooMany (seen_publisher new finds.seen sound) (seen_state new finds.seen) none
+      unseen new due Refusal.TooMany (seen_session new finds.seen sound) none
       (sub_against start name number Refusal.TooMany (seen_unnamed old new name is.publisher finds.seen finds.unnamed) (refused_full start full))
   refused new due Refusal.Exhausted sound (finds, none) =
       let few : count_by is_live start.subscriptions < MOST_LIVE = subst (λ n. n < MOST_LIVE) (seen_count old new is.publisher finds.seen) finds.why.0 in
       let made : length start.subscriptions ≡ MOST_SUBSCRIPTIONS = sym (seen_made new finds.seen) ∙ finds.why.1 in
-      unseen new due Refusal.Exhausted (seen_publisher new finds.seen sound) (seen_state new finds.seen) none
+      unseen new due Refusal.Exhausted (seen_session new finds.seen sound) none
       (sub_against start name number Refusal.Exhausted (seen_unnamed old new name is.publisher finds.seen finds.unnamed) (refused_exhausted start few made))
   refused new due Refusal.BadCapacity sound refuses = absurd refuses.0.why
   refused new due (Refusal.Closed ending) sound refuses = absurd refuses.0.why
@@ -156,15 +146,15 @@ module _ (old : Hub DeskState) (stock : ℕ) (woken : List ℕ) (has_begun : Boo
     -- nobody is left who could subscribe
     pub finds_nobody : stock ≡ 0 → AnswersSub start name number (Refused Refusal.TooMany) new stock woken
     finds_nobody none =
-        answers start name number (Refused Refusal.TooMany) new stock woken begun is.reached (seen_publisher new seen sound)
-        (subst (λ (s : SessionState). Replies (λ refusals. sub_result start refusals name number) (Refused Refusal.TooMany) s) (sym (seen_state new seen))
+        answers start name number (Refused Refusal.TooMany) new stock woken begun is.reached (seen_session new seen sound).session.publisher
+        (subst (λ (s : SessionState). Replies (λ refusals. sub_result start refusals name number) (Refused Refusal.TooMany) s) (sym (seen_session new seen sound).state)
         (sub_against start name number Refusal.TooMany free (refused_stock start few made none)))
 
     -- memory is refused for the buffer
     pub gets_no_buffer : 0 < stock → AnswersSub start name number (Refused Refusal.NoMemory) new stock woken
     gets_no_buffer some =
-        answers start name number (Refused Refusal.NoMemory) new stock woken begun is.reached (seen_publisher new seen sound)
-        (subst (λ (s : SessionState). Replies (λ refusals. sub_result start refusals name number) (Refused Refusal.NoMemory) s) (sym (seen_state new seen))
+        answers start name number (Refused Refusal.NoMemory) new stock woken begun is.reached (seen_session new seen sound).session.publisher
+        (subst (λ (s : SessionState). Replies (λ refusals. sub_result start refusals name number) (Refused Refusal.NoMemory) s) (sym (seen_session new seen sound).state)
         (sub_no_buffer start name number free (may_subscribe start few made some)))
 
     -- the next one subscribes
@@ -172,9 +162,9 @@ module _ (old : Hub DeskState) (stock : ℕ) (woken : List ℕ) (has_begun : Boo
         → Admits end_of DoesCall name feed None entry [] started new after → IsSound (hub_of end_of after)
         → AnswersSub start name number (Name name) after (stock - 1) (woken ++ entry ∷ [])
     admitted after entry feed started some requested admits sound_after =
-        let publisher = seen_publisher new seen sound in
+        let publisher = (seen_session new seen sound).session.publisher in
         let state = admitted_state new after name number entry feed started publisher requested admits stock woken has_begun in
-        let same = seen_state new seen in
+        let same = (seen_session new seen sound).state in
         let replies = sub_done start name number free (may_subscribe start few made some) in
         answers start name number (Name name) after (stock - 1) (woken ++ entry ∷ []) begun is.reached (admitted_publisher new after name number entry feed started publisher requested admits sound_after)
         (subst (λ (s : SessionState). Replies (λ refusals. sub_result start refusals name number) (Name name) s)
@@ -183,13 +173,10 @@ module _ (old : Hub DeskState) (stock : ℕ) (woken : List ℕ) (has_begun : Boo
     -- nothing is due then
     pub admitted_starts_nothing : (after : Hub DeskState) (entry : ℕ) (feed : DeskState) (started : List (Work Unit)) → feed ≡ desk_after_request number (desk_at_start new.capacity)
         → Admits end_of DoesCall name feed None entry [] started new after → started ≡ []
-    admitted_starts_nothing after entry feed started requested admits = admitted_due new after name number entry feed started (seen_publisher new seen sound) requested admits
+    admitted_starts_nothing after entry feed started requested admits = admitted_due new after name number entry feed started (seen_session new seen sound).session.publisher requested admits
 
 -- there is room for all whom it woke
-pub room_for : (old : SessionState) (name : List ℕ) (number : ℕ) (reply : Reply) (hub : Hub DeskState) (stock : ℕ) (woken : List ℕ) (due : List (Work Unit)) → AnswersSub old name number reply hub stock (woken ++ numbers_of due)
+pub room_after : (old : SessionState) (name : List ℕ) (number : ℕ) (reply : Reply) (hub : Hub DeskState) (stock : ℕ) (woken : List ℕ) (due : List (Work Unit)) → AnswersSub old name number reply hub stock (woken ++ numbers_of due)
     → length woken + length due ≤ MOST_LIVE
-room_for old name number reply hub stock woken due answer =
-    let fits = answer.fits in
-    let both : length (woken ++ numbers_of due) ≡ length woken + length (numbers_of due) = length-append woken (numbers_of due) in
-    let many : length (numbers_of due) ≡ length due = length-map due (λ (work : Work Unit). work.entry) in
-    omega (arith, fits, both, many)
+room_after old name number reply hub stock woken due answer =
+    room_for (state_of hub stock (woken ++ numbers_of due) old.has_begun) woken due answer.session.reached refl

@@ -9,7 +9,7 @@ use Rattle.lines_demo.specs.Script.State.{SessionState}
 use Rattle.lines_demo.specs.Script.Subscribing.{desk_at_start}
 use Rattle.lines_demo.specs.declared.script.reply.Reply.TheVariants.{Name, Refused}
 use Rattle.lines_demo.proofs.Inside.{state_inside}
-use Rattle.lines_demo.proofs.SubscribingSessions.{AnswersSub, refused, finds_nobody, gets_no_buffer, admitted, admitted_starts_nothing, all_back, few_are_woken, nobody, one_back, one_fewer, room_for}
+use Rattle.lines_demo.proofs.SubscribingSessions.{AnswersSub, refused, finds_nobody, gets_no_buffer, admitted, admitted_starts_nothing, all_back, few_are_woken, nobody, one_back, one_fewer, room_after}
 use Rattle.lines_demo.proofs.script.session.Session.subscribe.Given.{Over}
 use Rattle.lines_demo.proofs.script.session.Session.subscribe.Goals as goal
 
@@ -23,7 +23,7 @@ refused_then g c =
     (subst (λ (d : List (Work Unit)). Refuses end_of DoesCall c.args.name c.in-Err.refusal d c.may_subscribe.new.due.items c.self.inside.hub c.may_subscribe.new.self) c.self.invariant.3 c.in-Err.ensures.err)
 
 pub push_all-requires : goal.push_all-requires
-push_all-requires g c = record { room = room_for (state_inside c.self.inside) c.args.name c.args.number (Refused c.in-Err.refusal) c.may_subscribe.new.self (length c.self.inside.stock.items) c.self.inside.woken c.may_subscribe.new.due.items (refused_then g c) }
+push_all-requires g c = record { room = room_after (state_inside c.self.inside) c.args.name c.args.number (Refused c.in-Err.refusal) c.may_subscribe.new.self (length c.self.inside.stock.items) c.self.inside.woken c.may_subscribe.new.due.items (refused_then g c) }
 
 refused_at_last : (g : Over) (c : goal.After-push_all g)
     → AnswersSub (state_inside c.self.inside) c.args.name c.args.number (Refused c.in-Err.refusal) c.may_subscribe.new.self (length c.self.inside.stock.items) c.push_all.new.self
