@@ -18,8 +18,8 @@ use Rattle.publisher_hub.proofs.LiveRounds.{get_mapped, get_before_map}
 use Rattle.publisher_hub.proofs.Places.{stood_by}
 use Rattle.lines_demo.specs.Prelude.{DeskState}
 use Rattle.lines_demo.specs.Script.Command.{is_word}
-use Rattle.lines_demo.specs.Script.Session.{AreScriptEntries, IsScriptHub, state_of, subscription_of}
-use Rattle.lines_demo.specs.Script.State.{SubscriptionState, SessionState}
+use Rattle.lines_demo.specs.Script.Session.{AreScriptEntries, IsScriptHub, subscription_of}
+use Rattle.lines_demo.specs.Script.State.{SubscriptionState}
 use Rattle.lines_demo.specs.Script.Subscribing.{is_live_as, is_subscribed}
 use Rattle.lines_demo.specs.Script.Waking.{is_live}
 use Rattle.lines_demo.specs.declared.script.session.publishing.TheConstants.{SOURCE}
