@@ -29,6 +29,7 @@ use Rattle.lines_demo.proofs.LookedSessions.{IsSameSession, session_looked}
 use Rattle.lines_demo.proofs.Replying.{replies_reached, sub_against, sub_done, sub_duplicate, sub_no_buffer, sub_no_memory}
 use Rattle.lines_demo.proofs.SeenPublishers.{seen_as_far, seen_count, seen_in_part_as_far, seen_in_part_same, seen_same, seen_unnamed}
 use Rattle.lines_demo.proofs.SessionStates.{room_for}
+use Rattle.lines_demo.proofs.Sessions.{session_at}
 
 -- nobody is left where the first can't be taken
 pub nobody : {A : Type 0} (stock rest : List A) → stock ≡ rest → rest ≡ drop 1 stock → length stock ≡ 0
@@ -65,7 +66,7 @@ answers old name number reply hub stock woken begun reached publisher replies =
     subst (λ (s : SessionState). IsReached (sub_result s refusals name number).state) begun_same (command_reached (Sub name number) old refusals reached) in
     let now : IsReached (state_of hub stock woken old.has_begun) = replies_reached (λ refusals. sub_result old refusals name number) reply (state_of hub stock woken old.has_begun) replies kept in
     record {
-      session = record { publisher = publisher; reached = now; fresh = λ never. (let e : true ≡ false = sym begun ∙ never in cc) };
+      session = session_at hub stock woken old.has_begun (state_of hub stock woken old.has_begun) publisher refl now begun;
       replies = replies;
     }
 

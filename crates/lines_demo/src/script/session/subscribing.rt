@@ -20,8 +20,8 @@ impl<B: Listener> Session<B> {
         name: Name,
         number: u64,
     ) -> Result<Reply, Refusal>
-        requires bounded { number ≤ UNBOUNDED }
         requires begun { self.old.has_begun ≡ true }
+        requires bounded { number ≤ UNBOUNDED }
         ensures { Replies (λ refusals. sub_result self.old refusals name number) (reply_or_refusal result) self.new }
     {
         if let Err(refusal) = self.hub.may_subscribe(name, &mut self.due) {
