@@ -15,6 +15,7 @@ use Rattle.lines_demo.proofs.script.session.Session.subscribe.Goals as goal
 
 -- ---- the publisher refused
 
+-- what the refusal leaves, with whom it woke
 refused_then : (g : Over) (c : goal.After-push_all-arg-in-Err-1 g)
     → AnswersSub (state_inside c.self.inside) c.args.name c.args.number (Refused c.in-Err.refusal) c.may_subscribe.new.self (length c.self.inside.stock.items) (c.self.inside.woken ++ numbers_of c.may_subscribe.new.due.items)
 refused_then g c =
@@ -25,6 +26,7 @@ refused_then g c =
 pub push_all-requires : goal.push_all-requires
 push_all-requires g c = record { room = room_after (state_inside c.self.inside) c.args.name c.args.number (Refused c.in-Err.refusal) c.may_subscribe.new.self (length c.self.inside.stock.items) c.self.inside.woken c.may_subscribe.new.due.items (refused_then g c) }
 
+-- the same, once they are woken
 refused_at_last : (g : Over) (c : goal.After-push_all g)
     → AnswersSub (state_inside c.self.inside) c.args.name c.args.number (Refused c.in-Err.refusal) c.may_subscribe.new.self (length c.self.inside.stock.items) c.push_all.new.self
 refused_at_last g c = rw c.push_all.ensures.woken (
@@ -40,6 +42,7 @@ returns-in-Err g c = rw (← c.self.view_is) (refused_at_last g c).replies
 
 -- ---- nobody is left
 
+-- what an empty stock leaves
 nobody_left : (g : Over) (c : goal.In_default-pop_front g)
     → AnswersSub (state_inside c.self.inside) c.args.name c.args.number (Refused Refusal.TooMany) c.may_subscribe.new.self (length c.pop_front.new.self.items) c.self.inside.woken
 nobody_left g c =
@@ -68,16 +71,18 @@ push-requires g c = record {
       (ap (λ (s : SessionState). s.has_begun) c.self.view_is ∙ c.requires.begun) c.may_subscribe.new.self c.may_subscribe.new.due c.in_default.ensures.seen c.in_default.ensures.can c.may_subscribe.ensures.sound;
 }
 
--- what it has requested, and that it was added
+-- what it has requested
 requested : (g : Over) (c : goal.After-push g) → c.in-Ok.desk ≡ desk_after_request c.args.number (desk_at_start c.may_subscribe.new.self.capacity)
 requested g c = c.in-Ok.ensures.ok ∙ ap (λ n. desk_after_request c.args.number (desk_at_start n)) c.capacity.ensures
 
+-- the publisher added it, while nothing was due
 added : (g : Over) (c : goal.After-push g)
     → Admits end_of DoesCall c.args.name c.in-Ok.desk None c.in_ok-entry-in-Ok.entry [] c.admit.new.due.items c.may_subscribe.new.self c.admit.new.self
 added g c =
     subst (λ (d : List (Work Unit)). Admits end_of DoesCall c.args.name c.in-Ok.desk None c.in_ok-entry-in-Ok.entry d c.admit.new.due.items c.may_subscribe.new.self c.admit.new.self)
     (c.in_default.ensures.nothing_due ∙ c.self.invariant.3) c.in_ok-entry-in-Ok.ensures.ok
 
+-- what the new one leaves
 subscribed : (g : Over) (c : goal.After-push g)
     → AnswersSub (state_inside c.self.inside) c.args.name c.args.number (Name c.args.name) c.admit.new.self (length c.pop_front.new.self.items) c.push.new.self
 subscribed g c =
@@ -102,6 +107,7 @@ returns-in_ok-entry-in-Ok g c = rw (← c.self.view_is) (subscribed g c).replies
 
 -- ---- memory is refused for its buffer
 
+-- what is left where it comes back to the stock
 no_buffer : (g : Over) (c : goal.After-push_back_reserved g)
     → AnswersSub (state_inside c.self.inside) c.args.name c.args.number (Refused Refusal.NoMemory) c.may_subscribe.new.self (length c.push_back_reserved.new.self.items) c.self.inside.woken
 no_buffer g c =
