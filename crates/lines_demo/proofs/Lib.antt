@@ -22,6 +22,7 @@ pub mod Replying
 pub mod Results
 pub mod RunEnds
 pub mod ScriptLaws
+pub mod SearchedNames
 pub mod SeenPublishers
 pub mod SessionStates
 pub mod SessionTurns
