@@ -1,4 +1,6 @@
+pub mod Admissions
 pub mod Digits
+pub mod Duplicates
 pub mod EachMaps
 pub mod FewWoken
 pub mod HubCloses
@@ -10,6 +12,7 @@ pub mod KeptSubscriptions
 pub mod KeptTurns
 pub mod LatestNames
 pub mod Lines
+pub mod LiveNumbers
 pub mod LiveSubscriptions
 pub mod LookedSessions
 pub mod OneName
@@ -20,12 +23,14 @@ pub mod Results
 pub mod RunEnds
 pub mod ScriptLaws
 pub mod SearchedNames
+pub mod SeenPublishers
 pub mod SessionStates
 pub mod SessionTurns
 pub mod Sessions
 pub mod Signals
 pub mod StartedNumbers
 pub mod StartedTasks
+pub mod SubscribingSessions
 pub mod Turns
 pub mod WokenLists
 pub mod WokenTasks
