@@ -1,17 +1,20 @@
 -- A session whose publisher's end of one subscription was lent, as to a request or a turn.
-use Rattle.std.proofs.Common.{◌≡◌, ◌⊎◌, inl, inr, ℕ, ◌<◌, Bool, true, Option, None, Some, List, length, map, set, refl, sym, ap, subst, ◌∙◌, arith}
+use Rattle.std.proofs.Common.{◌≡◌, ℕ, Bool, true, Option, None, Some, List, length, map, set, refl, sym, ap, subst, ◌∙◌}
 use Rattle.std.specs.Prelude.{is_some, option_map, slice_get}
 use Rattle.std.specs.Option.{option_and_then}
 use Rattle.std.proofs.lemmas.List.{map-set}
 use Rattle.std.proofs.lemmas.Option.{slice_get-map}
 use Rattle.feed_core.specs.Feed.{end_of}
+use Rattle.publisher_hub.specs.Hub.{hub_of}
+use Rattle.publisher_hub.specs.Sound.{IsSound}
 use Rattle.publisher_hub.specs.Lending.{MayBecome, feed_at, with_feed}
 use Rattle.publisher_hub.specs.declared.entry.Entry.{Entry}
 use Rattle.publisher_hub.specs.declared.hub.Hub.{Hub}
 use Rattle.publisher_hub.proofs.Lending.{sound_with_feed}
-use Rattle.lines_demo.specs.Prelude.{DeskState, desk_without_looks}
-use Rattle.lines_demo.specs.Script.Session.{AreScriptEntries, IsScriptEntry, IsScriptHub, state_of, subscription_of}
-use Rattle.lines_demo.specs.Script.State.{SessionState, SubscriptionState}
+use Rattle.lines_demo.specs.Prelude.{DeskState}
+use Rattle.lines_demo.specs.Script.Session.{IsScriptEntry, IsScriptHub, state_of, subscription_of}
+use Rattle.lines_demo.specs.Script.State.{SubscriptionState}
+use Rattle.lines_demo.proofs.Duplicates.{set_entries}
 use Rattle.lines_demo.proofs.HubLooks.{same_desk, seen_with, with_desk}
 
 -- the publisher after its end of this number was left as this
@@ -41,23 +44,23 @@ end_there hub number s is stands = by (slice_get hub.entries.items number) refl 
       (own.desk, ap (option_and_then (λ (it : Entry DeskState). it.feed)) e ∙ own.there)
 
 module _ (hub : Hub DeskState) (number : ℕ) (before after : DeskState) (at : feed_at hub number ≡ Some before) where
-  one : IsLent hub number before
-  one = lent_of hub number before at
+  pub lent_one : IsLent hub number before
+  lent_one = lent_of hub number before at
 
-  lent_is : lent hub number after ≡ with_feed hub number (Some one.entry) after
-  lent_is = ap (λ found. with_feed hub number found after) one.stands
+  lent_is : lent hub number after ≡ with_feed hub number (Some lent_one.entry) after
+  lent_is = ap (λ found. with_feed hub number found after) lent_one.stands
 
   -- what a script sees of it
-  pub lent_stands : slice_get (map subscription_of hub.entries.items) number ≡ Some (with_desk one.entry before)
-  lent_stands = slice_get-map subscription_of hub.entries.items number ∙ ap (option_map subscription_of) one.stands ∙ ap Some (seen_with one.entry before one.there)
+  pub lent_stands : slice_get (map subscription_of hub.entries.items) number ≡ Some (with_desk lent_one.entry before)
+  lent_stands = slice_get-map subscription_of hub.entries.items number ∙ ap (option_map subscription_of) lent_one.stands ∙ ap Some (seen_with lent_one.entry before lent_one.there)
 
   -- where a script stands then
   pub lent_state : (stock : ℕ) (woken : List ℕ) (begun : Bool)
       → state_of (lent hub number after) stock woken begun
-          ≡ record (state_of hub stock woken begun) { subscriptions = set (map subscription_of hub.entries.items) number (with_desk one.entry after) }
+          ≡ record (state_of hub stock woken begun) { subscriptions = set (map subscription_of hub.entries.items) number (with_desk lent_one.entry after) }
   lent_state stock woken begun =
       ap (λ h. state_of h stock woken begun) lent_is
-      ∙ ap (λ subscriptions. record (state_of hub stock woken begun) { subscriptions = subscriptions }) (map-set subscription_of hub.entries.items number (record one.entry { feed = Some after }))
+      ∙ ap (λ subscriptions. record (state_of hub stock woken begun) { subscriptions = subscriptions }) (map-set subscription_of hub.entries.items number (record lent_one.entry { feed = Some after }))
 
   -- a script's publisher is one still
   pub lent_publisher : IsScriptHub hub → MayBecome (end_of before) (end_of after) → after.is_steady ≡ before.is_steady → IsScriptHub (lent hub number after)
@@ -66,25 +69,19 @@ module _ (hub : Hub DeskState) (number : ℕ) (before after : DeskState) (at : f
       subst IsScriptHub (sym lent_is) (record {
         sound = subst (λ h. IsSound (hub_of end_of h)) lent_is sound;
         sized = is.sized;
-        entries = others;
+        entries = set_entries hub.entries.items number lent_one.entry (record lent_one.entry { feed = Some after }) is.entries lent_one.stands mended;
         numbered = is.numbered;
       }) where
-        own : IsScriptEntry one.entry
-        own = is.entries number one.entry one.stands
+        own : IsScriptEntry lent_one.entry
+        own = is.entries number lent_one.entry lent_one.stands
 
         same : own.desk ≡ before
-        same = same_desk one.entry before own one.there
+        same = same_desk lent_one.entry before own lent_one.there
 
-        mended : IsScriptEntry (record one.entry { feed = Some after })
+        mended : IsScriptEntry (record lent_one.entry { feed = Some after })
         mended = record {
           desk = after;
           there = refl;
           steady = steady ∙ ap (λ (d : DeskState). d.is_steady) (sym same) ∙ own.steady;
           ended = λ retired. becomes.over (ap (λ (d : DeskState). is_some d.lane.how) (sym same) ∙ own.ended retired);
         }
-
-        others : AreScriptEntries (set hub.entries.items number (record one.entry { feed = Some after }))
-        others k entry there = by (set_at hub.entries.items number k (record one.entry { feed = Some after }) entry there) where
-          by : (entry ≡ record one.entry { feed = Some after }) ⊎ (slice_get hub.entries.items k ≡ Some entry) → IsScriptEntry entry
-          by (inl is_new) = subst IsScriptEntry (sym is_new) mended
-          by (inr stood) = is.entries k entry stood

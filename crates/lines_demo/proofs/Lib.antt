@@ -11,6 +11,7 @@ pub mod KeptScripts
 pub mod KeptSubscriptions
 pub mod KeptTurns
 pub mod LatestNames
+pub mod LentSessions
 pub mod Lines
 pub mod LiveNumbers
 pub mod LiveSubscriptions

@@ -13,16 +13,13 @@ returns-in_default g c = ?
 pub unwrap-requires : goal.unwrap-requires
 unwrap-requires g c = ?
 
--- src/script/session/requesting.rt:25:13
-pub push-requires : goal.push-requires
-push-requires g c = ?
+-- src/script/session/requesting.rt:24:9
+pub push_if-requires : goal.push_if-requires
+push_if-requires g c = ?
 
--- src/script/session/requesting.rt:25:13
+-- src/script/session/requesting.rt:14:5
 pub invariant_of-self : goal.invariant_of-self
 invariant_of-self g c = ?
-
-pub invariant_of-self-else-is_some : goal.invariant_of-self-else-is_some
-invariant_of-self-else-is_some g c = ?
 
 -- src/script/session/requesting.rt:14:5
 pub returns : goal.returns
