@@ -20,6 +20,7 @@ pub mod OneName
 pub mod Places
 pub mod Reading
 pub mod Replying
+pub mod RequestingSessions
 pub mod Results
 pub mod RunEnds
 pub mod ScriptLaws
@@ -29,6 +30,7 @@ pub mod SessionStates
 pub mod SessionTurns
 pub mod Sessions
 pub mod Signals
+pub mod SmallNumbers
 pub mod StartedNumbers
 pub mod StartedTasks
 pub mod SubscribingSessions
