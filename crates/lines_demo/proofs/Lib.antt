@@ -10,6 +10,8 @@ pub mod KeptTurns
 pub mod LatestNames
 pub mod Lines
 pub mod LiveSubscriptions
+pub mod OfferedEntries
+pub mod OfferedLists
 pub mod OneName
 pub mod Places
 pub mod Reading
