@@ -2,6 +2,7 @@ pub mod Digits
 pub mod EachMaps
 pub mod FewWoken
 pub mod HubLooks
+pub mod HubOffers
 pub mod Inside
 pub mod KeptCommands
 pub mod KeptScripts
