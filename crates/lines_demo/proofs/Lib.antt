@@ -1,6 +1,7 @@
 pub mod Digits
 pub mod EachMaps
 pub mod FewWoken
+pub mod HubCloses
 pub mod HubLooks
 pub mod HubOffers
 pub mod Inside
@@ -11,6 +12,7 @@ pub mod KeptTurns
 pub mod LatestNames
 pub mod Lines
 pub mod LiveSubscriptions
+pub mod LookedSessions
 pub mod OfferedEntries
 pub mod OfferedLists
 pub mod OneName
@@ -20,8 +22,11 @@ pub mod Replying
 pub mod Results
 pub mod RunEnds
 pub mod ScriptLaws
+pub mod SessionOffers
+pub mod SessionStates
 pub mod SessionTurns
 pub mod Sessions
+pub mod Signals
 pub mod StartedNumbers
 pub mod StartedTasks
 pub mod Turns

@@ -15,6 +15,9 @@ use Rattle.lines_demo.specs.Prelude.{DeskState}
 use Rattle.lines_demo.specs.Script.Kept.{IsKept, IsLawful, IsReached}
 use Rattle.lines_demo.specs.Script.Session.{IsScriptHub, IsSession, state_of, subscription_of}
 use Rattle.lines_demo.specs.Script.State.{SessionState, state_at_start}
+use Rattle.lines_demo.specs.Script.Obeying.{state_at_command}
+use Rattle.lines_demo.specs.declared.script.command.Command.{Command}
+use Rattle.lines_demo.specs.declared.script.command.Command.TheVariants.{Cap, Sub, Offer, Retry, Submit, Request, Close, Run}
 use Rattle.lines_demo.specs.declared.script.session.TheConstants.{DEFAULT_CAPACITY}
 
 -- where a script starts, with another capacity
@@ -75,6 +78,20 @@ session_of_default hub stock at_start sound =
 pub state_of_default : (hub : Hub DeskState) (stock : ℕ) → hub_of end_of hub ≡ hub_at_start (capacity_of DEFAULT_CAPACITY) 0 → state_of hub stock [] false ≡ state_at_start stock
 state_of_default hub stock at_start = state_of_new hub (capacity_of DEFAULT_CAPACITY) at_start stock ∙ ap (start_with stock) (sym default_same)
 
+-- another capacity
+module _ (hub new : Hub DeskState) (stock asked : ℕ) (woken : List ℕ) (begun : Bool) (is : IsSession hub stock woken begun) (fresh : begun ≡ false)
+    (at_start : hub_of end_of new ≡ hub_at_start (capacity_of asked) 0) where
+  nobody : woken ≡ []
+  nobody = ap (λ (s : SessionState). s.woken) (is.fresh fresh)
+
+  pub session_resized : IsSound (hub_of end_of new) → 0 < asked → IsCapacityOf asked (capacity_of asked) → IsSession new stock woken begun
+  session_resized sound some least = rw (fresh, nobody) (session_of_new new (capacity_of asked) at_start stock sound (asked, some, least))
+
+  pub state_resized : state_of new stock woken begun ≡ record (state_of hub stock woken begun) { capacity = capacity_of asked }
+  state_resized =
+      let size : SessionState → SessionState = λ s. record s { capacity = capacity_of asked } in
+      rw (fresh, nobody) (state_of_new new (capacity_of asked) at_start stock) ∙ sym (ap size (is.fresh fresh))
+
 -- a command other than `cap` was read
 pub session_begun : (hub : Hub DeskState) (stock : ℕ) (woken : List ℕ) (begun : Bool) → IsSession hub stock woken begun → IsSession hub stock woken true
 session_begun hub stock woken begun is = record {
@@ -82,3 +99,14 @@ session_begun hub stock woken begun is = record {
   reached = (is.reached.0, record { subscriptions = is.reached.1.subscriptions; woken = is.reached.1.woken; few = is.reached.1.few; names = is.reached.1.names });
   fresh = λ never. cc;
 }
+
+-- any command but `cap` ends the time of `cap`
+pub begun_by : (command : Command) (state : SessionState) → ((capacity : ℕ) → command ≡ Cap capacity → ⊥) → record state { has_begun = true } ≡ state_at_command command state
+begun_by (Cap capacity) state other = absurd (other capacity refl)
+begun_by (Sub name number) state other = refl
+begun_by (Offer text) state other = refl
+begun_by (Retry text) state other = refl
+begun_by (Submit text) state other = refl
+begun_by (Request name number) state other = refl
+begun_by Close state other = refl
+begun_by Run state other = refl
