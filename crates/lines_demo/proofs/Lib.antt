@@ -18,6 +18,7 @@ pub mod OfferedLists
 pub mod OneName
 pub mod Places
 pub mod Reading
+pub mod RepliedTexts
 pub mod Replying
 pub mod Results
 pub mod RunEnds
