@@ -13,13 +13,16 @@ use Rattle.publisher_hub.specs.declared.hub.Hub.{Hub}
 use Rattle.publisher_hub.specs.declared.work.Work.{Work}
 use Rattle.publisher_hub.proofs.Places.{stood_by}
 use Rattle.lines_demo.specs.Prelude.{DeskState, Ending, How, LaneState, desk_after_end, desk_without_looks, owes}
-use Rattle.lines_demo.specs.Script.Kept.{IsKept}
-use Rattle.lines_demo.specs.Script.Obeying.{state_after_closing, subscription_after_closing}
+use Rattle.lines_demo.specs.Script.Kept.{IsKept, IsReached}
+use Rattle.lines_demo.specs.Script.Obeying.{closing_result, state_after_closing, subscription_after_closing}
 use Rattle.lines_demo.specs.Script.Session.{AreScriptEntries, IsScriptEntry, IsScriptHub, IsSession, numbers_of, state_of, subscription_of}
 use Rattle.lines_demo.specs.Script.State.{SubscriptionState}
 use Rattle.lines_demo.specs.Script.Waking.{is_live, newly_woken}
 use Rattle.lines_demo.proofs.EachMaps.{each_by_map}
 use Rattle.lines_demo.proofs.HubLooks.{ListSeesSame, prepared_all_same, prepared_retired, same_desk, seen_with, with_desk}
+use Rattle.lines_demo.specs.declared.script.reply.Reply.TheVariants.{Done}
+use Rattle.lines_demo.proofs.KeptCommands.{closing_reached}
+use Rattle.lines_demo.proofs.Replying.{closing_done, replies_reached}
 use Rattle.lines_demo.proofs.SessionStates.{all_seen_at, state_of_is}
 use Rattle.lines_demo.proofs.Signals.{signal_wakes}
 use Rattle.lines_demo.proofs.StartedTasks.{gathered_woken, starts}
@@ -105,8 +108,8 @@ pub record IsClosedSession (ending : Ending) (old new : Hub DeskState) (stock : 
   pub publisher : IsScriptHub new
   pub state : state_of new stock (woken ++ numbers_of due) begun ≡ state_after_closing ending (state_of old stock woken begun)
 
-module _ (ending : Ending) (old new : Hub DeskState) (stock : ℕ) (woken : List ℕ) (begun : Bool) (due : List (Work Unit)) (is : IsSession old stock woken begun) (unclosed : old.ending ≡ None)
-    (sound : IsSound (hub_of end_of new)) (closes : ClosesAll end_of DoesCall ending [] due old new) where
+module _ (ending : Ending) (old new : Hub DeskState) (stock : ℕ) (woken : List ℕ) (begun : Bool) (before due : List (Work Unit)) (is : IsSession old stock woken begun) (nothing_due : before ≡ []) (unclosed : old.ending ≡ None)
+    (sound : IsSound (hub_of end_of new)) (closes : ClosesAll end_of DoesCall ending before due old new) where
   looked : ListSeesSame old.entries.items closes.middle
   looked = prepared_all_same old.next closes.glances old.entries.items closes.middle is.publisher.entries closes.prepared
 
@@ -130,7 +133,7 @@ module _ (ending : Ending) (old new : Hub DeskState) (stock : ℕ) (woken : List
 
   woken_now : numbers_of due ≡ newly_woken (map subscription_of old.entries.items) (map (subscription_after_closing ending) (map subscription_of old.entries.items))
   woken_now =
-      ap numbers_of closes.closes.due
+      ap numbers_of (closes.closes.due ∙ ap (λ ws. ws ++ started_by_ends closes.closes.answers) nothing_due)
       ∙ gathered_woken started_by_end (Closes end_of DoesCall ending) closes.closes.answers closes.middle new.entries.items closes.closes.each (λ k start x y at closed. (one k start x y at closed).wakes)
       ∙ (λ i. newly_woken (looked.same i) (subscriptions i))
 
@@ -147,3 +150,10 @@ module _ (ending : Ending) (old new : Hub DeskState) (stock : ℕ) (woken : List
     state = state_of_is new stock (woken ++ numbers_of due) begun (state_after_closing ending (state_of old stock woken begun)) (ap (λ (h : HubState). h.progress.capacity) closes.rest) refl
         (ap (λ (h : HubState). h.progress.ending) closes.rest) (ap (λ (h : HubState). h.progress.next) closes.rest) refl subscriptions (ap (λ numbers. woken ++ numbers) woken_now);
   }
+
+  -- and that is where a script may stand
+  pub closed_reached : IsReached (state_after_closing ending (state_of old stock woken begun))
+  closed_reached =
+      let state = state_of old stock woken begun in
+      replies_reached (λ refusals. closing_result ending state refusals) Done (state_after_closing ending state)
+      (closing_done ending state (ap is_some unclosed)) (λ refusals. closing_reached ending state refusals is.reached)

@@ -1,4 +1,6 @@
+pub mod Admissions
 pub mod Digits
+pub mod Duplicates
 pub mod EachMaps
 pub mod FewWoken
 pub mod HubCloses
@@ -10,7 +12,9 @@ pub mod KeptScripts
 pub mod KeptSubscriptions
 pub mod KeptTurns
 pub mod LatestNames
+pub mod LentSessions
 pub mod Lines
+pub mod LiveNumbers
 pub mod LiveSubscriptions
 pub mod LookedSessions
 pub mod OfferedEntries
@@ -23,6 +27,8 @@ pub mod Replying
 pub mod Results
 pub mod RunEnds
 pub mod ScriptLaws
+pub mod SearchedNames
+pub mod SeenPublishers
 pub mod SessionOffers
 pub mod SessionStates
 pub mod SessionTurns
@@ -30,6 +36,7 @@ pub mod Sessions
 pub mod Signals
 pub mod StartedNumbers
 pub mod StartedTasks
+pub mod SubscribingSessions
 pub mod Turns
 pub mod WokenLists
 pub mod WokenTasks

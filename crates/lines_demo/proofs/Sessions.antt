@@ -110,3 +110,22 @@ begun_by (Submit text) state other = refl
 begun_by (Request name number) state other = refl
 begun_by Close state other = refl
 begun_by Run state other = refl
+
+-- reading a command again changes nothing
+pub begun_again : (command : Command) (state : SessionState) → state_at_command command (state_at_command command state) ≡ state_at_command command state
+begun_again (Cap capacity) state = refl
+begun_again (Sub name number) state = refl
+begun_again (Offer text) state = refl
+begun_again (Retry text) state = refl
+begun_again (Submit text) state = refl
+begun_again (Request name number) state = refl
+begun_again Close state = refl
+begun_again Run state = refl
+
+-- a session that stands where a script may stand, after its beginning
+pub session_at : (hub : Hub DeskState) (stock : ℕ) (woken : List ℕ) (begun : Bool) (state : SessionState) → IsScriptHub hub → state_of hub stock woken begun ≡ state → IsReached state → begun ≡ true → IsSession hub stock woken begun
+session_at hub stock woken begun state publisher is reached read = record {
+  publisher = publisher;
+  reached = subst IsReached (sym is) reached;
+  fresh = λ unread. (let never : true ≡ false = sym read ∙ unread in cc);
+}

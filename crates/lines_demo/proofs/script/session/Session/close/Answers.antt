@@ -1,18 +1,17 @@
-use Rattle.std.proofs.Common.{◌≡◌, None, false, [], length, refl, sym, ap, subst, ◌∙◌}
+use Rattle.std.proofs.Common.{◌≡◌, None, true, false, [], length, refl, sym, ap, subst, ◌∙◌}
 use Rattle.std.specs.Prelude.{is_some}
 use Rattle.std.proofs.lemmas.Result.{err_from_is_err_and}
-use Rattle.feed_core.specs.Feed.{DoesCall, end_of}
-use Rattle.publisher_hub.specs.Closing.{ClosesAll}
 use Rattle.lines_demo.specs.Prelude.{Ending, Refusal}
-use Rattle.lines_demo.specs.Script.Kept.{IsReached}
-use Rattle.lines_demo.specs.Script.Obeying.{closing_result, state_after_closing}
-use Rattle.lines_demo.proofs.HubCloses.{IsClosedSession, closed_session}
+use Rattle.lines_demo.specs.Script.Obeying.{state_after_closing}
+use Rattle.lines_demo.proofs.HubCloses.{closed_reached, closed_session}
 use Rattle.lines_demo.proofs.HubLooks.{may_prepare_all_same}
 use Rattle.lines_demo.proofs.Inside.{state_inside}
-use Rattle.lines_demo.proofs.KeptCommands.{closing_reached}
 use Rattle.lines_demo.proofs.LookedSessions.{IsSameSession, session_looked}
-use Rattle.lines_demo.proofs.Replying.{closing_again, closing_done, closing_no_memory, replies_reached}
+use Rattle.lines_demo.proofs.Replying.{closing_again, closing_done, closing_no_memory}
+use Rattle.lines_demo.specs.Script.Session.{IsSession}
+use Rattle.lines_demo.specs.Script.State.{SessionState}
 use Rattle.lines_demo.proofs.SessionStates.{no_value, room_for}
+use Rattle.lines_demo.proofs.Sessions.{session_at}
 use Rattle.lines_demo.proofs.script.session.Session.close.Given.{Over}
 use Rattle.lines_demo.proofs.script.session.Session.close.Goals as goal
 
@@ -33,33 +32,39 @@ invariant_of-self g c = (c.self.invariant.0, c.self.invariant.1, (looked g c).se
 pub returns-in_err-end : goal.returns-in_err-end
 returns-in_err-end g c =
     let failed = err_from_is_err_and c.from_residual.result c.from_residual.ensures.1 in
-    rw (← c.self.view_is, failed.1, failed.2, (looked g c).state) (closing_no_memory Ending.Normal (state_inside c.self.inside) (sym (c.is_some.ensures ∙ ap is_some c.ending.ensures) ∙ c.if-is_some.false))
-
--- the publisher was not closed before
-unclosed : (g : Over) (c : goal.After-push_all-arg-2-1 g) → c.self.inside.hub.ending ≡ None
-unclosed g c = no_value c.self.inside.hub.ending (sym (c.is_some.ensures ∙ ap is_some c.ending.ensures) ∙ c.if-is_some.false)
-
--- the publisher was closed
-closed : (g : Over) (c : goal.After-push_all-arg-2-1 g) → IsClosedSession Ending.Normal c.self.inside.hub c.end.new.self (length c.self.inside.stock.items) c.self.inside.woken c.self.inside.has_begun c.end.new.due.items
-closed g c =
-    let old = c.self.inside.hub in
-    let closes = (c.in_ok-end.ensures.first (unclosed g c)).1 in
-    closed_session Ending.Normal old c.end.new.self (length c.self.inside.stock.items) c.self.inside.woken c.self.inside.has_begun c.end.new.due.items c.self.invariant.2 (unclosed g c) c.in_ok-end.ensures.sound
-    (subst (λ due. ClosesAll end_of DoesCall Ending.Normal due c.end.new.due.items old c.end.new.self) c.self.invariant.3 closes)
-
--- where it stands then is where a script may stand
-reached : (g : Over) (c : goal.After-push_all-arg-2-1 g) → IsReached (state_after_closing Ending.Normal (state_inside c.self.inside))
-reached g c =
-    let state = state_inside c.self.inside in
-    replies_reached (λ refusals. closing_result Ending.Normal state refusals) _ (state_after_closing Ending.Normal state)
-    (closing_done Ending.Normal state (ap is_some (unclosed g c))) (λ refusals. closing_reached Ending.Normal state refusals c.self.invariant.2.reached)
+    let why : c.in_err-end.field-0.0 ≡ Refusal.NoMemory = (let same = c.in_err-end.ensures.err in cc) in
+    rw (← c.self.view_is, failed.1, failed.2, why, (looked g c).state) (closing_no_memory Ending.Normal (state_inside c.self.inside) (sym (c.is_some.ensures ∙ ap is_some c.ending.ensures) ∙ c.if-is_some.false))
 
 pub push_all-requires : goal.push_all-requires
 push_all-requires g c =
-    record { room = room_for (state_after_closing Ending.Normal (state_inside c.self.inside)) c.self.inside.woken c.end.new.due.items (reached g c) (ap (λ s. s.woken) (closed g c).state) }
+    let state = state_inside c.self.inside in
+    let old = c.self.inside.hub in
+    let unclosed = no_value old.ending (sym (c.is_some.ensures ∙ ap is_some c.ending.ensures) ∙ c.if-is_some.false) in
+    let closes = (c.in_ok-end.ensures.first unclosed).1 in
+    let done = closed_session Ending.Normal old c.end.new.self state.stock state.woken state.has_begun _ _ c.self.invariant.2 c.self.invariant.3 unclosed c.in_ok-end.ensures.sound closes in
+    let reached = closed_reached Ending.Normal old c.end.new.self state.stock state.woken state.has_begun _ _ c.self.invariant.2 c.self.invariant.3 unclosed c.in_ok-end.ensures.sound closes in
+    record { room = room_for (state_after_closing Ending.Normal state) c.self.inside.woken c.end.new.due.items reached (ap (λ s. s.woken) done.state) }
 
 pub invariant_of-self-2 : goal.invariant_of-self-2
-invariant_of-self-2 g c = ?
+invariant_of-self-2 g c =
+    let state = state_inside c.self.inside in
+    let old = c.self.inside.hub in
+    let unclosed = no_value old.ending (sym (c.is_some.ensures ∙ ap is_some c.ending.ensures) ∙ c.if-is_some.false) in
+    let closes = (c.in_ok-end.ensures.first unclosed).1 in
+    let done = closed_session Ending.Normal old c.end.new.self state.stock state.woken state.has_begun _ _ c.self.invariant.2 c.self.invariant.3 unclosed c.in_ok-end.ensures.sound closes in
+    let reached = closed_reached Ending.Normal old c.end.new.self state.stock state.woken state.has_begun _ _ c.self.invariant.2 c.self.invariant.3 unclosed c.in_ok-end.ensures.sound closes in
+    let begun : c.self.inside.has_begun ≡ true = ap (λ (s : SessionState). s.has_begun) c.self.view_is ∙ c.requires.begun in (
+      c.self.invariant.0,
+      c.self.invariant.1,
+      subst (λ woken. IsSession c.end.new.self state.stock woken state.has_begun) (sym c.push_all.ensures.woken)
+      (session_at c.end.new.self state.stock _ state.has_begun (state_after_closing Ending.Normal state) done.publisher done.state reached begun),
+      c.push_all.ensures.nothing_due,
+    )
 
 pub returns : goal.returns
-returns g c = ?
+returns g c =
+    let state = state_inside c.self.inside in
+    let old = c.self.inside.hub in
+    let unclosed = no_value old.ending (sym (c.is_some.ensures ∙ ap is_some c.ending.ensures) ∙ c.if-is_some.false) in
+    let done = closed_session Ending.Normal old c.end.new.self state.stock state.woken state.has_begun _ _ c.self.invariant.2 c.self.invariant.3 unclosed c.in_ok-end.ensures.sound (c.in_ok-end.ensures.first unclosed).1 in
+    rw (← c.self.view_is, c.push_all.ensures.woken, done.state) (closing_done Ending.Normal state (ap is_some unclosed))
