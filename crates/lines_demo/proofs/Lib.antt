@@ -5,6 +5,7 @@ pub mod EachMaps
 pub mod FewWoken
 pub mod HubCloses
 pub mod HubLooks
+pub mod HubOffers
 pub mod Inside
 pub mod KeptCommands
 pub mod KeptScripts
@@ -16,9 +17,12 @@ pub mod Lines
 pub mod LiveNumbers
 pub mod LiveSubscriptions
 pub mod LookedSessions
+pub mod OfferedEntries
+pub mod OfferedLists
 pub mod OneName
 pub mod Places
 pub mod Reading
+pub mod RepliedTexts
 pub mod Replying
 pub mod RequestingSessions
 pub mod Results
@@ -26,6 +30,7 @@ pub mod RunEnds
 pub mod ScriptLaws
 pub mod SearchedNames
 pub mod SeenPublishers
+pub mod SessionOffers
 pub mod SessionStates
 pub mod SessionTurns
 pub mod Sessions
