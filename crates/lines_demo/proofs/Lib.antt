@@ -39,6 +39,7 @@ pub mod SmallNumbers
 pub mod StartedNumbers
 pub mod StartedTasks
 pub mod SubscribingSessions
+pub mod TurningSessions
 pub mod Turns
 pub mod WokenLists
 pub mod WokenTasks
