@@ -184,7 +184,7 @@ request_kept texts next closed name number (s ∷ later) kept =
       by false true after = All-cons (IsKept texts next closed) (record s { desk = desk_after_request number s.desk }) later (kept_request texts next closed s number first) rest
       by false false after = kept
 
-request_reached : (state : SessionState) (refusals : List Bool) (name : List ℕ) (number : ℕ) → IsReached state → IsReached (request_result state refusals name number).state
+pub request_reached : (state : SessionState) (refusals : List Bool) (name : List ℕ) (number : ℕ) → IsReached state → IsReached (request_result state refusals name number).state
 request_reached state refusals name number is =
     let texts = is.0 in
     let lawful = is.1 in

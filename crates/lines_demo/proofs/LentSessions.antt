@@ -1,7 +1,8 @@
 -- A session whose publisher's end of one subscription was lent, as to a request or a turn.
 use Rattle.std.proofs.Common.{◌≡◌, ℕ, Bool, true, Option, None, Some, List, length, map, set, refl, sym, ap, subst, ◌∙◌}
-use Rattle.std.specs.Prelude.{is_some, option_map, slice_get}
-use Rattle.std.specs.Option.{option_and_then}
+use Rattle.std.specs.Prelude.{is_some, IsSome, option_map, slice_get}
+use Rattle.std.specs.Borrow.{MutBor}
+use Rattle.std.specs.Option.{option_and_then, option_copied_mut}
 use Rattle.std.proofs.lemmas.List.{map-set}
 use Rattle.std.proofs.lemmas.Option.{slice_get-map}
 use Rattle.feed_core.specs.Feed.{end_of}
@@ -42,6 +43,11 @@ end_there hub number s is stands = by (slice_get hub.entries.items number) refl 
   by (Some entry) e at =
       let own = is.entries number entry e in
       (own.desk, ap (option_and_then (λ (it : Entry DeskState). it.feed)) e ∙ own.there)
+
+-- what was lent is there where its end is
+pub lends_some : {D : Type 0} (r : Option (MutBor D)) (desk : D) → option_copied_mut r ≡ Some desk → IsSome r
+lends_some None desk is = cc
+lends_some (Some r) desk is = refl
 
 module _ (hub : Hub DeskState) (number : ℕ) (before after : DeskState) (at : feed_at hub number ≡ Some before) where
   pub lent_one : IsLent hub number before

@@ -25,6 +25,7 @@ pub mod Places
 pub mod Reading
 pub mod RepliedTexts
 pub mod Replying
+pub mod RequestingSessions
 pub mod Results
 pub mod RunEnds
 pub mod ScriptLaws
@@ -35,6 +36,7 @@ pub mod SessionStates
 pub mod SessionTurns
 pub mod Sessions
 pub mod Signals
+pub mod SmallNumbers
 pub mod StartedNumbers
 pub mod StartedTasks
 pub mod SubscribingSessions
