@@ -67,7 +67,7 @@ stands_same old new is sound looked sees = record {
 -- ---- the item and the numbers
 
 -- the publisher's next item is the script's
-next_item_is : (old : Hub DeskState) (item : Item) (text : List ℕ) → IsScriptHub old → IsNextItem (hub_of end_of old).progress item → item.source ≡ SOURCE → item.text ≡ text
+pub next_item_is : (old : Hub DeskState) (item : Item) (text : List ℕ) → IsScriptHub old → IsNextItem (hub_of end_of old).progress item → item.source ≡ SOURCE → item.text ≡ text
     → item ≡ record { source = 0; seq = old.next; serial = old.next; text = text }
 next_item_is old item text is next from words =
     ap (λ source. record item { source = source }) from ∙ ap (λ seq. record item { source = 0; seq = seq }) seq

@@ -6,6 +6,7 @@ pub mod FewWoken
 pub mod HubCloses
 pub mod HubLooks
 pub mod HubOffers
+pub mod HubSubmits
 pub mod Inside
 pub mod KeptCommands
 pub mod KeptScripts

@@ -51,7 +51,7 @@ fold_gathered each value see R (answer ∷ answers) (x ∷ xs) (y ∷ ys) places
     ∙ fold_gathered each value see R answers xs ys (rest_by R answer answers x y xs ys places) (λ k b a a' at r. says (suc k) b a a' at r) (suc place) (max most (value (see x)))
 
 -- where each answer gathers its place if a test holds, they gather as many as pass it
-count_gathered : {B A C : Type 0} (each : ℕ → B → List ℕ) (test : C → Bool) (see : A → C) (R : B → A → A → Type 0) (answers : List B) (xs ys : List A) → EachBy R answers xs ys
+pub count_gathered : {B A C : Type 0} (each : ℕ → B → List ℕ) (test : C → Bool) (see : A → C) (R : B → A → A → Type 0) (answers : List B) (xs ys : List A) → EachBy R answers xs ys
     → ((k : ℕ) (answer : B) (x y : A) → slice_get xs k ≡ Some x → R answer x y → (place : ℕ) → each place answer ≡ (if test (see x) then place ∷ [] else []))
     → (place : ℕ) → length (gather each place answers) ≡ count_by test (map see xs)
 unfolding gather

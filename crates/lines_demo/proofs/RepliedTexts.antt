@@ -1,11 +1,11 @@
 -- What a publication is answered, from what became of its text.
-use Rattle.std.proofs.Common.{◌≡◌, ◌⊎◌, inl, inr, ℕ, zero, suc, ◌≤◌, Bool, ℤ, Option, None, Some, Result, Ok, Err, List, length, refl, sym, ap, subst, ◌∙◌}
+use Rattle.std.proofs.Common.{◌≡◌, ◌⊎◌, inl, inr, ℕ, zero, suc, ◌≤◌, Bool, ℤ, pos, Option, None, Some, Result, Ok, Err, List, length, refl, sym, ap, subst, ◌∙◌}
 use Rattle.lines_demo.specs.Prelude.{Item, Refusal, LONGEST_TEXT}
 use Rattle.lines_demo.specs.Script.Playing.{IsTextOf, OffersText, RefusesText, Replies}
-use Rattle.lines_demo.specs.Script.Publishing.{drop_count, drops_in, drops_or_lag, greatest_lag, next_item, offer_answer, publication_refusal, publication_result, offer_result, retry_result, state_after_publication}
+use Rattle.lines_demo.specs.Script.Publishing.{drop_count, drops_in, drops_or_lag, greatest_lag, next_item, offer_answer, publication_refusal, publication_result, offer_result, retry_result, state_after_publication, submit_refusal, submit_result}
 use Rattle.lines_demo.specs.Script.State.{SubscriptionState, SessionState}
 use Rattle.lines_demo.specs.declared.script.reply.Reply.{Reply}
-use Rattle.lines_demo.specs.declared.script.reply.Reply.TheVariants.{Offered, Refused, Retried}
+use Rattle.lines_demo.specs.declared.script.reply.Reply.TheVariants.{Offered, Refused, Retried, Submitted}
 use Rattle.lines_demo.proofs.Replying.{publication_against, publication_done, publication_long, publication_no_memory}
 
 module _ (refusal_of : SessionState → Option Refusal) (reply : Item → List SubscriptionState → Reply) (state : SessionState) (text : List ℕ) where
@@ -25,14 +25,18 @@ module _ (refusal_of : SessionState → Option Refusal) (reply : Item → List S
   replies_no_text Refusal.WouldWait why = absurd why
   replies_no_text Refusal.BadCommand why = absurd why
 
+  -- it was refused, for want of memory or by the publisher
+  pub replies_against : (new : SessionState) (made : List ℕ) (refusal : Refusal) → IsTextOf text (Ok made) → (refusal ≡ Refusal.NoMemory) ⊎ (refusal_of state ≡ Some refusal) → new ≡ state
+      → Replies (λ refusals. publication_result refusal_of reply state refusals text) (Refused refusal) new
+  replies_against new made refusal is why same = subst (Replies (λ refusals. publication_result refusal_of reply state refusals text) (Refused refusal)) (sym same) (by why) where
+    by : (refusal ≡ Refusal.NoMemory) ⊎ (refusal_of state ≡ Some refusal) → Replies (λ refusals. publication_result refusal_of reply state refusals text) (Refused refusal) state
+    by (inl memory) = subst (λ (r : Refusal). Replies (λ refusals. publication_result refusal_of reply state refusals text) (Refused r) state) (sym memory) (publication_no_memory refusal_of reply state text is.0)
+    by (inr against) = publication_against refusal_of reply state text refusal is.0 against
+
 -- a text that was not offered
 pub replies_refused : (reply : Item → List SubscriptionState → Reply) (old new : SessionState) (text made : List ℕ) (refusal : Refusal) → IsTextOf text (Ok made) → RefusesText old refusal new
     → Replies (λ refusals. publication_result publication_refusal reply old refusals text) (Refused refusal) new
-replies_refused reply old new text made refusal is refuses = subst (Replies (λ refusals. publication_result publication_refusal reply old refusals text) (Refused refusal)) (sym refuses.same) (by refuses.why) where
-  by : (refusal ≡ Refusal.NoMemory) ⊎ (publication_refusal old ≡ Some refusal) → Replies (λ refusals. publication_result publication_refusal reply old refusals text) (Refused refusal) old
-  by (inl memory) =
-      subst (λ (r : Refusal). Replies (λ refusals. publication_result publication_refusal reply old refusals text) (Refused r) old) (sym memory) (publication_no_memory publication_refusal reply old text is.0)
-  by (inr why) = publication_against publication_refusal reply old text refusal is.0 why
+replies_refused reply old new text made refusal is refuses = replies_against publication_refusal reply old text new made refusal is refuses.why refuses.same
 
 -- a text that was offered
 pub replies_offered : (old new : SessionState) (text made : List ℕ) (answer : ℤ) → IsTextOf text (Ok made) → OffersText old made answer new → Replies (λ refusals. offer_result old refusals text) (Offered answer) new
@@ -61,3 +65,13 @@ replies_retried old new text made answer is offers =
     subst (Replies results (Retried answer (drops_in answer))) (sym now)
     (subst (λ (a : ℤ). Replies results (Retried a (drops_in a)) (state_after_publication text old)) (sym said)
     (subst (λ n. Replies results (Retried (offer_answer (next_item old text) old.subscriptions) n) (state_after_publication text old)) drops plain))
+
+-- a text that was submitted
+pub replies_submitted : (old new : SessionState) (text made : List ℕ) (lag : ℕ) → IsTextOf text (Ok made) → submit_refusal old ≡ None → lag ≡ greatest_lag (next_item old made) old.subscriptions
+    → new ≡ state_after_publication made old → Replies (λ refusals. submit_result old refusals text) (Submitted (pos lag)) new
+replies_submitted old new text made lag is allowed answers after =
+    let results = λ (refusals : List Bool). submit_result old refusals text in
+    let said : lag ≡ greatest_lag (next_item old text) old.subscriptions = answers ∙ ap (λ words. greatest_lag (next_item old words) old.subscriptions) is.1 in
+    let now : new ≡ state_after_publication text old = after ∙ ap (λ words. state_after_publication words old) is.1 in
+    subst (Replies results (Submitted (pos lag))) (sym now)
+    (subst (λ n. Replies results (Submitted (pos n)) (state_after_publication text old)) (sym said) (publication_done submit_refusal _ old text is.0 allowed))

@@ -1,17 +1,24 @@
 -- What publications leave of a session.
-use Rattle.std.proofs.Common.{◌≡◌, ◌⊎◌, inl, inr, ℕ, ◌+◌, ◌≤◌, Bool, true, ℤ, Option, None, Some, List, ◌++◌, length, map, refl, sym, ap, subst, ◌∙◌, arith}
+use Rattle.std.proofs.Common.{◌≡◌, ◌⊎◌, inl, inr, ℕ, ◌+◌, ◌<◌, ◌≤◌, Bool, true, ℤ, pos, Option, None, Some, Ok, List, ◌++◌, length, map, refl, sym, ap, subst, ◌∙◌, arith}
+use Rattle.std.specs.Prelude.{All}
 use Rattle.std.proofs.lemmas.List.{length-append, length-map}
+use Rattle.std.proofs.lemmas.List.Elements.{All-weaker}
+use Rattle.flow_rules.specs.declared.item.TheConstants.{PUBLICATIONS}
 use Rattle.publisher_hub.specs.declared.hub.Hub.{Hub}
 use Rattle.publisher_hub.specs.declared.work.Work.{Work}
 use Rattle.lines_demo.specs.Prelude.{Refusal, DeskState}
-use Rattle.lines_demo.specs.Script.Kept.{IsReached}
-use Rattle.lines_demo.specs.Script.Playing.{OffersText, RefusesText}
-use Rattle.lines_demo.specs.Script.Session.{IsSession, numbers_of, state_of}
-use Rattle.lines_demo.specs.Script.State.{SessionState, state_at_start}
+use Rattle.lines_demo.specs.Script.Kept.{IsKept, IsReached}
+use Rattle.lines_demo.specs.Script.Playing.{IsTextOf, OffersText, RefusesText, Replies}
+use Rattle.lines_demo.specs.Script.Publishing.{next_item, submit_refusal, submit_result, submitted_reply}
+use Rattle.lines_demo.specs.Script.Session.{IsSession, numbers_of, state_of, subscription_of}
+use Rattle.lines_demo.specs.Script.State.{SubscriptionState, SessionState, state_at_start}
+use Rattle.lines_demo.specs.declared.script.reply.Reply.TheVariants.{Refused, Submitted}
 use Rattle.lines_demo.specs.declared.script.woken.TheConstants.{MOST_LIVE}
 use Rattle.lines_demo.proofs.FewWoken.{few_woken}
 use Rattle.lines_demo.proofs.HubOffers.{HubOffered, HubPublished, OfferRefused, StandsSame}
+use Rattle.lines_demo.proofs.HubSubmits.{HubSubmitted, SubmitRefused, greatest_lag_few}
 use Rattle.lines_demo.proofs.KeptCommands.{published_reached, unclosed_if}
+use Rattle.lines_demo.proofs.RepliedTexts.{replies_against, replies_submitted}
 
 -- whom a call wakes has room in the list of the woken
 pub room_for_woken : (hub : Hub DeskState) (stock : ℕ) (woken : List ℕ) (due : List (Work Unit)) (has_begun : Bool) → IsReached (state_of hub stock (woken ++ numbers_of due) has_begun) → length woken + length due ≤ MOST_LIVE
@@ -57,3 +64,32 @@ module _ (old new : Hub DeskState) (stock : ℕ) (woken : List ℕ) (has_begun :
 
   pub text_refused : (refusal : Refusal) → OfferRefused old new refusal → RefusesText (state_of old stock woken has_begun) refusal (state_of new stock woken has_begun)
   text_refused refusal refused = record { why = refused.why stock woken has_begun; same = refused.stands.same stock woken has_begun }
+
+  -- the lag of a submission is small
+  pub lag_small : (text : List ℕ) (due : List (Work Unit)) (lag : ℕ) → HubSubmitted text old new due lag → lag ≤ PUBLICATIONS + 1
+  lag_small text due lag submitted =
+      let item = next_item (state_of old stock woken has_begun) text in
+      let kept = is.reached.1.subscriptions in
+      let few = is.publisher.sound.few_items in
+      let short : All (λ (s : SubscriptionState). length s.desk.lane.accepted < old.next + 1) (map subscription_of old.entries.items) =
+      All-weaker (IsKept is.reached.0 old.next old.ending) (λ s. length s.desk.lane.accepted < old.next + 1) (λ s keeps. (let most = keeps.most in omega arith)) (map subscription_of old.entries.items) kept in
+      let great = greatest_lag_few item (map subscription_of old.entries.items) (old.next + 1) 0 (omega arith) short in
+      let same = submitted.answers stock woken has_begun in
+      omega arith
+
+  -- what a submission is answered
+  pub submitted_replies : (text made : List ℕ) (due : List (Work Unit)) (lag : ℕ) → IsTextOf text (Ok made) → HubSubmitted made old new due lag → (state : SessionState) → state_of old stock woken has_begun ≡ state
+      → (now : List ℕ) → now ≡ woken ++ numbers_of due → (answer : ℤ) → answer ≡ pos lag → Replies (λ refusals. submit_result state refusals text) (Submitted answer) (state_of new stock now has_begun)
+  submitted_replies text made due lag is_text submitted state at now woken_now answer said =
+      subst (λ (s : SessionState). Replies (λ refusals. submit_result s refusals text) (Submitted answer) (state_of new stock now has_begun)) at
+      (subst (λ numbers. Replies (λ refusals. submit_result (state_of old stock woken has_begun) refusals text) (Submitted answer) (state_of new stock numbers has_begun)) (sym woken_now)
+      (subst (λ (z : ℤ). Replies (λ refusals. submit_result (state_of old stock woken has_begun) refusals text) (Submitted z) (state_of new stock (woken ++ numbers_of due) has_begun)) (sym said)
+      (replies_submitted (state_of old stock woken has_begun) (state_of new stock (woken ++ numbers_of due) has_begun) text made lag is_text (submitted.allowed stock woken has_begun) (submitted.answers stock woken has_begun)
+      (submitted.published.after stock woken has_begun))))
+
+  -- what one is answered that was refused
+  pub not_submitted_replies : (text made : List ℕ) (refusal : Refusal) → IsTextOf text (Ok made) → SubmitRefused old new refusal → (state : SessionState) → state_of old stock woken has_begun ≡ state
+      → Replies (λ refusals. submit_result state refusals text) (Refused refusal) (state_of new stock woken has_begun)
+  not_submitted_replies text made refusal is_text refused state at =
+      subst (λ (s : SessionState). Replies (λ refusals. submit_result s refusals text) (Refused refusal) (state_of new stock woken has_begun)) at
+      (replies_against submit_refusal submitted_reply (state_of old stock woken has_begun) text (state_of new stock woken has_begun) made refusal is_text (refused.why stock woken has_begun) (refused.stands.same stock woken has_begun))

@@ -1,41 +1,98 @@
-use Rattle.std.proofs.Common.{rules, ◌≡◌, true, IfOk, IfErr, ℕ, ◌+◌, ◌-◌, ◌*◌, ◌<◌, ◌≤◌, length, ◌/◌, ◌%◌, Bool, false, nat_eq, nat_lt, List, [], ◌∷◌, ◌++◌, slice_index_or, slice_set, bit_and, bit_or, Fits, w8, w32, w64, Bor, MutBor, ℤ, pos, ◌+ℤ◌, ◌-ℤ◌, ◌*ℤ◌, ◌≤ℤ◌, ◌<ℤ◌, FitsSigned, to_z, of_z}
-use Rattle.lines_demo.specs.Script.Playing.{Replies, IsTextOf, OffersText, RefusesText}
-use Rattle.lines_demo.specs.Script.Publishing.{offer_result, retry_result, submit_result, drops_in}
-use Rattle.lines_demo.specs.Script.Reply.{reply_or_refusal}
+use Rattle.std.proofs.Common.{rules, ◌≡◌, ◌++◌, ◌<◌, ◌^◌, [], true, length, arith, ◌∙◌, sym, ap, subst, refl, FitsSigned, pos, to_z, of_z, w64}
+use Rattle.std.proofs.lemmas.Int.{to_z_pos}
+use Rattle.std.proofs.lemmas.Result.{err_from_is_err_and}
+use Rattle.feed_core.specs.Feed.{DoesCall, end_of}
+use Rattle.publisher_hub.specs.Publishing.{RefusesItem}
+use Rattle.lines_demo.specs.Prelude.{Refusal}
+use Rattle.lines_demo.specs.Script.Publishing.{submit_refusal, submitted_reply}
+use Rattle.lines_demo.specs.Script.State.{SessionState}
+use Rattle.lines_demo.proofs.HubSubmits.{HubSubmitted, SubmitRefused, hub_submitted, submit_refused, submit_waits}
+use Rattle.lines_demo.proofs.RepliedTexts.{replies_no_text}
+use Rattle.lines_demo.proofs.SessionOffers.{lag_small, not_submitted_replies, published_room, published_session, session_same, submitted_replies}
+use Rattle.lines_demo.proofs.script.session.Session.submit.Given.{Over}
 use Rattle.lines_demo.proofs.script.session.Session.submit.Goals as goal
 
--- src/script/session/publishing.rt:61:20
 pub returns-in_err-text : goal.returns-in_err-text
-returns-in_err-text g c = ?
+returns-in_err-text g c =
+    let failed = err_from_is_err_and c.from_residual.result c.from_residual.ensures.1 in
+    rw (failed.1, failed.2) (replies_no_text submit_refusal submitted_reply c.args.self.now c.args.text.now c.in_err-text.field-0.0 c.in_err-text.ensures)
 
--- src/script/session/publishing.rt:64:17
 pub push_all-requires : goal.push_all-requires
-push_all-requires g c = ?
+push_all-requires g c =
+    let old = c.self.inside.hub in
+    let new = c.publish.new.self in
+    let is = c.self.invariant.2 in
+    let all = hub_submitted c.in_ok-text.text old new c.self.inside.due.items c.publish.new.due.items c.in-Ok.lag is.publisher c.self.invariant.3 c.in-Ok.ensures.sound c.in-Ok.ensures.ok in
+    let begun : c.self.inside.has_begun ≡ true = ap (λ (s : SessionState). s.has_begun) c.self.view_is ∙ c.requires.begun in
+    record { room = published_room old new (length c.self.inside.stock.items) c.self.inside.woken c.self.inside.has_begun is c.in_ok-text.text c.publish.new.due.items all.published begun }
 
--- src/script/session/publishing.rt:65:37
+-- what was submitted
+submitted : (g : Over) (c : goal.After-push_all g) → HubSubmitted c.in_ok-text.text c.self.inside.hub c.publish.new.self c.publish.new.due.items c.in-Ok.lag
+submitted g c =
+    hub_submitted c.in_ok-text.text c.self.inside.hub c.publish.new.self c.self.inside.due.items c.publish.new.due.items c.in-Ok.lag c.self.invariant.2.publisher c.self.invariant.3 c.in-Ok.ensures.sound c.in-Ok.ensures.ok
+
+-- its lag is small
+small : (g : Over) (c : goal.After-push_all g) → c.in-Ok.lag < 2 ^ 63
+small g c =
+    let few = lag_small c.self.inside.hub c.publish.new.self (length c.self.inside.stock.items) c.self.inside.woken c.self.inside.has_begun c.self.invariant.2 c.in_ok-text.text c.publish.new.due.items c.in-Ok.lag (submitted g c) in
+    omega arith
+
 pub overflow_cast-result : goal.overflow_cast-result
-overflow_cast-result g c = ?
+overflow_cast-result g c = let few = small g c in search rules
 
--- src/script/session/publishing.rt:60:5
 pub invariant_of-self : goal.invariant_of-self
-invariant_of-self g c = ?
+invariant_of-self g c =
+    let begun : c.self.inside.has_begun ≡ true = ap (λ (s : SessionState). s.has_begun) c.self.view_is ∙ c.requires.begun in
+    rw c.push_all.ensures.woken (
+      c.self.invariant.0,
+      c.self.invariant.1,
+      published_session c.self.inside.hub c.publish.new.self (length c.self.inside.stock.items) c.self.inside.woken c.self.inside.has_begun c.self.invariant.2 c.in_ok-text.text c.publish.new.due.items (submitted g c).published begun,
+      c.push_all.ensures.nothing_due,
+    )
 
--- src/script/session/publishing.rt:60:5
 pub returns-in-Ok : goal.returns-in-Ok
-returns-in-Ok g c = ?
+returns-in-Ok g c =
+    submitted_replies c.self.inside.hub c.publish.new.self (length c.self.inside.stock.items) c.self.inside.woken c.self.inside.has_begun c.self.invariant.2 c.args.text.now c.in_ok-text.text c.publish.new.due.items c.in-Ok.lag
+    c.in_ok-text.ensures (submitted g c) c.args.self.now c.self.view_is c.push_all.new.self c.push_all.ensures.woken (to_z w64 c.in-Ok.lag) (to_z_pos w64 c.in-Ok.lag (small g c))
 
--- src/script/session/publishing.rt:60:5
+-- it was refused
+refused : (g : Over) (c : goal.In-Err-Refused g) → SubmitRefused c.self.inside.hub c.publish.new.self c.in-Err-Refused.refusal
+refused g c =
+    submit_refused c.in_ok-text.text c.self.inside.hub c.publish.new.self c.in-Err-Refused.refusal c.self.invariant.2.publisher c.in-Err-Refused.ensures.sound
+    (subst (λ why. RefusesItem end_of DoesCall c.in_ok-text.text c.self.inside.hub c.publish.new.self why) c.in-Err-Refused.field-0-is c.in-Err-Refused.ensures.err)
+
 pub invariant_of-self-in-Err-Refused : goal.invariant_of-self-in-Err-Refused
-invariant_of-self-in-Err-Refused g c = ?
+invariant_of-self-in-Err-Refused g c =
+    let nothing : c.publish.new.due.items ≡ c.self.inside.due.items = c.in-Err-Refused.ensures.nothing_due in (
+      c.self.invariant.0,
+      c.self.invariant.1,
+      session_same c.self.inside.hub c.publish.new.self (length c.self.inside.stock.items) c.self.inside.woken c.self.inside.has_begun c.self.invariant.2 (refused g c).stands,
+      subst (λ items. items ≡ []) (sym nothing) c.self.invariant.3,
+    )
 
--- src/script/session/publishing.rt:60:5
 pub returns-in-Err-Refused : goal.returns-in-Err-Refused
-returns-in-Err-Refused g c = ?
+returns-in-Err-Refused g c =
+    not_submitted_replies c.self.inside.hub c.publish.new.self (length c.self.inside.stock.items) c.self.inside.woken c.self.inside.has_begun c.self.invariant.2 c.args.text.now c.in_ok-text.text c.in-Err-Refused.refusal
+    c.in_ok-text.ensures (refused g c) c.args.self.now c.self.view_is
 
--- src/script/session/publishing.rt:68:44
+-- it would wait
+waits : (g : Over) (c : goal.In-Err-NoRoom g) → SubmitRefused c.self.inside.hub c.publish.new.self Refusal.WouldWait
+waits g c =
+    submit_waits c.in_ok-text.text c.in-Err-NoRoom.field-0-0 c.self.inside.hub c.publish.new.self c.self.invariant.2.publisher c.in-Err-NoRoom.ensures.sound
+    (subst (λ why. RefusesItem end_of DoesCall c.in_ok-text.text c.self.inside.hub c.publish.new.self why) c.in-Err-NoRoom.field-0-is c.in-Err-NoRoom.ensures.err)
+
 pub invariant_of-self-in-Err-NoRoom : goal.invariant_of-self-in-Err-NoRoom
-invariant_of-self-in-Err-NoRoom g c = ?
+invariant_of-self-in-Err-NoRoom g c =
+    let nothing : c.publish.new.due.items ≡ c.self.inside.due.items = c.in-Err-NoRoom.ensures.nothing_due in (
+      c.self.invariant.0,
+      c.self.invariant.1,
+      session_same c.self.inside.hub c.publish.new.self (length c.self.inside.stock.items) c.self.inside.woken c.self.inside.has_begun c.self.invariant.2 (waits g c).stands,
+      subst (λ items. items ≡ []) (sym nothing) c.self.invariant.3,
+    )
 
--- src/script/session/publishing.rt:57:5
 pub returns : goal.returns
-returns g c = ?
+returns g c =
+    let against = submit_waits c.in_ok-text.text c.in-Err-NoRoom.field-0-0 c.self.inside.hub c.publish.new.self c.self.invariant.2.publisher c.in-Err-NoRoom.ensures.sound
+    (subst (λ why. RefusesItem end_of DoesCall c.in_ok-text.text c.self.inside.hub c.publish.new.self why) c.in-Err-NoRoom.field-0-is c.in-Err-NoRoom.ensures.err) in
+    not_submitted_replies c.self.inside.hub c.publish.new.self (length c.self.inside.stock.items) c.self.inside.woken c.self.inside.has_begun c.self.invariant.2 c.args.text.now c.in_ok-text.text Refusal.WouldWait
+    c.in_ok-text.ensures against c.args.self.now c.self.view_is
