@@ -198,7 +198,7 @@ request_reached state refusals name number is =
     )
     is
 
-closing_reached : (ending : Ending) (state : SessionState) (refusals : List Bool) → IsReached state → IsReached (closing_result ending state refusals).state
+pub closing_reached : (ending : Ending) (state : SessionState) (refusals : List Bool) → IsReached state → IsReached (closing_result ending state refusals).state
 closing_reached ending state refusals is = by state.closing refl where
   open_kept : state.closing ≡ None → All (IsKept is.0 state.serial None) state.subscriptions
   open_kept e = subst (λ closing. All (IsKept is.0 state.serial closing) state.subscriptions) e is.1.subscriptions

@@ -1,6 +1,7 @@
 pub mod Digits
 pub mod EachMaps
 pub mod FewWoken
+pub mod HubCloses
 pub mod HubLooks
 pub mod Inside
 pub mod KeptCommands
@@ -10,6 +11,7 @@ pub mod KeptTurns
 pub mod LatestNames
 pub mod Lines
 pub mod LiveSubscriptions
+pub mod LookedSessions
 pub mod OneName
 pub mod Places
 pub mod Reading
@@ -17,9 +19,14 @@ pub mod Replying
 pub mod Results
 pub mod RunEnds
 pub mod ScriptLaws
+pub mod SearchedNames
+pub mod SessionStates
 pub mod SessionTurns
+pub mod Sessions
+pub mod Signals
 pub mod StartedNumbers
 pub mod StartedTasks
 pub mod Turns
 pub mod WokenLists
+pub mod WokenTasks
 pub mod Writers
