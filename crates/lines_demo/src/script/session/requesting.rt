@@ -21,9 +21,7 @@ impl<B: Listener> Session<B> {
             return Err(Refusal::Unknown);
         };
         let start = self.hub.feed_mut(entry).unwrap().request(number as i64);
-        if start.is_some() {
-            self.woken.push(entry);
-        }
+        self.woken.push_if(entry, start.is_some());
         Ok(Reply::Done)
     }
 
