@@ -123,7 +123,7 @@ sub_reached state refusals name number is =
 
 -- ---- publications
 
-published_reached : (state : SessionState) (text : List ℕ) → state.closing ≡ None → IsReached state → IsReached (state_after_publication text state)
+pub published_reached : (state : SessionState) (text : List ℕ) → state.closing ≡ None → IsReached state → IsReached (state_after_publication text state)
 published_reached state text unclosed is =
     let texts = is.0 in
     let lawful = is.1 in
@@ -142,7 +142,7 @@ published_reached state text unclosed is =
     )
 
 -- nothing is published by a closed publisher
-unclosed_if : (state : SessionState) → publication_refusal state ≡ None → state.closing ≡ None
+pub unclosed_if : (state : SessionState) → publication_refusal state ≡ None → state.closing ≡ None
 unclosed_if state allowed = by state.closing refl allowed where
   by : (closing : Option Ending) → state.closing ≡ closing → publication_refusal (record state { closing = closing }) ≡ None → state.closing ≡ None
   by None e allowed = e
@@ -184,7 +184,7 @@ request_kept texts next closed name number (s ∷ later) kept =
       by false true after = All-cons (IsKept texts next closed) (record s { desk = desk_after_request number s.desk }) later (kept_request texts next closed s number first) rest
       by false false after = kept
 
-request_reached : (state : SessionState) (refusals : List Bool) (name : List ℕ) (number : ℕ) → IsReached state → IsReached (request_result state refusals name number).state
+pub request_reached : (state : SessionState) (refusals : List Bool) (name : List ℕ) (number : ℕ) → IsReached state → IsReached (request_result state refusals name number).state
 request_reached state refusals name number is =
     let texts = is.0 in
     let lawful = is.1 in
@@ -198,7 +198,7 @@ request_reached state refusals name number is =
     )
     is
 
-closing_reached : (ending : Ending) (state : SessionState) (refusals : List Bool) → IsReached state → IsReached (closing_result ending state refusals).state
+pub closing_reached : (ending : Ending) (state : SessionState) (refusals : List Bool) → IsReached state → IsReached (closing_result ending state refusals).state
 closing_reached ending state refusals is = by state.closing refl where
   open_kept : state.closing ≡ None → All (IsKept is.0 state.serial None) state.subscriptions
   open_kept e = subst (λ closing. All (IsKept is.0 state.serial closing) state.subscriptions) e is.1.subscriptions

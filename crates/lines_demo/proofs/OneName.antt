@@ -17,7 +17,7 @@ use Rattle.lines_demo.proofs.LiveSubscriptions.{duplicate_live, offer_live, clos
 use Rattle.lines_demo.proofs.WokenLists.{bit}
 
 -- equal bytes are one word
-word_same : (bytes word : List ℕ) → is_word bytes word ≡ true → bytes ≡ word
+pub word_same : (bytes word : List ℕ) → is_word bytes word ≡ true → bytes ≡ word
 word_same bytes word e = (slice_eq-Decides Decides-eqb bytes word (is_word bytes word) refl).0 e
 
 -- how many live ones have the name, of one more at the front

@@ -26,6 +26,17 @@ replies_reached results reply state replies reached =
 
 -- ---- `cap`
 
+pub cap_late : (state : SessionState) (asked : ℕ) → state.has_begun ≡ true → Replies (λ refusals. cap_result state refusals asked) (Refused Refusal.BadCommand) state
+cap_late state asked begun = record { used = []; replies = λ more. rw begun refl }
+
+pub cap_zero : (state : SessionState) (asked : ℕ) → state.has_begun ≡ false → asked ≡ 0 → Replies (λ refusals. cap_result state refusals asked) (Refused Refusal.BadCapacity) state
+cap_zero state asked fresh none = record { used = []; replies = λ more. rw (fresh, none) refl }
+
+pub cap_no_memory : (state : SessionState) (asked : ℕ) → state.has_begun ≡ false → 0 < asked → Replies (λ refusals. cap_result state refusals asked) (Refused Refusal.NoMemory) state
+cap_no_memory state asked fresh some =
+    let test : (asked == 0) ≡ false = grind (arith, nat_tests) in
+    record { used = true ∷ []; replies = λ more. rw (fresh, test) refl }
+
 pub cap_done : (state : SessionState) (asked : ℕ) → state.has_begun ≡ false → 0 < asked
     → Replies (λ refusals. cap_result state refusals asked) (Capacity (capacity_of asked)) (record state { capacity = capacity_of asked })
 cap_done state asked fresh some =

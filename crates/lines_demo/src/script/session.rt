@@ -93,9 +93,10 @@ impl<B: Listener> Session<B> {
         }
     }
 
-    /// Does what a command says.
+    /// Does what a command says that was read.
     fn call(&mut self, alloc: Global, command: Command<'_>) -> Result<Reply, Refusal>
-        requires { IsInRange command }
+        requires range { IsInRange command }
+        requires begun { state_at_command command.entry self.old ≡ self.old }
         ensures { Replies (λ refusals. call_result command.entry self.old refusals) (reply_or_refusal result) self.new }
     {
         match command {
@@ -124,6 +125,7 @@ impl<B: Listener> Session<B> {
 
     /// Closes the publisher. Only the first call does anything.
     fn close(&mut self) -> Result<Reply, Refusal>
+        requires begun { self.old.has_begun ≡ true }
         ensures { Replies (λ refusals. closing_result Ending.Normal self.old refusals) (reply_or_refusal result) self.new }
     {
         if self.hub.ending().is_some() {

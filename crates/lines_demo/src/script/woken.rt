@@ -1,5 +1,5 @@
 //! The list of the woken.
-ghost use Rattle.std.specs.Prelude.{◌≡◌, ◌+◌, ◌<◌, ◌≤◌, ◌↔◌, ◌∷◌, ◌++◌, [], true, length, option_to_list, IfOk, IfNone};
+ghost use Rattle.std.specs.Prelude.{◌≡◌, ◌+◌, ◌<◌, ◌≤◌, ◌↔◌, ◌∷◌, ◌++◌, [], true, length, if◌then◌else◌, option_to_list, IfOk, IfNone};
 ghost use Rattle.lines_demo.specs.Script.Session.{numbers_of};
 
 use flow_rules::NoMemory;
@@ -45,6 +45,16 @@ impl Woken {
         ensures { self.new ≡ self.old ++ number ∷ [] }
     {
         self.numbers.push_back_reserved(number);
+    }
+
+    /// The subscription of this number is woken, after all others, if its task was started.
+    pub fn push_if(&mut self, number: u32, is_started: bool)
+        requires room { is_started ≡ true → length self.old < MOST_LIVE }
+        ensures { self.new ≡ self.old ++ (if is_started then number ∷ [] else []) }
+    {
+        if is_started {
+            self.push(number);
+        }
     }
 
     /// The subscriptions whose tasks are due are woken, after all others. Nothing is due then.

@@ -1,5 +1,5 @@
 //! `request`.
-ghost use Rattle.std.specs.Prelude.{◌≤◌};
+ghost use Rattle.std.specs.Prelude.{◌≡◌, ◌≤◌, true};
 ghost use Rattle.lines_demo.specs.Prelude.{UNBOUNDED};
 ghost use Rattle.lines_demo.specs.Script.Obeying.{request_result};
 ghost use Rattle.lines_demo.specs.Script.Playing.{Replies, IsLatest};
@@ -12,6 +12,7 @@ use flow_rules::{Listener, Name, Refusal};
 impl<B: Listener> Session<B> {
     /// Adds to the demand of the latest subscription of this name.
     pub(super) fn request(&mut self, name: Name, number: u64) -> Result<Reply, Refusal>
+        requires begun { self.old.has_begun ≡ true }
         requires positive { 1 ≤ number }
         requires bounded { number ≤ UNBOUNDED }
         ensures { Replies (λ refusals. request_result self.old refusals name number) (reply_or_refusal result) self.new }
@@ -20,9 +21,7 @@ impl<B: Listener> Session<B> {
             return Err(Refusal::Unknown);
         };
         let start = self.hub.feed_mut(entry).unwrap().request(number as i64);
-        if start.is_some() {
-            self.woken.push(entry);
-        }
+        self.woken.push_if(entry, start.is_some());
         Ok(Reply::Done)
     }
 

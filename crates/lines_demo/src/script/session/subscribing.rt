@@ -14,8 +14,14 @@ use std::alloc::Global;
 
 impl<B: Listener> Session<B> {
     /// The next subscriber of the stock subscribes. Where memory is refused for its buffer, it goes to the end of the stock.
-    pub(super) fn subscribe(&mut self, alloc: Global, name: Name, number: u64) -> Result<Reply, Refusal>
-        requires { number ≤ UNBOUNDED }
+    pub(super) fn subscribe(
+        &mut self,
+        alloc: Global,
+        name: Name,
+        number: u64,
+    ) -> Result<Reply, Refusal>
+        requires begun { self.old.has_begun ≡ true }
+        requires bounded { number ≤ UNBOUNDED }
         ensures { Replies (λ refusals. sub_result self.old refusals name number) (reply_or_refusal result) self.new }
     {
         if let Err(refusal) = self.hub.may_subscribe(name, &mut self.due) {

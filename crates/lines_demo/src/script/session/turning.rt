@@ -16,10 +16,9 @@ impl<B: Listener> Session<B> {
         ensures fewer { most_turns self.new < most_turns self.old }
     {
         let entry = self.woken.pop().unwrap();
+        let name = self.hub.name_of(entry).unwrap();
         let outlook = self.hub.feed_mut(entry).unwrap().turn(seen);
-        if matches!(outlook, Outlook::Again) {
-            self.woken.push(entry);
-        }
-        (self.hub.name_of(entry).unwrap(), outlook)
+        self.woken.push_if(entry, matches!(outlook, Outlook::Again));
+        (name, outlook)
     }
 }

@@ -1,0 +1,145 @@
+-- What a script sees where a subscription is added to its publisher, and when none may be.
+use Rattle.std.proofs.Common.{rules, ◌≡◌, ◌==◌, ◌⊎◌, inl, inr, ℕ, ◌-◌, ◌<◌, Bool, true, false, nat_le, Option, None, Some, List, [], ◌∷◌, ◌++◌, length, map, refl, sym, ap, subst, ◌∙◌, arith}
+use Rattle.std.specs.Prelude.{slice_get, count_by, IsSome, ◌↔◌}
+use Rattle.std.proofs.lemmas.Bool.Decides.{nat_tests}
+use Rattle.std.proofs.lemmas.List.{length-map, map-append}
+use Rattle.feed_core.specs.Desk.{Rests, desk_after_signal}
+use Rattle.feed_core.specs.LaneCalls.{lane_with_closing}
+use Rattle.feed_core.specs.Feed.{DoesCall, end_of}
+use Rattle.publisher_hub.specs.Hub.{HubState, Progress, hub_of}
+use Rattle.publisher_hub.specs.Offering.{work_of}
+use Rattle.publisher_hub.specs.Sound.{IsSound}
+use Rattle.publisher_hub.specs.Subscribing.{Admits, ClosesNew, first_entry}
+use Rattle.publisher_hub.specs.declared.entry.Entry.{Entry}
+use Rattle.publisher_hub.specs.declared.hub.Hub.{Hub}
+use Rattle.publisher_hub.specs.declared.work.Work.{Work}
+use Rattle.publisher_hub.proofs.Grown.{get_grown}
+use Rattle.lines_demo.specs.Prelude.{DeskState, Ending, Refusal, owes, desk_after_request, desk_without_looks}
+use Rattle.lines_demo.specs.Script.Session.{AreScriptEntries, IsScriptEntry, IsScriptHub, state_of, subscription_of}
+use Rattle.lines_demo.specs.Script.State.{SessionState}
+use Rattle.lines_demo.specs.Script.Subscribing.{MOST_LIVE, MOST_SUBSCRIPTIONS, desk_at_start, desk_at_subscribing, new_subscription, state_after_subscribing, subscribing_refusal}
+use Rattle.lines_demo.specs.Script.Waking.{is_live, newly_woken}
+use Rattle.lines_demo.proofs.SeenPublishers.{CameAsFar, script_publisher, seen_same}
+use Rattle.lines_demo.proofs.SessionStates.{state_of_is}
+use Rattle.lines_demo.proofs.StartedNumbers.{newly_woken_new}
+
+-- ---- who may subscribe
+
+-- as many are live as may be
+pub refused_full : (state : SessionState) → count_by is_live state.subscriptions ≡ MOST_LIVE → subscribing_refusal state ≡ Some Refusal.TooMany
+refused_full state full =
+    let test : nat_le MOST_LIVE (count_by is_live state.subscriptions) ≡ true = grind (arith, nat_tests) in
+    rw test refl
+
+-- as many were made as may be
+pub refused_exhausted : (state : SessionState) → count_by is_live state.subscriptions < MOST_LIVE → length state.subscriptions ≡ MOST_SUBSCRIPTIONS → subscribing_refusal state ≡ Some Refusal.Exhausted
+refused_exhausted state few many =
+    let test : nat_le MOST_LIVE (count_by is_live state.subscriptions) ≡ false = grind (arith, nat_tests) in
+    let made : nat_le MOST_SUBSCRIPTIONS (length state.subscriptions) ≡ true = grind (arith, nat_tests) in
+    rw (test, made) refl
+
+-- no subscriber is left
+pub refused_stock : (state : SessionState) → count_by is_live state.subscriptions < MOST_LIVE → length state.subscriptions < MOST_SUBSCRIPTIONS → state.stock ≡ 0 → subscribing_refusal state ≡ Some Refusal.TooMany
+refused_stock state few made none =
+    let test : nat_le MOST_LIVE (count_by is_live state.subscriptions) ≡ false = grind (arith, nat_tests) in
+    let room : nat_le MOST_SUBSCRIPTIONS (length state.subscriptions) ≡ false = grind (arith, nat_tests) in
+    let empty : (state.stock == 0) ≡ true = grind (arith, nat_tests) in
+    rw (test, room, empty) refl
+
+-- the next one may subscribe
+pub may_subscribe : (state : SessionState) → count_by is_live state.subscriptions < MOST_LIVE → length state.subscriptions < MOST_SUBSCRIPTIONS → 0 < state.stock → subscribing_refusal state ≡ None
+may_subscribe state few made some =
+    let test : nat_le MOST_LIVE (count_by is_live state.subscriptions) ≡ false = grind (arith, nat_tests) in
+    let room : nat_le MOST_SUBSCRIPTIONS (length state.subscriptions) ≡ false = grind (arith, nat_tests) in
+    let left : (state.stock == 0) ≡ false = grind (arith, nat_tests) in
+    rw (test, room, left) refl
+
+-- ---- the new one
+
+-- what the publisher stores of a new subscription: requests and closings may come in either order, and nothing is started
+pub record IsNewDesk (closing : Option Ending) (capacity number : ℕ) (start : Option Unit) (desk : DeskState) : Type 0 where
+  pub is : desk ≡ desk_after_request number (desk_at_subscribing closing capacity)
+  pub started : start ≡ None
+  pub owing : owes desk ≡ true
+
+-- it is so, whichever came first
+pub new_desk : (closing : Option Ending) (capacity number : ℕ) (feed after : DeskState) (start : Option Unit) → feed ≡ desk_after_request number (desk_at_start capacity)
+    → ClosesNew end_of DoesCall closing feed start after → IsNewDesk closing capacity number start after
+new_desk None capacity number feed after start is closes =
+    let same : after ≡ desk_after_request number (desk_at_start capacity) = closes.1 ∙ is in
+    record { is = same; started = closes.0; owing = ap owes same }
+new_desk (Some ending) capacity number feed after start is closes =
+    let closed : after ≡ desk_after_request number (desk_at_subscribing (Some ending) capacity) =
+    closes.1.first (ap (λ (d : DeskState). d.lane.causes.closing) is) ∙ ap (λ d. desk_after_signal d (lane_with_closing ending d.lane)) is in
+    record { is = closed; started = none start closes.1.starts; owing = ap owes closed } where
+      none : (start : Option Unit) → IsSome start ↔ ((feed.lane.causes.closing ≡ None) × Rests feed) → start ≡ None
+      none None starts = refl
+      none (Some task) starts =
+          let rests = starts.0 (search rules) in
+          let e : true ≡ false = sym (ap (λ (d : DeskState). d.started) is) ∙ rests.1.0 in
+          cc
+
+module _ (old new : Hub DeskState) (name : List ℕ) (number entry : ℕ) (feed : DeskState) (due : List (Work Unit)) (is : IsScriptHub old) (requested : feed ≡ desk_after_request number (desk_at_start old.capacity))
+    (admits : Admits end_of DoesCall name feed None entry [] due old new) where
+  -- a script sees the same of the others
+  seen_entries : map subscription_of admits.middle.entries.items ≡ map subscription_of old.entries.items
+  seen_entries = (seen_same old admits.middle is admits.seen).same
+
+  -- the desk of the new one
+  desk : IsNewDesk old.ending old.capacity number admits.start admits.after
+  desk = new_desk old.ending old.capacity number feed admits.after admits.start requested admits.closes
+
+  -- it came as far
+  admitted_as_far : CameAsFar old new
+  admitted_as_far = ap (λ (h : HubState). h.progress) admits.rest
+
+  -- nothing is due
+  pub admitted_due : due ≡ []
+  admitted_due = admits.due ∙ ap (λ start. work_of entry start) desk.started
+
+  -- the subscriptions are those of a script
+  admitted_entries : AreScriptEntries new.entries.items
+  admitted_entries k other at = by (get_grown admits.middle.entries.items (first_entry name old.next admits.after None) k other (ap (λ xs. slice_get xs k) (sym admits.entries) ∙ at)) where
+    by : (slice_get admits.middle.entries.items k ≡ Some other) ⊎ ((k ≡ length admits.middle.entries.items) × (first_entry name old.next admits.after None ≡ other)) → IsScriptEntry other
+    by (inl before) = (seen_same old admits.middle is admits.seen).entries k other before
+    by (inr last) = subst (λ (e : Entry DeskState). IsScriptEntry e) last.1 (record {
+      desk = admits.after;
+      there = refl;
+      steady = ap (λ (d : DeskState). d.is_steady) desk.is ∙ steady old.ending;
+      ended = λ retired. (let never : false ≡ true = retired in cc);
+    }) where
+      steady : (closing : Option Ending) → (desk_after_request number (desk_at_subscribing closing old.capacity)).is_steady ≡ true
+      steady None = refl
+      steady (Some ending) = refl
+
+  -- and the publisher is a script's
+  pub admitted_publisher : IsSound (hub_of end_of new) → IsScriptHub new
+  admitted_publisher sound = script_publisher old new is sound admitted_as_far admitted_entries
+
+  -- where the script stands then
+  pub admitted_state : (stock : ℕ) (woken : List ℕ) (has_begun : Bool)
+      → state_of new (stock - 1) (woken ++ entry ∷ []) has_begun ≡ state_after_subscribing name number (state_of old stock woken has_begun)
+  admitted_state stock woken has_begun =
+      let far = admitted_as_far in
+      state_of_is new (stock - 1) (woken ++ entry ∷ []) has_begun (state_after_subscribing name number (state_of old stock woken has_begun)) (ap (λ (p : Progress). p.capacity) far) refl
+      (ap (λ (p : Progress). p.ending) far) (ap (λ (p : Progress). p.next) far) refl grown (ap (λ numbers. woken ++ numbers) wakes) where
+        without_looks : (closing : Option Ending) → desk_without_looks (desk_after_request number (desk_at_subscribing closing old.capacity)) ≡ desk_after_request number (desk_at_subscribing closing old.capacity)
+        without_looks None = refl
+        without_looks (Some ending) = refl
+
+        seen_new : subscription_of (first_entry name old.next admits.after None) ≡ new_subscription (state_of old stock woken has_begun) name number
+        seen_new = ap (λ d. record { name = name; since = old.next; dropped = 0; desk = d }) (ap desk_without_looks desk.is ∙ without_looks old.ending)
+
+        grown : map subscription_of new.entries.items ≡ map subscription_of old.entries.items ++ new_subscription (state_of old stock woken has_begun) name number ∷ []
+        grown =
+            ap (λ xs. map subscription_of xs) admits.entries ∙ map-append subscription_of admits.middle.entries.items (first_entry name old.next admits.after None ∷ [])
+            ∙ ap (λ xs. xs ++ subscription_of (first_entry name old.next admits.after None) ∷ []) seen_entries
+            ∙ ap (λ s. map subscription_of old.entries.items ++ s ∷ []) seen_new
+
+        owing : owes (new_subscription (state_of old stock woken has_begun) name number).desk ≡ true
+        owing = ap owes (sym desk.is) ∙ desk.owing
+
+        wakes : entry ∷ [] ≡ newly_woken (map subscription_of old.entries.items) (map subscription_of old.entries.items ++ new_subscription (state_of old stock woken has_begun) name number ∷ [])
+        wakes =
+            ap (λ n. n ∷ []) (admits.is_next ∙ sym (length-map old.entries.items subscription_of))
+            ∙ sym (newly_woken_new (map subscription_of old.entries.items) (new_subscription (state_of old stock woken has_begun) name number) owing)

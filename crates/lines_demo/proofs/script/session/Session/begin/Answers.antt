@@ -1,0 +1,14 @@
+use Rattle.std.proofs.Common.{◌≡◌, true, false, sym, ap, ◌∙◌}
+use Rattle.lines_demo.specs.Script.Obeying.{state_at_command}
+use Rattle.lines_demo.proofs.Sessions.{session_begun, begun_by}
+use Rattle.lines_demo.proofs.script.session.Session.begin.Goals as goal
+use Rattle.lines_demo.proofs.script.session.Session.begin.Goals.{in-Cap, in_default}
+
+pub invariant_of-self : goal.invariant_of-self
+invariant_of-self g c = (c.self.invariant.0, c.self.invariant.1, session_begun _ _ _ _ c.self.invariant.2, c.self.invariant.3)
+
+pub returns-then-not-matches : goal.returns-then-not-matches
+returns-then-not-matches g c = rw (← c.self.view_is) (elim c.match-matches.branch [
+  | in-Cap w ↦ (let never : true ≡ false = sym w.matches-is ∙ c.if-not-matches.true in cc)
+  | in_default w ↦ begun_by c.args.command.now _ w.in_default.not-Cap
+])

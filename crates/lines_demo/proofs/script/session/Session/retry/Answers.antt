@@ -1,0 +1,28 @@
+use Rattle.std.proofs.Common.{rules, to_z, of_z, w64, ◌≡◌, ℤ, ap, sym, subst, ◌∙◌}
+use Rattle.std.proofs.lemmas.Result.{err_from_is_err_and}
+use Rattle.lines_demo.specs.Script.Playing.{Replies}
+use Rattle.lines_demo.specs.Script.Publishing.{drops_in, publication_refusal, retried_reply, retry_result}
+use Rattle.lines_demo.specs.declared.script.reply.Reply.TheVariants.{Retried}
+use Rattle.lines_demo.proofs.RepliedTexts.{replies_no_text, replies_refused, replies_retried}
+use Rattle.lines_demo.proofs.Replying.{publication_no_memory}
+use Rattle.lines_demo.proofs.script.session.Session.retry.Goals as goal
+
+pub returns-in_err-text : goal.returns-in_err-text
+returns-in_err-text g c =
+    let failed = err_from_is_err_and c.from_residual.result c.from_residual.ensures.1 in
+    rw (failed.1, failed.2) (replies_no_text publication_refusal retried_reply c.args.self.now c.args.text.now c.in_err-text.field-0.0 c.in_err-text.ensures)
+
+pub returns-in_default : goal.returns-in_default
+returns-in_default g c = publication_no_memory publication_refusal retried_reply c.args.self.now c.args.text.now c.in_ok-text.ensures.0
+
+pub returns-in_err-answer : goal.returns-in_err-answer
+returns-in_err-answer g c =
+    let failed = err_from_is_err_and c.from_residual-in_err-answer.result c.from_residual-in_err-answer.ensures.1 in
+    rw (failed.1, failed.2) (replies_refused retried_reply c.args.self.now c.offer_text.new.self c.args.text.now c.in_ok-text.text c.in_err-answer.field-0.0 c.in_ok-text.ensures c.in_err-answer.ensures.err)
+
+pub returns : goal.returns
+returns g c =
+    let fits = c.offer_text.type_inv in
+    let was = c.in_ok-answer.was in
+    let same : to_z w64 (of_z w64 c.in_ok-answer.answer) ≡ c.in_ok-answer.answer = search rules in
+    rw (c.drops_of.ensures, same) (replies_retried c.args.self.now c.offer_text.new.self c.args.text.now c.in_ok-text.text c.in_ok-answer.answer c.in_ok-text.ensures c.in_ok-answer.ensures.ok)
