@@ -1,17 +1,16 @@
 -- Publications of a script's publisher, whole.
-use Rattle.std.proofs.Common.{◌≡◌, ◌⊎◌, inl, inr, ℕ, zero, suc, ◌+◌, ◌<◌, ◌≤◌, Bool, true, false, nat_le, if◌then◌else◌, ℤ, Option, None, Some, option_map, List, [], ◌∷◌, ◌++◌, length, map, fold, max, refl, sym, ap, subst, ◌∙◌, arith}
+use Rattle.std.proofs.Common.{◌≡◌, ◌⊎◌, inl, inr, ℕ, zero, suc, ◌+◌, ◌<◌, Bool, true, false, nat_le, ℤ, Option, None, Some, option_map, List, [], ◌∷◌, ◌++◌, length, map, refl, sym, ap, subst, ◌∙◌, arith}
 use Rattle.std.specs.Prelude.{slice_get, slice_set}
 use Rattle.std.proofs.lemmas.Bool.Decides.{nat_tests}
-use Rattle.std.proofs.lemmas.List.{append-nil, map-append}
+use Rattle.std.proofs.lemmas.List.{append-nil}
 use Rattle.flow_rules.specs.declared.feed.standing.Standing.{Standing}
 use Rattle.flow_rules.specs.declared.item.TheConstants.{PUBLICATIONS}
 use Rattle.feed_core.specs.Feed.{DoesCall, end_of}
 use Rattle.feed_core.specs.LaneCalls.{IsCapacity}
-use Rattle.publisher_hub.specs.Entry.{EntryState}
 use Rattle.publisher_hub.specs.Hub.{HubState, hub_of}
 use Rattle.publisher_hub.specs.Lists.{EachBy, greatest}
 use Rattle.publisher_hub.specs.Looking.{IsLookedAt, Prepares}
-use Rattle.publisher_hub.specs.Offering.{IsNextItem, Offers, dropped, lags, lags_again, missed, progress_after, started, started_again}
+use Rattle.publisher_hub.specs.Offering.{IsNextItem, Offers, dropped, lags, lags_again, progress_after, started, started_again}
 use Rattle.publisher_hub.specs.Publishing as Publishing
 use Rattle.publisher_hub.specs.Publishing.{IsRefused, OffersItem, RefusesOffer, WhyNotOffered}
 use Rattle.publisher_hub.specs.Sound.{IsSound}
@@ -19,7 +18,7 @@ use Rattle.publisher_hub.specs.declared.entry.Entry.{Entry}
 use Rattle.publisher_hub.specs.declared.hub.Hub.{Hub}
 use Rattle.publisher_hub.specs.declared.work.Work.{Work}
 use Rattle.publisher_hub.proofs.Published.{known_of}
-use Rattle.lines_demo.specs.Prelude.{Item, Ending, Refusal, DeskState}
+use Rattle.lines_demo.specs.Prelude.{Item, Refusal, DeskState}
 use Rattle.lines_demo.specs.Script.Publishing.{drop_count, drops_or_lag, greatest_lag, next_item, offer_answer, publication_refusal, state_after_publication, subscription_after_offer}
 use Rattle.lines_demo.specs.Script.Session.{AreScriptEntries, IsScriptHub, desk_in, numbers_of, state_of, subscription_of}
 use Rattle.lines_demo.specs.Script.State.{SubscriptionState, SessionState}
@@ -218,8 +217,8 @@ hub_offered text declines old new due_old due answer is no_due sound o = record 
       o.answers ∙ same_answer (length (dropped o.seconds)) (greatest (lags o.puts ++ lags_again o.seconds))
       ∙ ap (λ n. drops_or_lag n (greatest (lags o.puts ++ lags_again o.seconds))) (ap length second.drops ∙ first.missed ∙ ap drop_count looked.same)
       ∙ ap (drops_or_lag (drop_count (map subscription_of old.entries.items))) (
-        ap (λ more. greatest (lags o.puts ++ more)) second.lag ∙ ap greatest (append-nil (lags o.puts)) ∙ first.lag ∙ ap (greatest_lag o.item) looked.same
-        ∙ ap (λ i. greatest_lag i (map subscription_of old.entries.items)) (next_item_is old o.item text is o.offers.next o.from o.words)
+      ap (λ more. greatest (lags o.puts ++ more)) second.lag ∙ ap greatest (append-nil (lags o.puts)) ∙ first.lag ∙ ap (greatest_lag o.item) looked.same
+      ∙ ap (λ i. greatest_lag i (map subscription_of old.entries.items)) (next_item_is old o.item text is o.offers.next o.from o.words)
       );
 } where
   looked : ListSeesSame old.entries.items o.ready

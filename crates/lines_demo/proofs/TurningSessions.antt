@@ -1,5 +1,5 @@
 -- A session after the turn of the first of its woken.
-use Rattle.std.proofs.Common.{◌≡◌, ℕ, ◌<◌, ◌≤◌, Bool, true, false, ◌&&◌, if◌then◌else◌, Option, None, Some, List, [], ◌∷◌, ◌++◌, length, map, set, refl, sym, ap, subst, ◌∙◌, arith}
+use Rattle.std.proofs.Common.{◌≡◌, ℕ, Bool, true, false, ◌&&◌, if◌then◌else◌, Option, None, Some, List, [], ◌∷◌, ◌++◌, map, set, refl, sym, ap, subst, ◌∙◌, arith}
 use Rattle.std.specs.Prelude.{is_none, is_some, option_map, slice_get}
 use Rattle.feed_core.specs.declared.cause.Causes.{Causes}
 use Rattle.feed_core.specs.Desk.{Owes}
@@ -11,7 +11,7 @@ use Rattle.publisher_hub.specs.Lending.{MayBecome, feed_at}
 use Rattle.publisher_hub.specs.declared.hub.Hub.{Hub}
 use Rattle.lines_demo.specs.Prelude.{DeskState, How, Outlook, Signal, desk_after_turn, owes}
 use Rattle.lines_demo.specs.Script.Playing.{MakesTurn}
-use Rattle.lines_demo.specs.Script.Session.{IsSession, state_of, subscription_of}
+use Rattle.lines_demo.specs.Script.Session.{IsSession, state_of}
 use Rattle.lines_demo.specs.Script.State.{SessionState, SubscriptionState}
 use Rattle.lines_demo.specs.Script.Waking.{owes_if_there, owes_turn}
 use Rattle.lines_demo.proofs.HubLooks.{same_desk, with_desk}

@@ -150,5 +150,4 @@ impl<B: Listener> Session<B> {
         let _ = &self.stock;
         !self.woken.is_empty()
     }
-
 }

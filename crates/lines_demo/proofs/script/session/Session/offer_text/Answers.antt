@@ -1,7 +1,5 @@
-use Rattle.std.proofs.Common.{rules, to_z, of_z, w64, ◌≡◌, ◌++◌, [], true, length, ◌∙◌, sym, ap, subst, refl}
+use Rattle.std.proofs.Common.{rules, to_z, of_z, w64, ◌≡◌, [], true, length, ◌∙◌, sym, ap, subst}
 use Rattle.std.proofs.lemmas.Result.{err_from_is_err_and}
-use Rattle.lines_demo.specs.Script.Playing.{OffersText, RefusesText}
-use Rattle.lines_demo.specs.Script.Session.{numbers_of, state_of}
 use Rattle.lines_demo.specs.Script.State.{SessionState}
 use Rattle.lines_demo.proofs.HubOffers.{HubOffered, OfferRefused, hub_offered, offer_refused}
 use Rattle.lines_demo.proofs.SessionOffers.{published_room, published_session, session_same, text_offered, text_refused}
@@ -40,7 +38,7 @@ begun g c = ap (λ (s : SessionState). s.has_begun) c.self.view_is ∙ c.require
 pub push_all-requires : goal.push_all-requires
 push_all-requires g c =
     record {
-      room = published_room c.self.inside.hub c.offer.new.self (length c.self.inside.stock.items) c.self.inside.woken c.self.inside.has_begun c.self.invariant.2 c.args.text c.offer.new.due.items (offered g c).published (begun g c)
+      room = published_room c.self.inside.hub c.offer.new.self (length c.self.inside.stock.items) c.self.inside.woken c.self.inside.has_begun c.self.invariant.2 c.args.text c.offer.new.due.items (offered g c).published (begun g c);
     }
 
 pub invariant_of-self-2 : goal.invariant_of-self-2

@@ -1,4 +1,4 @@
-use Rattle.std.proofs.Common.{rules, ◌≡◌, ◌++◌, ◌<◌, ◌^◌, [], true, length, arith, ◌∙◌, sym, ap, subst, refl, FitsSigned, pos, to_z, of_z, w64}
+use Rattle.std.proofs.Common.{rules, ◌≡◌, ◌<◌, ◌^◌, [], true, length, arith, ◌∙◌, sym, ap, subst, to_z, w64}
 use Rattle.std.proofs.lemmas.Int.{to_z_pos}
 use Rattle.std.proofs.lemmas.Result.{err_from_is_err_and}
 use Rattle.feed_core.specs.Feed.{DoesCall, end_of}
