@@ -1,10 +1,10 @@
 -- What holds of a subscription between any two of its calls, and that each of them keeps it. So it keeps the Flow rules, and nothing is
 -- forgotten where it owes no turn.
-use Rattle.std.proofs.Common.{◌≡◌, ◌==◌, ℕ, ◌+◌, ◌≤◌, Bool, true, false, not, ◌&&◌, ◌||◌, if◌then◌else◌, List, [], ◌∷◌, ◌++◌, length, refl, sym, ap, subst, ◌∙◌, arith, Option, Some, None}
+use Rattle.std.proofs.Common.{◌≡◌, ◌==◌, ℕ, Bool, true, false, not, ◌&&◌, ◌||◌, if◌then◌else◌, List, [], ◌∷◌, ◌++◌, refl, sym, ap, subst, ◌∙◌, arith, Option, Some, None}
 use Rattle.std.specs.Prelude.{is_some}
 use Rattle.std.proofs.lemmas.Bool.Decides.{nat_tests}
 use Rattle.std.proofs.lemmas.List.{append-nil, length-append}
-use Rattle.feed_core.specs.Prelude.{Item, Signal, Ending, How, Outlook, Again, Resting, Ended, UNBOUNDED, total_after}
+use Rattle.feed_core.specs.Prelude.{Item, Signal, Ending, How, Outlook, Again, Resting, Ended, total_after}
 use Rattle.feed_core.specs.Cause.{stops}
 use Rattle.feed_core.specs.Desk.{DeskState, owes, started_after, desk_after_signal, desk_after_put, desk_after_end, desk_after_duplicate, desk_after_request, desk_after_turn}
 use Rattle.feed_core.specs.Lane.{LaneState, IsFlow, IsSettled}
