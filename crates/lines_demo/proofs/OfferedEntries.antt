@@ -1,10 +1,10 @@
 -- What an offer makes of one subscription of a script's publisher.
-use Rattle.std.proofs.Common.{rules, ◌≡◌, ◌==◌, ℕ, ◌+◌, ◌-◌, ◌<◌, Bool, true, false, not, ◌&&◌, ◌||◌, if◌then◌else◌, Option, None, Some, IsSome, List, [], ◌∷◌, fold, max, refl, sym, ap, subst, ◌∙◌, arith}
+use Rattle.std.proofs.Common.{rules, ◌≡◌, ◌==◌, ℕ, ◌+◌, ◌-◌, ◌<◌, Bool, true, false, not, ◌&&◌, ◌||◌, if◌then◌else◌, Option, None, Some, IsSome, [], ◌∷◌, fold, max, refl, sym, ap, subst, ◌∙◌, arith}
 use Rattle.std.specs.Prelude.{is_none, is_some}
 use Rattle.std.proofs.lemmas.Bool.Decides.{nat_tests}
 use Rattle.flow_rules.specs.declared.feed.put.Put.{Put}
 use Rattle.flow_rules.specs.declared.feed.put.Put.TheVariants.{Accepted, Full, Gone}
-use Rattle.feed_core.specs.Desk.{AcceptsItem, GivesBack, IsFull, Rests, desk_after_look, desk_after_signal, desk_after_try}
+use Rattle.feed_core.specs.Desk.{AcceptsItem, IsFull, Rests, desk_after_look, desk_after_signal}
 use Rattle.feed_core.specs.Feed.{DoesCall, end_of}
 use Rattle.feed_core.specs.LaneCalls.{IsOpen, accepts, lane_with_item}
 use Rattle.publisher_hub.specs.Offering.{Gives, GivesAgain, Offered, Second, dropped_by, lag_again_by, lag_by, missed_by, started_again_by, started_by, work_of}
@@ -12,7 +12,6 @@ use Rattle.publisher_hub.specs.declared.entry.Entry.{Entry}
 use Rattle.lines_demo.specs.Prelude.{Item, How, Ending, DeskState, LaneState, desk_after_put, desk_without_looks, is_gone, lag_of, owes}
 use Rattle.lines_demo.specs.Script.Publishing.{is_full, lag_with, subscription_after_offer}
 use Rattle.lines_demo.specs.Script.Session.{IsScriptEntry, desk_in, numbers_of, subscription_of}
-use Rattle.lines_demo.specs.Script.State.{SubscriptionState}
 use Rattle.lines_demo.specs.Script.Waking.{is_live}
 use Rattle.lines_demo.proofs.HubLooks.{seen_with, with_desk}
 use Rattle.lines_demo.proofs.StartedTasks.{starts}

@@ -1,6 +1,6 @@
 -- What a publication is answered, from what became of its text.
-use Rattle.std.proofs.Common.{◌≡◌, ◌⊎◌, inl, inr, ℕ, zero, suc, ◌≤◌, Bool, ℤ, pos, Option, None, Some, Result, Ok, Err, List, length, refl, sym, ap, subst, ◌∙◌}
-use Rattle.lines_demo.specs.Prelude.{Item, Refusal, LONGEST_TEXT}
+use Rattle.std.proofs.Common.{◌≡◌, ◌⊎◌, inl, inr, ℕ, zero, suc, Bool, ℤ, pos, Option, None, Some, Ok, Err, List, refl, sym, ap, subst, ◌∙◌}
+use Rattle.lines_demo.specs.Prelude.{Item, Refusal}
 use Rattle.lines_demo.specs.Script.Playing.{IsTextOf, OffersText, RefusesText, Replies}
 use Rattle.lines_demo.specs.Script.Publishing.{drop_count, drops_in, drops_or_lag, greatest_lag, next_item, offer_answer, publication_refusal, publication_result, offer_result, retry_result, state_after_publication, submit_refusal, submit_result}
 use Rattle.lines_demo.specs.Script.State.{SubscriptionState, SessionState}
