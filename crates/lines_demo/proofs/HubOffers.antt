@@ -177,8 +177,8 @@ hub_offered text declines old new due_old due answer is no_due sound o = record 
       o.answers ∙ same_answer (length (dropped o.seconds)) (greatest (lags o.puts ++ lags_again o.seconds))
       ∙ ap (λ n. drops_or_lag n (greatest (lags o.puts ++ lags_again o.seconds))) (ap length second.drops ∙ first.missed ∙ ap drop_count looked.same)
       ∙ ap (drops_or_lag (drop_count (map subscription_of old.entries.items))) (
-        ap (λ more. greatest (lags o.puts ++ more)) second.lag ∙ ap greatest (append-nil (lags o.puts)) ∙ first.lag ∙ ap (greatest_lag o.item) looked.same
-        ∙ ap (λ i. greatest_lag i (map subscription_of old.entries.items)) (next_item_is old o.item text is o.offers.next o.from o.words)
+      ap (λ more. greatest (lags o.puts ++ more)) second.lag ∙ ap greatest (append-nil (lags o.puts)) ∙ first.lag ∙ ap (greatest_lag o.item) looked.same
+      ∙ ap (λ i. greatest_lag i (map subscription_of old.entries.items)) (next_item_is old o.item text is o.offers.next o.from o.words)
       );
 } where
   looked : ListSeesSame old.entries.items o.ready

@@ -162,9 +162,9 @@ submit_waits text back old new is refuses =
       far = looked_as_far old new refuses.unchanged;
       sees = prepared_all_same old.next glances old.entries.items new.entries.items is.entries prepared;
       why = λ stock woken has_begun. inr (
-        ap (λ (r : Option Refusal). refusal_or_wait r (list_any is_full (map subscription_of old.entries.items))) (nothing_against old stock woken has_begun open_still.0 (below_most old.next is.sound.few_items open_still.1))
-        ∙ ap (refusal_or_wait None) waits
-      );
+          ap (λ (r : Option Refusal). refusal_or_wait r (list_any is_full (map subscription_of old.entries.items))) (nothing_against old stock woken has_begun open_still.0 (below_most old.next is.sound.few_items open_still.1))
+          ∙ ap (refusal_or_wait None) waits
+          );
     }
 
 -- ---- what is submitted

@@ -143,10 +143,10 @@ pub all_stay : (item : Item) (puts : List (Option (Put Unit))) (seconds : List (
 all_stay item puts seconds xs ys zs are given again asked = record {
   same = each_map subscription_of (λ s. s) (λ y z. subscription_of z ≡ subscription_of y) ys zs each_same (λ k y z at same. same) ∙ map-id (map subscription_of ys);
   entries = λ k z at. (
-    let stood = stood_by (GivesAgain end_of DoesCall item) seconds ys zs k z again at in
-    let is = stays_at k stood.answer stood.said in
-    subst IsScriptEntry (same_some (sym is.now ∙ at)) is.stays.entry
-  );
+      let stood = stood_by (GivesAgain end_of DoesCall item) seconds ys zs k z again at in
+      let is = stays_at k stood.answer stood.said in
+      subst IsScriptEntry (same_some (sym is.now ∙ at)) is.stays.entry
+      );
   started = gather_nothing started_again_by seconds 0 (λ k second said. (stays_at k second said).stays.started (0 + k));
   lag = gather_nothing lag_again_by seconds 0 (λ k second said. (stays_at k second said).stays.lag (0 + k));
   drops = gather_same dropped_by missed_by seconds puts (again.answered ∙ given.as_long ∙ sym given.answered) (λ k second put said put_said place. drops_at k second put said put_said place) 0;
@@ -187,10 +187,10 @@ all_stay item puts seconds xs ys zs are given again asked = record {
   each_same = record {
     as_long = again.as_long;
     each = λ k y z at now. (
-      let second = answered_at (GivesAgain end_of DoesCall item) seconds ys zs k y again at in
-      let is = stays_at k second.0 second.1 in
-      ap subscription_of (same_some (sym now ∙ is.now)) ∙ is.stays.same ∙ ap subscription_of (same_some (sym is.at ∙ at))
-    );
+        let second = answered_at (GivesAgain end_of DoesCall item) seconds ys zs k y again at in
+        let is = stays_at k second.0 second.1 in
+        ap subscription_of (same_some (sym now ∙ is.now)) ∙ is.stays.same ∙ ap subscription_of (same_some (sym is.at ∙ at))
+        );
   }
 
   drops_at : (k : ℕ) (second : Second Unit) (put : Option (Put Unit)) → slice_get seconds k ≡ Some second → slice_get puts k ≡ Some put → (place : ℕ) → dropped_by {T = Unit} place second ≡ missed_by {T = Unit} place put
