@@ -3,6 +3,8 @@
 # how much memory it has at its peak, both for each byte of the script, and prints each as a ratio to the script of 1 MiB.
 # Each is played twice: on a subscriber that keeps all that it is told, and with --forget on one that keeps nothing.
 # Then the kinds of script that cost most a byte, at 1 MiB each: a run a line, lines of two bytes, offers with CR LF.
+# Last the time for each delivery, an item that one subscriber is told: with 1, 8 and 64 subscribers, and with 8 of them after 1,000
+# others that have come and gone, beside that with 1; all with --forget.
 # It sets no bounds. The script is read whole, so memory grows with it even where the subscriber keeps nothing.
 # It needs the program, which `rt ci` and `./play --build` leave in crates/lines_demo/out, and GNU time or Python 3.
 # Usage: bench/script.sh [RUNS]; each figure is the median of RUNS runs (5).
@@ -107,3 +109,28 @@ lines 'x\n' >"$work/script"
 figures short
 lines 'offer x\r\n' >"$work/script"
 figures crlf
+
+# deliveries COUNT GONE: so many subscribers, after so many others that have ended, are told the same number of items in all.
+deliveries() {
+    awk -v count="$1" -v gone="$2" 'BEGIN {
+        for (i = 0; i < gone; i++) printf "sub gone 0\nsub gone 0\nrun\n"
+        for (i = 0; i < count; i++) printf "sub s%d 9000000\n", i
+        printf "run\n"
+        for (i = 0; i < 262144 / count; i++) printf "offer line %08d of %06d x\n%s", i / 64, i % 64, i % 64 == 63 ? "run\n" : ""
+    }'
+}
+
+printf '\nsubscribers    deliveries seconds ns_per_delivery ratio\n'
+flag=--forget
+first=
+for who in '1 0' '8 0' '64 0' '8 1000'; do
+    count=${who% *}
+    gone=${who#* }
+    deliveries "$count" "$gone" >"$work/script"
+    time=$(median spent "$work/script")
+    told=$(grep -c ' next ' "$work/out")
+    first=${first:-"$told $time"}
+    echo "$first $told $time" | awk -v name="$count$([ "$gone" -eq 0 ] || echo " after $gone")" '{
+        printf "%-14s %10d %7.3f %15.1f %5.2f\n", name, $3, $4 / 1e9, $4 / $3, $4 / $3 / ($2 / $1)
+    }'
+done

@@ -2,54 +2,53 @@
 
 usage: judge.py PROGRAM REFUSE.so [--forget] SCRIPT..
 
-A run has to end by itself within ten seconds. Up to the refusal its output is that of the script with ample memory, and then
+A run has to end by itself within ten seconds. By the definition of scripts, which stands once more in definition.py, memory may be
+refused at each of certain points: in the call of a command, which is answered `refused 5 memory`, or in a callback, after which its
+subscriber is told nothing more. One request is refused in a run, so of a run
 
-- it ends there, with status 1 and `lines_demo: memory` on standard error; or
-- a `sub`, `offer` or `submit` is answered `refused 5 memory`, and the rest is as if that command had been another refused
-  one: `request - 1`, of a name that nobody has; or
-- a `run` says `NAME memory`, and NAME is told nothing more. The rest is as to a subscription that has ended: with no other
-  subscription, `offer` and `submit` answer 0, and all else is the same; with others, each command is answered by the same
-  word, and what they are told is the same where no item was dropped or had to wait; or
-- nothing is different: what was refused was not needed.
+- the output is that of the script where memory is refused at one of these points, whole, byte by byte; or
+- it is that with ample memory: what was refused was not needed; or
+- it is a beginning of that, with status 1 and `lines_demo: memory` on standard error: the script was stopped.
 
-Each `sub`, `offer` and `submit` that is not refused with ample memory has to be refused it in some run, and so has some
-callback; some run has to be stopped. Where SCRIPT has a file .expected beside it, some run has to give just that.
+Each `sub`, `offer`, `retry` and `submit` that comes to a point with ample memory has to be refused it in some run, and so has
+some callback; some run has to be stopped. Where SCRIPT has a file .expected beside it, some run has to give just that.
 With --forget the subscriber keeps nothing, so no callback may be refused memory.
 """
 
 import os
-import re
 import subprocess
 import sys
 
+sys.dont_write_bytecode = True
+from definition import play
+
 MOST = 20000
-TOLD = re.compile(rb"(\S+) (subscribed|next .*|complete|error .*|memory)\n", re.S)
-PUBLISHED = re.compile(rb"(offer|submit) -?\d+\n|refused 11 wait\n")
+HAVE_TO_BE_REFUSED = ("sub", "offer", "retry", "submit")
 
 
 class Script:
-    """A script, its output with ample memory, and where in it the answers of each command end."""
+    """A script, and what the definition has it answered: with ample memory, and with a refusal at each of its points."""
 
     def __init__(self, program, forgets, file):
         self.command = [program, "script", "--forget"] if forgets else [program, "script"]
         self.forgets = forgets
         with open(file, "rb") as it:
-            self.lines = it.read().splitlines(keepends=True)
-        self.full = self.play(self.lines)
-        self.ends = [len(self.play(self.lines[:at])) for at in range(len(self.lines) + 1)]
-        self.names = {it.split()[1] for it in self.lines if it.startswith(b"sub ")}
-        self.met = {"stopped": 0, "callback": 0, "nothing": 0}
+            self.text = it.read()
+        self.lines = self.text.splitlines(keepends=True)
+        lines, self.points = play(self.lines)
+        self.full = b"".join(lines)
+        self.outputs = {}
+        for number in range(len(self.points)):
+            output = b"".join(play(self.lines, number)[0])
+            self.outputs.setdefault(output, []).append(self.points[number])
+        self.met = {"stopped": 0, "callback": 0, "command": 0, "nothing": 0}
+        self.refused_at = set()
 
-    def play(self, lines):
-        """The lines of the output with ample memory."""
-        ran = subprocess.run(self.command, input=b"".join(lines), stdout=subprocess.PIPE, timeout=10, check=True)
-        return ran.stdout.splitlines(keepends=True)
-
-    def refused(self, hook, number):
+    def run(self, hook, number):
         """The status, the output and standard error of the run whose request of this number is refused, and whether it was."""
         room = {**os.environ, "REFUSE": str(number), "LD_PRELOAD": hook}
         how = {"stdout": subprocess.PIPE, "stderr": subprocess.PIPE, "timeout": 10, "env": room}
-        ran = subprocess.run(self.command, input=b"".join(self.lines), **how)
+        ran = subprocess.run(self.command, input=self.text, **how)
         said = ran.stderr.replace(b"request refused\n", b"")
         return ran.returncode, ran.stdout, said, said != ran.stderr
 
@@ -57,70 +56,32 @@ class Script:
         """Notes what the refusal did, or returns what is wrong with the run."""
         if status == 1 and said == b"lines_demo: memory\n":
             self.met["stopped"] += 1
-            return None if b"".join(self.full).startswith(output) else "it stopped, and wrote no prefix of the output"
+            return None if self.full.startswith(output) else "it stopped, and wrote no beginning of the output"
         if status or said:
             return f"status {status}, and it said: {said.decode(errors='replace')}"
-        lines = output.splitlines(keepends=True)
-        at = next((i for i, pair in enumerate(zip(lines, self.full)) if pair[0] != pair[1]), min(len(lines), len(self.full)))
-        if lines == self.full:
+        if output == self.full:
             self.met["nothing"] += 1
-        elif at == len(lines) or at == len(self.full):
-            return "the output is cut, or goes on"
-        elif lines[at] == b"refused 5 memory\n":
-            return self.judge_command(at, lines)
-        elif re.fullmatch(rb"\S+ memory\n", lines[at]):
-            return self.judge_callback(at, lines)
-        else:
-            return f"line {at + 1} is {lines[at]!r}, and not {self.full[at]!r}"
-        return None
-
-    def judge_command(self, at, lines):
-        command = next(i for i, end in enumerate(self.ends[1:]) if end > at)
-        self.met[command] = self.met.get(command, 0) + 1
-        if self.ends[command] != at or not re.match(rb"(sub|offer|submit) ", self.lines[command]):
-            return f"line {at + 1} says that memory was refused, where no command asks for any"
-        without = self.play([*self.lines[:command], b"request - 1\n", *self.lines[command + 1 :]])
-        if lines[at + 1 :] != without[at + 1 :]:
-            return f"after line {at + 1} it isn't the output without the refused command"
-        return None
-
-    def judge_callback(self, at, lines):
-        if self.forgets:
-            return f"line {at + 1} says that a callback was refused memory, of a subscriber that keeps nothing"
-        self.met["callback"] += 1
-        name = lines[at].split()[0]
-        command = next(i for i, end in enumerate(self.ends[1:]) if end > at)
-        if self.lines[command].strip() != b"run":
-            return f"line {at + 1} says that a callback was refused memory, outside a run"
-        rest, wanted = lines[at + 1 :], self.full[at:]
-        if any(it.startswith(name + b" ") for it in rest):
-            return f"{name.decode()} is told more after its end"
-        wanted = [it for it in wanted if not it.startswith(name + b" ")]
-        if self.names == {name}:
-            wanted = [ended(it) for it in wanted]
-            return None if rest == wanted else "the rest is not as to a subscription that has ended"
-        if [PUBLISHED.sub(b"published\n", it) for it in rest if not TOLD.fullmatch(it)] != [
-            PUBLISHED.sub(b"published\n", it) for it in wanted if not TOLD.fullmatch(it)
-        ]:
-            return "a later command is answered by another word"
-        is_free = not any(it in (b"offer -1\n", b"refused 11 wait\n") for it in self.full)
-        if is_free and [it for it in rest if TOLD.fullmatch(it)] != [it for it in wanted if TOLD.fullmatch(it)]:
-            return "another subscriber is told something else"
+            return None
+        points = [it for it in self.outputs.get(output, []) if not (self.forgets and it[1] == "callback")]
+        if not points:
+            return f"by the definition no refusal gives this output: {difference(output, self.full)}"
+        self.met["callback" if points[0][1] == "callback" else "command"] += 1
+        self.refused_at.update(points)
         return None
 
     def never_met(self):
         """What no refusal hit."""
-        asks = [i for i, it in enumerate(self.lines) if re.match(rb"(sub|offer|submit) ", it)]
-        asks = [i for i in asks if not self.full[self.ends[i]].startswith(b"refused ")]
-        missing = [f"line {i + 1}, {self.lines[i].decode(errors='replace').strip()}" for i in asks if i not in self.met]
+        asks = [it for it in self.points if it[1] in HAVE_TO_BE_REFUSED and it not in self.refused_at]
+        missing = [f"line {line + 1}, {self.lines[line].decode(errors='replace').strip()}" for line, _ in asks]
         needed = ["stopped"] if self.forgets else ["stopped", "callback"]
         return missing + [it for it in needed if not self.met[it]]
 
 
-def ended(line):
-    """The answer of a command where its one subscription has ended."""
-    found = re.fullmatch(rb"(offer|submit) -?\d+\n", line)
-    return found[1] + b" 0\n" if found else b"submit 0\n" if line == b"refused 11 wait\n" else line
+def difference(output, wanted):
+    """Where an output begins to be another one."""
+    pairs = enumerate(zip(output.splitlines(), wanted.splitlines()), 1)
+    at, line = next(((at, pair[0]) for at, pair in pairs if pair[0] != pair[1]), (0, b""))
+    return f"from line {at} on, {line!r}" if at else "it is cut, or goes on"
 
 
 def sweep(program, hook, forgets, file):
@@ -128,7 +89,7 @@ def sweep(program, hook, forgets, file):
     script, outputs = Script(program, forgets, file), set()
     for number in range(1, MOST):
         try:
-            status, output, said, is_met = script.refused(hook, number)
+            status, output, said, is_met = script.run(hook, number)
         except subprocess.TimeoutExpired:
             return f"request {number}: it had not ended after ten seconds"
         if not is_met:
@@ -141,8 +102,8 @@ def sweep(program, hook, forgets, file):
         return f"request {MOST} is still met"
     if number == 1:
         return "no request was refused: the hook has no effect"
-    if (status, output, said) != (0, b"".join(script.full), b""):
-        return "no refusal, and yet another output"
+    if (status, output, said) != (0, script.full, b""):
+        return f"with ample memory it gives another output than the definition: {difference(output, script.full)}"
     wanted = os.path.splitext(file)[0] + ".expected"
     if os.path.isfile(wanted):
         with open(wanted, "rb") as it:
@@ -150,10 +111,9 @@ def sweep(program, hook, forgets, file):
                 return f"no run gave {wanted}"
     if script.never_met():
         return f"never refused memory: {'; '.join(script.never_met())}"
-    commands = sum(count for it, count in script.met.items() if isinstance(it, int))
-    how = ", with --forget" if forgets else ""
-    print(f"{file}{how}: {number - 1} requests, each refused in turn: {script.met['stopped']} stopped the script,", end=" ")
-    print(f"{script.met['callback']} a callback, {commands} a command, {script.met['nothing']} nothing")
+    how, met = ", with --forget" if forgets else "", script.met
+    print(f"{file}{how}: {number - 1} requests, each refused in turn: {met['stopped']} stopped the script,", end=" ")
+    print(f"{met['callback']} a callback, {met['command']} a command, {met['nothing']} nothing")
     return None
 
 

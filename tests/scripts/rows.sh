@@ -146,6 +146,19 @@ row 'no line feed at the end'
 printf 'sub a 9\noffer x\nrun\r' >"$work/in"
 row 'a carriage return at the end'
 
+# A script has 1,024 subscribers. A second subscription of a live name takes none of them.
+{
+    count=0
+    while [ "$count" -lt 1024 ]; do
+        printf 'sub a 0\nsub a 0\nrun\n' >&3
+        printf 'sub a\nrefused 3 duplicate\na subscribed\na error state\nidle\n' >&4
+        count=$((count + 1))
+    done
+    printf 'sub a 0\n' >&3
+    printf 'refused 4 many\n' >&4
+} 3>"$work/in" 4>"$work/want"
+row 'the subscriber after 1,024 of one name'
+
 # Faults of writing and of reading. An empty output can be written anywhere.
 printf 'run\n' >"$work/in"
 status=0

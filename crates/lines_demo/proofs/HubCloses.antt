@@ -15,7 +15,7 @@ use Rattle.publisher_hub.proofs.Places.{stood_by}
 use Rattle.lines_demo.specs.Prelude.{DeskState, Ending, How, LaneState, desk_after_end, desk_without_looks, owes}
 use Rattle.lines_demo.specs.Script.Kept.{IsKept, IsReached}
 use Rattle.lines_demo.specs.Script.Obeying.{closing_result, state_after_closing, subscription_after_closing}
-use Rattle.lines_demo.specs.Script.Session.{AreScriptEntries, IsScriptEntry, IsScriptHub, IsSession, numbers_of, state_of, subscription_of}
+use Rattle.lines_demo.specs.Script.Session.{IsScriptEntry, IsScriptHub, IsSession, numbers_of, state_of, subscription_of}
 use Rattle.lines_demo.specs.Script.State.{SubscriptionState}
 use Rattle.lines_demo.specs.Script.Waking.{is_live, newly_woken}
 use Rattle.lines_demo.proofs.EachMaps.{each_by_map}
@@ -143,8 +143,8 @@ module _ (ending : Ending) (old new : Hub DeskState) (stock : ℕ) (woken : List
       sound = sound;
       sized = subst IsCapacity (sym (ap (λ (h : HubState). h.progress.capacity) closes.rest)) is.publisher.sized;
       entries = λ k y at.
-      (let stood = stood_by (Closes end_of DoesCall ending) closes.closes.answers closes.middle new.entries.items k y closes.closes.each at in
-      (one k stood.answer stood.entry y stood.at stood.became).entry);
+          (let stood = stood_by (Closes end_of DoesCall ending) closes.closes.answers closes.middle new.entries.items k y closes.closes.each at in
+          (one k stood.answer stood.entry y stood.at stood.became).entry);
       numbered = ap (λ (h : HubState). slice_get h.progress.counts 0) closes.rest ∙ is.publisher.numbered ∙ ap Some (sym (ap (λ (h : HubState). h.progress.next) closes.rest));
     };
     state = state_of_is new stock (woken ++ numbers_of due) begun (state_after_closing ending (state_of old stock woken begun)) (ap (λ (h : HubState). h.progress.capacity) closes.rest) refl

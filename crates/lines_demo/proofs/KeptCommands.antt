@@ -14,7 +14,7 @@ use Rattle.lines_demo.specs.Script.Subscribing.{MOST_LIVE, new_subscription, is_
 use Rattle.lines_demo.specs.Script.Publishing.{next_item, subscription_after_offer, state_after_publication, publication_refusal, refusal_or_wait, submit_refusal, publication_unless, publication_result, is_full, offered_reply, retried_reply, submitted_reply}
 use Rattle.lines_demo.specs.Script.Obeying.{cap_result, is_known, subscriptions_after_request, request_result, subscription_after_closing, state_after_closing, closing_result, state_at_command, call_result, command_result}
 use Rattle.lines_demo.specs.Script.Kept.{IsKept, IsLawful, IsReached}
-use Rattle.lines_demo.specs.Script.Laws.{WakesWhoOwes, FewAreLive, OneLiveOfName}
+use Rattle.lines_demo.specs.Script.Laws.{WakesWhoOwes}
 use Rattle.lines_demo.specs.declared.script.command.Command.{Command}
 use Rattle.lines_demo.specs.declared.script.command.Command.TheVariants.{Cap, Sub, Offer, Retry, Submit, Request, Close, Run}
 use Rattle.lines_demo.specs.declared.script.reply.Reply.{Reply}

@@ -1,5 +1,5 @@
 -- A session whose publisher's end of one subscription was lent, as to a request or a turn.
-use Rattle.std.proofs.Common.{◌≡◌, ℕ, Bool, true, Option, None, Some, List, length, map, set, refl, sym, ap, subst, ◌∙◌}
+use Rattle.std.proofs.Common.{◌≡◌, ℕ, Bool, Option, None, Some, List, map, set, refl, sym, ap, subst, ◌∙◌}
 use Rattle.std.specs.Prelude.{is_some, IsSome, option_map, slice_get}
 use Rattle.std.specs.Borrow.{MutBor}
 use Rattle.std.specs.Option.{option_and_then, option_copied_mut}
@@ -63,7 +63,7 @@ module _ (hub : Hub DeskState) (number : ℕ) (before after : DeskState) (at : f
   -- where a script stands then
   pub lent_state : (stock : ℕ) (woken : List ℕ) (begun : Bool)
       → state_of (lent hub number after) stock woken begun
-          ≡ record (state_of hub stock woken begun) { subscriptions = set (map subscription_of hub.entries.items) number (with_desk lent_one.entry after) }
+      ≡ record (state_of hub stock woken begun) { subscriptions = set (map subscription_of hub.entries.items) number (with_desk lent_one.entry after) }
   lent_state stock woken begun =
       ap (λ h. state_of h stock woken begun) lent_is
       ∙ ap (λ subscriptions. record (state_of hub stock woken begun) { subscriptions = subscriptions }) (map-set subscription_of hub.entries.items number (record lent_one.entry { feed = Some after }))

@@ -40,6 +40,7 @@ pub mod SmallNumbers
 pub mod StartedNumbers
 pub mod StartedTasks
 pub mod SubscribingSessions
+pub mod TurningSessions
 pub mod Turns
 pub mod WokenLists
 pub mod WokenTasks

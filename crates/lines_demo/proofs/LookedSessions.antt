@@ -8,8 +8,8 @@ use Rattle.publisher_hub.specs.Sound.{IsSound}
 use Rattle.publisher_hub.specs.declared.hub.Hub.{Hub}
 use Rattle.lines_demo.specs.Prelude.{DeskState}
 use Rattle.lines_demo.specs.Script.Kept.{IsReached}
-use Rattle.lines_demo.specs.Script.Session.{IsScriptHub, IsSession, state_of}
-use Rattle.lines_demo.specs.Script.State.{SessionState, state_at_start}
+use Rattle.lines_demo.specs.Script.Session.{IsSession, state_of}
+use Rattle.lines_demo.specs.Script.State.{state_at_start}
 use Rattle.lines_demo.proofs.HubLooks.{ListSeesSame}
 use Rattle.lines_demo.proofs.SessionStates.{state_of_is}
 

@@ -166,11 +166,11 @@ becomes_offered item (Some answer) old new may offered = by answer offered where
   by : (answer : Put Unit) → Offered end_of DoesCall item answer old new → BecomesOffered item (Some answer) old new
   by (Accepted lag start) is =
       subst (λ x. BecomesOffered item (Some (Accepted lag start)) x new) (was_is is.before is.was)
-      (subst (BecomesOffered item (Some (Accepted lag start)) (entry_with old is.before)) (sym is.now) (took item old is.before is.after lag start (steady is.before is.was) is.live is.exact))
+      (subst (BecomesOffered item (Some (Accepted lag start)) (entry_with old is.before)) (sym is.now) (took item old is.before is.after lag start (steady is.before is.was) is.live is.exact.answers))
   by (Full back) is =
       subst (λ x. BecomesOffered item (Some (Full back)) x new) (was_is is.before is.was)
-      (subst (BecomesOffered item (Some (Full back)) (entry_with old is.before)) (sym is.now) (dropped item back old is.before is.after (steady is.before is.was) is.live is.exact.0 is.exact.1.1))
-  by (Gone back) is = let never : false ≡ true = sym (open_desk is.before is.was is.live) ∙ is.exact.0 in cc
+      (subst (BecomesOffered item (Some (Full back)) (entry_with old is.before)) (sym is.now) (dropped item back old is.before is.after (steady is.before is.was) is.live is.exact.answers.0 is.exact.answers.1.1))
+  by (Gone back) is = let never : false ≡ true = sym (open_desk is.before is.was is.live) ∙ is.exact.answers.0 in cc
 
 -- ---- the second pass
 
@@ -193,14 +193,14 @@ full_still item middle new desk answer is some there full offered = by answer of
       → (back : Item) × ((answer ≡ Full back) × ((subscription_of new ≡ subscription_of middle) × IsScriptEntry new))
   by (Accepted lag start) o =
       let before_is : o.before ≡ desk = same_value (sym o.was ∙ there) in
-      let room : lag_of desk.lane < desk.capacity = subst (λ (d : DeskState). lag_of d.lane < d.capacity) before_is o.exact.room_before in
+      let room : lag_of desk.lane < desk.capacity = subst (λ (d : DeskState). lag_of d.lane < d.capacity) before_is o.exact.answers.room_before in
       let none = full.1 in absurd (omega arith)
   by (Gone back) o =
       let before_is : o.before ≡ desk = same_value (sym o.was ∙ there) in
-      let never : false ≡ true = sym (gone_not desk.lane full.0) ∙ ap (λ (d : DeskState). is_gone d.lane) (sym before_is) ∙ o.exact.0 in cc
+      let never : false ≡ true = sym (gone_not desk.lane full.0) ∙ ap (λ (d : DeskState). is_gone d.lane) (sym before_is) ∙ o.exact.answers.0 in cc
   by (Full back) o =
       let before_is : o.before ≡ desk = same_value (sym o.was ∙ there) in
-      let looked : o.after ≡ desk_after_look desk = o.exact.1.1 ∙ ap desk_after_look before_is in
+      let looked : o.after ≡ desk_after_look desk = o.exact.answers.1.1 ∙ ap desk_after_look before_is in
       let count : middle.dropped - 1 + 1 ≡ middle.dropped = omega arith in
       let now : new ≡ record middle { feed = Some (desk_after_look desk); dropped = middle.dropped } =
       o.now ∙ ap (λ d. record middle { feed = Some d; dropped = middle.dropped - 1 + 1 }) looked ∙ ap (λ n. record middle { feed = Some (desk_after_look desk); dropped = n }) count in
@@ -250,7 +250,7 @@ stays_dropped item put second ready middle new full asked is gives again = by pu
       let missed_it : Offered end_of DoesCall item (Full was.0) ready middle = subst (λ (p : Option (Put Unit)). Gives end_of DoesCall item p ready middle) was.1 gives in
       let more : middle.dropped ≡ ready.dropped + 1 = ap (λ (entry : Entry DeskState). entry.dropped) missed_it.now in
       let there : middle.feed ≡ Some missed_it.after = ap (λ (entry : Entry DeskState). entry.feed) missed_it.now in
-      let still : IsFull missed_it.after = subst IsFull (sym missed_it.exact.1.1) missed_it.exact.0 in
+      let still : IsFull missed_it.after = subst IsFull (sym missed_it.exact.answers.1.1) missed_it.exact.answers.0 in
       let stays = full_still item middle new missed_it.after answer is (omega arith) there still again in
       let answered = stays.1.0 in
       record {

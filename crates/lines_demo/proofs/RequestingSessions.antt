@@ -1,5 +1,5 @@
 -- A session after a request.
-use Rattle.std.proofs.Common.{◌≡◌, ◌↔◌, ℕ, ◌<◌, ◌≤◌, Bool, true, false, not, ◌&&◌, if◌then◌else◌, Option, None, Some, List, [], ◌∷◌, ◌++◌, length, map, set, refl, sym, ap, subst, ◌∙◌, arith}
+use Rattle.std.proofs.Common.{◌≡◌, ◌↔◌, ℕ, ◌<◌, Bool, true, not, ◌&&◌, if◌then◌else◌, Option, None, Some, List, [], ◌∷◌, ◌++◌, length, map, set, refl, sym, ap, subst, ◌∙◌, arith}
 use Rattle.std.specs.Prelude.{is_some, IsSome, slice_get}
 use Rattle.feed_core.specs.Desk.{Rests, desk_after_signal}
 use Rattle.feed_core.specs.Feed.{end_of}
@@ -8,7 +8,7 @@ use Rattle.publisher_hub.specs.Lending.{MayBecome, feed_at}
 use Rattle.publisher_hub.specs.Offering.{work_of}
 use Rattle.publisher_hub.specs.declared.hub.Hub.{Hub}
 use Rattle.publisher_hub.specs.declared.work.Work.{Work}
-use Rattle.lines_demo.specs.Prelude.{DeskState, LaneState, desk_after_request, owes}
+use Rattle.lines_demo.specs.Prelude.{DeskState, owes}
 use Rattle.lines_demo.specs.Script.Command.{is_word}
 use Rattle.lines_demo.specs.Script.Kept.{IsReached}
 use Rattle.lines_demo.specs.Script.Obeying.{is_known, request_result, subscriptions_after_request}

@@ -1,14 +1,12 @@
 -- The turn of the first of the woken, as a session makes it.
-use Rattle.std.proofs.Common.{◌≡◌, ℕ, ◌+◌, ◌<◌, ◌≤◌, Bool, true, false, if◌then◌else◌, List, [], ◌∷◌, ◌++◌, length, get_or, set, refl, sym, ap, subst, ◌∙◌, arith, Option, Some, None}
+use Rattle.std.proofs.Common.{◌≡◌, ℕ, ◌<◌, ◌≤◌, true, false, List, [], ◌∷◌, ◌++◌, length, get_or, refl, sym, ap, subst, ◌∙◌, arith, Option, Some, None}
 use Rattle.std.specs.Prelude.{slice_get, option_to_list, IfNone, IsSome, count_by}
-use Rattle.std.proofs.lemmas.Option.{slice_get_within, slice_get-get_or}
-use Rattle.feed_core.specs.PlainTurn.{plain_turn_of}
-use Rattle.feed_core.specs.Turn.{MeetsPlainTurn, is_again}
+use Rattle.std.proofs.lemmas.Option.{slice_get-get_or}
+use Rattle.feed_core.specs.Turn.{is_again}
 use Rattle.lines_demo.specs.Prelude.{Signal, Outlook, owes}
 use Rattle.lines_demo.specs.Script.Kept.{IsLawful, IsReached}
 use Rattle.lines_demo.specs.Script.Laws.{places_of}
 use Rattle.lines_demo.specs.Script.Playing.{MakesTurn}
-use Rattle.lines_demo.specs.Script.Running.{first_turn_result}
 use Rattle.lines_demo.specs.Script.State.{SubscriptionState, SessionState, LineResult}
 use Rattle.lines_demo.specs.Script.Subscribing.{MOST_LIVE}
 use Rattle.lines_demo.specs.Script.Waking.{is_live, has_woken, owes_if_there, owes_turn}

@@ -1,5 +1,5 @@
 -- What holds of a session between two commands.
-use Rattle.std.proofs.Common.{◌≡◌, ℕ, ◌<◌, ◌≤◌, Bool, true, false, None, Some, List, [], ◌∷◌, map, replicate, refl, sym, ap, subst, ◌∙◌, arith}
+use Rattle.std.proofs.Common.{◌≡◌, ℕ, ◌<◌, Bool, true, false, None, Some, List, [], ◌∷◌, map, refl, sym, ap, subst, ◌∙◌, arith}
 use Rattle.std.proofs.lemmas.List.Elements.{All-nil}
 use Rattle.std.specs.Prelude.{slice_get}
 use Rattle.flow_rules.specs.Capacity.{IsCapacityOf, capacity_of}
@@ -12,7 +12,7 @@ use Rattle.publisher_hub.specs.Sound.{IsSound}
 use Rattle.publisher_hub.specs.declared.entry.Entry.{Entry}
 use Rattle.publisher_hub.specs.declared.hub.Hub.{Hub}
 use Rattle.lines_demo.specs.Prelude.{DeskState}
-use Rattle.lines_demo.specs.Script.Kept.{IsKept, IsLawful, IsReached}
+use Rattle.lines_demo.specs.Script.Kept.{IsKept, IsReached}
 use Rattle.lines_demo.specs.Script.Session.{IsScriptHub, IsSession, state_of, subscription_of}
 use Rattle.lines_demo.specs.Script.State.{SessionState, state_at_start}
 use Rattle.lines_demo.specs.Script.Obeying.{state_at_command}

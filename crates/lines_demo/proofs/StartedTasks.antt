@@ -1,5 +1,5 @@
 -- Whose tasks the calls of a script's publisher start.
-use Rattle.std.proofs.Common.{◌≡◌, ℕ, zero, suc, ◌+◌, ◌<◌, Bool, true, false, not, ◌&&◌, if◌then◌else◌, Some, List, [], ◌∷◌, ◌++◌, length, map, refl, sym, ap, ◌∙◌, arith}
+use Rattle.std.proofs.Common.{◌≡◌, ℕ, suc, ◌+◌, Bool, true, false, not, ◌&&◌, if◌then◌else◌, Some, List, [], ◌∷◌, ◌++◌, map, refl, sym, ap, ◌∙◌, arith}
 use Rattle.std.specs.Prelude.{slice_get}
 use Rattle.std.proofs.lemmas.List.{map-append}
 use Rattle.publisher_hub.specs.Lists.{EachBy, gather}
@@ -28,7 +28,7 @@ gathered_from {B = B} each R first (answer ∷ answers) (x ∷ xs) (y ∷ ys) pl
     map-append (λ (work : Work Unit). work.entry) (each first answer) (gather each (suc first) answers)
     ∙ ap (λ numbers. numbers ++ numbers_of (gather each (suc first) answers)) here
     ∙ ap (λ numbers. (if starts x y then first ∷ [] else []) ++ numbers)
-        (gathered_from each R (suc first) answers xs ys rest moved ∙ ap (λ n. numbers_where n (starts_of (map subscription_of xs) (map subscription_of ys))) (omega arith))
+    (gathered_from each R (suc first) answers xs ys rest moved ∙ ap (λ n. numbers_where n (starts_of (map subscription_of xs) (map subscription_of ys))) (omega arith))
     ∙ joined (starts x y) where
       rest : EachBy R answers xs ys
       rest = record { answered = (let many = places.answered in omega arith); as_long = (let long = places.as_long in omega arith); each = λ k b a a' said at at'. places.each (suc k) b a a' said at at' }

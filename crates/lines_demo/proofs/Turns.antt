@@ -1,11 +1,11 @@
 -- The turns of a session are those of the definition, under some refusals.
-use Rattle.std.proofs.Common.{◌≡◌, ℕ, zero, suc, ◌+◌, ◌<◌, ◌≤◌, Bool, true, false, if◌then◌else◌, List, [], ◌∷◌, ◌++◌, length, map, set, refl, sym, ap, subst, ◌∙◌, append_assoc, arith, Option, Some, None}
+use Rattle.std.proofs.Common.{◌≡◌, ℕ, zero, suc, ◌<◌, ◌≤◌, Bool, true, false, List, [], ◌∷◌, ◌++◌, length, map, refl, sym, ap, subst, ◌∙◌, append_assoc, arith, Option, Some}
 use Rattle.std.specs.Prelude.{slice_get}
 use Rattle.std.proofs.lemmas.List.{append-nil}
 use Rattle.std.proofs.lemmas.Option.{slice_get_within}
 use Rattle.feed_core.specs.PlainTurn.{plain_turn_of}
-use Rattle.feed_core.specs.Turn.{MeetsPlainTurn, IsOutlookOf}
-use Rattle.lines_demo.specs.Prelude.{Signal, How, Outlook, LaneState}
+use Rattle.feed_core.specs.Turn.{IsOutlookOf}
+use Rattle.lines_demo.specs.Prelude.{Signal, Outlook, LaneState}
 use Rattle.lines_demo.specs.Writing.{Writes}
 use Rattle.lines_demo.specs.Script.Kept.{IsReached}
 use Rattle.lines_demo.specs.Script.State.{SubscriptionState, SessionState, LineResult, empty_result, result_then}

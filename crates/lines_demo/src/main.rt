@@ -1,4 +1,4 @@
-//! The command line: `lines_demo script` plays a script on a publisher's subscription. It reads commands from standard input, one a
+//! The command line: `lines_demo script` plays a script on a publisher and its subscriptions. It reads commands from standard input, one a
 //! line, and answers each on standard output.
 #![tactic(auto)]
 
@@ -28,15 +28,15 @@ const FORGET: &str = "forget";
 
 /// What `--help` says of scripts.
 const SCRIPTS: &str = "Commands of a script, one a line, and their answers:
-  cap N           cap C     asks for a capacity of the buffer, before any other command
-  sub NAME N      sub NAME  subscribes, and requests N items
-  offer TEXT      offer R   publishes; R is the lag, -1 where there was no room, 0 where nobody takes it
+  cap N           cap C     asks for a capacity of the buffers, before any other command
+  sub NAME N      sub NAME  subscribes with this name, and requests N items
+  offer TEXT      offer R   publishes; R is the greatest lag, or minus the number of drops; 0 where nobody takes it
   retry TEXT      retry R calls K  publishes as offer does, and once more, K times, where there was no room
   submit TEXT     submit R  publishes, and is refused where it would wait for room
-  request NAME N  ok        requests N items more, at least 1
+  request NAME N  ok        the latest of this name requests N items more, at least 1
   close           ok        closes the publisher
   run             idle      makes turns until none is owed, after a line for each signal that they tell:
-                            NAME subscribed, NAME next TEXT, NAME complete, NAME memory
+                            NAME subscribed, NAME next TEXT, NAME complete, NAME error state, NAME memory
 A command that does nothing is answered `refused N WORD`.
 
 All of standard input is read before the first command is obeyed. A script has 16,777,216 bytes at most, a line 4,200, a text
@@ -104,7 +104,7 @@ fn command_line<'a>(alloc: Global) -> Result<Command<'a>, AllocError> {
     let forget = Arg::new(alloc, FORGET)
         .long(FORGET)
         .action(ArgAction::SetTrue)
-        .help("The subscriber keeps nothing of what it is told, and takes no memory for it");
+        .help("The subscribers keep nothing of what they are told, and take no memory for it");
     let script = Command::new(alloc, SCRIPT)
         .about("Plays the script on standard input")
         .arg(forget)?

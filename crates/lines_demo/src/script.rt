@@ -1,4 +1,4 @@
-//! A script: commands, one a line, that are played on a publisher's one subscription, and what they are answered.
+//! A script: commands, one a line, that are played on a publisher and its subscriptions, and what they are answered.
 mod command;
 mod fault;
 mod laws;

@@ -1,8 +1,7 @@
 -- What is told of a turn, and its lines.
-use Rattle.std.specs.Prelude.{ℕ, zero, suc, ◌+◌, Bool, true, false, if◌then◌else◌, Option, Some, None, List, [], ◌∷◌, ◌++◌, codes, decimal}
-use Rattle.feed_core.specs.PlainTurn.{plain_turn_of}
+use Rattle.std.specs.Prelude.{ℕ, Bool, true, false, Option, Some, None, List, [], ◌∷◌, ◌++◌, codes, decimal}
 use Rattle.feed_core.specs.Turn.{how_after}
-use Rattle.lines_demo.specs.Prelude.{Signal, Subscribed, Next, Complete, Error, Fault, Published, IllegalArgument, IllegalState, How, Outlook, owes, desk_after_turn, lag_of}
+use Rattle.lines_demo.specs.Prelude.{Signal, Subscribed, Next, Complete, Error, Fault, Published, IllegalArgument, IllegalState, How, Outlook}
 use Rattle.lines_demo.specs.Writing.{line_of}
 
 -- what is said of a fault

@@ -12,11 +12,11 @@ pub enum Reply {
     Capacity(usize),
     /// `sub NAME`: the name of the new subscription.
     Name(Name),
-    /// `offer R`: the lag, -1 where the item was dropped for want of room, or 0 where nobody takes it.
+    /// `offer R`: the greatest lag, or minus the number of drops for want of room; 0 where nobody takes the item.
     Offered(i64),
     /// `retry R calls K`: what an offer answers, and how often the text was offered once more.
     Retried(i64, u64),
-    /// `submit R`: the lag, or 0 where nobody takes the item.
+    /// `submit R`: the greatest lag, or 0 where nobody takes the item.
     Submitted(i64),
     /// `ok`
     Done,

@@ -96,7 +96,7 @@ impl<B: Listener> Session<B> {
     /// Does what a command says that was read.
     fn call(&mut self, alloc: Global, command: Command<'_>) -> Result<Reply, Refusal>
         requires range { IsInRange command }
-        requires begun { state_at_command command.entry self.old ≡ self.old }
+        requires begun { state_at_command command self.old ≡ self.old }
         ensures { Replies (λ refusals. call_result command.entry self.old refusals) (reply_or_refusal result) self.new }
     {
         match command {
@@ -150,5 +150,4 @@ impl<B: Listener> Session<B> {
         let _ = &self.stock;
         !self.woken.is_empty()
     }
-
 }

@@ -8,8 +8,7 @@ use std::alloc::Global;
 use std::io;
 use std::io::{BufWriter, Read, Write};
 
-/// How many subscribers a script has. It has one subscription at most, and a `sub` that was refused gives its subscriber back, so
-/// more would never be used.
+/// How many subscribers a script has, and so how many times it may subscribe. A `sub` that was refused gives its subscriber back.
 const STOCK: usize = 1024;
 
 /// What the subscribers of a script keep of what they are told.

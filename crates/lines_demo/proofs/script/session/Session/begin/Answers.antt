@@ -1,5 +1,4 @@
-use Rattle.std.proofs.Common.{◌≡◌, true, false, sym, ap, ◌∙◌}
-use Rattle.lines_demo.specs.Script.Obeying.{state_at_command}
+use Rattle.std.proofs.Common.{◌≡◌, true, false, sym, ◌∙◌}
 use Rattle.lines_demo.proofs.Sessions.{session_begun, begun_by}
 use Rattle.lines_demo.proofs.script.session.Session.begin.Goals as goal
 use Rattle.lines_demo.proofs.script.session.Session.begin.Goals.{in-Cap, in_default}

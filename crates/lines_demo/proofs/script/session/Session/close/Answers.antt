@@ -1,4 +1,4 @@
-use Rattle.std.proofs.Common.{◌≡◌, None, true, false, [], length, refl, sym, ap, subst, ◌∙◌}
+use Rattle.std.proofs.Common.{◌≡◌, true, length, sym, ap, subst, ◌∙◌}
 use Rattle.std.specs.Prelude.{is_some}
 use Rattle.std.proofs.lemmas.Result.{err_from_is_err_and}
 use Rattle.lines_demo.specs.Prelude.{Ending, Refusal}
@@ -57,7 +57,7 @@ invariant_of-self-2 g c =
       c.self.invariant.0,
       c.self.invariant.1,
       subst (λ woken. IsSession c.end.new.self state.stock woken state.has_begun) (sym c.push_all.ensures.woken)
-      (session_at c.end.new.self state.stock _ state.has_begun (state_after_closing Ending.Normal state) done.publisher done.state reached begun),
+          (session_at c.end.new.self state.stock _ state.has_begun (state_after_closing Ending.Normal state) done.publisher done.state reached begun),
       c.push_all.ensures.nothing_due,
     )
 

@@ -1,7 +1,5 @@
-use Rattle.std.proofs.Common.{◌≡◌, ℕ, ◌+◌, ◌-◌, ◌<◌, ◌≤◌, if◌then◌else◌, Option, Some, None, List, length, map, refl, sym, ap, subst, ◌∙◌, arith}
-use Rattle.std.proofs.lemmas.List.{length-map}
+use Rattle.std.proofs.Common.{◌≡◌, ℕ, ◌+◌, if◌then◌else◌, Option, Some, List, sym, ap, subst, ◌∙◌, arith}
 use Rattle.std.specs.Prelude.{option_map, slice_get}
-use Rattle.lines_demo.specs.Script.Session.{subscription_of}
 use Rattle.lines_demo.specs.Script.State.{SessionState, SubscriptionState}
 use Rattle.lines_demo.proofs.SearchedNames.{Searched, known_name, known_within, searched_all, searched_more, searched_none}
 use Rattle.lines_demo.proofs.script.session.Session.latest.Given.{Over}

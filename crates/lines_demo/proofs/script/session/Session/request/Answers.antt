@@ -1,4 +1,4 @@
-use Rattle.std.proofs.Common.{◌≡◌, ◌≤◌, ◌<◌, true, None, Some, sym, ap, subst, ◌∙◌, arith, if◌then◌else◌, ◌∷◌, ◌++◌, [], length}
+use Rattle.std.proofs.Common.{◌≡◌, true, Some, sym, ap, subst, ◌∙◌, arith, if◌then◌else◌, ◌∷◌, ◌++◌, [], length}
 use Rattle.std.specs.Option.{option_copied_mut}
 use Rattle.feed_core.specs.Desk.{desk_after_signal}
 use Rattle.feed_core.specs.LaneCalls.{lane_with_demand}
