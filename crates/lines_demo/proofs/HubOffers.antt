@@ -10,7 +10,7 @@ use Rattle.feed_core.specs.LaneCalls.{IsCapacity}
 use Rattle.publisher_hub.specs.Hub.{HubState, hub_of}
 use Rattle.publisher_hub.specs.Lists.{EachBy, greatest}
 use Rattle.publisher_hub.specs.Looking.{IsLookedAt, Prepares}
-use Rattle.publisher_hub.specs.Offering.{IsNextItem, Offers, dropped, lags, lags_again, progress_after, started, started_again}
+use Rattle.publisher_hub.specs.Offering.{IsNextItem, Offers, dropped, lags, lags_again, started, started_again}
 use Rattle.publisher_hub.specs.Publishing as Publishing
 use Rattle.publisher_hub.specs.Publishing.{IsRefused, OffersItem, RefusesOffer, WhyNotOffered}
 use Rattle.publisher_hub.specs.Sound.{IsSound}
@@ -21,47 +21,12 @@ use Rattle.publisher_hub.proofs.Published.{known_of}
 use Rattle.lines_demo.specs.Prelude.{Item, Refusal, DeskState}
 use Rattle.lines_demo.specs.Script.Publishing.{drop_count, drops_or_lag, greatest_lag, next_item, offer_answer, publication_refusal, state_after_publication, subscription_after_offer}
 use Rattle.lines_demo.specs.Script.Session.{AreScriptEntries, IsScriptHub, desk_in, numbers_of, state_of, subscription_of}
-use Rattle.lines_demo.specs.Script.State.{SubscriptionState, SessionState}
 use Rattle.lines_demo.specs.Script.Waking.{newly_woken}
 use Rattle.lines_demo.specs.declared.script.session.publishing.TheConstants.{SOURCE}
 use Rattle.lines_demo.proofs.HubLooks.{ListSeesSame, may_prepare_all_same, prepared_all_same}
 use Rattle.lines_demo.proofs.OfferedLists.{AllOffered, AllStay, all_offered, all_stay, may_all_be_offered}
-
--- ---- a publisher that was only looked at
-
--- it is a script's publisher still, and a script stands where it stood
-pub record StandsSame (old new : Hub DeskState) : Type 0 where
-  pub script : IsScriptHub new
-  pub same : (stock : ℕ) (woken : List ℕ) (has_begun : Bool) → state_of new stock woken has_begun ≡ state_of old stock woken has_begun
-
-pub stands_same : (old new : Hub DeskState) → IsScriptHub old → IsSound (hub_of end_of new) → IsLookedAt (hub_of end_of old) (hub_of end_of new) → ListSeesSame old.entries.items new.entries.items → StandsSame old new
-stands_same old new is sound looked sees = record {
-  script = record {
-    sound = sound;
-    sized = subst IsCapacity (sym capacity) is.sized;
-    entries = sees.entries;
-    numbered = ap (λ counts. slice_get counts SOURCE) counts ∙ is.numbered ∙ ap Some (sym next);
-  };
-  same = λ stock woken has_begun.
-      let see : HubState → List SubscriptionState → SessionState = λ h subscriptions. record {
-        capacity = h.progress.capacity;
-        has_begun = has_begun;
-        closing = h.progress.ending;
-        serial = h.progress.next;
-        stock = stock;
-        subscriptions = subscriptions;
-        woken = woken;
-      } in
-      ap (λ h. see h (map subscription_of new.entries.items)) looked.rest ∙ ap (see (hub_of end_of old)) sees.same;
-} where
-  capacity : new.capacity ≡ old.capacity
-  capacity = ap (λ (h : HubState). h.progress.capacity) looked.rest
-
-  next : new.next ≡ old.next
-  next = ap (λ (h : HubState). h.progress.next) looked.rest
-
-  counts : new.counts.items ≡ old.counts.items
-  counts = ap (λ (h : HubState). h.progress.counts) looked.rest
+use Rattle.lines_demo.proofs.SeenPublishers.{CameAsFar}
+use Rattle.lines_demo.proofs.SessionStates.{state_of_is}
 
 -- ---- the item and the numbers
 
@@ -113,23 +78,30 @@ refused_as old stock woken has_begun Refusal.BadCommand why = absurd why
 
 -- an item was not offered: nothing that a script sees has changed, and it says why
 pub record OfferRefused (old new : Hub DeskState) (refusal : Refusal) : Type 0 where
-  pub stands : StandsSame old new
+  pub far : CameAsFar old new
+  pub sees : ListSeesSame old.entries.items new.entries.items
   pub why : (stock : ℕ) (woken : List ℕ) (has_begun : Bool) → (refusal ≡ Refusal.NoMemory) ⊎ (publication_refusal (state_of old stock woken has_begun) ≡ Some refusal)
 
-pub offer_refused : (old new : Hub DeskState) (refusal : Refusal) → IsScriptHub old → IsSound (hub_of end_of new) → RefusesOffer end_of DoesCall old new refusal → OfferRefused old new refusal
-offer_refused old new refusal is sound refuses = by refusal refuses.why where
-  for_memory : WhyNotOffered end_of DoesCall old new Refusal.NoMemory → OfferRefused old new Refusal.NoMemory
-  for_memory each = record { stands = stands_same old new is sound refuses.unchanged (may_prepare_all_same old.next old.entries.items new.entries.items is.entries each); why = λ stock woken has_begun. inl refl }
+-- looks publish nothing
+pub looked_as_far : (old new : Hub DeskState) → IsLookedAt (hub_of end_of old) (hub_of end_of new) → CameAsFar old new
+looked_as_far old new looked = ap (λ (h : HubState). h.progress) looked.rest
 
+pub offer_refused : (old new : Hub DeskState) (refusal : Refusal) → IsScriptHub old → RefusesOffer end_of DoesCall old new refusal → OfferRefused old new refusal
+offer_refused old new refusal is refuses = by refusal refuses.why where
   other : (refusal : Refusal) → IsRefused (hub_of end_of old).progress (Some refusal) → (glances : List (Option Standing)) × EachBy (Prepares end_of DoesCall old.next) glances old.entries.items new.entries.items
       → OfferRefused old new refusal
   other refusal refused prepared = record {
-    stands = stands_same old new is sound refuses.unchanged (prepared_all_same old.next prepared.0 old.entries.items new.entries.items is.entries prepared.1);
+    far = looked_as_far old new refuses.unchanged;
+    sees = prepared_all_same old.next prepared.0 old.entries.items new.entries.items is.entries prepared.1;
     why = λ stock woken has_begun. inr (refused_as old stock woken has_begun refusal refused);
   }
 
   by : (refusal : Refusal) → WhyNotOffered end_of DoesCall old new refusal → OfferRefused old new refusal
-  by Refusal.NoMemory why = for_memory why
+  by Refusal.NoMemory each = record {
+    far = looked_as_far old new refuses.unchanged;
+    sees = may_prepare_all_same old.next old.entries.items new.entries.items is.entries each;
+    why = λ stock woken has_begun. inl refl;
+  }
   by (Refusal.Closed ending) why = other (Refusal.Closed ending) why.0 why.1
   by Refusal.Exhausted why = other Refusal.Exhausted why.0 why.1
   by Refusal.BadCapacity why = absurd why.0
@@ -169,26 +141,14 @@ hub_published text old new item due is sound from words offers same entries woke
     numbered = ap (λ counts. slice_get counts SOURCE) counts ∙ set_stands old.counts.items SOURCE (item.seq + 1) old.next is.numbered ∙ ap (λ n. Some (n + 1)) (ap (λ (i : Item). i.seq) item_is) ∙ ap Some (sym next);
   };
   allowed = λ stock woken has_begun. nothing_against old stock woken has_begun offers.next.unclosed offers.next.few;
-  after = λ stock woken has_begun.
-      let see : HubState → List SubscriptionState → List ℕ → SessionState = λ h subscriptions more. record {
-        capacity = h.progress.capacity;
-        has_begun = has_begun;
-        closing = h.progress.ending;
-        serial = h.progress.next;
-        stock = stock;
-        subscriptions = subscriptions;
-        woken = woken ++ more;
-      } in
-      let before : List SubscriptionState = map subscription_of old.entries.items in
-      let later : HubState = record (hub_of end_of old) { progress = progress_after item new.dropping (hub_of end_of old).progress; entries = (hub_of end_of new).entries } in
-      let script_item : Item = record { source = 0; seq = old.next; serial = old.next; text = text } in
-      ap (λ h. see h (map subscription_of new.entries.items) (numbers_of due)) offers.rest
-      ∙ ap (see later (map subscription_of new.entries.items)) woken_now
-      ∙ ap (λ now. see later now (newly_woken before now)) same
-      ∙ ap (λ i. see later (map (subscription_after_offer i) before) (newly_woken before (map (subscription_after_offer i) before))) item_is;
+  after = λ stock woken has_begun. state_of_is new stock (woken ++ numbers_of due) has_begun (state_after_publication text (state_of old stock woken has_begun)) (ap (λ (h : HubState). h.progress.capacity) offers.rest) refl
+      (ap (λ (h : HubState). h.progress.ending) offers.rest) next refl now (ap (λ more. woken ++ more) (woken_now ∙ ap (newly_woken (map subscription_of old.entries.items)) now));
 } where
   item_is : item ≡ record { source = 0; seq = old.next; serial = old.next; text = text }
   item_is = next_item_is old item text is offers.next from words
+
+  now : map subscription_of new.entries.items ≡ map (subscription_after_offer (record { source = 0; seq = old.next; serial = old.next; text = text })) (map subscription_of old.entries.items)
+  now = same ∙ ap (λ i. map (subscription_after_offer i) (map subscription_of old.entries.items)) item_is
 
   next : new.next ≡ old.next + 1
   next = ap (λ (h : HubState). h.progress.next) offers.rest

@@ -28,8 +28,9 @@ use Rattle.lines_demo.specs.Script.State.{SubscriptionState}
 use Rattle.lines_demo.specs.Script.Waking.{newly_woken}
 use Rattle.lines_demo.specs.declared.script.session.publishing.TheConstants.{SOURCE}
 use Rattle.lines_demo.proofs.HubLooks.{ListSeesSame, prepared_all_same}
-use Rattle.lines_demo.proofs.HubOffers.{HubPublished, StandsSame, hub_published, next_item_is, nothing_against, offer_refused, stands_same, unclosed_entries}
+use Rattle.lines_demo.proofs.HubOffers.{HubPublished, hub_published, looked_as_far, next_item_is, nothing_against, offer_refused, unclosed_entries}
 use Rattle.lines_demo.proofs.OfferedLists.{AllOffered, all_offered, count_gathered, may_all_be_offered}
+use Rattle.lines_demo.proofs.SeenPublishers.{CameAsFar}
 use Rattle.lines_demo.proofs.WokenLists.{bit}
 
 -- ---- whether anybody has no room
@@ -118,7 +119,8 @@ full_counted old glances ys is unclosed looked =
 
 -- an item was not submitted: nothing that a script sees has changed, and it says why
 pub record SubmitRefused (old new : Hub DeskState) (refusal : Refusal) : Type 0 where
-  pub stands : StandsSame old new
+  pub far : CameAsFar old new
+  pub sees : ListSeesSame old.entries.items new.entries.items
   pub why : (stock : ℕ) (woken : List ℕ) (has_begun : Bool) → (refusal ≡ Refusal.NoMemory) ⊎ (submit_refusal (state_of old stock woken has_begun) ≡ Some refusal)
 
 -- why it was refused is why an offer is
@@ -137,19 +139,19 @@ why_refused text old new Refusal.Unknown why = why
 why_refused text old new Refusal.WouldWait why = why
 why_refused text old new Refusal.BadCommand why = why
 
-pub submit_refused : (text : List ℕ) (old new : Hub DeskState) (refusal : Refusal) → IsScriptHub old → IsSound (hub_of end_of new) → RefusesItem end_of DoesCall text old new (Refused refusal) → SubmitRefused old new refusal
-submit_refused text old new refusal is sound refuses =
+pub submit_refused : (text : List ℕ) (old new : Hub DeskState) (refusal : Refusal) → IsScriptHub old → RefusesItem end_of DoesCall text old new (Refused refusal) → SubmitRefused old new refusal
+submit_refused text old new refusal is refuses =
     let plain : RefusesOffer end_of DoesCall old new refusal = record { unchanged = refuses.unchanged; why = why_refused text old new refusal refuses.why } in
-    let refused = offer_refused old new refusal is sound plain in
-    record { stands = refused.stands; why = λ stock woken has_begun. by stock woken has_begun (refused.why stock woken has_begun) } where
+    let refused = offer_refused old new refusal is plain in
+    record { far = refused.far; sees = refused.sees; why = λ stock woken has_begun. by stock woken has_begun (refused.why stock woken has_begun) } where
       by : (stock : ℕ) (woken : List ℕ) (has_begun : Bool) → (refusal ≡ Refusal.NoMemory) ⊎ (publication_refusal (state_of old stock woken has_begun) ≡ Some refusal)
           → (refusal ≡ Refusal.NoMemory) ⊎ (submit_refusal (state_of old stock woken has_begun) ≡ Some refusal)
       by stock woken has_begun (inl memory) = inl memory
       by stock woken has_begun (inr why) = inr (ap (λ (r : Option Refusal). refusal_or_wait r (list_any is_full (map subscription_of old.entries.items))) why)
 
 -- a submission would wait where any buffer is full
-pub submit_waits : (text back : List ℕ) (old new : Hub DeskState) → IsScriptHub old → IsSound (hub_of end_of new) → RefusesItem end_of DoesCall text old new (NoRoom back) → SubmitRefused old new Refusal.WouldWait
-submit_waits text back old new is sound refuses =
+pub submit_waits : (text back : List ℕ) (old new : Hub DeskState) → IsScriptHub old → RefusesItem end_of DoesCall text old new (NoRoom back) → SubmitRefused old new Refusal.WouldWait
+submit_waits text back old new is refuses =
     let open_still = refuses.why.1.0 in
     let glances = refuses.why.1.1.0 in
     let prepared = refuses.why.1.1.1.0 in
@@ -157,7 +159,8 @@ submit_waits text back old new is sound refuses =
     let counted = full_counted old glances new.entries.items is open_still.0 prepared in
     let waits : list_any is_full (map subscription_of old.entries.items) ≡ true = some_passes is_full (map subscription_of old.entries.items) (omega arith) in
     record {
-      stands = stands_same old new is sound refuses.unchanged (prepared_all_same old.next glances old.entries.items new.entries.items is.entries prepared);
+      far = looked_as_far old new refuses.unchanged;
+      sees = prepared_all_same old.next glances old.entries.items new.entries.items is.entries prepared;
       why = λ stock woken has_begun. inr (
           ap (λ (r : Option Refusal). refusal_or_wait r (list_any is_full (map subscription_of old.entries.items))) (nothing_against old stock woken has_begun open_still.0 (below_most old.next is.sound.few_items open_still.1))
           ∙ ap (refusal_or_wait None) waits

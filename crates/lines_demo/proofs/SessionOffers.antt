@@ -1,57 +1,43 @@
 -- What publications leave of a session.
-use Rattle.std.proofs.Common.{◌≡◌, ℕ, ◌+◌, ◌<◌, ◌≤◌, Bool, true, ℤ, pos, Ok, List, ◌++◌, length, map, sym, ap, subst, ◌∙◌, arith}
+use Rattle.std.proofs.Common.{◌≡◌, ℕ, ◌+◌, ◌<◌, ◌≤◌, Bool, true, ℤ, pos, Ok, List, ◌++◌, length, map, sym, ap, subst, arith}
 use Rattle.std.specs.Prelude.{All}
-use Rattle.std.proofs.lemmas.List.{length-append, length-map}
 use Rattle.std.proofs.lemmas.List.Elements.{All-weaker}
 use Rattle.flow_rules.specs.declared.item.TheConstants.{PUBLICATIONS}
+use Rattle.feed_core.specs.Feed.{end_of}
+use Rattle.publisher_hub.specs.Hub.{hub_of}
+use Rattle.publisher_hub.specs.Sound.{IsSound}
 use Rattle.publisher_hub.specs.declared.hub.Hub.{Hub}
 use Rattle.publisher_hub.specs.declared.work.Work.{Work}
 use Rattle.lines_demo.specs.Prelude.{Refusal, DeskState}
 use Rattle.lines_demo.specs.Script.Kept.{IsKept, IsReached}
 use Rattle.lines_demo.specs.Script.Playing.{IsTextOf, OffersText, RefusesText, Replies}
-use Rattle.lines_demo.specs.Script.Publishing.{next_item, submit_refusal, submit_result, submitted_reply}
+use Rattle.lines_demo.specs.Script.Publishing.{next_item, state_after_publication, submit_refusal, submit_result, submitted_reply}
 use Rattle.lines_demo.specs.Script.Session.{IsSession, numbers_of, state_of, subscription_of}
-use Rattle.lines_demo.specs.Script.State.{SubscriptionState, SessionState, state_at_start}
+use Rattle.lines_demo.specs.Script.State.{SubscriptionState, SessionState}
 use Rattle.lines_demo.specs.declared.script.reply.Reply.TheVariants.{Refused, Submitted}
 use Rattle.lines_demo.specs.declared.script.woken.TheConstants.{MOST_LIVE}
-use Rattle.lines_demo.proofs.FewWoken.{few_woken}
-use Rattle.lines_demo.proofs.HubOffers.{HubOffered, HubPublished, OfferRefused, StandsSame}
+use Rattle.lines_demo.proofs.HubOffers.{HubOffered, HubPublished, OfferRefused}
 use Rattle.lines_demo.proofs.HubSubmits.{HubSubmitted, SubmitRefused, greatest_lag_few}
 use Rattle.lines_demo.proofs.KeptCommands.{published_reached, unclosed_if}
+use Rattle.lines_demo.proofs.LookedSessions.{session_looked}
 use Rattle.lines_demo.proofs.RepliedTexts.{replies_against, replies_submitted}
-
--- whom a call wakes has room in the list of the woken
-pub room_for_woken : (hub : Hub DeskState) (stock : ℕ) (woken : List ℕ) (due : List (Work Unit)) (has_begun : Bool) → IsReached (state_of hub stock (woken ++ numbers_of due) has_begun) → length woken + length due ≤ MOST_LIVE
-room_for_woken hub stock woken due has_begun reached =
-    let few = few_woken (state_of hub stock (woken ++ numbers_of due) has_begun) reached.1.woken in
-    let live = reached.1.few in
-    let both = length-append woken (numbers_of due) in
-    let mapped = length-map due (λ (work : Work Unit). work.entry) in
-    omega arith
+use Rattle.lines_demo.proofs.SessionStates.{room_for}
+use Rattle.lines_demo.proofs.Sessions.{session_at}
 
 module _ (old new : Hub DeskState) (stock : ℕ) (woken : List ℕ) (has_begun : Bool) (is : IsSession old stock woken has_begun) where
-  -- looks leave a session as it was
-  pub session_same : StandsSame old new → IsSession new stock woken has_begun
-  session_same stands =
-      let same = stands.same stock woken has_begun in
-      let capacity : new.capacity ≡ old.capacity = ap (λ (s : SessionState). s.capacity) same in
-      record {
-        publisher = stands.script;
-        reached = subst IsReached (sym same) is.reached;
-        fresh = λ begun. same ∙ is.fresh begun ∙ ap (λ capacity. record (state_at_start stock) { capacity = capacity }) (sym capacity);
-      }
-
   module _ (text : List ℕ) (due : List (Work Unit)) (published : HubPublished text old new due) where
-    pub published_session : has_begun ≡ true → IsSession new stock (woken ++ numbers_of due) has_begun
-    published_session begun = record {
-      publisher = published.script;
-      reached = subst IsReached (sym (published.after stock woken has_begun))
-          (published_reached (state_of old stock woken has_begun) text (unclosed_if (state_of old stock woken has_begun) (published.allowed stock woken has_begun)) is.reached);
-      fresh = λ fresh. (let never = sym begun ∙ fresh in cc);
-    }
+    -- where a publication leaves a session, a script may stand
+    published_is_reached : IsReached (state_after_publication text (state_of old stock woken has_begun))
+    published_is_reached = published_reached (state_of old stock woken has_begun) text (unclosed_if (state_of old stock woken has_begun) (published.allowed stock woken has_begun)) is.reached
 
-    pub published_room : has_begun ≡ true → length woken + length due ≤ MOST_LIVE
-    published_room begun = room_for_woken new stock woken due has_begun (published_session begun).reached
+    pub published_session : has_begun ≡ true → IsSession new stock (woken ++ numbers_of due) has_begun
+    published_session begun =
+        session_at new stock (woken ++ numbers_of due) has_begun (state_after_publication text (state_of old stock woken has_begun)) published.script (published.after stock woken has_begun) published_is_reached begun
+
+    -- whom it wakes has room among the woken
+    pub published_room : length woken + length due ≤ MOST_LIVE
+    published_room =
+        room_for (state_after_publication text (state_of old stock woken has_begun)) woken due published_is_reached (ap (λ (s : SessionState). s.woken) (published.after stock woken has_begun))
 
   -- a text that was offered, and one that was not
   pub text_offered : (text : List ℕ) (due : List (Work Unit)) (answer : ℤ) → HubOffered text old new due answer
@@ -62,8 +48,11 @@ module _ (old new : Hub DeskState) (stock : ℕ) (woken : List ℕ) (has_begun :
     after = offered.published.after stock woken has_begun;
   }
 
-  pub text_refused : (refusal : Refusal) → OfferRefused old new refusal → RefusesText (state_of old stock woken has_begun) refusal (state_of new stock woken has_begun)
-  text_refused refusal refused = record { why = refused.why stock woken has_begun; same = refused.stands.same stock woken has_begun }
+  pub text_refused : (refusal : Refusal) → IsSound (hub_of end_of new) → OfferRefused old new refusal → RefusesText (state_of old stock woken has_begun) refusal (state_of new stock woken has_begun)
+  text_refused refusal sound refused = record {
+    why = refused.why stock woken has_begun;
+    same = (session_looked old new stock woken has_begun is sound refused.far refused.sees).state;
+  }
 
   -- the lag of a submission is small
   pub lag_small : (text : List ℕ) (due : List (Work Unit)) (lag : ℕ) → HubSubmitted text old new due lag → lag ≤ PUBLICATIONS + 1
@@ -88,8 +77,9 @@ module _ (old new : Hub DeskState) (stock : ℕ) (woken : List ℕ) (has_begun :
       (submitted.published.after stock woken has_begun))))
 
   -- what one is answered that was refused
-  pub not_submitted_replies : (text made : List ℕ) (refusal : Refusal) → IsTextOf text (Ok made) → SubmitRefused old new refusal → (state : SessionState) → state_of old stock woken has_begun ≡ state
+  pub not_submitted_replies : (text made : List ℕ) (refusal : Refusal) → IsTextOf text (Ok made) → IsSound (hub_of end_of new) → SubmitRefused old new refusal → (state : SessionState) → state_of old stock woken has_begun ≡ state
       → Replies (λ refusals. submit_result state refusals text) (Refused refusal) (state_of new stock woken has_begun)
-  not_submitted_replies text made refusal is_text refused state at =
+  not_submitted_replies text made refusal is_text sound refused state at =
       subst (λ (s : SessionState). Replies (λ refusals. submit_result s refusals text) (Refused refusal) (state_of new stock woken has_begun)) at
-      (replies_against submit_refusal submitted_reply (state_of old stock woken has_begun) text (state_of new stock woken has_begun) made refusal is_text (refused.why stock woken has_begun) (refused.stands.same stock woken has_begun))
+      (replies_against submit_refusal submitted_reply (state_of old stock woken has_begun) text (state_of new stock woken has_begun) made refusal is_text (refused.why stock woken has_begun)
+      (session_looked old new stock woken has_begun is sound refused.far refused.sees).state)

@@ -7,8 +7,9 @@ use Rattle.lines_demo.specs.Prelude.{Refusal}
 use Rattle.lines_demo.specs.Script.Publishing.{submit_refusal, submitted_reply}
 use Rattle.lines_demo.specs.Script.State.{SessionState}
 use Rattle.lines_demo.proofs.HubSubmits.{HubSubmitted, SubmitRefused, hub_submitted, submit_refused, submit_waits}
+use Rattle.lines_demo.proofs.LookedSessions.{session_looked}
 use Rattle.lines_demo.proofs.RepliedTexts.{replies_no_text}
-use Rattle.lines_demo.proofs.SessionOffers.{lag_small, not_submitted_replies, published_room, published_session, session_same, submitted_replies}
+use Rattle.lines_demo.proofs.SessionOffers.{lag_small, not_submitted_replies, published_room, published_session, submitted_replies}
 use Rattle.lines_demo.proofs.script.session.Session.submit.Given.{Over}
 use Rattle.lines_demo.proofs.script.session.Session.submit.Goals as goal
 
@@ -23,8 +24,7 @@ push_all-requires g c =
     let new = c.publish.new.self in
     let is = c.self.invariant.2 in
     let all = hub_submitted c.in_ok-text.text old new c.self.inside.due.items c.publish.new.due.items c.in-Ok.lag is.publisher c.self.invariant.3 c.in-Ok.ensures.sound c.in-Ok.ensures.ok in
-    let begun : c.self.inside.has_begun ≡ true = ap (λ (s : SessionState). s.has_begun) c.self.view_is ∙ c.requires.begun in
-    record { room = published_room old new (length c.self.inside.stock.items) c.self.inside.woken c.self.inside.has_begun is c.in_ok-text.text c.publish.new.due.items all.published begun }
+    record { room = published_room old new (length c.self.inside.stock.items) c.self.inside.woken c.self.inside.has_begun is c.in_ok-text.text c.publish.new.due.items all.published }
 
 -- what was submitted
 submitted : (g : Over) (c : goal.After-push_all g) → HubSubmitted c.in_ok-text.text c.self.inside.hub c.publish.new.self c.publish.new.due.items c.in-Ok.lag
@@ -58,41 +58,37 @@ returns-in-Ok g c =
 -- it was refused
 refused : (g : Over) (c : goal.In-Err-Refused g) → SubmitRefused c.self.inside.hub c.publish.new.self c.in-Err-Refused.refusal
 refused g c =
-    submit_refused c.in_ok-text.text c.self.inside.hub c.publish.new.self c.in-Err-Refused.refusal c.self.invariant.2.publisher c.in-Err-Refused.ensures.sound
+    submit_refused c.in_ok-text.text c.self.inside.hub c.publish.new.self c.in-Err-Refused.refusal c.self.invariant.2.publisher
     (subst (λ why. RefusesItem end_of DoesCall c.in_ok-text.text c.self.inside.hub c.publish.new.self why) c.in-Err-Refused.field-0-is c.in-Err-Refused.ensures.err)
 
 pub invariant_of-self-in-Err-Refused : goal.invariant_of-self-in-Err-Refused
 invariant_of-self-in-Err-Refused g c =
-    let nothing : c.publish.new.due.items ≡ c.self.inside.due.items = c.in-Err-Refused.ensures.nothing_due in (
-      c.self.invariant.0,
-      c.self.invariant.1,
-      session_same c.self.inside.hub c.publish.new.self (length c.self.inside.stock.items) c.self.inside.woken c.self.inside.has_begun c.self.invariant.2 (refused g c).stands,
-      subst (λ items. items ≡ []) (sym nothing) c.self.invariant.3,
-    )
+    let against = refused g c in
+    let same = session_looked c.self.inside.hub c.publish.new.self (length c.self.inside.stock.items) c.self.inside.woken c.self.inside.has_begun c.self.invariant.2 c.in-Err-Refused.ensures.sound against.far against.sees in
+    let nothing : c.publish.new.due.items ≡ c.self.inside.due.items = c.in-Err-Refused.ensures.nothing_due in
+    (c.self.invariant.0, c.self.invariant.1, same.session, subst (λ items. items ≡ []) (sym nothing) c.self.invariant.3)
 
 pub returns-in-Err-Refused : goal.returns-in-Err-Refused
 returns-in-Err-Refused g c =
     not_submitted_replies c.self.inside.hub c.publish.new.self (length c.self.inside.stock.items) c.self.inside.woken c.self.inside.has_begun c.self.invariant.2 c.args.text.now c.in_ok-text.text c.in-Err-Refused.refusal
-    c.in_ok-text.ensures (refused g c) c.args.self.now c.self.view_is
+    c.in_ok-text.ensures c.in-Err-Refused.ensures.sound (refused g c) c.args.self.now c.self.view_is
 
 -- it would wait
 waits : (g : Over) (c : goal.In-Err-NoRoom g) → SubmitRefused c.self.inside.hub c.publish.new.self Refusal.WouldWait
 waits g c =
-    submit_waits c.in_ok-text.text c.in-Err-NoRoom.field-0-0 c.self.inside.hub c.publish.new.self c.self.invariant.2.publisher c.in-Err-NoRoom.ensures.sound
+    submit_waits c.in_ok-text.text c.in-Err-NoRoom.field-0-0 c.self.inside.hub c.publish.new.self c.self.invariant.2.publisher
     (subst (λ why. RefusesItem end_of DoesCall c.in_ok-text.text c.self.inside.hub c.publish.new.self why) c.in-Err-NoRoom.field-0-is c.in-Err-NoRoom.ensures.err)
 
 pub invariant_of-self-in-Err-NoRoom : goal.invariant_of-self-in-Err-NoRoom
 invariant_of-self-in-Err-NoRoom g c =
-    let nothing : c.publish.new.due.items ≡ c.self.inside.due.items = c.in-Err-NoRoom.ensures.nothing_due in (
-      c.self.invariant.0,
-      c.self.invariant.1,
-      session_same c.self.inside.hub c.publish.new.self (length c.self.inside.stock.items) c.self.inside.woken c.self.inside.has_begun c.self.invariant.2 (waits g c).stands,
-      subst (λ items. items ≡ []) (sym nothing) c.self.invariant.3,
-    )
+    let against = waits g c in
+    let same = session_looked c.self.inside.hub c.publish.new.self (length c.self.inside.stock.items) c.self.inside.woken c.self.inside.has_begun c.self.invariant.2 c.in-Err-NoRoom.ensures.sound against.far against.sees in
+    let nothing : c.publish.new.due.items ≡ c.self.inside.due.items = c.in-Err-NoRoom.ensures.nothing_due in
+    (c.self.invariant.0, c.self.invariant.1, same.session, subst (λ items. items ≡ []) (sym nothing) c.self.invariant.3)
 
 pub returns : goal.returns
 returns g c =
-    let against = submit_waits c.in_ok-text.text c.in-Err-NoRoom.field-0-0 c.self.inside.hub c.publish.new.self c.self.invariant.2.publisher c.in-Err-NoRoom.ensures.sound
+    let against = submit_waits c.in_ok-text.text c.in-Err-NoRoom.field-0-0 c.self.inside.hub c.publish.new.self c.self.invariant.2.publisher
     (subst (λ why. RefusesItem end_of DoesCall c.in_ok-text.text c.self.inside.hub c.publish.new.self why) c.in-Err-NoRoom.field-0-is c.in-Err-NoRoom.ensures.err) in
     not_submitted_replies c.self.inside.hub c.publish.new.self (length c.self.inside.stock.items) c.self.inside.woken c.self.inside.has_begun c.self.invariant.2 c.args.text.now c.in_ok-text.text Refusal.WouldWait
-    c.in_ok-text.ensures against c.args.self.now c.self.view_is
+    c.in_ok-text.ensures c.in-Err-NoRoom.ensures.sound against c.args.self.now c.self.view_is
