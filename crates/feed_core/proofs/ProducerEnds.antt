@@ -1,11 +1,14 @@
 -- What a put of a producer's end does, from what is so of the end.
-use Rattle.std.proofs.Common.{◌≡◌, ℕ, ◌+◌, ◌<◌, ◌≤◌, false, [], ◌∷◌, ◌++◌, length, length-append, Option, None, refl, ap, sym, ◌∙◌, arith}
+use Rattle.std.proofs.Common.{◌≡◌, ℕ, ◌+◌, ◌-◌, ◌<◌, ◌≤◌, false, [], ◌∷◌, ◌++◌, length, length-append, Option, None, is_some, refl, ap, sym, ◌∙◌, arith}
 use Rattle.flow_rules.specs.Feed.{End, Puts, held_count}
 use Rattle.flow_rules.specs.declared.feed.put.Put.TheVariants.{Accepted}
 use Rattle.feed_core.specs.Prelude.{Item}
+use Rattle.feed_core.specs.Desk.{DeskState, AcceptsItem}
+use Rattle.feed_core.specs.Feed.{end_of}
+use Rattle.feed_core.specs.LaneCalls.{lag_of}
 
 -- an open end whose buffer has room looks, and takes the item
-pub puts_accepted : (e f : End) (item : Item) (lag : ℕ) (start : Option (Unit {0})) → e.closing ≡ None → e.over ≡ false
+puts_accepted : (e f : End) (item : Item) (lag : ℕ) (start : Option (Unit {0})) → e.closing ≡ None → e.over ≡ false
     → e.seen ≤ length e.accepted → held_count e < e.capacity
     → f ≡ record e { accepted = e.accepted ++ item ∷ []; looks = e.looks + 1 }
     → lag ≡ held_count e + 1 → Puts e item (Accepted lag start) f
@@ -27,3 +30,12 @@ puts_accepted e f item lag start unclosed lives taken room grown counted =
         ready = λ _. ready;
       },
     )
+
+-- a subscription that took an item did so as its publisher sees it
+pub accepted_puts : (old new : DeskState) (item : Item) (lag : ℕ) (start : Option (Unit {0})) → old.lane.given ≤ length old.lane.accepted
+    → AcceptsItem old new item lag start → Puts (end_of old) item (Accepted lag start) (end_of new)
+accepted_puts old new item lag start taken accepts =
+    let longer = length-append old.lane.accepted (item ∷ []) in
+    let held : lag_of new.lane ≡ length (old.lane.accepted ++ item ∷ []) - old.lane.given = ap (λ (desk : DeskState). lag_of desk.lane) accepts.taken in
+    puts_accepted (end_of old) (end_of new) item lag start accepts.open_before.1 (ap is_some accepts.open_before.0) taken accepts.room_before
+    (ap end_of accepts.taken) (accepts.lag_after ∙ held ∙ omega (arith, longer))
