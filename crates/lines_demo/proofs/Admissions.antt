@@ -17,7 +17,7 @@ use Rattle.publisher_hub.proofs.Grown.{get_grown}
 use Rattle.lines_demo.specs.Prelude.{DeskState, Ending, Refusal, owes, desk_after_request, desk_without_looks}
 use Rattle.lines_demo.specs.Script.Session.{AreScriptEntries, IsScriptEntry, IsScriptHub, state_of, subscription_of}
 use Rattle.lines_demo.specs.Script.State.{SessionState}
-use Rattle.lines_demo.specs.Script.Subscribing.{MOST_LIVE, MOST_SUBSCRIPTIONS, desk_at_start, desk_at_subscribing, new_subscription, state_after_subscribing, subscribing_refusal}
+use Rattle.lines_demo.specs.Script.Subscribing.{MOST_LIVE, MOST_ENTRIES, desk_at_start, desk_at_subscribing, new_subscription, state_after_subscribing, subscribing_refusal}
 use Rattle.lines_demo.specs.Script.Waking.{is_live, newly_woken}
 use Rattle.lines_demo.proofs.SeenPublishers.{CameAsFar, script_publisher, seen_same}
 use Rattle.lines_demo.proofs.SessionStates.{state_of_is}
@@ -32,25 +32,25 @@ refused_full state full =
     rw test refl
 
 -- as many were made as may be
-pub refused_exhausted : (state : SessionState) → count_by is_live state.subscriptions < MOST_LIVE → length state.subscriptions ≡ MOST_SUBSCRIPTIONS → subscribing_refusal state ≡ Some Refusal.Exhausted
+pub refused_exhausted : (state : SessionState) → count_by is_live state.subscriptions < MOST_LIVE → length state.subscriptions ≡ MOST_ENTRIES → subscribing_refusal state ≡ Some Refusal.Exhausted
 refused_exhausted state few many =
     let test : nat_le MOST_LIVE (count_by is_live state.subscriptions) ≡ false = grind (arith, nat_tests) in
-    let made : nat_le MOST_SUBSCRIPTIONS (length state.subscriptions) ≡ true = grind (arith, nat_tests) in
+    let made : nat_le MOST_ENTRIES (length state.subscriptions) ≡ true = grind (arith, nat_tests) in
     rw (test, made) refl
 
 -- no subscriber is left
-pub refused_stock : (state : SessionState) → count_by is_live state.subscriptions < MOST_LIVE → length state.subscriptions < MOST_SUBSCRIPTIONS → state.stock ≡ 0 → subscribing_refusal state ≡ Some Refusal.TooMany
+pub refused_stock : (state : SessionState) → count_by is_live state.subscriptions < MOST_LIVE → length state.subscriptions < MOST_ENTRIES → state.stock ≡ 0 → subscribing_refusal state ≡ Some Refusal.TooMany
 refused_stock state few made none =
     let test : nat_le MOST_LIVE (count_by is_live state.subscriptions) ≡ false = grind (arith, nat_tests) in
-    let room : nat_le MOST_SUBSCRIPTIONS (length state.subscriptions) ≡ false = grind (arith, nat_tests) in
+    let room : nat_le MOST_ENTRIES (length state.subscriptions) ≡ false = grind (arith, nat_tests) in
     let empty : (state.stock == 0) ≡ true = grind (arith, nat_tests) in
     rw (test, room, empty) refl
 
 -- the next one may subscribe
-pub may_subscribe : (state : SessionState) → count_by is_live state.subscriptions < MOST_LIVE → length state.subscriptions < MOST_SUBSCRIPTIONS → 0 < state.stock → subscribing_refusal state ≡ None
+pub may_subscribe : (state : SessionState) → count_by is_live state.subscriptions < MOST_LIVE → length state.subscriptions < MOST_ENTRIES → 0 < state.stock → subscribing_refusal state ≡ None
 may_subscribe state few made some =
     let test : nat_le MOST_LIVE (count_by is_live state.subscriptions) ≡ false = grind (arith, nat_tests) in
-    let room : nat_le MOST_SUBSCRIPTIONS (length state.subscriptions) ≡ false = grind (arith, nat_tests) in
+    let room : nat_le MOST_ENTRIES (length state.subscriptions) ≡ false = grind (arith, nat_tests) in
     let left : (state.stock == 0) ≡ false = grind (arith, nat_tests) in
     rw (test, room, left) refl
 

@@ -9,7 +9,7 @@ use Rattle.lines_demo.specs.Prelude.{Item, Ending, Refusal, desk_after_request, 
 use Rattle.lines_demo.specs.Script.Command.{is_word}
 use Rattle.lines_demo.specs.Script.State.{SubscriptionState, SessionState}
 use Rattle.lines_demo.specs.Script.Waking.{is_live}
-use Rattle.lines_demo.specs.Script.Subscribing.{MOST_LIVE, MOST_SUBSCRIPTIONS, is_live_as, subscription_after_duplicate, subscribing_refusal}
+use Rattle.lines_demo.specs.Script.Subscribing.{MOST_LIVE, MOST_ENTRIES, is_live_as, subscription_after_duplicate, subscribing_refusal}
 use Rattle.lines_demo.specs.Script.Publishing.{subscription_after_offer}
 use Rattle.lines_demo.specs.Script.Obeying.{is_known, subscriptions_after_request, subscription_after_closing}
 use Rattle.lines_demo.specs.Script.Laws.{FewAreLive}
@@ -70,7 +70,7 @@ pub room_for_one : (state : SessionState) → subscribing_refusal state ≡ None
 room_for_one state allowed = by (nat_le MOST_LIVE (count_by is_live state.subscriptions)) refl allowed where
   by : (full : Bool) → nat_le MOST_LIVE (count_by is_live state.subscriptions) ≡ full
       → (if full then Some Refusal.TooMany
-      else (if nat_le MOST_SUBSCRIPTIONS (length state.subscriptions) then Some Refusal.Exhausted
+      else (if nat_le MOST_ENTRIES (length state.subscriptions) then Some Refusal.Exhausted
       else (if state.stock == 0 then Some Refusal.TooMany else None))) ≡ None
       → count_by is_live state.subscriptions < MOST_LIVE
   by true e allowed = cc

@@ -15,7 +15,7 @@ use Rattle.lines_demo.specs.Script.Publishing.{next_item, state_after_publicatio
 use Rattle.lines_demo.specs.Script.Session.{IsSession, numbers_of, state_of, subscription_of}
 use Rattle.lines_demo.specs.Script.State.{SubscriptionState, SessionState}
 use Rattle.lines_demo.specs.declared.script.reply.Reply.TheVariants.{Refused, Submitted}
-use Rattle.lines_demo.specs.declared.script.woken.TheConstants.{MOST_LIVE}
+use Rattle.lines_demo.specs.Script.Subscribing.{MOST_LIVE}
 use Rattle.lines_demo.proofs.HubOffers.{HubOffered, HubPublished, OfferRefused}
 use Rattle.lines_demo.proofs.HubSubmits.{HubSubmitted, SubmitRefused, greatest_lag_few}
 use Rattle.lines_demo.proofs.KeptCommands.{published_reached, unclosed_if}

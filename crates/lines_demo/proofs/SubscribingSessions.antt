@@ -16,7 +16,7 @@ use Rattle.lines_demo.specs.Script.Obeying.{begun_state}
 use Rattle.lines_demo.specs.Script.Playing.{Replies}
 use Rattle.lines_demo.specs.Script.Session.{IsScriptHub, IsSession, numbers_of, state_of, subscription_of}
 use Rattle.lines_demo.specs.Script.State.{SubscriptionState, SessionState}
-use Rattle.lines_demo.specs.Script.Subscribing.{MOST_LIVE, MOST_SUBSCRIPTIONS, desk_at_start, is_subscribed, state_after_subscribing, sub_result}
+use Rattle.lines_demo.specs.Script.Subscribing.{MOST_LIVE, MOST_ENTRIES, desk_at_start, is_subscribed, state_after_subscribing, sub_result}
 use Rattle.lines_demo.specs.Script.Waking.{is_live}
 use Rattle.lines_demo.specs.declared.script.command.Command.TheVariants.{Sub}
 use Rattle.lines_demo.specs.declared.script.reply.Reply.{Reply}
@@ -112,7 +112,7 @@ module _ (old : Hub DeskState) (stock : ℕ) (woken : List ℕ) (has_begun : Boo
       (sub_against start name number Refusal.TooMany (seen_unnamed old new name is.publisher finds.seen finds.unnamed) (refused_full start full))
   refused new due Refusal.Exhausted sound (finds, none) =
       let few : count_by is_live start.subscriptions < MOST_LIVE = subst (λ n. n < MOST_LIVE) (seen_count old new is.publisher finds.seen) finds.why.0 in
-      let made : length start.subscriptions ≡ MOST_SUBSCRIPTIONS = sym (seen_made new finds.seen) ∙ finds.why.1 in
+      let made : length start.subscriptions ≡ MOST_ENTRIES = sym (seen_made new finds.seen) ∙ finds.why.1 in
       unseen new due Refusal.Exhausted (seen_session new finds.seen sound) none
       (sub_against start name number Refusal.Exhausted (seen_unnamed old new name is.publisher finds.seen finds.unnamed) (refused_exhausted start few made))
   refused new due Refusal.BadCapacity sound refuses = absurd refuses.0.why
@@ -137,8 +137,8 @@ module _ (old : Hub DeskState) (stock : ℕ) (woken : List ℕ) (has_begun : Boo
     few = subst (λ n. n < MOST_LIVE) (seen_count old new is.publisher seen) can.place.few_live
 
     -- fewer were made than may be
-    made : length start.subscriptions < MOST_SUBSCRIPTIONS
-    made = subst (λ n. n < MOST_SUBSCRIPTIONS) (seen_made new seen) can.place.few_entries
+    made : length start.subscriptions < MOST_ENTRIES
+    made = subst (λ n. n < MOST_ENTRIES) (seen_made new seen) can.place.few_entries
 
     -- fewer are woken than may be live
     pub few_are_woken : length woken < MOST_LIVE

@@ -8,11 +8,7 @@ use Rattle.lines_demo.specs.Script.Command.{is_word}
 use Rattle.lines_demo.specs.Script.State.{SubscriptionState, SessionState, CommandResult, refused_result, result_unless_no_memory}
 use Rattle.lines_demo.specs.Script.Waking.{is_live, with_subscriptions}
 use Rattle.lines_demo.specs.declared.script.reply.Reply.TheVariants.{Name, Refused}
-pub use Rattle.lines_demo.specs.declared.script.woken.TheConstants.{MOST_LIVE}
-
--- how many subscriptions may ever be made
-abbrev pub MOST_SUBSCRIPTIONS : ℕ
-MOST_SUBSCRIPTIONS = 4294967295
+pub use Rattle.publisher_hub.specs.declared.hub.subscribing.TheConstants.{MOST_ENTRIES, MOST_LIVE}
 
 -- what the publisher has of a new subscription: its first turn is owed, and its subscriber is steady
 abbrev pub desk_at_start : ℕ → DeskState
@@ -58,7 +54,7 @@ state_after_duplicate name state = with_subscriptions (map (subscription_after_d
 abbrev pub subscribing_refusal : SessionState → Option Refusal
 subscribing_refusal state =
     if nat_le MOST_LIVE (count_by is_live state.subscriptions) then Some Refusal.TooMany
-    else (if nat_le MOST_SUBSCRIPTIONS (length state.subscriptions) then Some Refusal.Exhausted
+    else (if nat_le MOST_ENTRIES (length state.subscriptions) then Some Refusal.Exhausted
     else (if state.stock == 0 then Some Refusal.TooMany else None))
 
 -- a subscribing, unless it is refused; memory is taken for the buffer

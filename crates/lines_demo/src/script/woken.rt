@@ -1,17 +1,15 @@
 //! The list of the woken.
 ghost use Rattle.std.specs.Prelude.{◌≡◌, ◌+◌, ◌<◌, ◌≤◌, ◌↔◌, ◌∷◌, ◌++◌, [], true, length, if◌then◌else◌, option_to_list, IfOk, IfNone};
 ghost use Rattle.lines_demo.specs.Script.Session.{numbers_of};
+ghost use Rattle.lines_demo.specs.Script.Subscribing.{MOST_LIVE};
 
 use flow_rules::NoMemory;
-use publisher_hub::Work;
+use publisher_hub::{MOST_LIVE, Work};
 use std::alloc::Global;
 use std::collections::VecDeque;
 use std::marker::Model;
 
-/// How many subscriptions may be live, and so how many may be woken.
-pub const MOST_LIVE: usize = 64;
-
-/// The numbers of the subscriptions that are woken, the one whose turn is next first. Its room is made when it is made.
+/// The numbers of the subscriptions that are woken, the one whose turn is next first. It is made with room for all that may be live.
 #[derive(Drop)]
 pub struct Woken {
     numbers: VecDeque<u32>,
@@ -20,7 +18,7 @@ pub struct Woken {
 impl Model for Woken {
     ghost use Rattle.std.specs.Prelude.{◌≤◌, List, ℕ};
     ghost use Rattle.std.specs.VecDeque.{deque_capacity};
-    ghost use Rattle.lines_demo.specs.declared.script.woken.TheConstants.{MOST_LIVE};
+    ghost use Rattle.lines_demo.specs.Script.Subscribing.{MOST_LIVE};
 
     ghost Value = { List ℕ };
 
