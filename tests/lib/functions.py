@@ -109,9 +109,9 @@ def place_of(crate, file, function):
 
 
 def end_of(crate, file, function):
-    """The end of what rt calls the function, or None where only a check can show that."""
+    """The end of what rt calls the function; of one of a trait's impl its modules, and None where there is neither."""
     path, words, is_of_trait = place_of(crate, file, function) or ([], [], True)
-    return None if is_of_trait else "::".join([*(words or path), function.name])
+    return "::".join(path[1:]) or None if is_of_trait else "::".join([*(words or path), function.name])
 
 
 def path_of(crate, file, function, known):

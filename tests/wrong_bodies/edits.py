@@ -27,7 +27,7 @@ class Change:
         return path_of(crate, self.file, self.function, known)
 
     def end_of_name(self, crate):
-        """The end of what rt calls the function, or None where that isn't clear."""
+        """The end of what rt calls the function, or its modules; None where that isn't clear."""
         return end_of(crate, self.file, self.function)
 
 
