@@ -94,8 +94,9 @@ def module_of(file):
     return [] if parts in (["lib"], ["main"]) else parts
 
 
-def path_of(crate, file, function, known):
-    """What rt calls the function, among the names that a check of the unedited crate printed, or None where that isn't clear."""
+def place_of(crate, file, function):
+    """The crate and the modules around a function, the words of its impl or trait, and whether that is the impl of a trait;
+    None for a function in another."""
     path, words, is_of_trait = [crate, *module_of(file)], [], False
     for head in function.around:
         if NAMED.search(head):
@@ -104,6 +105,21 @@ def path_of(crate, file, function, known):
             words, is_of_trait = owner_of(head)
         else:
             path += re.findall(r"\bmod (\w+)$", head)
+    return path, words, is_of_trait
+
+
+def end_of(crate, file, function):
+    """The end of what rt calls the function; of one of a trait's impl its modules, and None where there is neither."""
+    path, words, is_of_trait = place_of(crate, file, function) or ([], [], True)
+    return "::".join(path[1:]) or None if is_of_trait else "::".join([*(words or path), function.name])
+
+
+def path_of(crate, file, function, known):
+    """What rt calls the function, among the names that a check printed, or None where that isn't clear."""
+    place = place_of(crate, file, function)
+    if place is None:
+        return None
+    path, words, is_of_trait = place
     if not is_of_trait:
         # A method stands under the module of its type, which need not be that of the impl.
         end = "::".join(["", *words, function.name])

@@ -3,7 +3,7 @@
 import os
 import re
 
-from functions import functions_of, path_of
+from functions import end_of, functions_of, path_of
 
 
 def text_of(file):
@@ -25,6 +25,10 @@ class Change:
     def name_among(self, crate, known):
         """What rt calls the function, among the names that a check printed, or None where that isn't clear."""
         return path_of(crate, self.file, self.function, known)
+
+    def end_of_name(self, crate):
+        """The end of what rt calls the function, or its modules; None where that isn't clear."""
+        return end_of(crate, self.file, self.function)
 
 
 class Edit:

@@ -1,6 +1,7 @@
 #!/usr/bin/env bash
 # Plants flaws of its own in a tiny crate, and compares what try.py says of each: a bug is refused, and all else is reported.
-# It needs the toolchain's command `rt`, and takes eight checks of a crate of four functions, about a minute.
+# All is tried over what a check kept of the crate without them: what has changed since has to be proved anew.
+# It needs the toolchain's command `rt`, and takes a dozen checks of a crate of five functions, about a minute.
 set -eu
 here=$(cd "$(dirname "$0")" && pwd)
 work=$(mktemp -d)
@@ -39,6 +40,20 @@ pub fn bounded(a: u8) -> u8
 {
     a.min(MOST)
 }
+
+pub trait Picks {
+    fn pick(a: u8, b: u8) -> u8
+        ensures { result ≡ min a b };
+}
+
+#[derive(Drop)]
+pub struct Low;
+
+impl Picks for Low {
+    fn pick(a: u8, b: u8) -> u8 {
+        if b < a { b } else { a }
+    }
+}
 END
 cat >"$crate/proofs/least_of_three/Answers.antt" <<'END'
 use Rattle.std.proofs.Common.{rules}
@@ -75,9 +90,12 @@ try
 said 'no edit was tried'
 said '0 passed, 1 failed'
 
+(cd "$crate" && rt check --jobs 1 >"$work/said" 2>&1)
+[ -d "$crate/out/incremental" ]
 edit a_bug 'old: if a < b' 'new: if a > b'
 edit a_bug_in_a_constant 'old: u8 = 200' 'new: u8 = 201'
 edit no_bug 'old: if a < b' 'new: if a <= b'
+edit a_bug_in_an_impl 'old: if b < a' 'new: if b > a'
 edit names_are_gone 'old: let low = least(a, b);' 'new: let lowest = least(a, b);' 'old: least(low, c)' 'new: least(lowest, c)'
 edit only_its_callee_is_wrong 'old:     least(a, b)' 'new:     least(b, a)'
 edit no_such_name 'old: a.min(MOST)' 'new: a.min(LEAST)'
@@ -90,6 +108,7 @@ try --proved "$sum"
 [ "$status" -eq 1 ]
 said 'tiny/a_bug: refused: note: src/lib.rt:'
 said 'tiny/a_bug_in_a_constant: refused: '
+said 'tiny/a_bug_in_an_impl: refused: note: src/lib.rt:'
 said 'tiny/no_bug: LET THROUGH'
 said 'tiny/names_are_gone: refused only by names that are gone'
 said 'tiny/only_its_callee_is_wrong: LET THROUGH'
@@ -98,11 +117,17 @@ said 'tiny/no_single_place: an `old:` text is in src/lib.rt 4 times'
 said 'tiny/no_line: this line is not in its place: now: a'
 said 'tiny/half_a_pair: it has no pair'
 said "tiny/another_end.txt: its name doesn't end in .edit"
-said '2 passed, 8 failed'
+said '3 passed, 8 failed'
 
 try tiny/no_such_edit
 [ "$status" -eq 1 ]
 said 'no edit tiny/no_such_edit'
+
+sed -i 's/a.min(MOST)/a/' "$crate/src/lib.rt"
+try --proved "$sum" tiny/a_bug
+[ "$status" -eq 1 ]
+said 'a crate is not proved as it is'
+sed -i '/result ≤ 200/,/^}/s/^    a$/    a.min(MOST)/' "$crate/src/lib.rt"
 
 sed -i 's/result ≡ min a b/result ≤ b/' "$crate/src/lib.rt"
 rm "$crate/proofs/least_of_three/Answers.antt"

@@ -6,10 +6,11 @@ that file. Contracts separate functions, so edits of different functions are tri
 only where the edited function itself has an open goal: a text that can't be read, a proof file that names what is gone, or
 a callee that is not proved is none. What is not refused so is tried alone before it is reported. An edit of several
 functions, or of anything but a body (a constant, a type, a clause, an invariant), is tried alone; of the last, any open
-goal of the crate counts.
+goal of the crate counts. Where edits are of bodies alone, only those functions are checked, with what they call.
 
 It works on a copy in a temporary folder, and proves the crates there first as they are; with --proved SUM only where the
-copy has another sum than this, of sources that were proved. The crates below others are built there in any case.
+copy has another sum than this, of sources that were proved. The crates below others are built there in any case. Each
+check starts from what was kept of the crate as it is, if anything was; what has another text there is proved anew.
 The last line is `N passed, M failed`. The status is 1 where anything failed, or where there was no edit to try.
 """
 
@@ -50,28 +51,41 @@ class Crate:
         self.edits = [it for it in edits if is_wanted(it)]
         self.checks, self.seconds, self.room = 0, 0.0, None
 
-    def check(self, texts):
-        """Checks the crate in its room with these texts in place of its own."""
+    def check(self, texts, functions):
+        """Checks the crate in its room with these texts in place of its own: these functions alone, where each has a name."""
         folder = f"{self.room}/crates/{self.name}"
         for file in texts:
             with open(f"{folder}/{file}", "w", encoding="utf-8") as it:
                 it.write(texts[file])
-        check = self.run("check")
+        only = [] if None in functions else [word for it in functions for word in ("--only", it)]
+        check = self.run("check", 1, only)
+        if only and not check.is_judged and not check.errors:
+            # A name that fits several functions, or none.
+            check = self.run("check")
         for file in texts:
             shutil.copyfile(f"{self.folder}/{file}", f"{folder}/{file}")
+        self.take_back_kept()
         return check
 
-    def run(self, command, jobs=1):
+    def take_back_kept(self):
+        """Puts what was kept of the crate as it is in the place of what was kept of edited texts."""
+        kept, here = (f"{it}/out/incremental" for it in (self.folder, f"{self.room}/crates/{self.name}"))
+        if os.path.isdir(kept):
+            shutil.rmtree(here, ignore_errors=True)
+            shutil.copytree(kept, here)
+
+    def run(self, command, jobs=1, only=()):
         """Runs this command of rt, which proves the crate, in its room."""
         start = time.monotonic()
         how = {"stdin": subprocess.DEVNULL, "stdout": subprocess.PIPE, "stderr": subprocess.STDOUT, "errors": "replace"}
-        ran = subprocess.run(["rt", command, "--jobs", str(jobs)], cwd=f"{self.room}/crates/{self.name}", **how)
+        ran = subprocess.run(["rt", command, "--jobs", str(jobs), *only], cwd=f"{self.room}/crates/{self.name}", **how)
         self.checks, self.seconds = self.checks + 1, self.seconds + time.monotonic() - start
         return Check(self.name, ran.stdout, ran.returncode)
 
     def try_batch(self, batch):
         """Tries edits in one check, and alone what is not refused there."""
-        check = self.check(together(batch, self.folder))
+        functions = [change.end_of_name(self.name) for edit in batch for change in edit.changes]
+        check = self.check(together(batch, self.folder), functions or [None])
         if len(batch) > 1 and not check.is_judged:
             # An edit that doesn't compile hides all others.
             wrong = named_by(check.places, batch, self.folder)

@@ -17,7 +17,7 @@ class Check:
         self.crate, self.text, self.goals, self.gone, self.verdicts = crate, text, {}, {}, {}
         # A library that is built already is proved, and `rt lib` says nothing of it.
         self.is_proved = status == 0
-        self.is_judged = bool(re.search(r"^logic=", text, re.M))
+        self.is_judged = bool(re.search(r"^(logic=|only=\d+ proved=)", text, re.M))
         # Texts that can't be read, and where they stand.
         self.errors, self.places = [], []
         notes = []

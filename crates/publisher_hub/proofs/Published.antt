@@ -18,7 +18,6 @@ use Rattle.publisher_hub.specs.Offering.{Gives, IsNextItem, Offers, missed, prog
 use Rattle.publisher_hub.specs.Publishing.{IsRefused, Publishes}
 use Rattle.publisher_hub.specs.Sound.{IsSound}
 use Rattle.publisher_hub.specs.declared.entry.Entry.{Entry}
-use Rattle.publisher_hub.specs.declared.giving.Giving.{Giving}
 use Rattle.publisher_hub.specs.declared.hub.Hub.{Hub}
 use Rattle.publisher_hub.specs.declared.hub.TheConstants.{SOURCES}
 use Rattle.publisher_hub.specs.declared.work.Work.{Work}
@@ -85,9 +84,9 @@ module _ {F T : Type 0} (meaning : F → End) (does : F → Call T → F → Typ
       → EachBy (Gives meaning does x) puts seen.entries.items given.entries.items → Gathers x puts given.giving due_seen due_new
       → hub_of meaning given ≡ record (hub_of meaning seen) { entries = (hub_of meaning given).entries }
       → hub_of meaning new ≡ record (hub_of meaning given) { progress = progress_after x (hub_of meaning given).progress.dropping (hub_of meaning given).progress }
-      → new.entries ≡ given.entries → new.giving ≡ given.giving
+      → new.entries ≡ given.entries → new.giving.lag ≡ given.giving.lag
       → IsSound (hub_of meaning new) × Publishes meaning does source text old new due_old.items due_new.items new.giving.lag
-  publishes old seen given new x source text due_old due_seen due_new glances puts sound within from words serial seq looked prepared room due_same open_still gave gathers rest_given rest_new entries_same giving_same =
+  publishes old seen given new x source text due_old due_seen due_new glances puts sound within from words serial seq looked prepared room due_same open_still gave gathers rest_given rest_new entries_same lag_same =
       let progress_seen : (hub_of meaning seen).progress ≡ (hub_of meaning old).progress = ap (λ (s : HubState). s.progress) looked.rest in
       let progress_given : (hub_of meaning given).progress ≡ (hub_of meaning old).progress = ap (λ (s : HubState). s.progress) rest_given ∙ progress_seen in
       let same_dropping : given.dropping ≡ old.dropping = ap (λ (p : Progress). p.dropping) progress_given in
@@ -118,6 +117,6 @@ module _ {F T : Type 0} (meaning : F → End) (does : F → Call T → F → Typ
           no_drop = both.0;
           no_dropping = dropping_new ∙ same_dropping;
           due = gathers.due ∙ ap (λ works. works ++ started puts) due_same;
-          greatest_lag = ap (λ (g : Giving). g.lag) giving_same ∙ gathers.lag;
+          greatest_lag = lag_same ∙ gathers.lag;
         },
       )

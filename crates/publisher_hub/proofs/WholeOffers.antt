@@ -47,10 +47,10 @@ module _ {F T : Type 0} (meaning : F → End) (does : F → Call T → F → Typ
       → hub_of meaning tried ≡ record (hub_of meaning given) { entries = (hub_of meaning tried).entries }
       → counted ≡ record tried { dropping = dropping_after tried.giving.drops tried.dropping }
       → hub_of meaning new ≡ record (hub_of meaning counted) { progress = progress_after x (hub_of meaning counted).progress.dropping (hub_of meaning counted).progress }
-      → new.entries ≡ counted.entries → new.giving ≡ counted.giving
+      → new.entries ≡ counted.entries → new.giving.lag ≡ counted.giving.lag → new.giving.drops ≡ counted.giving.drops
       → IsSound (hub_of meaning new) × OffersItem meaning does source text declines old new due_old.items due_new.items (offer_answer new.giving.drops new.giving.lag)
   offers_item old seen given tried counted new x source text declines due_old due_seen due_given due_new glances puts seconds sound within from words serial seq looked prepared due_same open_still
-      gave gathers rest_given passes rest_tried counted_is rest_new entries_same giving_same =
+      gave gathers rest_given passes rest_tried counted_is rest_new entries_same lag_same drops_same =
       let progress_seen : (hub_of meaning seen).progress ≡ (hub_of meaning old).progress = ap (λ (s : HubState). s.progress) looked.rest in
       let progress_tried : (hub_of meaning tried).progress ≡ (hub_of meaning old).progress =
       ap (λ (s : HubState). s.progress) rest_tried ∙ ap (λ (s : HubState). s.progress) rest_given ∙ progress_seen in
@@ -74,7 +74,6 @@ module _ {F T : Type 0} (meaning : F → End) (does : F → Call T → F → Typ
       ∙ ap (λ n. dropping_after n tried.dropping) drops ∙ ap (λ n. dropping_after (length (dropped seconds)) n) tried_dropping in
       let more = dropping_more (length (dropped seconds)) old.dropping in
       let entries_new : new.entries ≡ tried.entries = entries_same ∙ ap (λ (h : Hub F). h.entries) counted_is in
-      let giving_new : new.giving ≡ tried.giving = giving_same ∙ ap (λ (h : Hub F). h.giving) counted_is in
       let again : EachBy (GivesAgain meaning does x) seconds given.entries.items new.entries.items =
       subst (λ (v : Vec (Entry F) Global). EachBy (GivesAgain meaning does x) seconds given.entries.items v.items) (sym entries_new) passes.again in
       let known = known_of meaning does (hub_of meaning old) old.entries.items sound refl unclosed in
@@ -90,9 +89,9 @@ module _ {F T : Type 0} (meaning : F → End) (does : F → Call T → F → Typ
             (λ j was at_j. (sound.entries j (entry_of meaning was) (get_mapped (entry_of meaning) old.entries.items j was at_j)).drops) serial k raw.0 raw.1.0 in
             subst (λ (state : EntryState). state.dropped ≤ new.dropping) raw.1.1 (subst (λ n. raw.0.dropped ≤ n) (sym dropping_new) few);
       } in
-      let drops_new : new.giving.drops ≡ length (dropped seconds) = ap (λ (g : Giving). g.drops) giving_new ∙ drops in
+      let drops_new : new.giving.drops ≡ length (dropped seconds) = drops_same ∙ ap (λ (h : Hub F). h.giving.drops) counted_is ∙ drops in
       let lag_new : new.giving.lag ≡ greatest (lags puts ++ lags_again seconds) =
-      ap (λ (g : Giving). g.lag) giving_new ∙ passes.gathers.lag ∙ ap (λ n. fold max n (lags_again seconds)) gathers.lag ∙ sym (fold-append max 0 (lags puts) (lags_again seconds)) in (
+      lag_same ∙ ap (λ (h : Hub F). h.giving.lag) counted_is ∙ passes.gathers.lag ∙ ap (λ n. fold max n (lags_again seconds)) gathers.lag ∙ sym (fold-append max 0 (lags puts) (lags_again seconds)) in (
         sound_offered (hub_of meaning old) (hub_of meaning new) x (subst (λ s. s < SOURCES) (sym from) within) sound offers,
         record {
           item = x;
@@ -150,10 +149,9 @@ module _ {F T : Type 0} (meaning : F → End) (does : F → Call T → F → Typ
       → IsSound (hub_of meaning seen) → EachBy (Prepares meaning does next) glances xs seen.entries.items → IsRefused (hub_of meaning seen).progress None
       → EachBy (Gives meaning does x) puts seen.entries.items given.entries.items → Gathers x puts given.giving due_seen due_given
       → PassesAgain meaning does x declines puts seconds given.entries.items tried.entries.items given.giving tried.giving due_given due_new
-      → counted ≡ record tried { dropping = dropping_after tried.giving.drops tried.dropping } → new.giving ≡ counted.giving
+      → counted ≡ record tried { dropping = dropping_after tried.giving.drops tried.dropping } → new.giving.lag ≡ counted.giving.lag → new.giving.drops ≡ counted.giving.drops
       → (new.giving.lag ≤ PUBLICATIONS) × (new.giving.drops ≤ PUBLICATIONS)
-  answer_fits seen given tried counted new x declines due_seen due_given due_new next xs glances puts seconds sound prepared open_still gave gathers passes counted_is giving_same =
-      let giving_new : new.giving ≡ tried.giving = giving_same ∙ ap (λ (h : Hub F). h.giving) counted_is in
+  answer_fits seen given tried counted new x declines due_seen due_given due_new next xs glances puts seconds sound prepared open_still gave gathers passes counted_is lag_same drops_same =
       let can = can_all_give meaning does (hub_of meaning seen) next glances xs seen.entries.items sound refl (below_most seen.next sound.few_items open_still.1) prepared in
       let known = known_of meaning does (hub_of meaning seen) seen.entries.items sound refl open_still.0 in
       let unclosed : (k : ℕ) (entry : Entry F) → slice_get seen.entries.items k ≡ Some entry → (e : End) → (entry_of meaning entry).feed ≡ Some e → e.closing ≡ None = λ k entry at e was. (known k entry at e was).0 in
@@ -162,8 +160,8 @@ module _ {F T : Type 0} (meaning : F → End) (does : F → Call T → F → Typ
       (λ k entry at. let stood = stood_by (Gives meaning does x) puts seen.entries.items given.entries.items k entry gave at in
       gives_closing x stood.answer stood.entry entry (unclosed k stood.entry stood.at) stood.became) in
       let lag_new : new.giving.lag ≡ fold max (fold max 0 (lags puts)) (lags_again seconds) =
-      ap (λ (g : Giving). g.lag) giving_new ∙ passes.gathers.lag ∙ ap (λ n. fold max n (lags_again seconds)) gathers.lag in
-      let drops_new : new.giving.drops ≡ length (dropped seconds) = ap (λ (g : Giving). g.drops) giving_new ∙ passes.gathers.drops in
+      lag_same ∙ ap (λ (h : Hub F). h.giving.lag) counted_is ∙ passes.gathers.lag ∙ ap (λ n. fold max n (lags_again seconds)) gathers.lag in
+      let drops_new : new.giving.drops ≡ length (dropped seconds) = drops_same ∙ ap (λ (h : Hub F). h.giving.drops) counted_is ∙ passes.gathers.drops in
       let at_most = few_dropped meaning does seconds in
       let answered = passes.again.answered in
       let long = gave.as_long in

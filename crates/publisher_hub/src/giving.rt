@@ -1,5 +1,5 @@
 //! What a publication gathers as it goes round.
-ghost use Rattle.std.specs.Prelude.{◌≡◌, ◌+◌, ◌≤◌, ◌++◌, ◌<◌, List, [], length, max, fold, OnOk, Option, Some, vec_len};
+ghost use Rattle.std.specs.Prelude.{◌≡◌, ◌+◌, ◌≤◌, ◌++◌, ◌<◌, List, [], length, max, fold, OnErr, OnOk, Option, Some, vec_len};
 ghost use Rattle.std.specs.Vec.{vec_capacity};
 ghost use Rattle.flow_rules.specs.declared.item.Item.{Item};
 ghost use Rattle.flow_rules.specs.declared.item.TheConstants.{PUBLICATIONS};
@@ -10,7 +10,7 @@ use crate::work::Work;
 use flow_rules::{Item, NoMemory, Put};
 use std::alloc::Global;
 
-/// What a publication gathers as it goes round. Its room is kept for the next one, which drops the shares that were left over.
+/// What a publication gathers as it goes round. Its room is kept for the next one.
 #[derive(Drop)]
 pub(crate) struct Giving {
     /// Shares of the item that were not given yet.
@@ -42,11 +42,16 @@ impl Giving {
         ensures room { OnOk result (many ≤ vec_capacity self.new.missed) }
         ensures lag { self.new.lag ≡ 0 }
         ensures drops { self.new.drops ≡ 0 }
+        ensures err { OnErr result (self.new.shares.items ≡ []) }
     {
         self.forget();
         self.missed.reserve(many)?;
         self.shares.reserve(many)?;
-        share_out(&mut self.shares, item, many)
+        let made = share_out(&mut self.shares, item, many);
+        if made.is_err() {
+            self.drop_shares();
+        }
+        made
     }
 
     /// Forgets what was gathered.
@@ -60,6 +65,16 @@ impl Giving {
         self.missed.clear();
         self.lag = 0;
         self.drops = 0;
+    }
+
+    /// Drops the shares that were not given.
+    pub fn drop_shares(&mut self)
+        ensures shares { self.new.shares.items ≡ [] }
+        ensures missed { self.new.missed ≡ self.old.missed }
+        ensures lag { self.new.lag ≡ self.old.lag }
+        ensures drops { self.new.drops ≡ self.old.drops }
+    {
+        self.shares.clear();
     }
 
     /// Takes one share.

@@ -55,7 +55,7 @@ pub struct Hub<F> {
     pub(crate) entries: Vec<Entry<F>>,
     /// The numbers of those that may be live, rising.
     pub(crate) live: Vec<u32>,
-    /// What a publication gathers. Its room is kept for the next one, which drops the shares that were left over.
+    /// What a publication gathers. Its room is kept for the next one, and no share.
     pub(crate) giving: Giving,
 }
 

@@ -1,5 +1,5 @@
 //! Offering an item to all live subscriptions, and dropping it where there is no room.
-ghost use Rattle.std.specs.Prelude.{◌≡◌, ◌<◌, ◌≤◌, ℕ, List, Option, IfOk, IfErr, OnErr, is_none, length, map, vec_len};
+ghost use Rattle.std.specs.Prelude.{◌≡◌, ◌<◌, ◌≤◌, ℕ, [], List, Option, IfOk, IfErr, OnErr, is_none, length, map, vec_len};
 ghost use Rattle.flow_rules.specs.declared.feed.put.Put.{Put};
 ghost use Rattle.flow_rules.specs.declared.item.TheConstants.{PUBLICATIONS};
 ghost use Rattle.publisher_hub.specs.Entry.{entry_of};
@@ -36,15 +36,18 @@ impl<F: Feed> Hub<F> {
         ensures ok { IfOk result (λ answer. OffersItem F.meaning F.does source text (is_none handler.entry) self.old self.new due.old.items due.new.items answer) }
         ensures err { IfErr result (λ refusal. RefusesOffer F.meaning F.does self.old self.new refusal) }
         ensures nothing_due { OnErr result (due.new.items ≡ due.old.items) }
+        ensures no_share { self.new.giving.shares.items ≡ [] }
     {
         let item = self.next_item(source, text);
         let _ = self.prepare(&item, due)?;
         if let Some(refusal) = self.refusal() {
+            self.giving.drop_shares();
             return Err(refusal);
         }
         self.give(&item, due);
         self.try_again(&item, handler, due);
         self.count_drops();
+        self.giving.drop_shares();
         self.count(&item);
         Ok(self.answer())
     }

@@ -1,5 +1,5 @@
 //! Giving an item to all live subscriptions.
-ghost use Rattle.std.specs.Prelude.{◌≡◌, ◌+◌, ◌<◌, ◌≤◌, ◌++◌, List, Option, Some, None, IfOk, IfErr, OnOk, OnErr, IfSome, IfNone, IsNone, Result, false, map, length, slice_get};
+ghost use Rattle.std.specs.Prelude.{◌≡◌, ◌+◌, ◌<◌, ◌≤◌, ◌++◌, [], List, Option, Some, None, IfOk, IfErr, OnOk, OnErr, IfSome, IfNone, IsNone, Result, false, map, length, slice_get};
 ghost use Rattle.flow_rules.specs.declared.feed.put.Put.{Put};
 ghost use Rattle.flow_rules.specs.declared.feed.standing.Standing.{Standing};
 ghost use Rattle.flow_rules.specs.declared.item.TheConstants.{PUBLICATIONS};
@@ -14,7 +14,7 @@ ghost use Rattle.publisher_hub.specs.Sound.{IsSound};
 ghost use Rattle.publisher_hub.specs.Steps.{CanAllGive};
 
 use super::{Hub, SOURCES};
-use crate::rounds::{give_all, prepare_all};
+use crate::rounds::give_all;
 use crate::work::Work;
 use flow_rules::{Feed, Item, NoMemory, PUBLICATIONS, Refusal, Text};
 
@@ -45,6 +45,7 @@ impl<F: Feed> Hub<F> {
         ensures ok { IfOk result (λ lag. Publishes F.meaning F.does source text self.old self.new due.old.items due.new.items lag) }
         ensures err { IfErr result (λ why. RefusesItem F.meaning F.does text self.old self.new why) }
         ensures nothing_due { OnErr result (due.new.items ≡ due.old.items) }
+        ensures no_share { self.new.giving.shares.items ≡ [] }
     {
         let item = self.next_item(source, text);
         let room = match self.prepare(&item, due) {
@@ -52,12 +53,15 @@ impl<F: Feed> Hub<F> {
             Err(NoMemory) => return Err(Unpublished::Refused(Refusal::NoMemory)),
         };
         if let Some(refusal) = self.refusal() {
+            self.giving.drop_shares();
             return Err(Unpublished::Refused(refusal));
         }
         if !room {
+            self.giving.drop_shares();
             return Err(Unpublished::NoRoom(item.text));
         }
         self.give(&item, due);
+        self.giving.drop_shares();
         self.count(&item);
         Ok(self.giving.lag)
     }
@@ -92,17 +96,16 @@ impl<F: Feed> Hub<F> {
         ensures sound { IsSound (hub_of F.meaning self.new) }
         ensures due { due.new.items ≡ due.old.items }
         ensures ready { OnOk result (CanPublish item.now self.new due.new) }
+        ensures no_share { OnErr result (self.new.giving.shares.items ≡ []) }
     {
+        self.giving.forget();
         due.reserve(self.live.len())?;
         self.giving.begin(item, self.live.len())?;
-        let Hub {
-            entries,
-            live,
-            next,
-            capacity,
-            ..
-        } = self;
-        prepare_all(entries, live, *next, *capacity)
+        let prepared = self.prepare_live();
+        if prepared.is_err() {
+            self.giving.drop_shares();
+        }
+        prepared
     }
 
     /// Why the Hub takes no items any more.

@@ -1,9 +1,10 @@
 -- An offer, from what each of its steps says.
-use Rattle.std.proofs.Common.{rules, ◌≡◌, ◌∙◌, Some, length, of_z, refl, sym, subst, to_z, w64}
+use Rattle.std.proofs.Common.{rules, ◌≡◌, ◌∙◌, Some, ap, length, of_z, refl, sym, subst, to_z, w64}
 use Rattle.std.specs.Prelude.{slice_get}
 use Rattle.publisher_hub.specs.Hub.{hub_of}
 use Rattle.publisher_hub.specs.Offering.{missed}
 use Rattle.publisher_hub.specs.Sound.{AreNumbers}
+use Rattle.publisher_hub.specs.declared.giving.Giving.{Giving}
 use Rattle.publisher_hub.proofs.Missed.{missed_numbers}
 use Rattle.publisher_hub.proofs.Publications.{can_all_give}
 use Rattle.publisher_hub.proofs.Published.{below_most, known_of}
@@ -50,7 +51,7 @@ answer-requires-clause-lag g c =
     let passes = c.try_again.ensures.passes given.0 given.1.1.missed (given.1.0.answered ∙ sym given.1.0.as_long) in
     (answer_fits g.F.Feed.meaning g.F.Feed.does c.prepare.new.self c.give.new.self c.try_again.new.self c.count_drops.new.self c.count.new.self c.next_item-item.result _
     c.prepare.new.due c.give.new.due c.try_again.new.due c.args.self.now.next c.args.self.now.entries.items looks.0 given.0 passes.0 c.prepare.ensures.sound looks.1.0 c.in_default.ensures given.1.0 given.1.1
-    passes.1 c.count_drops.ensures c.count.ensures.giving).0
+    passes.1 c.count_drops.ensures (ap (λ (g : Giving). g.lag) c.count.ensures.giving ∙ c.drop_shares-2.ensures.lag) (ap (λ (g : Giving). g.drops) c.count.ensures.giving ∙ c.drop_shares-2.ensures.drops)).0
 
 pub answer-requires-clause-drops : goal.answer-requires-clause-drops
 answer-requires-clause-drops g c =
@@ -59,7 +60,7 @@ answer-requires-clause-drops g c =
     let passes = c.try_again.ensures.passes given.0 given.1.1.missed (given.1.0.answered ∙ sym given.1.0.as_long) in
     (answer_fits g.F.Feed.meaning g.F.Feed.does c.prepare.new.self c.give.new.self c.try_again.new.self c.count_drops.new.self c.count.new.self c.next_item-item.result _
     c.prepare.new.due c.give.new.due c.try_again.new.due c.args.self.now.next c.args.self.now.entries.items looks.0 given.0 passes.0 c.prepare.ensures.sound looks.1.0 c.in_default.ensures given.1.0 given.1.1
-    passes.1 c.count_drops.ensures c.count.ensures.giving).1
+    passes.1 c.count_drops.ensures (ap (λ (g : Giving). g.lag) c.count.ensures.giving ∙ c.drop_shares-2.ensures.lag) (ap (λ (g : Giving). g.drops) c.count.ensures.giving ∙ c.drop_shares-2.ensures.drops)).1
 
 pub returns-clause-sound : goal.returns-clause-sound
 returns-clause-sound g c =
@@ -70,7 +71,7 @@ returns-clause-sound g c =
     (offers_item g.F.Feed.meaning g.F.Feed.does c.args.self.now c.prepare.new.self c.give.new.self c.try_again.new.self c.count_drops.new.self c.count.new.self c.next_item-item.result c.args.source c.args.text _
     c.args.due.now c.prepare.new.due c.give.new.due c.try_again.new.due looks.0 given.0 passes.0 c.requires.sound c.requires.source item.source item.text item.serial item.seq c.prepare.ensures.looked
     looks.1.0 c.prepare.ensures.due c.in_default.ensures given.1.0 given.1.1 c.give.ensures.rest passes.1 c.try_again.ensures.rest c.count_drops.ensures c.count.ensures.rest c.count.ensures.entries
-    c.count.ensures.giving).0
+    (ap (λ (g : Giving). g.lag) c.count.ensures.giving ∙ c.drop_shares-2.ensures.lag) (ap (λ (g : Giving). g.drops) c.count.ensures.giving ∙ c.drop_shares-2.ensures.drops)).0
 
 pub returns-clause-ok : goal.returns-clause-ok
 returns-clause-ok g c =
@@ -83,4 +84,4 @@ returns-clause-ok g c =
     rw (same, c.answer.ensures) ((offers_item g.F.Feed.meaning g.F.Feed.does c.args.self.now c.prepare.new.self c.give.new.self c.try_again.new.self c.count_drops.new.self c.count.new.self c.next_item-item.result c.args.source c.args.text _
     c.args.due.now c.prepare.new.due c.give.new.due c.try_again.new.due looks.0 given.0 passes.0 c.requires.sound c.requires.source item.source item.text item.serial item.seq c.prepare.ensures.looked
     looks.1.0 c.prepare.ensures.due c.in_default.ensures given.1.0 given.1.1 c.give.ensures.rest passes.1 c.try_again.ensures.rest c.count_drops.ensures c.count.ensures.rest c.count.ensures.entries
-    c.count.ensures.giving).1)
+    (ap (λ (g : Giving). g.lag) c.count.ensures.giving ∙ c.drop_shares-2.ensures.lag) (ap (λ (g : Giving). g.drops) c.count.ensures.giving ∙ c.drop_shares-2.ensures.drops)).1)

@@ -1,8 +1,9 @@
 -- An item that is published comes after all that were.
-use Rattle.std.proofs.Common.{refl}
+use Rattle.std.proofs.Common.{◌∙◌, ap, refl}
 use Rattle.publisher_hub.specs.Hub.{hub_of}
 use Rattle.publisher_hub.specs.Publishing.{Publishes}
 use Rattle.publisher_hub.specs.Sound.{IsSound}
+use Rattle.publisher_hub.specs.declared.giving.Giving.{Giving}
 use Rattle.publisher_hub.proofs.Publications.{can_all_give}
 use Rattle.publisher_hub.proofs.Published.{below_most, publishes}
 use Rattle.publisher_hub.proofs.hub.Hub.publish.Goals as goal
@@ -26,7 +27,7 @@ whole g c =
     let given = c.give.ensures.given in
     publishes meaning g.F.Feed.does c.args.self.now c.prepare.new.self c.give.new.self c.count.new.self c.next_item-item.result c.args.source c.args.text
     c.args.due.now c.prepare.new.due c.give.new.due looks.0 given.0 c.requires.sound c.requires.source item.source item.text item.serial item.seq c.prepare.ensures.looked
-    looks.1.0 (looks.1.1.there c.if-not-room.false) c.prepare.ensures.due c.in_default.ensures given.1.0 given.1.1 c.give.ensures.rest c.count.ensures.rest c.count.ensures.entries c.count.ensures.giving
+    looks.1.0 (looks.1.1.there c.if-not-room.false) c.prepare.ensures.due c.in_default.ensures given.1.0 given.1.1 c.give.ensures.rest c.count.ensures.rest c.count.ensures.entries (ap (λ (g : Giving). g.lag) c.count.ensures.giving ∙ c.drop_shares-2.ensures.lag)
 
 pub returns-clause-sound : goal.returns-clause-sound
 returns-clause-sound g c = (whole g c).0
