@@ -147,7 +147,6 @@ impl<B: Listener> Session<B> {
         ensures order { TellsInOneOrder self.now }
         ensures counted { CountsPublications self.now }
     {
-        let _ = &self.stock;
         !self.woken.is_empty()
     }
 }
