@@ -6,13 +6,7 @@ use Rattle.flow_rules.specs.declared.item.TheConstants.{PUBLICATIONS}
 use Rattle.publisher_hub.specs.Entry.{EntryState, until_of}
 use Rattle.publisher_hub.specs.Hub.{HubState, Progress}
 use Rattle.publisher_hub.specs.declared.hub.TheConstants.{SOURCES}
-
--- how many subscriptions may be live, and how many may ever be made
-abbrev pub MOST_LIVE : ℕ
-MOST_LIVE = 64
-
-abbrev pub MOST_ENTRIES : ℕ
-MOST_ENTRIES = 4294967295
+pub use Rattle.publisher_hub.specs.declared.hub.subscribing.TheConstants.{MOST_ENTRIES, MOST_LIVE}
 
 -- of two items, one after the other, the serial number rises, and so does the number among the items of one source
 pub record IsBefore (x y : Item) : Type 0 where
