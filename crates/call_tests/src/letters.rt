@@ -19,7 +19,8 @@ pub fn item_with(alloc: Global, text: &[u8]) -> Result<Item, NoMemory>
 }
 
 /// The signals that the letters write: `s` for `onSubscribe`, `c` for `onComplete`, `e` for `onError` of a publisher that
-/// was closed with code 7, and any other letter for `onNext` of an item with that text.
+/// was closed with code 7, `a` for that of a bad request, `t` for that of a second subscribing, and any other letter for `onNext` of
+/// an item with that text.
 pub fn signals(alloc: Global, letters: &[u8]) -> Result<Vec<Signal>, NoMemory>
     ensures { IfOk result (λ signals. signals.items ≡ map signal_of_letter letters.now) }
 {
@@ -38,6 +39,8 @@ fn signal(alloc: Global, letter: u8) -> Result<Signal, NoMemory>
         b's' => Signal::Subscribed,
         b'c' => Signal::Complete,
         b'e' => Signal::Error(Fault::Published(7)),
+        b'a' => Signal::Error(Fault::IllegalArgument),
+        b't' => Signal::Error(Fault::IllegalState),
         _ => Signal::Next(item_with(alloc, &[letter])?),
     })
 }

@@ -22,6 +22,8 @@ pub enum Row<'a> {
     Gone(u8),
     /// So many items are requested, and the task is to be started or not.
     Request(i64, bool),
+    /// The owner cancels, and the task is to be started or not.
+    Cancel(bool),
     /// The publisher is closed, and the task is to be started or not.
     Close(bool),
     /// The publisher is closed with an error of this code, and the task is to be started or not.
@@ -54,15 +56,12 @@ pub fn desk_of<B: Listener>(alloc: Global, asked: usize, subscriber: B) -> Resul
     }
 }
 
-/// Whether a Desk of a steady listener answers a row's call as the row says. A call that may not be made is not answered so: a turn
-/// that is not owed, and a request of a number that is not positive.
+/// Whether a Desk answers a row's call as the row says. A turn that is not owed is not made, and not answered so.
 pub fn answers<B: Listener>(
     alloc: Global,
     desk: &mut Desk<B>,
     row: Row<'_>,
 ) -> Result<bool, NoMemory>
-    requires { desk.old.is_steady ≡ true }
-    ensures steady { desk.new.is_steady ≡ true }
     ensures fits { IfOk result (λ is_answered. is_answered ≡ true → Fits row.entry desk.old desk.new) }
     ensures flow { IsFlow desk.new.lane }
     ensures err { OnErr result (desk.new ≡ desk.old) }
@@ -72,7 +71,8 @@ pub fn answers<B: Listener>(
         Row::Accepted(letter, lag, starts) => is_accepted(alloc, desk, letter, (lag, starts))?,
         Row::Full(letter) => comes_back(alloc, desk, letter, false)?,
         Row::Gone(letter) => comes_back(alloc, desk, letter, true)?,
-        Row::Request(n, starts) => n > 0 && desk.request(n).is_some() == starts,
+        Row::Request(n, starts) => requests(desk, n, starts),
+        Row::Cancel(starts) => cancels(desk, starts),
         Row::Close(starts) => closes(desk, Ending::Normal, starts),
         Row::Fail(code, starts) => closes(desk, Ending::Failed(code), starts),
         Row::Duplicate(starts) => duplicates(desk, starts),
@@ -104,7 +104,6 @@ fn is_accepted<B: Listener>(
     letter: u8,
     want: (u64, bool),
 ) -> Result<bool, NoMemory>
-    ensures steady { desk.new.is_steady ≡ desk.old.is_steady }
     ensures fits { IfOk result (λ is_answered. is_answered ≡ true → Fits (Row.Accepted letter want.0 want.1) desk.old desk.new) }
     ensures flow { IsFlow desk.old.lane → IsFlow desk.new.lane }
     ensures err { OnErr result (desk.new ≡ desk.old) }
@@ -128,7 +127,6 @@ fn comes_back<B: Listener>(
     letter: u8,
     from_gone: bool,
 ) -> Result<bool, NoMemory>
-    ensures steady { desk.new.is_steady ≡ desk.old.is_steady }
     ensures full { IfOk result (λ is_answered. is_answered ≡ true → from_gone ≡ false → Fits (Row.Full letter) desk.old desk.new) }
     ensures gone { IfOk result (λ is_answered. is_answered ≡ true → from_gone ≡ true → Fits (Row.Gone letter) desk.old desk.new) }
     ensures flow { IsFlow desk.old.lane → IsFlow desk.new.lane }
@@ -148,9 +146,24 @@ fn comes_back<B: Listener>(
     })
 }
 
+/// Whether a request of this number starts the task, or does not.
+fn requests<B: Listener>(desk: &mut Desk<B>, n: i64, starts: bool) -> bool
+    ensures fits { result ≡ true → Fits (Row.Request n starts) desk.old desk.new }
+    ensures flow { IsFlow desk.new.lane }
+{
+    desk.request(n).is_some() == starts
+}
+
+/// Whether a cancel starts the task, or does not.
+fn cancels<B: Listener>(desk: &mut Desk<B>, starts: bool) -> bool
+    ensures fits { result ≡ true → Fits (Row.Cancel starts) desk.old desk.new }
+    ensures flow { IsFlow desk.new.lane }
+{
+    desk.cancel().is_some() == starts
+}
+
 /// Whether a close with this ending starts the task, or does not.
 fn closes<B: Listener>(desk: &mut Desk<B>, ending: Ending, starts: bool) -> bool
-    ensures steady { desk.new.is_steady ≡ desk.old.is_steady }
     ensures fits { result ≡ true → desk.new ≡ desk_after_end ending desk.old }
     ensures flow { IsFlow desk.new.lane }
 {
@@ -161,7 +174,6 @@ fn closes<B: Listener>(desk: &mut Desk<B>, ending: Ending, starts: bool) -> bool
 
 /// Whether a second subscribing starts the task, or does not.
 fn duplicates<B: Listener>(desk: &mut Desk<B>, starts: bool) -> bool
-    ensures steady { desk.new.is_steady ≡ desk.old.is_steady }
     ensures fits { result ≡ true → Fits (Row.Duplicate starts) desk.old desk.new }
     ensures flow { IsFlow desk.new.lane }
 {
@@ -172,7 +184,6 @@ fn duplicates<B: Listener>(desk: &mut Desk<B>, starts: bool) -> bool
 
 /// Whether a look shows this.
 fn stands<B: Listener>(desk: &mut Desk<B>, ended: bool, held: u64) -> bool
-    ensures steady { desk.new.is_steady ≡ desk.old.is_steady }
     ensures fits { result ≡ true → Fits (Row.Standing ended held) desk.old desk.new }
     ensures flow { IsFlow desk.new.lane }
 {
@@ -188,8 +199,6 @@ fn turns<B: Listener>(
     letters: &[u8],
     outlook: Outlook,
 ) -> Result<bool, NoMemory>
-    requires { desk.old.is_steady ≡ true }
-    ensures steady { desk.new.is_steady ≡ true }
     ensures fits { IfOk result (λ is_answered. is_answered ≡ true → MakesTurn desk.old desk.new) }
     ensures flow { IsFlow desk.old.lane → IsFlow desk.new.lane }
     ensures err { OnErr result (desk.new ≡ desk.old) }

@@ -1,39 +1,95 @@
--- One look does what is left of the plain turn.
-use Rattle.std.proofs.Common.{◌≡◌, ℕ, suc, ◌+◌, ◌-◌, ◌<◌, min, Bool, true, false, List, [], ◌∷◌, ◌++◌, length, drop, Option, None, Some, IsSome, refl, ap, sym, ◌∙◌, inl, inr, arith}
+-- One look is one step of the turn that its callbacks' answers make.
+use Rattle.std.proofs.Common.{◌≡◌, ℕ, zero, suc, ◌+◌, ◌-◌, ◌<◌, ◌≤◌, min, Bool, true, false, List, [], ◌∷◌, ◌++◌, length, drop, Option, None, Some, IsSome, Ok, refl, ap, sym, ◌∙◌, inl, inr, arith}
 use Rattle.std.proofs.lemmas.List.{append-nil, length-drop}
 use Rattle.std.proofs.Math.Seq.{drop-append_seam, drop-length}
-use Rattle.feed_core.specs.Prelude.{Item, Signal, Next, Ending, How, items_of}
-use Rattle.feed_core.specs.declared.cause.Causes.{Causes}
-use Rattle.feed_core.specs.declared.turn.outlook.Outlook.TheVariants.{Again, Resting, Ended}
-use Rattle.feed_core.specs.Cause.{stops, closes, completion, with_cause_of}
-use Rattle.feed_core.specs.Desk.{DeskState}
-use Rattle.feed_core.specs.Turn.{taken_in}
+use Rattle.feed_core.specs.Prelude.{Answer, Item, Signal, Next, IllegalArgument, IllegalState, Ending, How, Causes, Outlook, Again, Resting, Ended, items_of}
+use Rattle.feed_core.specs.AnsweredTurn.{Reply, ArePlain, refused, replies_to, first_reply, later_replies, obeyed, ended_as, lane_taken, called, finished, looked, look_of, and_then, looks_within}
+use Rattle.feed_core.specs.Cause.{stops, closes, closing_error, completion, end_where, with_cause_of}
+use Rattle.feed_core.specs.Desk.{DeskState, started_after}
 use Rattle.feed_core.specs.Lane.{LaneState, IsFlow}
-use Rattle.feed_core.specs.PlainTurn.{Turn, terminal_of, end_by, turn_at_rest, close_or_rest, signals_then}
-use Rattle.feed_core.specs.Sound.{is_begun, lane_of, IsInOrder}
-use Rattle.feed_core.specs.Steps.{AfterTurn, HasTerminal, OwesEnd, Looks, MovesNext, rest_of_turn, turn_within}
+use Rattle.feed_core.specs.PlainTurn.{terminal_of}
+use Rattle.feed_core.specs.Sound.{is_begun, lane_of, loss_of, IsInOrder}
+use Rattle.feed_core.specs.Steps.{HasTerminal, IsToldBy, Looks, MovesNext, Obeys, OwesEnd}
 use Rattle.feed_core.proofs.FlowRules.{all_counted, flow_kept}
-use Rattle.feed_core.proofs.DeskSteps.{accepted_kept, ended_items, one_more, in_order_owed, in_order_ended, in_order_given, in_order_lost, waiting_held}
-use Rattle.feed_core.proofs.PlainTurns.{gives, pauses, stopped}
-
--- an end that is owed is what is left of the turn
-owed_turn : (lane : LaneState) (end : How) (most : ℕ) → OwesEnd lane end → rest_of_turn (suc most) lane ≡ end_by end
-owed_turn lane end most (inl e) = stopped (suc most) lane.causes (drop lane.given lane.accepted) (lane.asked - lane.given) end e
-owed_turn lane end most (inr e) =
-    let nothing : drop lane.given lane.accepted ≡ [] = ap (λ k. drop k lane.accepted) e.2 ∙ drop-length lane.accepted in
-    ap (λ waiting. turn_within (suc most) lane.causes waiting (lane.asked - lane.given)) nothing ∙ pauses most lane.causes [] (lane.asked - lane.given) e.0 (omega arith) ∙ ap (λ close. close_or_rest close []) e.1
+use Rattle.feed_core.proofs.DeskSteps.{accepted_kept, ended_items, one_more, in_order_owed, in_order_ended, in_order_given, in_order_lost, is_begun_append, items_of_terminal, waiting_held}
+use Rattle.feed_core.proofs.ObeyedAnswers.{in_order_obeying, obeying_how, obeying_loss, obeying_told}
 
 -- a subscription of these parts
-abbrev pub desk_of : LaneState → ℕ → Bool → Bool → ℕ → DeskState
-desk_of lane capacity started steady looks = record { lane = lane; capacity = capacity; started = started; is_steady = steady; looks = looks }
+abbrev pub desk_of : LaneState → ℕ → Bool → Bool → ℕ → Bool → DeskState
+desk_of lane capacity started steady looks cancelled =
+    record { lane = lane; capacity = capacity; started = started; is_steady = steady; looks = looks; is_cancelled = cancelled }
 
--- where completion is asked for, items are left
-still_resting : (closing : Option Ending) (waiting : List Item) → (IsSome (completion closing) → 0 < length waiting)
-    → close_or_rest (completion closing) waiting ≡ turn_at_rest
-still_resting None waiting some = refl
-still_resting (Some Ending.Normal) [] some = let above : 0 < 0 = some refl in absurd (omega arith)
-still_resting (Some Ending.Normal) (_ ∷ _) some = refl
-still_resting (Some (Ending.Failed _)) waiting some = refl
+-- ---- what a look finds
+
+-- an item that waits and was requested
+gives_next : (reply : Reply) (lane : LaneState) (item : Item) (rest : List Item) → stops lane.causes ≡ None → drop lane.given lane.accepted ≡ item ∷ rest → lane.given < lane.asked
+    → look_of reply lane ≡ called (Next item) reply (lane_taken lane)
+gives_next reply lane item rest unstopped waits requested =
+    let unmet : lane.asked - lane.given ≡ suc (lane.asked - lane.given - 1) = omega arith in
+    λ k. looked (unstopped k) (closes lane.causes) (waits k) (unmet k) reply lane
+
+-- an end that is owed
+owed_look : (reply : Reply) (lane : LaneState) (end : How) → OwesEnd lane end → look_of reply lane ≡ finished end (terminal_of end) reply lane
+owed_look reply lane end (inl e) = ap (λ stop. looked stop (closes lane.causes) (drop lane.given lane.accepted) (lane.asked - lane.given) reply lane) e
+owed_look reply lane end (inr e) =
+    let nothing : drop lane.given lane.accepted ≡ [] = ap (λ k. drop k lane.accepted) e.2 ∙ drop-length lane.accepted in
+    λ k. looked (e.0 k) (e.1 k) (nothing k) (lane.asked - lane.given) reply lane
+
+-- nothing
+rests_so : (later : Option How) (waiting : List Item) (unmet : ℕ) (reply : Reply) (lane : LaneState) → (IsSome later → 0 < length waiting) → min (length waiting) unmet ≡ 0
+    → looked None later waiting unmet reply lane ≡ record { lane = lane; outlook = Resting }
+rests_so None [] unmet reply lane some none = refl
+rests_so (Some how) [] unmet reply lane some none = let above : 0 < 0 = some refl in absurd (omega arith)
+rests_so later (item ∷ waiting) zero reply lane some none = refl
+rests_so later (item ∷ waiting) (suc n) reply lane some none = absurd (omega (arith, none))
+
+-- the terminal callback came back
+told_finish : (end : How) (more : List Reply) (lane : LaneState)
+    → finished end (terminal_of end) (first_reply (replies_to (terminal_of end) ++ more)) lane ≡ ended_as end (record lane { told = lane.told ++ terminal_of end })
+told_finish How.Completed more lane = refl
+told_finish (How.Errored fault) more lane = refl
+told_finish How.Cancelled more lane = ap (λ told. ended_as How.Cancelled (record lane { told = told })) (sym (append-nil lane.told))
+told_finish (How.Failed code) more lane = ap (λ told. ended_as (How.Failed code) (record lane { told = told })) (sym (append-nil lane.told))
+told_finish How.OutOfMemory more lane = ap (λ told. ended_as How.OutOfMemory (record lane { told = told })) (sym (append-nil lane.told))
+
+-- such an end answers as often as it tells, unless it is a want of memory
+told_answers : (end : How) → loss_of (Some end) ≡ 0 → length (replies_to (terminal_of end)) ≡ length (terminal_of end) + loss_of (Some end)
+told_answers How.Completed none = refl
+told_answers (How.Errored fault) none = refl
+told_answers How.Cancelled none = refl
+told_answers (How.Failed code) none = refl
+told_answers How.OutOfMemory none = cc
+
+-- an end that is owed is no want of memory
+owed_loss : (lane : LaneState) (end : How) → OwesEnd lane end → loss_of (Some end) ≡ 0
+owed_loss lane end (inl e) = stops_loss lane.causes.cancel lane.causes.argument lane.causes.state lane.causes.closing e where
+  stops_loss : (cancel argument state : Bool) (closing : Option Ending)
+      → end_where cancel How.Cancelled (end_where argument (How.Errored IllegalArgument) (end_where state (How.Errored IllegalState) (closing_error closing))) ≡ Some end → loss_of (Some end) ≡ 0
+  stops_loss true argument state closing e = ap loss_of (sym e)
+  stops_loss false true state closing e = ap loss_of (sym e)
+  stops_loss false false true closing e = ap loss_of (sym e)
+  stops_loss false false false None e = cc
+  stops_loss false false false (Some Ending.Normal) e = cc
+  stops_loss false false false (Some (Ending.Failed code)) e = ap loss_of (sym e)
+owed_loss lane end (inr e) = closes_loss lane.causes.closing e.1 where
+  closes_loss : (closing : Option Ending) → completion closing ≡ Some end → loss_of (Some end) ≡ 0
+  closes_loss None e = cc
+  closes_loss (Some Ending.Normal) e = ap loss_of (sym e)
+  closes_loss (Some (Ending.Failed code)) e = cc
+
+-- the callback of a terminal signal counts as one that went on
+plain_end : (end : How) → ArePlain (replies_to (terminal_of end))
+plain_end How.Completed = (refl, tt)
+plain_end (How.Errored fault) = (refl, tt)
+plain_end How.Cancelled = tt
+plain_end (How.Failed code) = tt
+plain_end How.OutOfMemory = tt
+
+-- the task of a subscription that was told an item runs on
+runs_on : (outlook : Outlook) (item : Item) → IsToldBy outlook (Next item ∷ []) → true ≡ started_after outlook
+runs_on Again item shape = refl
+runs_on Resting item shape = let e = ap length shape in absurd (omega (arith, e))
+runs_on (Ended how) item shape = refl
 
 -- nothing was left to do
 pub looks_rested : (old : DeskState) (seen : List Signal) → IsFlow old.lane → old.lane.how ≡ None
@@ -42,184 +98,199 @@ pub looks_rested : (old : DeskState) (seen : List Signal) → IsFlow old.lane �
     → Looks old (record old { started = false }) seen seen Resting
 looks_rested old seen flow unended unstopped all waits =
     let lane = old.lane in
-    let left = length-drop lane.given lane.accepted in
-    let rested : close_or_rest (closes lane.causes) (drop lane.given lane.accepted) ≡ turn_at_rest =
-    still_resting lane.causes.closing (drop lane.given lane.accepted) (λ e. let some = waits e in omega arith) in
+    let dropped = length-drop lane.given lane.accepted in
     record {
       last = [];
+      replies = [];
       shape = refl;
       seen_after = sym (append-nil seen);
-      turned = record {
+      part = record {
         recorded = sym (append-nil lane.told);
+        answered = refl;
         accepted = refl;
-        asked = refl;
-        causes = refl;
         how = unended;
         started = refl;
         capacity = refl;
         looks = refl;
+        cancelled = refl;
         steady = λ steady. steady;
+        plain = λ steady. tt;
+        flow = flow;
       };
       few = omega arith;
-      flow = flow;
+      ahead = (drop lane.given lane.accepted, refl);
       again = λ e. cc;
-      ends = λ _ most.
-          let turn = pauses most lane.causes (drop lane.given lane.accepted) (lane.asked - lane.given) unstopped (omega arith) ∙ rested in
-          record { missed = []; whole = ap (λ t. t.told) turn ∙ sym (append-nil _); seen = sym (ap (λ t. t.outlook) turn) };
-      taken = λ _ most.
-          let turn = pauses most lane.causes (drop lane.given lane.accepted) (lane.asked - lane.given) unstopped (omega arith) ∙ rested in
-          let none : taken_in (rest_of_turn (suc most) lane) [] ≡ 0 = ap (λ t. taken_in t []) turn in
-          omega arith;
+      left = λ most more.
+          let rested : look_of (first_reply more) lane ≡ record { lane = lane; outlook = Resting } =
+          ap (λ stop. looked stop (closes lane.causes) (drop lane.given lane.accepted) (lane.asked - lane.given) (first_reply more) lane) unstopped
+          ∙ rests_so (closes lane.causes) (drop lane.given lane.accepted) (lane.asked - lane.given) (first_reply more) lane (λ e. let some = waits e in omega arith) (omega arith) in
+          ap (λ after. and_then after (looks_within most (later_replies more))) rested;
     }
-
--- a turn that told its terminal signal alone took no item
-no_item : (end : How) → taken_in (end_by end) (terminal_of end) ≡ 0
-no_item How.Completed = refl
-no_item (How.Errored _) = refl
-no_item How.Cancelled = refl
-no_item (How.Failed _) = refl
-no_item How.OutOfMemory = refl
-
--- a turn that missed its terminal signal took no item
-no_item_missed : (end : How) → taken_in (end_by end) [] ≡ 0
-no_item_missed How.Completed = refl
-no_item_missed (How.Errored _) = refl
-no_item_missed How.Cancelled = refl
-no_item_missed (How.Failed _) = refl
-no_item_missed How.OutOfMemory = refl
 
 module _ {told : List Signal} {held : List Item} {given asked capacity : ℕ} {causes : Causes} {how : Option How} {started : Bool}
     (kept : IsInOrder (lane_of told held given asked causes how) held capacity started) (unended : how ≡ None) (runs : started ≡ true) (begun : is_begun told ≡ true) where
-  -- a subscription that ended is changed by what it was told, and by its end
-  ended_after : {told' last : List Signal} {given' : ℕ} {steady steady' : Bool} {looks : ℕ} (held' : List Item) (end : How)
-      → told' ≡ told ++ last → items_of told' ++ held' ≡ items_of told ++ held → (steady ≡ true → steady' ≡ true)
-      → AfterTurn (desk_of (lane_of told held given asked causes how) capacity started steady looks)
-      (desk_of (lane_of told' held' given' asked (with_cause_of end causes) (Some end)) capacity started steady' looks) last (Ended end)
-  ended_after held' end recorded accepted stays = record {
-    recorded = recorded;
-    accepted = accepted;
-    asked = refl;
-    causes = refl;
-    how = refl;
-    started = runs;
-    capacity = refl;
-    looks = refl;
-    steady = stays;
-  }
-
-  -- an item was taken and told
-  pub looks_given : {told' : List Signal} {held' : List Item} {seen seen' : List Signal} {steady steady' : Bool} {looks : ℕ}
+  -- an item was taken and told, and its answer was obeyed
+  pub looks_given : {told' : List Signal} {held' : List Item} {seen seen' : List Signal} {steady steady' : Bool} {looks : ℕ} {cancelled : Bool}
+      {asked' : ℕ} {causes' : Causes} {how' : Option How} {outlook : Outlook} (answer : Answer)
       → MovesNext told told' held held' seen seen' → stops causes ≡ None → given < asked
-      → (steady ≡ true → steady' ≡ true)
-      → Looks (desk_of (lane_of told held given asked causes how) capacity started steady looks)
-      (desk_of (lane_of told' held' (given + 1) asked causes how) capacity started steady' looks) seen seen' Again
-  looks_given {told'} {held'} moves unstopped requested stays =
+      → asked ≤ asked' → Obeys answer asked asked' causes causes' how how' outlook
+      → (steady ≡ true → steady' ≡ true) → (steady ≡ true → answer ≡ Answer.Go)
+      → Looks (desk_of (lane_of told held given asked causes how) capacity started steady looks cancelled)
+      (desk_of (lane_of told' held' (given + 1) asked' causes' how') capacity started steady' looks cancelled) seen seen' outlook
+  looks_given {told'} {held'} {asked' = asked'} {causes' = causes'} {how' = how'} {outlook = outlook} answer moves unstopped requested grows obeys stays goes =
+      let old : LaneState = lane_of told held given asked causes how in
+      let mid : LaneState = lane_of told' held' (given + 1) asked causes how in
+      let new : LaneState = lane_of told' held' (given + 1) asked' causes' how' in
+      let same : obeyed answer mid ≡ record { lane = new; outlook = outlook } = obeys mid in
+      let accepted : new.accepted ≡ old.accepted = accepted_kept kept unended runs begun moves in
       let after : drop (given + 1) (items_of told' ++ held') ≡ held' =
       ap (λ k. drop k (items_of told' ++ held')) (sym (one_more kept unended runs begun moves)) ∙ drop-append_seam (items_of told') held' in
+      let waits : drop given old.accepted ≡ moves.item ∷ held' = waiting_held kept unended ∙ moves.waited in
+      let begun' : is_begun told' ≡ true = ap is_begun moves.told_after ∙ is_begun_append told (Next moves.item ∷ []) begun in
+      let look : look_of (Ok answer) old ≡ record { lane = new; outlook = outlook } =
+      gives_next (Ok answer) old moves.item held' unstopped waits requested
+      ∙ (λ k. obeyed answer (record old { accepted = sym accepted k; given = given + 1; told = sym moves.told_after k }))
+      ∙ same in
+      let shape = obeying_told answer mid moves.item _ same in
       record {
         last = Next moves.item ∷ [];
-        shape = (moves.item, refl);
+        replies = Ok answer ∷ [];
+        shape = shape;
         seen_after = moves.seen_after;
-        turned = record {
+        part = record {
           recorded = moves.told_after;
-          accepted = accepted_kept kept unended runs begun moves;
-          asked = refl;
-          causes = refl;
-          how = unended;
-          started = runs;
+          answered = let none = obeying_loss answer mid _ same in omega (arith, none);
+          accepted = accepted;
+          how = obeying_how answer mid _ unended same;
+          started = runs ∙ runs_on outlook moves.item shape;
           capacity = refl;
           looks = refl;
+          cancelled = refl;
           steady = stays;
+          plain = λ steady. (goes steady, tt);
+          flow = flow_kept (in_order_obeying (in_order_given kept unended runs begun moves requested) unended runs begun' answer grows obeys).sound;
         };
         few = omega arith;
-        flow = flow_kept (in_order_given kept unended runs begun moves requested).sound;
+        ahead = (held', sym waits);
         again = λ _. record {
           item = moves.item;
           told = refl;
-          waited = waiting_held kept unended ∙ moves.waited ∙ ap (λ rest. moves.item ∷ rest) (sym after);
+          waited = waits ∙ ap (λ rest. moves.item ∷ rest) (sym after);
           counted = refl;
-          requested = requested;
-          unstopped = unstopped;
         };
-        ends = λ other. absurd (other refl);
-        taken = λ other. absurd (other refl);
+        left = λ most more. ap (λ after. and_then after (looks_within most more)) look;
       }
 
   -- an item was taken, and its callback met want of memory
-  pub looks_lost : {told' : List Signal} {held' : List Item} {seen seen' : List Signal} {steady steady' : Bool} {looks : ℕ}
+  pub looks_lost : {told' : List Signal} {held' : List Item} {seen seen' : List Signal} {steady steady' : Bool} {looks : ℕ} {cancelled : Bool}
       → told' ≡ told → held' ≡ held → seen' ≡ seen → stops causes ≡ None → given < length (items_of told ++ held)
       → given < asked → (steady ≡ true → steady' ≡ true)
-      → Looks (desk_of (lane_of told held given asked causes how) capacity started steady looks)
-      (desk_of (lane_of told' held' (given + 1) asked (with_cause_of How.OutOfMemory causes) (Some How.OutOfMemory)) capacity started steady' looks) seen seen' (Ended How.OutOfMemory)
-  looks_lost {told'} {held'} {seen} same_told same_held same_seen unstopped waits requested stays = record {
-    last = [];
-    shape = refl;
-    seen_after = same_seen ∙ sym (append-nil seen);
-    turned = ended_after _ How.OutOfMemory (same_told ∙ sym (append-nil told))
-        (ap (λ text. items_of text ++ held') same_told ∙ ap (λ rest. items_of told ++ rest) same_held) stays;
-    few = omega arith;
-    flow = flow_kept (in_order_lost kept unended runs begun same_told same_held waits requested).sound;
-    again = λ e. cc;
-    ends = λ _ most.
-        let next = gives_next most held refl in
-        record { missed = Next next.0 ∷ next.1.told; whole = ap (λ t. t.told) next.2; seen = refl };
-    taken = λ _ most.
-        let next = gives_next most held refl in
-        let one : taken_in (rest_of_turn (suc most) (lane_of told held given asked causes how)) [] ≡ 1 = ap (λ t. taken_in t []) next.2 in
-        omega arith;
-  } where
-    -- the plain turn would have given an item
-    gives_next : (most : ℕ) (items : List Item) → held ≡ items
-        → (item : Item) × (rest : Turn) × (rest_of_turn (suc most) (lane_of told held given asked causes how) ≡ signals_then (Next item ∷ []) rest)
-    gives_next most [] e =
-        let counted = all_counted kept.sound unended in
-        let none : length (items_of told ++ held) ≡ length (items_of told) = ap (λ rest. length (items_of told ++ rest)) e ∙ ap length (append-nil (items_of told)) in
-        absurd (omega arith)
-    gives_next most (item ∷ items) e =
-        let waiting : drop given (items_of told ++ held) ≡ item ∷ items = waiting_held kept unended ∙ e in
-        (item, turn_within most causes items (asked - given - 1), ap (λ rest. turn_within (suc most) causes rest (asked - given)) waiting ∙ gives most causes item items (asked - given) unstopped (omega arith))
+      → Looks (desk_of (lane_of told held given asked causes how) capacity started steady looks cancelled)
+      (desk_of (lane_of told' held' (given + 1) asked (with_cause_of How.OutOfMemory causes) (Some How.OutOfMemory)) capacity started steady' looks cancelled) seen seen' (Ended How.OutOfMemory)
+  looks_lost {told'} {held'} {seen} same_told same_held same_seen unstopped waits requested stays =
+      let old : LaneState = lane_of told held given asked causes how in
+      let new : LaneState = lane_of told' held' (given + 1) asked (with_cause_of How.OutOfMemory causes) (Some How.OutOfMemory) in
+      let accepted : new.accepted ≡ old.accepted = ap (λ text. items_of text ++ held') same_told ∙ ap (λ rest. items_of told ++ rest) same_held in
+      let next = gives_item held refl waits in
+      record {
+        last = [];
+        replies = refused ∷ [];
+        shape = inl refl;
+        seen_after = same_seen ∙ sym (append-nil seen);
+        part = record {
+          recorded = same_told ∙ sym (append-nil told);
+          answered = refl;
+          accepted = accepted;
+          how = refl;
+          started = runs;
+          capacity = refl;
+          looks = refl;
+          cancelled = refl;
+          steady = stays;
+          plain = λ steady. (tt, tt);
+          flow = flow_kept (in_order_lost kept unended runs begun same_told same_held waits requested).sound;
+        };
+        few = omega arith;
+        ahead = (drop given old.accepted, refl);
+        again = λ e. cc;
+        left = λ most more.
+            ap (λ after. and_then after (looks_within most more))
+            (gives_next refused old next.0 next.1 unstopped (waiting_held kept unended ∙ next.2) requested
+            ∙ (λ k. ended_as How.OutOfMemory (record old { accepted = sym accepted k; given = given + 1; told = sym same_told k })));
+      } where
+        -- an item waits
+        gives_item : (items : List Item) → held ≡ items → given < length (items_of told ++ held) → (item : Item) × (rest : List Item) × (held ≡ item ∷ rest)
+        gives_item [] e waits =
+            let counted = all_counted kept.sound unended in
+            let none : length (items_of told ++ held) ≡ length (items_of told) = ap (λ rest. length (items_of told ++ rest)) e ∙ ap length (append-nil (items_of told)) in
+            absurd (omega (arith, none, counted, waits))
+        gives_item (item ∷ items) e waits = (item, items, e)
 
-  module _ {told' : List Signal} {seen seen' : List Signal} {steady steady' : Bool} {looks : ℕ} (end : How) (owed : OwesEnd (lane_of told held given asked causes how) end) (stays : steady ≡ true → steady' ≡ true) where
+  module _ {told' : List Signal} {seen seen' : List Signal} {steady steady' : Bool} {looks : ℕ} {cancelled : Bool} (end : How) (owed : OwesEnd (lane_of told held given asked causes how) end) (stays : steady ≡ true → steady' ≡ true) where
     -- the end that was owed was told
     pub looks_ended : told' ≡ told ++ terminal_of end → seen' ≡ seen ++ terminal_of end
-        → Looks (desk_of (lane_of told held given asked causes how) capacity started steady looks)
-        (desk_of (lane_of told' held given asked (with_cause_of end causes) (Some end)) capacity started steady' looks) seen seen' (Ended end)
+        → Looks (desk_of (lane_of told held given asked causes how) capacity started steady looks cancelled)
+        (desk_of (lane_of told' held given asked (with_cause_of end causes) (Some end)) capacity started steady' looks cancelled) seen seen' (Ended end)
     looks_ended grows seen_grows =
-        let same : items_of told' ≡ items_of told = ended_items told told' end grows in
+        let old : LaneState = lane_of told held given asked causes how in
+        let accepted : items_of told' ++ held ≡ items_of told ++ held = ap (λ items. items ++ held) (ended_items told told' end grows) in
         record {
           last = terminal_of end;
-          shape = refl;
+          replies = replies_to (terminal_of end);
+          shape = inl refl;
           seen_after = seen_grows;
-          turned = ended_after _ end grows (ap (λ items. items ++ held) same) stays;
+          part = record {
+            recorded = grows;
+            answered = told_answers end (owed_loss old end owed);
+            accepted = accepted;
+            how = refl;
+            started = runs;
+            capacity = refl;
+            looks = refl;
+            cancelled = refl;
+            steady = stays;
+            plain = λ steady. plain_end end;
+            flow = flow_kept (in_order_owed kept unended runs begun end owed grows).sound;
+          };
           few = omega arith;
-          flow = flow_kept (in_order_owed kept unended runs begun end owed grows).sound;
+          ahead = (drop given old.accepted, ap (λ items. items ++ drop given old.accepted) (items_of_terminal end));
           again = λ e. cc;
-          ends = λ _ most.
-              let turn = owed_turn (lane_of told held given asked causes how) end most owed in
-              record { missed = []; whole = ap (λ t. t.told) turn ∙ sym (append-nil _); seen = sym (ap (λ t. t.outlook) turn) };
-          taken = λ _ most.
-              let turn = owed_turn (lane_of told held given asked causes how) end most owed in
-              let none : taken_in (rest_of_turn (suc most) (lane_of told held given asked causes how)) (terminal_of end) ≡ 0 = ap (λ t. taken_in t (terminal_of end)) turn ∙ no_item end in
-              omega arith;
+          left = λ most more.
+              ap (λ after. and_then after (looks_within most (later_replies (replies_to (terminal_of end) ++ more))))
+              (owed_look (first_reply (replies_to (terminal_of end) ++ more)) old end owed ∙ told_finish end more old
+              ∙ (λ k. ended_as end (record old { accepted = sym accepted k; told = sym grows k })));
         }
 
     -- the callback of the end that was owed met want of memory
     pub looks_missed : told' ≡ told → seen' ≡ seen → HasTerminal end
-        → Looks (desk_of (lane_of told held given asked causes how) capacity started steady looks)
-        (desk_of (lane_of told' held given asked (with_cause_of How.OutOfMemory causes) (Some How.OutOfMemory)) capacity started steady' looks) seen seen' (Ended How.OutOfMemory)
-    looks_missed same_told same_seen missed = record {
-      last = [];
-      shape = refl;
-      seen_after = same_seen ∙ sym (append-nil seen);
-      turned = ended_after _ How.OutOfMemory (same_told ∙ sym (append-nil told)) (ap (λ text. items_of text ++ held) same_told) stays;
-      few = omega arith;
-      flow = flow_kept (in_order_ended kept unended runs begun How.OutOfMemory tt (same_told ∙ sym (append-nil told))).sound;
-      again = λ e. cc;
-      ends = λ _ most.
-          let turn = owed_turn (lane_of told held given asked causes how) end most owed in
-          record { missed = missed.0 ∷ []; whole = ap (λ t. t.told) turn ∙ missed.1; seen = refl };
-      taken = λ _ most.
-          let turn = owed_turn (lane_of told held given asked causes how) end most owed in
-          let none : taken_in (rest_of_turn (suc most) (lane_of told held given asked causes how)) [] ≡ 0 = ap (λ t. taken_in t []) turn ∙ no_item_missed end in
-          omega arith;
-    }
+        → Looks (desk_of (lane_of told held given asked causes how) capacity started steady looks cancelled)
+        (desk_of (lane_of told' held given asked (with_cause_of How.OutOfMemory causes) (Some How.OutOfMemory)) capacity started steady' looks cancelled) seen seen' (Ended How.OutOfMemory)
+    looks_missed same_told same_seen missed =
+        let old : LaneState = lane_of told held given asked causes how in
+        let accepted : items_of told' ++ held ≡ items_of told ++ held = ap (λ text. items_of text ++ held) same_told in
+        record {
+          last = [];
+          replies = refused ∷ [];
+          shape = inl refl;
+          seen_after = same_seen ∙ sym (append-nil seen);
+          part = record {
+            recorded = same_told ∙ sym (append-nil told);
+            answered = refl;
+            accepted = accepted;
+            how = refl;
+            started = runs;
+            capacity = refl;
+            looks = refl;
+            cancelled = refl;
+            steady = stays;
+            plain = λ steady. (tt, tt);
+            flow = flow_kept (in_order_ended kept unended runs begun How.OutOfMemory tt (same_told ∙ sym (append-nil told))).sound;
+          };
+          few = omega arith;
+          ahead = (drop given old.accepted, refl);
+          again = λ e. cc;
+          left = λ most more.
+              ap (λ after. and_then after (looks_within most more))
+              (owed_look refused old end owed ∙ ap (λ signals. finished end signals refused old) missed.1
+              ∙ (λ k. ended_as How.OutOfMemory (record old { accepted = sym accepted k; told = sym same_told k })));
+        }

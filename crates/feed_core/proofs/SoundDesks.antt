@@ -6,9 +6,9 @@ use Rattle.std.proofs.lemmas.Bool.Decides.{nat_tests}
 use Rattle.std.proofs.lemmas.List.{append-nil, length-append}
 use Rattle.feed_core.specs.Prelude.{Item, Signal, Ending, How, Outlook, Again, Resting, Ended, total_after}
 use Rattle.feed_core.specs.Cause.{stops}
-use Rattle.feed_core.specs.Desk.{DeskState, owes, started_after, desk_after_signal, desk_after_put, desk_after_end, desk_after_duplicate, desk_after_request, desk_after_turn}
+use Rattle.feed_core.specs.Desk.{DeskState, owes, started_after, desk_after_signal, desk_after_put, desk_after_end, desk_after_duplicate, desk_after_request, desk_after_bad_request, desk_after_cancel, desk_after_turn}
 use Rattle.feed_core.specs.Lane.{LaneState, IsFlow, IsSettled}
-use Rattle.feed_core.specs.LaneCalls.{empty_lane, is_gone, lag_of, lane_with_item, lane_with_closing}
+use Rattle.feed_core.specs.LaneCalls.{empty_lane, is_gone, lag_of, lane_with_item, lane_with_closing, lane_with_cancel}
 use Rattle.feed_core.specs.PlainTurn.{plain_turn_of}
 use Rattle.feed_core.specs.Sound.{IsSound, IsAtRest, IsSoundDesk}
 use Rattle.feed_core.specs.Turn.{lane_after_turn, MeetsPlainTurn, IsOutlookOf}
@@ -16,7 +16,7 @@ use Rattle.feed_core.proofs.CalmLanes.{IsCalm, calm_empty_lane}
 use Rattle.feed_core.proofs.CutTurns.{calm_cut_turn}
 use Rattle.feed_core.proofs.FlowRules.{flow_kept, settled_at_rest, settled_some}
 use Rattle.feed_core.proofs.RestingTurns.{at_rest_after}
-use Rattle.feed_core.proofs.SoundLanes.{sound_lane_with_item, sound_asked, sound_lane_with_closing, sound_lane_with_duplicate}
+use Rattle.feed_core.proofs.SoundLanes.{sound_lane_with_item, sound_asked, sound_lane_with_closing, sound_lane_with_duplicate, sound_lane_with_bad_request, sound_lane_with_cancel}
 use Rattle.feed_core.proofs.StoppedTurns.{stopped_turn, sound_stopped_turn, sound_cut_stop}
 use Rattle.feed_core.proofs.WholeTurns.{calm_whole_turn}
 
@@ -44,7 +44,7 @@ owes_live desk owed = by desk.started desk.lane.how owed where
 
 -- a new subscription is sound
 pub sound_new_desk : (capacity : ℕ) (started steady : Bool) (looks : ℕ) → started ≡ true
-    → IsSoundDesk (record { lane = empty_lane; capacity = capacity; started = started; is_steady = steady; looks = looks })
+    → IsSoundDesk (record { lane = empty_lane; capacity = capacity; started = started; is_steady = steady; looks = looks; is_cancelled = false })
 sound_new_desk capacity started steady looks runs =
     let calm = calm_empty_lane capacity in
     record { sound = calm.sound; fits = calm.fits; bounded = calm.bounded; rests = λ e. cc }
@@ -91,6 +91,17 @@ sound_desk_request desk n kept =
       bounded = omega arith;
       rests = λ e. cc;
     }
+
+-- when a number that is not positive is
+pub sound_desk_bad_request : (desk : DeskState) → IsSoundDesk desk → IsSoundDesk (desk_after_bad_request desk)
+sound_desk_bad_request desk kept = record { sound = sound_lane_with_bad_request desk.lane kept.sound; fits = kept.fits; bounded = kept.bounded; rests = λ e. cc }
+
+-- when its owner cancels it
+pub sound_desk_cancel : (desk : DeskState) → IsSoundDesk desk → IsSoundDesk (desk_after_cancel desk)
+sound_desk_cancel desk kept = by desk.is_cancelled where
+  by : (cancelled : Bool) → IsSoundDesk (if cancelled then desk else record (desk_after_signal desk (lane_with_cancel desk.lane)) { is_cancelled = true })
+  by true = kept
+  by false = record { sound = sound_lane_with_cancel desk.lane kept.sound; fits = kept.fits; bounded = kept.bounded; rests = λ e. cc }
 
 -- when it is closed
 pub sound_desk_end : (desk : DeskState) (ending : Ending) → IsSoundDesk desk → IsSoundDesk (desk_after_end ending desk)

@@ -1,8 +1,8 @@
 -- The calls of a subscription keep its lane sound.
-use Rattle.std.proofs.Common.{◌≡◌, ℕ, ◌≤◌, [], ◌∷◌, ◌++◌, ap, sym, ◌∙◌, append_assoc, length-append, arith, refl, None}
-use Rattle.feed_core.specs.Prelude.{Item, Ending, items_of}
+use Rattle.std.proofs.Common.{◌≡◌, ℕ, zero, suc, ℤ, pos, negsuc, ◌≤◌, [], ◌∷◌, ◌++◌, ap, sym, ◌∙◌, append_assoc, length-append, arith, refl, None}
+use Rattle.feed_core.specs.Prelude.{Item, Ending, items_of, total_after}
 use Rattle.feed_core.specs.Lane.{LaneState}
-use Rattle.feed_core.specs.LaneCalls.{lane_with_item, lane_with_closing, lane_with_duplicate}
+use Rattle.feed_core.specs.LaneCalls.{lane_with_item, lane_with_closing, lane_with_duplicate, lane_with_bad_request, lane_with_cancel, lane_with_request}
 use Rattle.feed_core.specs.Sound.{IsSound}
 use Rattle.feed_core.proofs.DeskSteps.{no_cause}
 
@@ -71,3 +71,37 @@ sound_lane_with_duplicate lane sound =
       unfailed = sound.unfailed;
       remembered = sound.remembered;
     }
+
+-- a lane stays sound when a number that is not positive is requested
+pub sound_lane_with_bad_request : (lane : LaneState) → IsSound lane → IsSound (lane_with_bad_request lane)
+sound_lane_with_bad_request lane sound =
+    let counts = sound.counts in
+    let cause = sound.cause in
+    record {
+      told_is = sound.told_is;
+      in_order = sound.in_order;
+      counts = record { tells = counts.tells; loses = counts.loses; taken = counts.taken; requested = counts.requested };
+      cause = record { completed = cause.completed; whole = cause.whole; published = cause.published; argument = λ e. refl; state = cause.state; cancelled = cause.cancelled; failed = cause.failed; refused = cause.refused };
+      unfailed = sound.unfailed;
+      remembered = sound.remembered;
+    }
+
+-- a lane stays sound when it is cancelled
+pub sound_lane_with_cancel : (lane : LaneState) → IsSound lane → IsSound (lane_with_cancel lane)
+sound_lane_with_cancel lane sound =
+    let counts = sound.counts in
+    let cause = sound.cause in
+    record {
+      told_is = sound.told_is;
+      in_order = sound.in_order;
+      counts = record { tells = counts.tells; loses = counts.loses; taken = counts.taken; requested = counts.requested };
+      cause = record { completed = cause.completed; whole = cause.whole; published = cause.published; argument = cause.argument; state = cause.state; cancelled = λ e. refl; failed = cause.failed; refused = cause.refused };
+      unfailed = sound.unfailed;
+      remembered = sound.remembered;
+    }
+
+-- a lane stays sound when any number is requested, where the total does not fall
+pub sound_lane_with_request : (n : ℤ) (lane : LaneState) → IsSound lane → lane.asked ≤ (lane_with_request n lane).asked → IsSound (lane_with_request n lane)
+sound_lane_with_request (pos zero) lane sound grows = sound_lane_with_bad_request lane sound
+sound_lane_with_request (pos (suc n)) lane sound grows = let requested = sound.counts.requested in sound_asked lane (total_after lane.asked (suc n)) sound (omega arith)
+sound_lane_with_request (negsuc n) lane sound grows = sound_lane_with_bad_request lane sound

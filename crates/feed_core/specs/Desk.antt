@@ -4,22 +4,24 @@ use Rattle.feed_core.specs.Prelude.{Item, Signal, Ending}
 use Rattle.feed_core.specs.declared.turn.outlook.Outlook.{Outlook}
 use Rattle.feed_core.specs.declared.turn.outlook.Outlook.TheVariants.{Again, Resting, Ended}
 use Rattle.feed_core.specs.Lane.{LaneState}
-use Rattle.feed_core.specs.LaneCalls.{empty_lane, lag_of, accepts, IsOpen, lane_with_item, lane_with_closing, lane_with_duplicate, lane_with_demand}
+use Rattle.feed_core.specs.LaneCalls.{empty_lane, lag_of, accepts, IsOpen, lane_with_item, lane_with_closing, lane_with_duplicate, lane_with_demand, lane_with_bad_request, lane_with_cancel}
 use Rattle.feed_core.specs.Turn.{lane_after_turn}
 
 -- a subscription: its lane, the capacity of its buffer, whether its task was started and is not at rest since
--- (which stays so once it has ended), whether its subscriber only goes on, and how often its publisher has looked at it
+-- (which stays so once it has ended), whether its subscriber only goes on, how often its publisher has looked at it, and whether its
+-- owner has cancelled it
 pub record DeskState : Type 0 where
   pub lane : LaneState
   pub capacity : ℕ
   pub started : Bool
   pub is_steady : Bool
   pub looks : ℕ
+  pub is_cancelled : Bool
 
 -- a new subscription: its lane is empty, and it owes its first turn
 abbrev pub IsNew : ℕ → Bool → DeskState → Type 0
 IsNew capacity steady desk =
-    desk ≡ record { lane = empty_lane; capacity = capacity; started = true; is_steady = steady; looks = 0 }
+    desk ≡ record { lane = empty_lane; capacity = capacity; started = true; is_steady = steady; looks = 0; is_cancelled = false }
 
 -- a turn is owed: the task was started, and has not ended
 abbrev pub Owes : DeskState → Type 0
@@ -87,6 +89,14 @@ desk_after_duplicate desk = desk_after_signal desk (lane_with_duplicate desk.lan
 -- the subscription after this many more items were requested
 abbrev pub desk_after_request : ℕ → DeskState → DeskState
 desk_after_request n desk = desk_after_signal desk (lane_with_demand n desk.lane)
+
+-- the subscription after a request of a number that is not positive
+abbrev pub desk_after_bad_request : DeskState → DeskState
+desk_after_bad_request desk = desk_after_signal desk (lane_with_bad_request desk.lane)
+
+-- the subscription after its owner cancelled it: only the first time changes it
+abbrev pub desk_after_cancel : DeskState → DeskState
+desk_after_cancel desk = if desk.is_cancelled then desk else record (desk_after_signal desk (lane_with_cancel desk.lane)) { is_cancelled = true }
 
 -- the subscription after a turn that told these signals of the plain turn, and had this outlook
 abbrev pub desk_after_turn : DeskState → List Signal → Outlook → DeskState

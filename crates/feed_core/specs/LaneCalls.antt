@@ -1,5 +1,5 @@
--- What the calls of a subscription do to its lane (`SubmissionPublisher.offer`, `close` and `subscribe`, `Flow.Subscription.request`, Java SE 17).
-use Rattle.std.specs.Prelude.{◌≡◌, ℕ, ◌-◌, ◌<◌, ◌==◌, Bool, true, ◌||◌, ◌&&◌, not, if◌then◌else◌, is_some, None, Some, [], ◌∷◌, ◌++◌, length}
+-- What the calls of a subscription do to its lane (`SubmissionPublisher.offer`, `close` and `subscribe`, `Flow.Subscription.request` and `cancel`, Java SE 17).
+use Rattle.std.specs.Prelude.{◌≡◌, ℕ, zero, suc, ℤ, pos, negsuc, ◌-◌, ◌<◌, ◌==◌, Bool, true, ◌||◌, ◌&&◌, not, if◌then◌else◌, is_some, None, Some, [], ◌∷◌, ◌++◌, length}
 use Rattle.feed_core.specs.Prelude.{Item, Ending, IsCapacityOf, total_after}
 use Rattle.feed_core.specs.Cause.{no_causes}
 use Rattle.feed_core.specs.Lane.{LaneState}
@@ -35,6 +35,20 @@ lane_with_duplicate lane = record lane { causes = record lane.causes { state = t
 -- the lane with this many more items requested
 abbrev pub lane_with_demand : ℕ → LaneState → LaneState
 lane_with_demand n lane = record lane { asked = total_after lane.asked n }
+
+-- the lane with a bad request as a cause: one of a number that is not positive (Reactive Streams 1.0, 3.9)
+abbrev pub lane_with_bad_request : LaneState → LaneState
+lane_with_bad_request lane = record lane { causes = record lane.causes { argument = true } }
+
+-- the lane with a request of this number
+abbrev pub lane_with_request : ℤ → LaneState → LaneState
+lane_with_request (pos zero) lane = lane_with_bad_request lane
+lane_with_request (pos (suc n)) lane = lane_with_demand (suc n) lane
+lane_with_request (negsuc n) lane = lane_with_bad_request lane
+
+-- the lane with a cancel as a cause
+abbrev pub lane_with_cancel : LaneState → LaneState
+lane_with_cancel lane = record lane { causes = record lane.causes { cancel = true } }
 
 -- whether it takes no more items: it has ended or was closed
 abbrev pub is_gone : LaneState → Bool

@@ -1,3 +1,4 @@
+pub mod AnsweredTurn
 pub mod Buffer
 pub mod Cause
 pub mod Desk

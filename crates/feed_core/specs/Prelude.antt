@@ -1,4 +1,6 @@
--- What most files import: types, their variants (those of `Ending` and `How` under the name of the type), and the words of clauses.
+-- What most files import: types, their variants (those of `Answer`, `Ending` and `How` under the name of the type), and the words of clauses.
+pub use Rattle.flow_rules.specs.declared.answer.Answer.{Answer}
+pub use Rattle.flow_rules.specs.declared.answer.Answer.TheVariants as Answer
 pub use Rattle.flow_rules.specs.declared.demand.TheConstants.{UNBOUNDED}
 pub use Rattle.flow_rules.specs.declared.ending.Ending.{Ending}
 pub use Rattle.flow_rules.specs.declared.ending.Ending.TheVariants as Ending
@@ -6,6 +8,7 @@ pub use Rattle.flow_rules.specs.declared.how.How.{How}
 pub use Rattle.flow_rules.specs.declared.how.How.TheVariants as How
 pub use Rattle.flow_rules.specs.declared.item.Item.{Item}
 pub use Rattle.flow_rules.specs.declared.item.TheConstants.{PUBLICATIONS}
+pub use Rattle.flow_rules.specs.declared.refusal.NoMemory.{NoMemory}
 pub use Rattle.flow_rules.specs.declared.signal.Fault.{Fault}
 pub use Rattle.flow_rules.specs.declared.signal.Fault.TheVariants.{Published, IllegalArgument, IllegalState}
 pub use Rattle.flow_rules.specs.declared.signal.Signal.{Signal}

@@ -1,14 +1,14 @@
 -- The steps that a turn is made of.
-use Rattle.std.specs.Prelude.{◌≡◌, ℕ, suc, ◌+◌, ◌-◌, ◌<◌, ◌≤◌, ◌==◌, if◌then◌else◌, min, ◌⊎◌, true, None, Some, List, [], ◌∷◌, ◌++◌, length, map, take, drop}
-use Rattle.feed_core.specs.Prelude.{Item, Signal, Next, How}
-use Rattle.feed_core.specs.declared.cause.Causes.{Causes}
-use Rattle.feed_core.specs.declared.turn.outlook.Outlook.{Outlook}
-use Rattle.feed_core.specs.declared.turn.outlook.Outlook.TheVariants.{Again, Resting, Ended}
-use Rattle.feed_core.specs.Cause.{stops, closes, with_cause_of}
+use Rattle.std.specs.Prelude.{◌≡◌, ℕ, suc, ℤ, ◌+◌, ◌-◌, ◌≤◌, ◌==◌, if◌then◌else◌, min, ◌⊎◌, true, Option, None, Some, List, [], ◌∷◌, ◌++◌, length, map, take, drop}
+use mathlib.Core.List.{IsPrefix}
+use Rattle.feed_core.specs.Prelude.{Answer, Item, Signal, Subscribed, Next, How, Causes, Outlook, Again, Resting, Ended, ITEMS_IN_A_TURN, items_of}
+use Rattle.feed_core.specs.AnsweredTurn.{Reply, ArePlain, obeyed, going_on, looks_within, turn_of}
+use Rattle.feed_core.specs.Cause.{stops, closes}
 use Rattle.feed_core.specs.Desk.{DeskState, Owes, started_after}
-use Rattle.feed_core.specs.Turn.{causes_after, how_after, taken_in, MeetsPlainTurn}
+use Rattle.feed_core.specs.Turn.{how_after}
 use Rattle.feed_core.specs.Lane.{LaneState, IsFlow}
-use Rattle.feed_core.specs.Sound.{is_begun}
+use Rattle.feed_core.specs.LaneCalls.{lane_with_request}
+use Rattle.feed_core.specs.Sound.{is_begun, loss_of}
 use Rattle.feed_core.specs.PlainTurn.{Turn, another_turn, greeting, signals_then, terminal_of, stop_or_turn, close_or_rest}
 
 -- the first of the held items was told, and moved to what was seen
@@ -35,61 +35,90 @@ OwesEnd lane how =
     (stops lane.causes ≡ Some how)
     ⊎ ((stops lane.causes ≡ None) × (closes lane.causes ≡ Some how) × (lane.given ≡ length lane.accepted))
 
--- the lane, ended in this way
-abbrev pub lane_after_end : How → LaneState → LaneState
-lane_after_end how lane = record lane { causes = with_cause_of how lane.causes; how = Some how }
+-- in any lane with these parts the answer is obeyed so: it changes them, and nothing else
+abbrev pub Obeys : Answer → ℕ → ℕ → Causes → Causes → Option How → Option How → Outlook → Type 0
+Obeys answer asked asked' causes causes' how how' outlook =
+    (lane : LaneState) → obeyed answer (record lane { asked = asked; causes = causes; how = how })
+    ≡ record { lane = record lane { asked = asked'; causes = causes'; how = how' }; outlook = outlook }
 
--- what one look tells, by its outlook: an item, nothing, or the terminal signal
+-- a request of this number changes the demand and the causes of any lane so, and nothing else
+abbrev pub Asks : ℤ → ℕ → ℕ → Causes → Causes → Type 0
+Asks n asked asked' causes causes' =
+    (lane : LaneState) → lane_with_request n (record lane { asked = asked; causes = causes }) ≡ record lane { asked = asked'; causes = causes' }
+
+-- what one look tells, by its outlook: an item, nothing, or the terminal signal; or an item whose answer was an end with no such signal
 abbrev pub IsToldBy : Outlook → List Signal → Type 0
 IsToldBy Again last = (item : Item) × (last ≡ Next item ∷ [])
 IsToldBy Resting last = last ≡ []
-IsToldBy (Ended how) last = last ≡ terminal_of how
+IsToldBy (Ended how) last = (last ≡ terminal_of how) ⊎ (((item : Item) × (last ≡ Next item ∷ [])) × (terminal_of how ≡ []))
 
--- an item was given, which was waiting and requested, and nothing stopped it
+-- what the greeting tells, by its outlook: onSubscribe where nothing was told yet, and an end has no terminal signal
+abbrev pub IsGreetedBy : Outlook → List Signal → List Signal → Type 0
+IsGreetedBy Again told last = last ≡ greeting told
+IsGreetedBy Resting told last = ⊥
+IsGreetedBy (Ended how) told last = ((last ≡ []) ⊎ (last ≡ Subscribed ∷ [])) × (terminal_of how ≡ [])
+
+-- an item was given, which was waiting
 pub record GoesOn (old new : LaneState) (last : List Signal) : Type 0 where
   pub item : Item
   pub told : last ≡ Next item ∷ []
   pub waited : drop old.given old.accepted ≡ item ∷ drop new.given new.accepted
   pub counted : new.given ≡ old.given + 1
-  pub requested : old.given < old.asked
-  pub unstopped : stops old.causes ≡ None
 
 -- the end has a terminal signal
 abbrev pub HasTerminal : How → Type 0
 HasTerminal how = (signal : Signal) × (terminal_of how ≡ signal ∷ [])
 
--- a look at the causes may be made: a turn is owed, its subscriber was greeted, and asks for nothing by its answers
+-- a look at the causes may be made: a turn is owed, and its subscriber was greeted
 pub record IsMidTurn (desk : DeskState) : Type 0 where
   pub owed : Owes desk
   pub begun : is_begun desk.lane.told ≡ true
-  pub steady : desk.is_steady ≡ true
 
--- what a part of a turn changes: the lane by what was seen, as the outlook says, and nothing else
-pub record AfterTurn (old new : DeskState) (seen : List Signal) (outlook : Outlook) : Type 0 where
-  pub recorded : new.lane.told ≡ old.lane.told ++ seen
+-- what a part of a turn did that told these signals and had this outlook, beside what the lane shows: a callback came back for each
+-- signal, and one more where it was refused memory
+pub record IsPart (old new : DeskState) (last : List Signal) (outlook : Outlook) (replies : List Reply) : Type 0 where
+  pub recorded : new.lane.told ≡ old.lane.told ++ last
+  pub answered : length replies ≡ length last + loss_of (how_after outlook)
   pub accepted : new.lane.accepted ≡ old.lane.accepted
-  pub asked : new.lane.asked ≡ old.lane.asked
-  pub causes : new.lane.causes ≡ causes_after outlook old.lane.causes
   pub how : new.lane.how ≡ how_after outlook
   pub started : new.started ≡ started_after outlook
   pub capacity : new.capacity ≡ old.capacity
   pub looks : new.looks ≡ old.looks
+  pub cancelled : new.is_cancelled ≡ old.is_cancelled
   pub steady : old.is_steady ≡ true → new.is_steady ≡ true
+  pub plain : old.is_steady ≡ true → ArePlain replies
+  pub flow : IsFlow new.lane
 
 -- one look at the causes, and what followed: an item, the end, or rest
 pub record Looks (old new : DeskState) (seen seen' : List Signal) (outlook : Outlook) : Type 0 where
   pub last : List Signal
+  pub replies : List Reply
   pub shape : IsToldBy outlook last
   pub seen_after : seen' ≡ seen ++ last
-  pub turned : AfterTurn old new last outlook
+  pub part : IsPart old new last outlook replies
   pub few : new.lane.given ≤ old.lane.given + 1
-  pub flow : IsFlow new.lane
+  pub ahead : IsPrefix (items_of last) (drop old.lane.given old.lane.accepted)
   pub again : outlook ≡ Again → GoesOn old.lane new.lane last
-  pub ends : (outlook ≡ Again → ⊥) → (most : ℕ) → MeetsPlainTurn (rest_of_turn (suc most) old.lane) last outlook
-  pub taken : (outlook ≡ Again → ⊥) → (most : ℕ)
-      → new.lane.given ≡ old.lane.given + taken_in (rest_of_turn (suc most) old.lane) last
+  pub left : (most : ℕ) (more : List Reply) → looks_within (suc most) (replies ++ more) old.lane ≡ going_on outlook new.lane (looks_within most more)
 
--- the subscriber was greeted, and nothing else changed
-pub record Greets (old new : DeskState) (seen seen' : List Signal) : Type 0 where
-  pub desk : new ≡ record old { lane = record old.lane { told = old.lane.told ++ greeting old.lane.told } }
-  pub seen_after : seen' ≡ seen ++ greeting old.lane.told
+-- the subscriber was greeted, or that was the end
+pub record Greets (old new : DeskState) (seen seen' : List Signal) (outlook : Outlook) : Type 0 where
+  pub last : List Signal
+  pub replies : List Reply
+  pub shape : IsGreetedBy outlook old.lane.told last
+  pub seen_after : seen' ≡ seen ++ last
+  pub part : IsPart old new last outlook replies
+  pub given : new.lane.given ≡ old.lane.given
+  pub left : (more : List Reply) → turn_of old.lane (replies ++ more) ≡ going_on outlook new.lane (looks_within ITEMS_IN_A_TURN more)
+
+-- a turn that told these signals and had this outlook did what it does where its callbacks come back so, and kept what no turn changes
+pub record TurnsAs (old new : DeskState) (seen : List Signal) (outlook : Outlook) (replies : List Reply) : Type 0 where
+  pub turned : turn_of old.lane replies ≡ record { lane = new.lane; outlook = outlook }
+  pub recorded : new.lane.told ≡ old.lane.told ++ seen
+  pub answered : length replies ≡ length seen + loss_of (how_after outlook)
+  pub started : new.started ≡ started_after outlook
+  pub capacity : new.capacity ≡ old.capacity
+  pub looks : new.looks ≡ old.looks
+  pub cancelled : new.is_cancelled ≡ old.is_cancelled
+  pub steady : old.is_steady ≡ true → new.is_steady ≡ true
+  pub plain : old.is_steady ≡ true → ArePlain replies

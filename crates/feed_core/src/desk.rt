@@ -4,10 +4,10 @@
 //! `onSubscribe`, where nothing was told yet. Then it looks at the causes, again and again. A look obeys, in this order: an end at
 //! once (a cancel, a bad request, a second subscribing, a closing error: [`Causes::stops`]); the next item, where one waits and was
 //! requested; the end that waits for the items ([`Causes::closes`]), where none is left. Where a look finds nothing of these, the
-//! subscription rests. After 64 items the turn answers `Again`, so that the other subscriptions get theirs. A callback that is
-//! refused memory ends the subscription.
+//! subscription rests. After 64 items the turn answers `Again`, so that the other subscriptions get theirs. What `onSubscribe` or
+//! `onNext` answers is done at once: a request, a cancel, or the end where the callback failed or was refused memory.
 //!
-//! **Waking.** `put`, `end`, `duplicate` and `request` change what there is to tell, so each signals: it marks the task as
+//! **Waking.** `put`, `end`, `duplicate`, `request` and `cancel` change what there is to tell, so each signals: it marks the task as
 //! started. Where the task was at rest, the call answers `Some(())`, and its caller has to see that the task is run; an answer
 //! that starts a task is `#[must_use]`. Where the task was started before, its next look finds the change. Only a look that finds
 //! nothing to do takes the mark away. So between two calls a turn is owed, or the subscriber was told all that its demand and its
@@ -48,6 +48,8 @@ pub struct Desk<B: Listener> {
     started: bool,
     /// How often its publisher has looked at it.
     looks: Amount,
+    /// Whether its owner has cancelled it.
+    cancelled: bool,
 }
 
 impl<B: Listener> Model for Desk<B> {
@@ -63,6 +65,7 @@ impl<B: Listener> Model for Desk<B> {
       started = d.started;
       is_steady = B.is_steady d.subscriber;
       looks = amount_of d.looks;
+      is_cancelled = d.cancelled;
     } };
 
     ghost invariant = { λ d. IsStored
@@ -100,6 +103,7 @@ impl<B: Listener> Desk<B> {
             how: None,
             started: true,
             looks: Amount::zero(),
+            cancelled: false,
         })
     }
 

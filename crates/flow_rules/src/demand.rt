@@ -74,6 +74,7 @@ impl Demand {
         ensures refused { IsErr result ↔ (n ≤ℤ pos 0) }
         ensures added { OnOk result (self.new ≡ total_after self.old (unsigned_abs n)) }
         ensures unchanged { OnErr result (self.new ≡ self.old) }
+        ensures grows { self.old ≤ self.new }
     {
         if n <= 0 {
             return Err(IllegalArgument);

@@ -15,7 +15,7 @@ use Rattle.publisher_hub.specs.declared.hub.Hub.{Hub}
 use Rattle.publisher_hub.specs.declared.work.Work.{Work}
 use Rattle.publisher_hub.proofs.Grown.{get_grown}
 use Rattle.lines_demo.specs.Prelude.{DeskState, Ending, Refusal, owes, desk_after_request, desk_without_looks}
-use Rattle.lines_demo.specs.Script.Session.{AreScriptEntries, IsScriptEntry, IsScriptHub, state_of, subscription_of}
+use Rattle.lines_demo.specs.Script.Session.{AreScriptEntries, IsScriptEntry, IsScriptHub, is_plain, state_of, subscription_of}
 use Rattle.lines_demo.specs.Script.State.{SessionState}
 use Rattle.lines_demo.specs.Script.Subscribing.{MOST_LIVE, MOST_ENTRIES, desk_at_start, desk_at_subscribing, new_subscription, state_after_subscribing, subscribing_refusal}
 use Rattle.lines_demo.specs.Script.Waking.{is_live, newly_woken}
@@ -105,12 +105,12 @@ module _ (old new : Hub DeskState) (name : List ℕ) (number entry : ℕ) (feed 
     by (inr last) = subst (λ (e : Entry DeskState). IsScriptEntry e) last.1 (record {
       desk = admits.after;
       there = refl;
-      steady = ap (λ (d : DeskState). d.is_steady) desk.is ∙ steady old.ending;
+      plain = ap is_plain desk.is ∙ plain old.ending;
       ended = λ retired. (let never : false ≡ true = retired in cc);
     }) where
-      steady : (closing : Option Ending) → (desk_after_request number (desk_at_subscribing closing old.capacity)).is_steady ≡ true
-      steady None = refl
-      steady (Some ending) = refl
+      plain : (closing : Option Ending) → is_plain (desk_after_request number (desk_at_subscribing closing old.capacity)) ≡ true
+      plain None = refl
+      plain (Some ending) = refl
 
   -- and the publisher is a script's
   pub admitted_publisher : IsSound (hub_of end_of new) → IsScriptHub new

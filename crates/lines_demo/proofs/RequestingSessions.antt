@@ -13,7 +13,7 @@ use Rattle.lines_demo.specs.Script.Command.{is_word}
 use Rattle.lines_demo.specs.Script.Kept.{IsReached}
 use Rattle.lines_demo.specs.Script.Obeying.{is_known, request_result, subscriptions_after_request}
 use Rattle.lines_demo.specs.Script.Playing.{IsLatest, Replies}
-use Rattle.lines_demo.specs.Script.Session.{IsSession, numbers_of, state_of, subscription_of}
+use Rattle.lines_demo.specs.Script.Session.{IsSession, is_plain, numbers_of, state_of, subscription_of}
 use Rattle.lines_demo.specs.Script.State.{SessionState, SubscriptionState}
 use Rattle.lines_demo.specs.Script.Subscribing.{MOST_LIVE}
 use Rattle.lines_demo.specs.Script.Waking.{newly_woken, with_subscriptions}
@@ -90,7 +90,7 @@ module _ (hub : Hub DeskState) (stock : ℕ) (woken : List ℕ) (begun : Bool) (
   pub requested_session : IsSession (lent hub k after) stock (woken ++ (if is_some start then k ∷ [] else [])) begun
   requested_session =
       session_at (lent hub k after) stock (woken ++ (if is_some start then k ∷ [] else [])) begun requested
-      (lent_publisher hub k before after at is.publisher becomes (ap (λ (d : DeskState). d.is_steady) asked)) requested_state requested_reached read
+      (lent_publisher hub k before after at is.publisher becomes (ap is_plain asked)) requested_state requested_reached read
 
   -- and there is room for it to be woken
   pub requested_room : is_some start ≡ true → length woken < MOST_LIVE

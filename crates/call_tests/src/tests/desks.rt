@@ -1,11 +1,11 @@
 //! The calls of a Desk, as rows, on listeners of each kind.
-ghost use Rattle.std.specs.Prelude.{◌≡◌, [], true};
+ghost use Rattle.std.specs.Prelude.{◌≡◌, []};
 
 use super::subscribers::was_told;
-use crate::{Refused, Row, answers, desk_of};
+use crate::{Answering, Refused, Row, answers, desk_of};
 use feed_core::{Desk, Outlook, desks_keep_the_flow_rules};
 use flow_rules::{
-    Collector, Fault, How, Listener, NoMemory, Shown, Subscriber, Tally, UNBOUNDED, audit,
+    Answer, Collector, Fault, How, Listener, NoMemory, Shown, Subscriber, Tally, UNBOUNDED, audit,
 };
 use std::alloc::Global;
 use std::process::Abort;
@@ -72,7 +72,40 @@ const SECOND_SUBSCRIBING: [Row<'static>; 6] = [
     Row::Turn(b"", Outlook::Resting),
     Row::Duplicate(true),
     Row::Duplicate(false),
-    Row::Ended(None),
+    Row::Turn(b"t", Outlook::Ended(How::Errored(Fault::IllegalState))),
+];
+
+const BAD_REQUEST: [Row<'static>; 10] = [
+    Row::Request(1, false),
+    Row::Turn(b"s", Outlook::Resting),
+    Row::Request(0, true),
+    Row::Request(-1, false),
+    Row::Accepted(b'x', 1, false),
+    Row::Fail(7, false),
+    Row::Turn(b"a", Outlook::Ended(How::Errored(Fault::IllegalArgument))),
+    Row::Request(5, false),
+    Row::Counts(1, 0, 6),
+    Row::Gone(b'y'),
+];
+
+const CANCEL: [Row<'static>; 11] = [
+    Row::Request(9, false),
+    Row::Turn(b"s", Outlook::Resting),
+    Row::Accepted(b'x', 1, true),
+    Row::Request(-1, false),
+    Row::Cancel(false),
+    Row::Cancel(false),
+    Row::Request(1, false),
+    Row::Turn(b"", Outlook::Ended(How::Cancelled)),
+    Row::Cancel(false),
+    Row::Counts(1, 0, 9),
+    Row::Gone(b'y'),
+];
+
+const CANCEL_AT_ONCE: [Row<'static>; 3] = [
+    Row::Cancel(false),
+    Row::Turn(b"s", Outlook::Ended(How::Cancelled)),
+    Row::Ended(Some(How::Cancelled)),
 ];
 
 const UNBOUNDED_DEMAND: [Row<'static>; 7] = [
@@ -91,7 +124,6 @@ fn first_wrong<B: Listener>(
     desk: &mut Desk<B>,
     rows: &[Row<'_>],
 ) -> Result<Option<usize>, NoMemory>
-    requires { desk.old.is_steady ≡ true }
 {
     for (place, row) in rows.iter().enumerate() {
         if !answers(alloc, desk, *row)? {
@@ -110,8 +142,7 @@ fn play<B: Listener>(
     asked: usize,
     rows: &[Row<'_>],
 ) -> Result<B, Fail>
-    requires untold { B.told listener ≡ [] }
-    requires steady { B.is_steady listener ≡ true }
+    requires { B.told listener ≡ [] }
 {
     let mut desk = desk_of(alloc, asked, listener)?;
     let wrong = first_wrong(alloc, &mut desk, rows)?;
@@ -168,7 +199,18 @@ fn an_error_overtakes_the_items(rt: HostRuntime) -> Result<(), Fail> {
 
 #[test]
 fn a_second_subscribing_starts_the_task_once(rt: HostRuntime) -> Result<(), Fail> {
-    play_on_all(&rt, rt.alloc(), 4, &SECOND_SUBSCRIBING, b"s")
+    play_on_all(&rt, rt.alloc(), 4, &SECOND_SUBSCRIBING, b"st")
+}
+
+#[test]
+fn a_bad_request_ends_it(rt: HostRuntime) -> Result<(), Fail> {
+    play_on_all(&rt, rt.alloc(), 4, &BAD_REQUEST, b"sa")
+}
+
+#[test]
+fn a_cancel_ends_it(rt: HostRuntime) -> Result<(), Fail> {
+    play_on_all(&rt, rt.alloc(), 4, &CANCEL, b"s")?;
+    play_on_all(&rt, rt.alloc(), 4, &CANCEL_AT_ONCE, b"s")
 }
 
 #[test]
@@ -214,6 +256,51 @@ fn a_refused_callback_ends_it(rt: HostRuntime) -> Result<(), Fail> {
         let refused = Refused::after(Collector::new(alloc), callbacks);
         let refused = play(&rt, alloc, refused, 4, &rows)?;
         assert!(rt; has_told(alloc, refused.listener(), told)?);
+    }
+    Ok(())
+}
+
+#[test]
+fn each_answer(rt: HostRuntime) -> Result<(), Fail> {
+    let alloc = rt.alloc();
+    // The callbacks that go on before one that answers so, what the turn tells, and its outlook.
+    let rows: [(u32, Answer, &[u8], Outlook); 8] = [
+        (1, Answer::Cancel, b"sv", Outlook::Ended(How::Cancelled)),
+        (1, Answer::Fail(7), b"sv", Outlook::Ended(How::Failed(7))),
+        (1, Answer::Request(0), b"sva", Outlook::Ended(How::Errored(Fault::IllegalArgument))),
+        (1, Answer::Request(2), b"svwx", Outlook::Resting),
+        (0, Answer::Cancel, b"s", Outlook::Ended(How::Cancelled)),
+        (0, Answer::Fail(7), b"s", Outlook::Ended(How::Failed(7))),
+        (0, Answer::Request(-1), b"sa", Outlook::Ended(How::Errored(Fault::IllegalArgument))),
+        (0, Answer::Request(3), b"svwxy", Outlook::Resting),
+    ];
+    for (callbacks, answer, told, outlook) in rows {
+        let rows = [
+            Row::Request(1, false),
+            Row::Accepted(b'v', 1, false),
+            Row::Accepted(b'w', 2, false),
+            Row::Accepted(b'x', 3, false),
+            Row::Accepted(b'y', 4, false),
+            Row::Accepted(b'z', 5, false),
+            Row::Turn(told, outlook),
+        ];
+        let _ = play(&rt, alloc, Answering::after(callbacks, answer), 8, &rows)?;
+    }
+    Ok(())
+}
+
+#[test]
+fn a_terminal_callback_is_not_obeyed(rt: HostRuntime) -> Result<(), Fail> {
+    let alloc = rt.alloc();
+    for answer in [Answer::Request(-1), Answer::Cancel, Answer::Fail(7)] {
+        let rows = [
+            Row::Request(1, false),
+            Row::Accepted(b'x', 1, false),
+            Row::Close(false),
+            Row::Turn(b"sxc", Outlook::Ended(How::Completed)),
+            Row::Counts(1, 1, 1),
+        ];
+        let _ = play(&rt, alloc, Answering::after(2, answer), 8, &rows)?;
     }
     Ok(())
 }

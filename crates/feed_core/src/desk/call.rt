@@ -1,12 +1,14 @@
 //! What a publisher and the owner of a subscription call.
-ghost use Rattle.std.specs.Prelude.{◌≡◌, ◌+◌, ◌↔◌, ◌<ℤ◌, pos, unsigned_abs, true, false, is_some, IsSome};
-ghost use Rattle.feed_core.specs.Desk.{Rests, desk_after_signal};
+ghost use Rattle.std.specs.Prelude.{◌≡◌, ◌≤◌, ◌+◌, ◌↔◌, ◌<ℤ◌, ◌≤ℤ◌, pos, unsigned_abs, true, false, is_some, IsSome};
+ghost use Rattle.feed_core.specs.Desk.{Rests, desk_after_cancel, desk_after_signal};
 ghost use Rattle.feed_core.specs.Lane.{IsFlow};
-ghost use Rattle.feed_core.specs.LaneCalls.{lane_with_demand};
+ghost use Rattle.feed_core.specs.LaneCalls.{lane_with_bad_request, lane_with_demand};
+ghost use Rattle.feed_core.specs.Steps.{Asks};
 ghost use Rattle.flow_rules.specs.Amount.{amount_of};
 
 use super::Desk;
-use flow_rules::{Amount, Ending, Feed, How, Item, Listener, NoMemory, Put, Standing};
+use crate::cause::Causes;
+use flow_rules::{Amount, Demand, Ending, Feed, How, Item, Listener, NoMemory, Put, Standing};
 use std::mem;
 
 impl<B: Listener> Feed for Desk<B> {
@@ -62,17 +64,48 @@ impl<B: Listener> Feed for Desk<B> {
 }
 
 impl<B: Listener> Desk<B> {
-    /// Adds to the demand (`Flow.Subscription.request`; Reactive Streams 1.0, rules 3.8 and 3.17). An ended
-    /// subscription counts it, too, and is told nothing more.
+    /// Adds to the demand (`Flow.Subscription.request`; Reactive Streams 1.0, rules 3.6, 3.8, 3.9 and 3.17). A number that is not
+    /// positive ends the subscription with an error. An ended subscription counts a request, too, and is told nothing more; a
+    /// cancelled one ignores it.
     #[must_use]
     pub fn request(&mut self, n: i64) -> Option<()>
-        requires positive { pos 0 <ℤ n }
-        ensures asked { self.new ≡ desk_after_signal self.old (lane_with_demand (unsigned_abs n) self.old.lane) }
-        ensures starts { IsSome result ↔ Rests self.old }
+        ensures asked { self.old.is_cancelled ≡ false → pos 0 <ℤ n → self.new ≡ desk_after_signal self.old (lane_with_demand (unsigned_abs n) self.old.lane) }
+        ensures refused { self.old.is_cancelled ≡ false → n ≤ℤ pos 0 → self.new ≡ desk_after_signal self.old (lane_with_bad_request self.old.lane) }
+        ensures gone { self.old.is_cancelled ≡ true → self.new ≡ self.old }
+        ensures starts { IsSome result ↔ ((self.old.is_cancelled ≡ false) × Rests self.old) }
         ensures flow { IsFlow self.new.lane }
     {
-        let _ = self.asked.add(n);
+        if self.cancelled {
+            return None;
+        }
+        ask(n, &mut self.asked, &mut self.causes);
         signal(&mut self.started)
+    }
+
+    /// Ends the subscription at its next look, which tells nothing (`Flow.Subscription.cancel`; Reactive Streams 1.0, rules 3.5 to
+    /// 3.7). A second time changes nothing.
+    #[must_use]
+    pub fn cancel(&mut self) -> Option<()>
+        ensures cancelled { self.new ≡ desk_after_cancel self.old }
+        ensures starts { IsSome result ↔ ((self.old.is_cancelled ≡ false) × Rests self.old) }
+        ensures flow { IsFlow self.new.lane }
+    {
+        if self.cancelled {
+            return None;
+        }
+        self.cancelled = true;
+        self.causes.cancel = true;
+        signal(&mut self.started)
+    }
+}
+
+/// Adds a request to the demand, or notes a bad one.
+pub(super) fn ask(n: i64, asked: &mut Demand, causes: &mut Causes)
+    ensures grows { asked.old ≤ asked.new }
+    ensures asks { Asks n asked.old asked.new causes.old causes.new }
+{
+    if asked.add(n).is_err() {
+        causes.argument = true;
     }
 }
 

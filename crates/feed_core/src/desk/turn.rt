@@ -1,30 +1,34 @@
 //! The turn of a subscription, and its steps in the order in which they are made.
-ghost use Rattle.std.specs.Prelude.{◌≡◌, List, ◌<◌, ◌≤◌, ◌+◌, ◌↔◌, ◌++◌, [], true, None, Some, IsSome, min, length, drop, OnOk, OnErr};
+ghost use Rattle.std.specs.Prelude.{◌≡◌, List, ◌<◌, ◌≤◌, ◌+◌, ◌↔◌, true, None, Some, IsSome, min, length, drop};
 ghost use mathlib.Core.List.{IsPrefix};
-ghost use Rattle.feed_core.specs.Prelude.{Signal, Complete, Error, Fault, How, Again, Resting, Ended, ITEMS_IN_A_TURN, SIGNALS_IN_A_TURN, items_of};
+ghost use Rattle.feed_core.specs.Prelude.{Signal, Complete, Error, Fault, How, Again, Ended, ITEMS_IN_A_TURN, SIGNALS_IN_A_TURN, items_of};
+ghost use Rattle.feed_core.specs.AnsweredTurn.{Reply};
 ghost use Rattle.feed_core.specs.Cause.{stops, closes, with_cause_of};
 ghost use Rattle.feed_core.specs.Desk.{Owes, desk_after_turn};
 ghost use Rattle.feed_core.specs.Lane.{IsFlow};
 ghost use Rattle.feed_core.specs.PlainTurn.{plain_turn_of};
-ghost use Rattle.feed_core.specs.Steps.{Looks, Greets, OwesEnd, IsMidTurn, lane_after_end};
+ghost use Rattle.feed_core.specs.Steps.{Looks, Greets, Obeys, OwesEnd, IsMidTurn, TurnsAs};
 ghost use Rattle.feed_core.specs.Turn.{EndsIn, MeetsPlainTurn};
 
 use super::Desk;
+use super::call::ask;
 use crate::cause::Causes;
 use crate::turn::{ITEMS_IN_A_TURN, Outlook, Seen, tell_next, tell_subscribed, tell_terminal};
-use flow_rules::{How, Listener, NoMemory};
+use flow_rules::{Answer, Demand, How, Listener, NoMemory};
 
 impl<B: Listener> Desk<B> {
     /// Tells the subscriber what is owed: `onSubscribe` first of all, then items below the demand, 64 at most, then the
     /// terminal signal. What it was told is what `seen` then holds (`Flow.Subscriber`; Reactive Streams 1.0, rules 1.1, 1.3,
-    /// 1.5, 1.7 and 1.9). A callback that is refused memory ends the subscription.
+    /// 1.5, 1.7 and 1.9). What a callback answers is done at once; one that is refused memory ends the subscription.
     pub fn turn(&mut self, seen: &mut Seen) -> Outlook
         requires owed { Owes self.old }
-        requires steady { self.old.is_steady ≡ true }
 
-        // What it tells, and what it changes: the lane by what it told, the mark of the task, and nothing else.
-        ensures plain { MeetsPlainTurn (plain_turn_of self.old.lane) seen.new.signals result }
-        ensures after { self.new ≡ desk_after_turn self.old seen.new.signals result }
+        // What it tells, and what it changes: the lane as its callbacks came back, the mark of the task, and nothing else.
+        ensures turned { (replies : List Reply) × TurnsAs self.old self.new seen.new.signals result replies }
+
+        // On a subscriber that only goes on: the plain turn, and the lane by what was told of that.
+        ensures plain { self.old.is_steady ≡ true → MeetsPlainTurn (plain_turn_of self.old.lane) seen.new.signals result }
+        ensures after { self.old.is_steady ≡ true → self.new ≡ desk_after_turn self.old seen.new.signals result }
 
         // The Flow rules: the next items that were accepted, in order, and the lane as a whole.
         ensures in_order { IsPrefix (items_of seen.new.signals) (drop self.old.lane.given self.old.lane.accepted) }
@@ -41,8 +45,9 @@ impl<B: Listener> Desk<B> {
         ensures errored { (fault : Fault) → EndsIn seen.new.signals (Error fault) ↔ (result ≡ Ended (How.Errored fault)) }
     {
         seen.clear();
-        if let Err(NoMemory) = self.greet(seen) {
-            return self.run_out();
+        match self.greet(seen) {
+            Outlook::Again => {}
+            outlook => return outlook,
         }
         for _ in 0..ITEMS_IN_A_TURN {
             match self.look(seen) {
@@ -53,20 +58,23 @@ impl<B: Listener> Desk<B> {
         Outlook::Again
     }
 
-    /// Tells `onSubscribe`, where nothing was told yet.
-    fn greet(&mut self, seen: &mut Seen) -> Result<(), NoMemory>
+    /// Tells `onSubscribe`, where nothing was told yet, and does what its answer asks for.
+    fn greet(&mut self, seen: &mut Seen) -> Outlook
         requires owed { Owes self.old }
-        requires steady { self.old.is_steady ≡ true }
         requires room { length seen.old.signals < SIGNALS_IN_A_TURN }
-        ensures ok { OnOk result (Greets self.old self.new seen.old.signals seen.new.signals) }
-        ensures err { OnErr result ((self.new ≡ self.old) × (seen.new.signals ≡ seen.old.signals) × (self.old.lane.told ≡ [])) }
+        ensures greets { Greets self.old self.new seen.old.signals seen.new.signals result }
         ensures room { seen.new.room ≡ seen.old.room }
     {
-        if !self.begun {
-            let _ = tell_subscribed(&mut self.subscriber, seen)?;
-            self.begun = true;
+        if self.begun {
+            return Outlook::Again;
         }
-        Ok(())
+        match tell_subscribed(&mut self.subscriber, seen) {
+            Ok(answer) => {
+                self.begun = true;
+                obey(answer, &mut self.asked, &mut self.causes, &mut self.how)
+            }
+            Err(NoMemory) => end_as(How::OutOfMemory, &mut self.causes, &mut self.how),
+        }
     }
 
     /// Looks at the causes, and does what they allow: the end, one item, or rest.
@@ -88,7 +96,8 @@ impl<B: Listener> Desk<B> {
         }
     }
 
-    /// Takes the next item, and tells it. Where the callback is refused memory, the item goes back to the held ones.
+    /// Takes the next item, tells it, and does what the answer asks for. Where the callback is refused memory, the item goes back
+    /// to the held ones.
     fn take(&mut self, seen: &mut Seen) -> Outlook
         requires mid_turn { IsMidTurn self.old }
         requires unstopped { stops self.old.lane.causes ≡ None }
@@ -101,7 +110,7 @@ impl<B: Listener> Desk<B> {
         let item = self.held.take();
         self.given += 1;
         match tell_next(&mut self.subscriber, item, seen) {
-            Ok(_) => Outlook::Again,
+            Ok(answer) => obey(answer, &mut self.asked, &mut self.causes, &mut self.how),
             Err(item) => {
                 self.held.put_back(item);
                 end_as(How::OutOfMemory, &mut self.causes, &mut self.how)
@@ -124,17 +133,6 @@ impl<B: Listener> Desk<B> {
         end_as(how, &mut self.causes, &mut self.how)
     }
 
-    /// Ends for want of memory, where `onSubscribe` met it.
-    fn run_out(&mut self) -> Outlook
-        requires owed { Owes self.old }
-        requires untold { self.old.lane.told ≡ [] }
-        ensures value { result ≡ Ended How.OutOfMemory }
-        ensures ended { self.new ≡ record self.old { lane = lane_after_end How.OutOfMemory self.old.lane } }
-        ensures flow { IsFlow self.new.lane }
-    {
-        end_as(How::OutOfMemory, &mut self.causes, &mut self.how)
-    }
-
     /// Waits for the next signal.
     fn rest(&mut self) -> Outlook
         requires mid_turn { IsMidTurn self.old }
@@ -145,6 +143,22 @@ impl<B: Listener> Desk<B> {
     {
         self.started = false;
         Outlook::Resting
+    }
+}
+
+/// Does what an answer asks for: it adds to the demand, or ends the subscription.
+fn obey(answer: Answer, asked: &mut Demand, causes: &mut Causes, ended: &mut Option<How>) -> Outlook
+    ensures grows { asked.old ≤ asked.new }
+    ensures obeys { Obeys answer asked.old asked.new causes.old causes.new ended.old ended.new result }
+{
+    match answer {
+        Answer::Go => Outlook::Again,
+        Answer::Request(n) => {
+            ask(n, asked, causes);
+            Outlook::Again
+        }
+        Answer::Cancel => end_as(How::Cancelled, causes, ended),
+        Answer::Fail(code) => end_as(How::Failed(code), causes, ended),
     }
 }
 

@@ -17,7 +17,8 @@ pub(crate) fn tell_subscribed<B: Listener>(
     requires room { length seen.old.signals < SIGNALS_IN_A_TURN }
     ensures told { OnOk result (B.told subscriber.new ≡ B.told subscriber.old ++ Subscribed ∷ []) }
     ensures seen { OnOk result (seen.new ≡ seen_with (Subscribed ∷ []) seen.old) }
-    ensures err { OnErr result ((B.told subscriber.new ≡ B.told subscriber.old) × (seen.new ≡ seen.old)) }
+    ensures untold { OnErr result (B.told subscriber.new ≡ B.told subscriber.old) }
+    ensures unseen { OnErr result (seen.new ≡ seen.old) }
     ensures steady { B.is_steady subscriber.old ≡ true → B.is_steady subscriber.new ≡ true }
     ensures goes_on { B.is_steady subscriber.old ≡ true → IfOk result (λ answer. answer ≡ Go) }
 {
@@ -35,7 +36,8 @@ pub(crate) fn tell_next<B: Listener>(
     requires room { length seen.old.signals < SIGNALS_IN_A_TURN }
     ensures told { OnOk result (B.told subscriber.new ≡ B.told subscriber.old ++ Next item ∷ []) }
     ensures seen { OnOk result (seen.new ≡ seen_with (Next item ∷ []) seen.old) }
-    ensures err { OnErr result ((B.told subscriber.new ≡ B.told subscriber.old) × (seen.new ≡ seen.old)) }
+    ensures untold { OnErr result (B.told subscriber.new ≡ B.told subscriber.old) }
+    ensures unseen { OnErr result (seen.new ≡ seen.old) }
     ensures back { IfErr result (λ back. back ≡ item) }
     ensures steady { B.is_steady subscriber.old ≡ true → B.is_steady subscriber.new ≡ true }
     ensures goes_on { B.is_steady subscriber.old ≡ true → IfOk result (λ answer. answer ≡ Go) }
@@ -58,7 +60,8 @@ pub(crate) fn tell_terminal<B: Listener>(
     requires room { length seen.old.signals < SIGNALS_IN_A_TURN }
     ensures told { OnOk result (B.told subscriber.new ≡ B.told subscriber.old ++ terminal_of how) }
     ensures seen { OnOk result (seen.new ≡ seen_with (terminal_of how) seen.old) }
-    ensures err { OnErr result ((B.told subscriber.new ≡ B.told subscriber.old) × (seen.new ≡ seen.old)) }
+    ensures untold { OnErr result (B.told subscriber.new ≡ B.told subscriber.old) }
+    ensures unseen { OnErr result (seen.new ≡ seen.old) }
     ensures missed { OnErr result (HasTerminal how) }
     ensures steady { B.is_steady subscriber.old ≡ true → B.is_steady subscriber.new ≡ true }
 {

@@ -1,5 +1,5 @@
 -- `sub`: what it changes, and what it is answered.
-use Rattle.std.specs.Prelude.{ℕ, ◌-◌, ◌==◌, Bool, true, ◌&&◌, if◌then◌else◌, nat_le, Option, Some, None, List, [], ◌∷◌, ◌++◌, length, map, count_by}
+use Rattle.std.specs.Prelude.{ℕ, ◌-◌, ◌==◌, Bool, true, false, ◌&&◌, if◌then◌else◌, nat_le, Option, Some, None, List, [], ◌∷◌, ◌++◌, length, map, count_by}
 use Rattle.std.specs.List.{list_any}
 use Rattle.feed_core.specs.Desk.{desk_after_duplicate}
 use Rattle.feed_core.specs.LaneCalls.{empty_lane}
@@ -12,7 +12,7 @@ pub use Rattle.publisher_hub.specs.declared.hub.subscribing.TheConstants.{MOST_E
 
 -- what the publisher has of a new subscription: its first turn is owed, and its subscriber is steady
 abbrev pub desk_at_start : ℕ → DeskState
-desk_at_start capacity = record { lane = empty_lane; capacity = capacity; started = true; is_steady = true; looks = 0 }
+desk_at_start capacity = record { lane = empty_lane; capacity = capacity; started = true; is_steady = true; looks = 0; is_cancelled = false }
 
 -- what the publisher has of a subscription before it requests anything: it is closed at once where the publisher was
 abbrev pub desk_at_subscribing : Option Ending → ℕ → DeskState

@@ -25,7 +25,7 @@ invariant_of-self g c =
             greeted = still_greeted _ _ _ _ c.self.invariant.greeted mid.begun grows;
           })
       | in-Err w ↦
-          let grows = w.in-Err.ensures.err.0 ∙ sym (append-nil _) in
+          let grows = w.in-Err.ensures.untold ∙ sym (append-nil _) in
           rw (c.end_as.ensures.causes, c.end_as.ensures.ended, w.how-is) (record {
             in_order = in_order_ended c.self.invariant.in_order mid.owed.1 mid.owed.0 mid.begun How.OutOfMemory tt grows;
             counted = ap (λ items. length (items ++ held)) (ended_items _ _ How.OutOfMemory grows) ∙ c.self.invariant.counted;
@@ -43,7 +43,6 @@ returns-clause-looks g c =
           rw (← c.self.view_is, c.end_as.ensures.causes, c.end_as.ensures.ended, c.end_as.ensures.value, w.how-is)
           (looks_ended c.self.invariant.in_order mid.owed.1 mid.owed.0 mid.begun c.args.how owed c.tell_terminal.ensures.steady w.in-Ok.ensures.told (ap (λ (seen : SeenState). seen.signals) w.in-Ok.ensures.seen))
       | in-Err w ↦
-          let err = w.in-Err.ensures.err in
           rw (← c.self.view_is, c.end_as.ensures.causes, c.end_as.ensures.ended, c.end_as.ensures.value, w.how-is)
-          (looks_missed c.self.invariant.in_order mid.owed.1 mid.owed.0 mid.begun c.args.how owed c.tell_terminal.ensures.steady err.0 (ap (λ (seen : SeenState). seen.signals) err.1) w.in-Err.ensures.missed)
+          (looks_missed c.self.invariant.in_order mid.owed.1 mid.owed.0 mid.begun c.args.how owed c.tell_terminal.ensures.steady w.in-Err.ensures.untold (ap (λ (seen : SeenState). seen.signals) w.in-Err.ensures.unseen) w.in-Err.ensures.missed)
     ]

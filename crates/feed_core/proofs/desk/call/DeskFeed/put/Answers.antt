@@ -28,7 +28,7 @@ returns-clause-exact g c =
     let s = c.self.inside in
     let told = g.B.Listener.told s.subscriber in
     let lane : LaneState = lane_of told s.held.items s.given s.asked s.causes s.how in
-    let old : DeskState = record { lane = lane; capacity = s.capacity; started = s.started; is_steady = g.B.Listener.is_steady s.subscriber; looks = amount_of s.looks } in
+    let old : DeskState = record { lane = lane; capacity = s.capacity; started = s.started; is_steady = g.B.Listener.is_steady s.subscriber; looks = amount_of s.looks; is_cancelled = s.cancelled } in
     let after : LaneState = lane_of told c.put.new.self.items s.given s.asked s.causes s.how in
     let new : DeskState = record old { lane = after; started = c.signal.new.started; looks = amount_of c.look-standing.new.looks } in
     let sound = c.self.invariant.in_order.sound in

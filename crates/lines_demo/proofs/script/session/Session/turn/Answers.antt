@@ -41,15 +41,6 @@ turn-outlook-requires-clause-owed g c =
     let at : feed_at hub number ≡ Some c.unwrap.result.now = sym c.feed_mut.ensures.value ∙ ap option_copied_mut c.unwrap.ensures in
     λ κs lives. first_owed hub (length c.self.inside.stock.items) c.self.inside.woken c.self.inside.has_begun c.self.invariant.2 number rest first c.unwrap.result.now at
 
-pub turn-outlook-requires-clause-steady : goal.turn-outlook-requires-clause-steady
-turn-outlook-requires-clause-steady g c =
-    let hub = c.self.inside.hub in
-    let number = c.unwrap-entry.result in
-    let rest = c.pop.new.self in
-    let first = first_of c.pop.result number c.self.inside.woken rest c.pop.ensures.first c.unwrap-entry.ensures in
-    let at : feed_at hub number ≡ Some c.unwrap.result.now = sym c.feed_mut.ensures.value ∙ ap option_copied_mut c.unwrap.ensures in
-    λ κs lives. first_steady hub (length c.self.inside.stock.items) c.self.inside.woken c.self.inside.has_begun c.self.invariant.2 number rest first c.unwrap.result.now at
-
 pub push_if-requires : goal.push_if-requires
 push_if-requires g c =
     let hub = c.self.inside.hub in
@@ -65,11 +56,12 @@ invariant_of-self g c =
     let rest = c.pop.new.self in
     let first = first_of c.pop.result number c.self.inside.woken rest c.pop.ensures.first c.unwrap-entry.ensures in
     let at : feed_at hub number ≡ Some c.unwrap.result.now = sym c.feed_mut.ensures.value ∙ ap option_copied_mut c.unwrap.ensures in
+    let steady = first_steady hub (length c.self.inside.stock.items) c.self.inside.woken c.self.inside.has_begun c.self.invariant.2 number rest first c.unwrap.result.now at in
     let again : c.match-matches.matches ≡ is_again c.turn-outlook.result = elim c.match-matches.branch [
       | in-Again m ↦ m.matches-is ∙ sym (ap is_again m.in-Again.is)
       | in_default m ↦ m.matches-is ∙ sym (not_again c.turn-outlook.result m.in_default.not-Again)
     ] in
-    let session = turned_session hub (length c.self.inside.stock.items) c.self.inside.woken c.self.inside.has_begun c.self.invariant.2 number rest first c.unwrap.result.now at c.turn-outlook.new.self c.turn-outlook.new.seen.signals c.turn-outlook.result c.unwrap-name.result c.match-matches.matches c.turn-outlook.ensures.after c.turn-outlook.ensures.plain (sym c.name_of.ensures ∙ c.unwrap-name.ensures) again in
+    let session = turned_session hub (length c.self.inside.stock.items) c.self.inside.woken c.self.inside.has_begun c.self.invariant.2 number rest first c.unwrap.result.now at c.turn-outlook.new.self c.turn-outlook.new.seen.signals c.turn-outlook.result c.unwrap-name.result c.match-matches.matches (c.turn-outlook.ensures.after steady) (c.turn-outlook.ensures.plain steady) (sym c.name_of.ensures ∙ c.unwrap-name.ensures) again in
     (c.self.invariant.0, c.self.invariant.1, subst (λ numbers. IsSession (lent hub number c.turn-outlook.new.self) (length c.self.inside.stock.items) numbers c.self.inside.has_begun) (sym c.push_if.ensures) session, c.self.invariant.3)
 
 pub returns-clause-turn : goal.returns-clause-turn
@@ -79,11 +71,12 @@ returns-clause-turn g c =
     let rest = c.pop.new.self in
     let first = first_of c.pop.result number c.self.inside.woken rest c.pop.ensures.first c.unwrap-entry.ensures in
     let at : feed_at hub number ≡ Some c.unwrap.result.now = sym c.feed_mut.ensures.value ∙ ap option_copied_mut c.unwrap.ensures in
+    let steady = first_steady hub (length c.self.inside.stock.items) c.self.inside.woken c.self.inside.has_begun c.self.invariant.2 number rest first c.unwrap.result.now at in
     let again : c.match-matches.matches ≡ is_again c.turn-outlook.result = elim c.match-matches.branch [
       | in-Again m ↦ m.matches-is ∙ sym (ap is_again m.in-Again.is)
       | in_default m ↦ m.matches-is ∙ sym (not_again c.turn-outlook.result m.in_default.not-Again)
     ] in
-    rw (← c.self.view_is, c.push_if.ensures) (makes_turn hub (length c.self.inside.stock.items) c.self.inside.woken c.self.inside.has_begun c.self.invariant.2 number rest first c.unwrap.result.now at c.turn-outlook.new.self c.turn-outlook.new.seen.signals c.turn-outlook.result c.unwrap-name.result c.match-matches.matches c.turn-outlook.ensures.after c.turn-outlook.ensures.plain (sym c.name_of.ensures ∙ c.unwrap-name.ensures) again)
+    rw (← c.self.view_is, c.push_if.ensures) (makes_turn hub (length c.self.inside.stock.items) c.self.inside.woken c.self.inside.has_begun c.self.invariant.2 number rest first c.unwrap.result.now at c.turn-outlook.new.self c.turn-outlook.new.seen.signals c.turn-outlook.result c.unwrap-name.result c.match-matches.matches (c.turn-outlook.ensures.after steady) (c.turn-outlook.ensures.plain steady) (sym c.name_of.ensures ∙ c.unwrap-name.ensures) again)
 
 pub returns-clause-fewer : goal.returns-clause-fewer
 returns-clause-fewer g c =
@@ -92,8 +85,9 @@ returns-clause-fewer g c =
     let rest = c.pop.new.self in
     let first = first_of c.pop.result number c.self.inside.woken rest c.pop.ensures.first c.unwrap-entry.ensures in
     let at : feed_at hub number ≡ Some c.unwrap.result.now = sym c.feed_mut.ensures.value ∙ ap option_copied_mut c.unwrap.ensures in
+    let steady = first_steady hub (length c.self.inside.stock.items) c.self.inside.woken c.self.inside.has_begun c.self.invariant.2 number rest first c.unwrap.result.now at in
     let again : c.match-matches.matches ≡ is_again c.turn-outlook.result = elim c.match-matches.branch [
       | in-Again m ↦ m.matches-is ∙ sym (ap is_again m.in-Again.is)
       | in_default m ↦ m.matches-is ∙ sym (not_again c.turn-outlook.result m.in_default.not-Again)
     ] in
-    rw (← c.self.view_is, c.push_if.ensures) (turn_fewer _ _ _ _ _ c.self.invariant.2.reached (makes_turn hub (length c.self.inside.stock.items) c.self.inside.woken c.self.inside.has_begun c.self.invariant.2 number rest first c.unwrap.result.now at c.turn-outlook.new.self c.turn-outlook.new.seen.signals c.turn-outlook.result c.unwrap-name.result c.match-matches.matches c.turn-outlook.ensures.after c.turn-outlook.ensures.plain (sym c.name_of.ensures ∙ c.unwrap-name.ensures) again))
+    rw (← c.self.view_is, c.push_if.ensures) (turn_fewer _ _ _ _ _ c.self.invariant.2.reached (makes_turn hub (length c.self.inside.stock.items) c.self.inside.woken c.self.inside.has_begun c.self.invariant.2 number rest first c.unwrap.result.now at c.turn-outlook.new.self c.turn-outlook.new.seen.signals c.turn-outlook.result c.unwrap-name.result c.match-matches.matches (c.turn-outlook.ensures.after steady) (c.turn-outlook.ensures.plain steady) (sym c.name_of.ensures ∙ c.unwrap-name.ensures) again))
