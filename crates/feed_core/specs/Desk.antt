@@ -1,10 +1,10 @@
 -- One subscription as plain state: what its calls change, and what they answer.
-use Rattle.std.specs.Prelude.{◌≡◌, ◌↔◌, ℕ, ◌+◌, ◌<◌, ◌≤◌, Bool, true, false, ◌&&◌, if◌then◌else◌, is_none, is_some, Option, None, IsSome, List}
+use Rattle.std.specs.Prelude.{◌≡◌, ◌↔◌, ℕ, ℤ, ◌+◌, ◌<◌, ◌≤◌, Bool, true, false, ◌&&◌, if◌then◌else◌, is_none, is_some, Option, None, IsSome, List}
 use Rattle.feed_core.specs.Prelude.{Item, Signal, Ending}
 use Rattle.feed_core.specs.declared.turn.outlook.Outlook.{Outlook}
 use Rattle.feed_core.specs.declared.turn.outlook.Outlook.TheVariants.{Again, Resting, Ended}
 use Rattle.feed_core.specs.Lane.{LaneState}
-use Rattle.feed_core.specs.LaneCalls.{empty_lane, lag_of, accepts, IsOpen, lane_with_item, lane_with_closing, lane_with_duplicate, lane_with_demand, lane_with_bad_request, lane_with_cancel}
+use Rattle.feed_core.specs.LaneCalls.{empty_lane, lag_of, accepts, IsOpen, lane_with_item, lane_with_closing, lane_with_duplicate, lane_with_demand, lane_with_request, lane_with_cancel}
 use Rattle.feed_core.specs.Turn.{lane_after_turn}
 
 -- a subscription: its lane, the capacity of its buffer, whether its task was started and is not at rest since
@@ -87,12 +87,12 @@ abbrev pub desk_after_duplicate : DeskState → DeskState
 desk_after_duplicate desk = desk_after_signal desk (lane_with_duplicate desk.lane)
 
 -- the subscription after this many more items were requested
-abbrev pub desk_after_request : ℕ → DeskState → DeskState
-desk_after_request n desk = desk_after_signal desk (lane_with_demand n desk.lane)
+abbrev pub desk_after_demand : ℕ → DeskState → DeskState
+desk_after_demand n desk = desk_after_signal desk (lane_with_demand n desk.lane)
 
--- the subscription after a request of a number that is not positive
-abbrev pub desk_after_bad_request : DeskState → DeskState
-desk_after_bad_request desk = desk_after_signal desk (lane_with_bad_request desk.lane)
+-- the subscription after its owner requested this number: one that was cancelled ignores it
+abbrev pub desk_after_request : ℤ → DeskState → DeskState
+desk_after_request n desk = if desk.is_cancelled then desk else desk_after_signal desk (lane_with_request n desk.lane)
 
 -- the subscription after its owner cancelled it: only the first time changes it
 abbrev pub desk_after_cancel : DeskState → DeskState

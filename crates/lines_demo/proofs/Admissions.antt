@@ -14,7 +14,7 @@ use Rattle.publisher_hub.specs.declared.entry.Entry.{Entry}
 use Rattle.publisher_hub.specs.declared.hub.Hub.{Hub}
 use Rattle.publisher_hub.specs.declared.work.Work.{Work}
 use Rattle.publisher_hub.proofs.Grown.{get_grown}
-use Rattle.lines_demo.specs.Prelude.{DeskState, Ending, Refusal, owes, desk_after_request, desk_without_looks}
+use Rattle.lines_demo.specs.Prelude.{DeskState, Ending, Refusal, owes, desk_after_demand, desk_without_looks}
 use Rattle.lines_demo.specs.Script.Session.{AreScriptEntries, IsScriptEntry, IsScriptHub, is_plain, state_of, subscription_of}
 use Rattle.lines_demo.specs.Script.State.{SessionState}
 use Rattle.lines_demo.specs.Script.Subscribing.{MOST_LIVE, MOST_ENTRIES, desk_at_start, desk_at_subscribing, new_subscription, state_after_subscribing, subscribing_refusal}
@@ -58,18 +58,18 @@ may_subscribe state few made some =
 
 -- what the publisher stores of a new subscription: requests and closings may come in either order, and nothing is started
 pub record IsNewDesk (closing : Option Ending) (capacity number : ℕ) (start : Option Unit) (desk : DeskState) : Type 0 where
-  pub is : desk ≡ desk_after_request number (desk_at_subscribing closing capacity)
+  pub is : desk ≡ desk_after_demand number (desk_at_subscribing closing capacity)
   pub started : start ≡ None
   pub owing : owes desk ≡ true
 
 -- it is so, whichever came first
-pub new_desk : (closing : Option Ending) (capacity number : ℕ) (feed after : DeskState) (start : Option Unit) → feed ≡ desk_after_request number (desk_at_start capacity)
+pub new_desk : (closing : Option Ending) (capacity number : ℕ) (feed after : DeskState) (start : Option Unit) → feed ≡ desk_after_demand number (desk_at_start capacity)
     → ClosesNew end_of DoesCall closing feed start after → IsNewDesk closing capacity number start after
 new_desk None capacity number feed after start is closes =
-    let same : after ≡ desk_after_request number (desk_at_start capacity) = closes.1 ∙ is in
+    let same : after ≡ desk_after_demand number (desk_at_start capacity) = closes.1 ∙ is in
     record { is = same; started = closes.0; owing = ap owes same }
 new_desk (Some ending) capacity number feed after start is closes =
-    let closed : after ≡ desk_after_request number (desk_at_subscribing (Some ending) capacity) =
+    let closed : after ≡ desk_after_demand number (desk_at_subscribing (Some ending) capacity) =
     closes.1.first (ap (λ (d : DeskState). d.lane.causes.closing) is) ∙ ap (λ d. desk_after_signal d (lane_with_closing ending d.lane)) is in
     record { is = closed; started = none start closes.1.starts; owing = ap owes closed } where
       none : (start : Option Unit) → IsSome start ↔ ((feed.lane.causes.closing ≡ None) × Rests feed) → start ≡ None
@@ -79,7 +79,7 @@ new_desk (Some ending) capacity number feed after start is closes =
           let e : true ≡ false = sym (ap (λ (d : DeskState). d.started) is) ∙ rests.1.0 in
           cc
 
-module _ (old new : Hub DeskState) (name : List ℕ) (number entry : ℕ) (feed : DeskState) (due : List (Work Unit)) (is : IsScriptHub old) (requested : feed ≡ desk_after_request number (desk_at_start old.capacity))
+module _ (old new : Hub DeskState) (name : List ℕ) (number entry : ℕ) (feed : DeskState) (due : List (Work Unit)) (is : IsScriptHub old) (requested : feed ≡ desk_after_demand number (desk_at_start old.capacity))
     (admits : Admits end_of DoesCall name feed None entry [] due old new) where
   -- a script sees the same of the others
   seen_entries : map subscription_of admits.middle.entries.items ≡ map subscription_of old.entries.items
@@ -108,7 +108,7 @@ module _ (old new : Hub DeskState) (name : List ℕ) (number entry : ℕ) (feed 
       plain = ap is_plain desk.is ∙ plain old.ending;
       ended = λ retired. (let never : false ≡ true = retired in cc);
     }) where
-      plain : (closing : Option Ending) → is_plain (desk_after_request number (desk_at_subscribing closing old.capacity)) ≡ true
+      plain : (closing : Option Ending) → is_plain (desk_after_demand number (desk_at_subscribing closing old.capacity)) ≡ true
       plain None = refl
       plain (Some ending) = refl
 
@@ -123,7 +123,7 @@ module _ (old new : Hub DeskState) (name : List ℕ) (number entry : ℕ) (feed 
       let far = admitted_as_far in
       state_of_is new (stock - 1) (woken ++ entry ∷ []) has_begun (state_after_subscribing name number (state_of old stock woken has_begun)) (ap (λ (p : Progress). p.capacity) far) refl
       (ap (λ (p : Progress). p.ending) far) (ap (λ (p : Progress). p.next) far) refl grown (ap (λ numbers. woken ++ numbers) wakes) where
-        without_looks : (closing : Option Ending) → desk_without_looks (desk_after_request number (desk_at_subscribing closing old.capacity)) ≡ desk_after_request number (desk_at_subscribing closing old.capacity)
+        without_looks : (closing : Option Ending) → desk_without_looks (desk_after_demand number (desk_at_subscribing closing old.capacity)) ≡ desk_after_demand number (desk_at_subscribing closing old.capacity)
         without_looks None = refl
         without_looks (Some ending) = refl
 

@@ -10,7 +10,7 @@ use Rattle.publisher_hub.specs.Sound.{IsSound}
 use Rattle.publisher_hub.specs.Subscribing.{Admits, CanAdmit, IsSeen, Refuses}
 use Rattle.publisher_hub.specs.declared.hub.Hub.{Hub}
 use Rattle.publisher_hub.specs.declared.work.Work.{Work}
-use Rattle.lines_demo.specs.Prelude.{DeskState, Refusal, desk_after_request}
+use Rattle.lines_demo.specs.Prelude.{DeskState, Refusal, desk_after_demand}
 use Rattle.lines_demo.specs.Script.Kept.{IsReached}
 use Rattle.lines_demo.specs.Script.Obeying.{begun_state}
 use Rattle.lines_demo.specs.Script.Playing.{Replies}
@@ -159,7 +159,7 @@ module _ (old : Hub DeskState) (stock : ℕ) (woken : List ℕ) (has_begun : Boo
         (sub_no_buffer start name number free (may_subscribe start few made some)))
 
     -- the next one subscribes
-    pub admitted : (after : Hub DeskState) (entry : ℕ) (feed : DeskState) (started : List (Work Unit)) → 0 < stock → feed ≡ desk_after_request number (desk_at_start new.capacity)
+    pub admitted : (after : Hub DeskState) (entry : ℕ) (feed : DeskState) (started : List (Work Unit)) → 0 < stock → feed ≡ desk_after_demand number (desk_at_start new.capacity)
         → Admits end_of DoesCall name feed None entry [] started new after → IsSound (hub_of end_of after)
         → AnswersSub start name number (Name name) after (stock - 1) (woken ++ entry ∷ [])
     admitted after entry feed started some requested admits sound_after =
@@ -172,7 +172,7 @@ module _ (old : Hub DeskState) (stock : ℕ) (woken : List ℕ) (has_begun : Boo
         (ap (λ (s : SessionState). state_after_subscribing name number s) (sym same) ∙ sym state) replies)
 
     -- nothing is due then
-    pub admitted_starts_nothing : (after : Hub DeskState) (entry : ℕ) (feed : DeskState) (started : List (Work Unit)) → feed ≡ desk_after_request number (desk_at_start new.capacity)
+    pub admitted_starts_nothing : (after : Hub DeskState) (entry : ℕ) (feed : DeskState) (started : List (Work Unit)) → feed ≡ desk_after_demand number (desk_at_start new.capacity)
         → Admits end_of DoesCall name feed None entry [] started new after → started ≡ []
     admitted_starts_nothing after entry feed started requested admits = admitted_due new after name number entry feed started (seen_session new seen sound).session.publisher requested admits
 

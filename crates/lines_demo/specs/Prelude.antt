@@ -17,6 +17,6 @@ pub use Rattle.flow_rules.specs.Capacity.{capacity_of}
 pub use Rattle.flow_rules.specs.Signals.{items_of}
 pub use Rattle.feed_core.specs.declared.turn.outlook.Outlook.{Outlook}
 pub use Rattle.feed_core.specs.declared.turn.outlook.Outlook.TheVariants as Outlook
-pub use Rattle.feed_core.specs.Desk.{DeskState, owes, desk_without_looks, desk_after_put, desk_after_end, desk_after_request, desk_after_turn}
+pub use Rattle.feed_core.specs.Desk.{DeskState, owes, desk_without_looks, desk_after_put, desk_after_end, desk_after_demand, desk_after_request, desk_after_cancel, desk_after_turn}
 pub use Rattle.feed_core.specs.Lane.{LaneState, IsFlow, IsSettled}
 pub use Rattle.feed_core.specs.LaneCalls.{is_gone, lag_of}

@@ -9,7 +9,7 @@ use Rattle.lines_demo.specs.Script.State.{SessionState, CommandResult, LineResul
 use Rattle.lines_demo.specs.Script.Obeying.{command_result}
 use Rattle.lines_demo.specs.Script.Running.{run_turns}
 use Rattle.lines_demo.specs.declared.script.command.Command.{Command}
-use Rattle.lines_demo.specs.declared.script.command.Command.TheVariants.{Cap, Sub, Offer, Retry, Submit, Request, Close, Run}
+use Rattle.lines_demo.specs.declared.script.command.Command.TheVariants.{Cap, Sub, Offer, Retry, Submit, Request, Cancel, Close, Fail, Run}
 use Rattle.lines_demo.specs.declared.script.player.TheConstants.{LONGEST_LINE}
 
 -- a reply is written as one line
@@ -24,7 +24,9 @@ turns_before (Offer text) state refusals = empty_result state refusals
 turns_before (Retry text) state refusals = empty_result state refusals
 turns_before (Submit text) state refusals = empty_result state refusals
 turns_before (Request name number) state refusals = empty_result state refusals
+turns_before (Cancel name) state refusals = empty_result state refusals
 turns_before Close state refusals = empty_result state refusals
+turns_before (Fail code) state refusals = empty_result state refusals
 turns_before Run state refusals = run_turns state refusals
 
 -- what comes of a command, or of a line that spells none

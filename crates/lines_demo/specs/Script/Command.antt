@@ -6,7 +6,7 @@ use Rattle.flow_rules.specs.Name.{is_name}
 use Rattle.lines_demo.specs.Prelude.{UNBOUNDED}
 use Rattle.lines_demo.specs.Number.{spelled_number}
 use Rattle.lines_demo.specs.declared.script.command.Command.{Command}
-use Rattle.lines_demo.specs.declared.script.command.Command.TheVariants.{Cap, Sub, Offer, Retry, Submit, Request, Close, Run}
+use Rattle.lines_demo.specs.declared.script.command.Command.TheVariants.{Cap, Sub, Offer, Retry, Submit, Request, Cancel, Close, Fail, Run}
 
 -- a space
 abbrev pub is_space : ℕ → Bool
@@ -75,6 +75,8 @@ IsInRange (Sub name number) = number ≤ UNBOUNDED
 IsInRange (Offer text) = ⊤
 IsInRange (Retry text) = ⊤
 IsInRange (Submit text) = ⊤
-IsInRange (Request name number) = (1 ≤ number) × (number ≤ UNBOUNDED)
+IsInRange (Request name number) = ⊤
+IsInRange (Cancel name) = ⊤
 IsInRange Close = ⊤
+IsInRange (Fail code) = ⊤
 IsInRange Run = ⊤

@@ -1,14 +1,16 @@
 -- What each command but `run` changes, and what it is answered.
-use Rattle.std.specs.Prelude.{ℕ, ◌==◌, Bool, true, if◌then◌else◌, Some, is_some, List, [], ◌∷◌, map}
+use Rattle.std.specs.Prelude.{ℕ, ℤ, ◌==◌, Bool, true, if◌then◌else◌, Some, is_some, List, [], ◌∷◌, map}
 use Rattle.std.specs.List.{list_any}
-use Rattle.lines_demo.specs.Prelude.{Ending, Refusal, capacity_of, desk_after_end, desk_after_request}
+use Rattle.lines_demo.specs.Prelude.{Ending, Refusal, capacity_of, DeskState, desk_after_end, desk_after_request, desk_after_cancel}
 use Rattle.lines_demo.specs.Script.Command.{is_word}
 use Rattle.lines_demo.specs.Script.State.{SubscriptionState, SessionState, CommandResult, unchanged_result, refused_result, result_unless_no_memory}
 use Rattle.lines_demo.specs.Script.Waking.{is_live, with_subscriptions}
 use Rattle.lines_demo.specs.Script.Subscribing.{sub_result}
 use Rattle.lines_demo.specs.Script.Publishing.{offer_result, retry_result, submit_result}
 use Rattle.lines_demo.specs.declared.script.command.Command.{Command}
-use Rattle.lines_demo.specs.declared.script.command.Command.TheVariants.{Cap, Sub, Offer, Retry, Submit, Request, Close, Run}
+use Rattle.lines_demo.specs.declared.script.command.Command.TheVariants.{Cap, Sub, Offer, Retry, Submit, Request, Cancel, Close, Fail, Run}
+use Rattle.lines_demo.specs.declared.script.session.acting.Act.{Act}
+use Rattle.lines_demo.specs.declared.script.session.acting.Act.TheVariants as Act
 use Rattle.lines_demo.specs.declared.script.reply.Reply.TheVariants.{Capacity, Done, Idle}
 
 -- `cap N`: the capacity may be asked for as long as no other command was read
@@ -26,20 +28,25 @@ cap_result state refusals capacity =
 abbrev pub is_known : List ℕ → List SubscriptionState → Bool
 is_known name subscriptions = list_any (λ subscription. is_word subscription.name name) subscriptions
 
--- the subscriptions after the latest one of this name requested this many more items
-abbrev pub subscriptions_after_request : List ℕ → ℕ → List SubscriptionState → List SubscriptionState
-subscriptions_after_request name number [] = []
-subscriptions_after_request name number (subscription ∷ later) =
-    if is_known name later then subscription ∷ subscriptions_after_request name number later
-    else (if is_word subscription.name name then (record subscription { desk = desk_after_request number subscription.desk }) ∷ later
+-- what the owner of a subscription does to it (`Flow.Subscription`, Java SE 17)
+abbrev pub desk_after_act : Act → DeskState → DeskState
+desk_after_act (Act.Request number) desk = desk_after_request number desk
+desk_after_act Act.Cancel desk = desk_after_cancel desk
+
+-- the subscriptions after the owner of the latest one of this name did this
+abbrev pub subscriptions_after_act : List ℕ → Act → List SubscriptionState → List SubscriptionState
+subscriptions_after_act name act [] = []
+subscriptions_after_act name act (subscription ∷ later) =
+    if is_known name later then subscription ∷ subscriptions_after_act name act later
+    else (if is_word subscription.name name then (record subscription { desk = desk_after_act act subscription.desk }) ∷ later
     else subscription ∷ later)
 
--- `request NAME N`: also an ended subscription counts it
-abbrev pub request_result : SessionState → List Bool → List ℕ → ℕ → CommandResult
-request_result state refusals name number =
+-- `request NAME N` and `cancel NAME`: on an ended subscription, too
+abbrev pub act_result : SessionState → List Bool → List ℕ → Act → CommandResult
+act_result state refusals name act =
     if is_known name state.subscriptions then record {
       reply = Done;
-      state = with_subscriptions (subscriptions_after_request name number state.subscriptions) state;
+      state = with_subscriptions (subscriptions_after_act name act state.subscriptions) state;
       refusals = refusals;
     }
     else refused_result state refusals Refusal.Unknown
@@ -72,7 +79,9 @@ state_at_command (Offer text) state = begun_state state
 state_at_command (Retry text) state = begun_state state
 state_at_command (Submit text) state = begun_state state
 state_at_command (Request name number) state = begun_state state
+state_at_command (Cancel name) state = begun_state state
 state_at_command Close state = begun_state state
+state_at_command (Fail code) state = begun_state state
 state_at_command Run state = begun_state state
 
 -- what each command does; the turns of `run` are made before it
@@ -82,8 +91,10 @@ call_result (Sub name number) state refusals = sub_result state refusals name nu
 call_result (Offer text) state refusals = offer_result state refusals text
 call_result (Retry text) state refusals = retry_result state refusals text
 call_result (Submit text) state refusals = submit_result state refusals text
-call_result (Request name number) state refusals = request_result state refusals name number
+call_result (Request name number) state refusals = act_result state refusals name (Act.Request number)
+call_result (Cancel name) state refusals = act_result state refusals name Act.Cancel
 call_result Close state refusals = closing_result Ending.Normal state refusals
+call_result (Fail code) state refusals = closing_result (Ending.Failed code) state refusals
 call_result Run state refusals = unchanged_result state refusals Idle
 
 -- what a command is answered

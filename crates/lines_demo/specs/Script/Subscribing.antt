@@ -3,7 +3,7 @@ use Rattle.std.specs.Prelude.{ℕ, ◌-◌, ◌==◌, Bool, true, false, ◌&&�
 use Rattle.std.specs.List.{list_any}
 use Rattle.feed_core.specs.Desk.{desk_after_duplicate}
 use Rattle.feed_core.specs.LaneCalls.{empty_lane}
-use Rattle.lines_demo.specs.Prelude.{Ending, Refusal, DeskState, desk_after_end, desk_after_request}
+use Rattle.lines_demo.specs.Prelude.{Ending, Refusal, DeskState, desk_after_end, desk_after_demand}
 use Rattle.lines_demo.specs.Script.Command.{is_word}
 use Rattle.lines_demo.specs.Script.State.{SubscriptionState, SessionState, CommandResult, refused_result, result_unless_no_memory}
 use Rattle.lines_demo.specs.Script.Waking.{is_live, with_subscriptions}
@@ -25,7 +25,7 @@ new_subscription state name number = record {
   name = name;
   since = state.serial;
   dropped = 0;
-  desk = desk_after_request number (desk_at_subscribing state.closing state.capacity);
+  desk = desk_after_demand number (desk_at_subscribing state.closing state.capacity);
 }
 
 -- where a script stands after the next subscriber of its stock has subscribed

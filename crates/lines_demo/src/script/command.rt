@@ -20,10 +20,15 @@ pub enum Command<'a> {
     Retry(TextBytes<'a>),
     /// `submit TEXT`: is refused where there is no room.
     Submit(TextBytes<'a>),
-    /// `request NAME N`, N at least 1
-    Request(Name, u64),
-    /// `close`
+    /// `request NAME N`: the owner of the latest subscription of this name requests N items more; an N that is not positive is a bad
+    /// request.
+    Request(Name, i64),
+    /// `cancel NAME`: the owner of the latest subscription of this name cancels it.
+    Cancel(Name),
+    /// `close`: each subscriber completes after its items.
     Close,
+    /// `fail C`: each subscriber gets the error C, before the items that wait.
+    Fail(u32),
     /// `run`: turns until none is owed.
     Run,
 }

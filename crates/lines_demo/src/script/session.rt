@@ -1,6 +1,6 @@
 //! The session: where a script stands, and what each command changes there.
+mod acting;
 mod publishing;
-mod requesting;
 mod subscribing;
 mod turning;
 
@@ -17,6 +17,7 @@ ghost use Rattle.lines_demo.specs.Script.Waking.{has_woken};
 use super::command::Command;
 use super::reply::Reply;
 use super::woken::Woken;
+use acting::Act;
 use feed_core::Desk;
 use flow_rules::{Ending, Listener, NoMemory, Refusal, capacity};
 use publisher_hub::{Hub, Work};
@@ -105,8 +106,10 @@ impl<B: Listener> Session<B> {
             Command::Offer(text) => self.offer(alloc, text.as_bytes()),
             Command::Retry(text) => self.retry(alloc, text.as_bytes()),
             Command::Submit(text) => self.submit(alloc, text.as_bytes()),
-            Command::Request(name, number) => self.request(name, number),
-            Command::Close => self.close(),
+            Command::Request(name, number) => self.act(name, Act::Request(number)),
+            Command::Cancel(name) => self.act(name, Act::Cancel),
+            Command::Close => self.close(Ending::Normal),
+            Command::Fail(code) => self.close(Ending::Failed(code)),
             Command::Run => Ok(Reply::Idle),
         }
     }
@@ -123,15 +126,15 @@ impl<B: Listener> Session<B> {
         Ok(Reply::Capacity(enforced))
     }
 
-    /// Closes the publisher. Only the first call does anything.
-    fn close(&mut self) -> Result<Reply, Refusal>
+    /// Closes the publisher so. Only the first call does anything.
+    fn close(&mut self, ending: Ending) -> Result<Reply, Refusal>
         requires begun { self.old.has_begun ≡ true }
-        ensures { Replies (λ refusals. closing_result Ending.Normal self.old refusals) (reply_or_refusal result) self.new }
+        ensures { Replies (λ refusals. closing_result ending self.old refusals) (reply_or_refusal result) self.new }
     {
         if self.hub.ending().is_some() {
             return Ok(Reply::Done);
         }
-        let _ = self.hub.end(Ending::Normal, &mut self.due)?;
+        let _ = self.hub.end(ending, &mut self.due)?;
         self.woken.push_all(&mut self.due);
         Ok(Reply::Done)
     }

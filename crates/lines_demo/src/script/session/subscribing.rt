@@ -1,7 +1,7 @@
 //! `sub`.
 ghost use Rattle.std.specs.Prelude.{◌≡◌, ◌≤◌, [], true, IfOk, IfErr};
 ghost use Rattle.feed_core.specs.LaneCalls.{IsCapacity};
-ghost use Rattle.lines_demo.specs.Prelude.{UNBOUNDED, desk_after_request};
+ghost use Rattle.lines_demo.specs.Prelude.{UNBOUNDED, desk_after_demand};
 ghost use Rattle.lines_demo.specs.Script.Playing.{Replies};
 ghost use Rattle.lines_demo.specs.Script.Reply.{reply_or_refusal};
 ghost use Rattle.lines_demo.specs.Script.Subscribing.{sub_result, desk_at_start};
@@ -56,7 +56,7 @@ fn new_desk<B: Listener>(
     requires steady { B.is_steady subscriber ≡ true }
     requires sized { IsCapacity capacity }
     requires bounded { number ≤ UNBOUNDED }
-    ensures ok { IfOk result (λ desk. desk ≡ desk_after_request number (desk_at_start capacity)) }
+    ensures ok { IfOk result (λ desk. desk ≡ desk_after_demand number (desk_at_start capacity)) }
     ensures err { IfErr result (λ back. back ≡ subscriber) }
 {
     match Desk::new(alloc, capacity, subscriber) {

@@ -3,7 +3,7 @@ use Rattle.std.proofs.lemmas.List.Elements.{All-rest, All-same}
 use Rattle.feed_core.specs.Feed.{DoesCall, end_of}
 use Rattle.publisher_hub.specs.Subscribing.{Admits, Refuses}
 use Rattle.publisher_hub.specs.declared.work.Work.{Work}
-use Rattle.lines_demo.specs.Prelude.{Refusal, desk_after_request}
+use Rattle.lines_demo.specs.Prelude.{Refusal, desk_after_demand}
 use Rattle.lines_demo.specs.Script.Session.{numbers_of}
 use Rattle.lines_demo.specs.Script.State.{SessionState}
 use Rattle.lines_demo.specs.Script.Subscribing.{desk_at_start}
@@ -72,8 +72,8 @@ push-requires g c = record {
 }
 
 -- what it has requested
-requested : (g : Over) (c : goal.After-push g) → c.in-Ok.desk ≡ desk_after_request c.args.number (desk_at_start c.may_subscribe.new.self.capacity)
-requested g c = c.in-Ok.ensures.ok ∙ ap (λ n. desk_after_request c.args.number (desk_at_start n)) c.capacity.ensures
+requested : (g : Over) (c : goal.After-push g) → c.in-Ok.desk ≡ desk_after_demand c.args.number (desk_at_start c.may_subscribe.new.self.capacity)
+requested g c = c.in-Ok.ensures.ok ∙ ap (λ n. desk_after_demand c.args.number (desk_at_start n)) c.capacity.ensures
 
 -- the publisher added it, while nothing was due
 added : (g : Over) (c : goal.After-push g)
