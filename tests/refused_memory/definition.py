@@ -1,7 +1,7 @@
 """What scripts are answered, as crates/lines_demo/specs/Script says it, written a second time.
 
 `play(lines, refused)` plays the lines of a script where memory is refused at the point of this number, or at none. A point is
-where the definition lets memory be refused: a command's own call, or a callback of a turn.
+where the definition lets memory be refused: a command's own call, or a callback of a turn, by what it tells.
 """
 
 import re
@@ -181,7 +181,7 @@ class Script:
             if is_next:
                 subscription.waiting.pop(0)
                 subscription.given += 1
-            if self.is_refused("callback"):
+            if self.is_refused("next" if is_next else signal.decode().rstrip(" 0123456789")):
                 self.output.append(subscription.name + b" memory\n")
                 subscription.has_ended = True
                 return False

@@ -31,13 +31,15 @@ pub fn parse_code(bytes: &[u8]) -> Option<u32>
 }
 
 /// The number that the bytes spell, with a `-` or without: 1 to 19 digits, from -2^63 to 2^63-1.
-#[tactic(auto, unfolding(crate::specs::Number::spelled_signed))]
+#[tactic(auto, unfolding(crate::specs::Number::spelled_number, crate::specs::Number::spelled_signed))]
 pub fn parse_signed(bytes: &[u8]) -> Option<i64>
     ensures { result ≡ spelled_signed bytes.now }
 {
-    match bytes.split_first() {
-        Some((b'-', digits)) => 0_i64.checked_sub_unsigned(parse_digits(digits)?),
-        _ => i64::try_from(parse_digits(bytes)?).ok(),
+    let (first, digits) = bytes.split_first()?;
+    if *first == b'-' {
+        0_i64.checked_sub_unsigned(parse_digits(digits)?)
+    } else {
+        i64::try_from(parse_digits(bytes)?).ok()
     }
 }
 
