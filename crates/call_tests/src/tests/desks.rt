@@ -169,6 +169,35 @@ fn a_second_subscribing_starts_the_task_once(rt: HostRuntime) -> Result<(), Fail
     play_on_all(&rt, rt.alloc(), 4, &SECOND_SUBSCRIBING, b"st")
 }
 
+/// Whether a Desk that was called so leaves this many items accepted, taken and requested, this end, and a turn that is owed or not.
+fn leaves(
+    rt: &impl Abort,
+    alloc: Global,
+    rows: &[Row<'_>],
+    told: &[u8],
+    want: (u64, u64, u64, Option<How>, bool),
+) -> Result<(), Fail> {
+    let mut desk = desk_of(alloc, 4, Collector::new(alloc))?;
+    let wrong = first_wrong(alloc, &mut desk, rows)?;
+    assert!(rt; wrong.is_none(), "row {wrong:?}");
+    let lane = desk.into_lane();
+    assert!(rt; (lane.accepted, lane.given, lane.asked, lane.ending, lane.running) == want);
+    let Some(subscriber) = lane.subscriber else {
+        assert!(rt; false, "no subscriber");
+        return Ok(());
+    };
+    assert!(rt; has_told(alloc, &subscriber, told)?);
+    Ok(())
+}
+
+#[test]
+fn a_lane_is_left_of_it(rt: HostRuntime) -> Result<(), Fail> {
+    let alloc = rt.alloc();
+    leaves(&rt, alloc, &[], b"", (0, 0, 0, None, true))?;
+    leaves(&rt, alloc, &DEMAND, b"sxyz", (3, 3, 4, None, false))?;
+    leaves(&rt, alloc, &COMPLETION, b"sxc", (1, 1, 2, Some(How::Completed), false))
+}
+
 #[test]
 fn demand_stays_unbounded(rt: HostRuntime) -> Result<(), Fail> {
     play_on_all(&rt, rt.alloc(), 4, &UNBOUNDED_DEMAND, b"sxy")
