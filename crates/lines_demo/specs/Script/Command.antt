@@ -65,8 +65,7 @@ command_of line =
     else (if is_word word (codes "submit") then with_text Submit (spelled_text rest)
     else (if is_word word (codes "cap") then with_number Cap (spelled_number rest)
     else (if is_word word (codes "sub") then with_name Sub (spelled_name (first_word rest)) (spelled_number (after_space rest))
-    else (if is_word word (codes "request") then with_name Request (spelled_name (first_word rest)) (positive (spelled_number (after_space rest)))
-    else None)))))))
+    else None))))))
 
 -- the numbers of a command are in range
 abbrev pub IsInRange : Command → Type 0

@@ -66,10 +66,6 @@ impl<'a> Command<'a> {
             let (name, digits) = split_word(rest);
             return Some(Command::Sub(Name::new(name)?, parse_number(digits)?));
         }
-        if word == b"request".as_slice() {
-            let (name, digits) = split_word(rest);
-            return Some(Command::Request(Name::new(name)?, positive(parse_number(digits)?)?));
-        }
         None
     }
 }
