@@ -40,6 +40,7 @@ greets_begun desk seen owed begun flow = record {
     recorded = sym (append-nil desk.lane.told);
     answered = refl;
     accepted = refl;
+    grows = omega arith;
     how = owed.1;
     started = owed.0;
     capacity = refl;
@@ -140,6 +141,7 @@ module _ {told : List Signal} {held : List Item} {given asked capacity : ℕ} {c
           recorded = grows;
           answered = let none = obeying_loss answer mid _ same in omega (arith, none);
           accepted = accepted;
+          grows = more_asked;
           how = obeying_how answer mid _ unended same;
           started = runs ∙ runs_on outlook [] (Subscribed ∷ []) shape;
           capacity = refl;
@@ -170,6 +172,7 @@ module _ {told : List Signal} {held : List Item} {given asked capacity : ℕ} {c
           recorded = same_told ∙ sym (append-nil told);
           answered = refl;
           accepted = accepted;
+          grows = omega arith;
           how = refl;
           started = runs;
           capacity = refl;

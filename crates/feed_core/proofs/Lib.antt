@@ -12,6 +12,7 @@ pub mod ProducerEnds
 pub mod RestingTurns
 pub mod SignalLists
 pub mod SoundDesks
+pub mod StoppedLooks
 pub mod SoundLanes
 pub mod SteadyTurns
 pub mod StoppedTurns

@@ -108,6 +108,7 @@ looks_rested old seen flow unended unstopped all waits =
         recorded = sym (append-nil lane.told);
         answered = refl;
         accepted = refl;
+        grows = omega arith;
         how = unended;
         started = refl;
         capacity = refl;
@@ -161,6 +162,7 @@ module _ {told : List Signal} {held : List Item} {given asked capacity : ℕ} {c
           recorded = moves.told_after;
           answered = let none = obeying_loss answer mid _ same in omega (arith, none);
           accepted = accepted;
+          grows = grows;
           how = obeying_how answer mid _ unended same;
           started = runs ∙ runs_on outlook moves.item shape;
           capacity = refl;
@@ -201,6 +203,7 @@ module _ {told : List Signal} {held : List Item} {given asked capacity : ℕ} {c
           recorded = same_told ∙ sym (append-nil told);
           answered = refl;
           accepted = accepted;
+          grows = omega arith;
           how = refl;
           started = runs;
           capacity = refl;
@@ -243,6 +246,7 @@ module _ {told : List Signal} {held : List Item} {given asked capacity : ℕ} {c
             recorded = grows;
             answered = told_answers end (owed_loss old end owed);
             accepted = accepted;
+            grows = omega arith;
             how = refl;
             started = runs;
             capacity = refl;
@@ -277,6 +281,7 @@ module _ {told : List Signal} {held : List Item} {given asked capacity : ℕ} {c
             recorded = same_told ∙ sym (append-nil told);
             answered = refl;
             accepted = accepted;
+            grows = omega arith;
             how = refl;
             started = runs;
             capacity = refl;

@@ -1,14 +1,14 @@
 -- What holds of a subscription between any two of its calls, and that each of them keeps it. So it keeps the Flow rules, and nothing is
 -- forgotten where it owes no turn.
-use Rattle.std.proofs.Common.{◌≡◌, ◌==◌, ℕ, Bool, true, false, not, ◌&&◌, ◌||◌, if◌then◌else◌, List, [], ◌∷◌, ◌++◌, refl, sym, ap, subst, ◌∙◌, arith, Option, Some, None}
+use Rattle.std.proofs.Common.{◌≡◌, ◌==◌, ℕ, zero, suc, ℤ, pos, negsuc, Bool, true, false, not, ◌&&◌, ◌||◌, if◌then◌else◌, List, [], ◌∷◌, ◌++◌, refl, sym, ap, subst, ◌∙◌, arith, Option, Some, None}
 use Rattle.std.specs.Prelude.{is_some}
 use Rattle.std.proofs.lemmas.Bool.Decides.{nat_tests}
 use Rattle.std.proofs.lemmas.List.{append-nil, length-append}
 use Rattle.feed_core.specs.Prelude.{Item, Signal, Ending, How, Outlook, Again, Resting, Ended, total_after}
 use Rattle.feed_core.specs.Cause.{stops}
-use Rattle.feed_core.specs.Desk.{DeskState, owes, started_after, desk_after_signal, desk_after_put, desk_after_end, desk_after_duplicate, desk_after_request, desk_after_bad_request, desk_after_cancel, desk_after_turn}
+use Rattle.feed_core.specs.Desk.{DeskState, owes, started_after, desk_after_signal, desk_after_put, desk_after_end, desk_after_duplicate, desk_after_demand, desk_after_request, desk_after_cancel, desk_after_turn}
 use Rattle.feed_core.specs.Lane.{LaneState, IsFlow, IsSettled}
-use Rattle.feed_core.specs.LaneCalls.{empty_lane, is_gone, lag_of, lane_with_item, lane_with_closing, lane_with_cancel}
+use Rattle.feed_core.specs.LaneCalls.{empty_lane, is_gone, lag_of, lane_with_item, lane_with_closing, lane_with_cancel, lane_with_request}
 use Rattle.feed_core.specs.PlainTurn.{plain_turn_of}
 use Rattle.feed_core.specs.Sound.{IsSound, IsAtRest, IsSoundDesk}
 use Rattle.feed_core.specs.Turn.{lane_after_turn, MeetsPlainTurn, IsOutlookOf}
@@ -81,8 +81,8 @@ sound_desk_put desk item kept = by (is_gone desk.lane) (lag_of desk.lane == desk
       }
 
 -- when more is requested
-pub sound_desk_request : (desk : DeskState) (n : ℕ) → IsSoundDesk desk → IsSoundDesk (desk_after_request n desk)
-sound_desk_request desk n kept =
+pub sound_desk_demand : (desk : DeskState) (n : ℕ) → IsSoundDesk desk → IsSoundDesk (desk_after_demand n desk)
+sound_desk_demand desk n kept =
     let asked = kept.sound.counts.requested in
     let bounded = kept.bounded in
     record {
@@ -92,9 +92,14 @@ sound_desk_request desk n kept =
       rests = λ e. cc;
     }
 
--- when a number that is not positive is
-pub sound_desk_bad_request : (desk : DeskState) → IsSoundDesk desk → IsSoundDesk (desk_after_bad_request desk)
-sound_desk_bad_request desk kept = record { sound = sound_lane_with_bad_request desk.lane kept.sound; fits = kept.fits; bounded = kept.bounded; rests = λ e. cc }
+-- when its owner requests any number
+pub sound_desk_request : (desk : DeskState) (n : ℤ) → IsSoundDesk desk → IsSoundDesk (desk_after_request n desk)
+sound_desk_request desk n kept = by desk.is_cancelled n where
+  by : (cancelled : Bool) (n : ℤ) → IsSoundDesk (if cancelled then desk else desk_after_signal desk (lane_with_request n desk.lane))
+  by true n = kept
+  by false (pos zero) = record { sound = sound_lane_with_bad_request desk.lane kept.sound; fits = kept.fits; bounded = kept.bounded; rests = λ e. cc }
+  by false (pos (suc n)) = sound_desk_demand desk (suc n) kept
+  by false (negsuc n) = record { sound = sound_lane_with_bad_request desk.lane kept.sound; fits = kept.fits; bounded = kept.bounded; rests = λ e. cc }
 
 -- when its owner cancels it
 pub sound_desk_cancel : (desk : DeskState) → IsSoundDesk desk → IsSoundDesk (desk_after_cancel desk)

@@ -60,6 +60,7 @@ part_then old mid new seen more outlook replies later first second = record {
   recorded = second.recorded ∙ ap (λ told. told ++ more) first.recorded ∙ append_assoc old.lane.told seen more;
   answered = omega (arith, length-append replies later, length-append seen more, first.answered, second.answered);
   accepted = second.accepted ∙ first.accepted;
+  grows = omega (arith, first.grows, second.grows);
   how = second.how;
   started = second.started;
   capacity = second.capacity ∙ first.capacity;

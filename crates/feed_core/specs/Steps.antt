@@ -80,6 +80,7 @@ pub record IsPart (old new : DeskState) (last : List Signal) (outlook : Outlook)
   pub recorded : new.lane.told ≡ old.lane.told ++ last
   pub answered : length replies ≡ length last + loss_of (how_after outlook)
   pub accepted : new.lane.accepted ≡ old.lane.accepted
+  pub grows : old.lane.asked ≤ new.lane.asked
   pub how : new.lane.how ≡ how_after outlook
   pub started : new.started ≡ started_after outlook
   pub capacity : new.capacity ≡ old.capacity

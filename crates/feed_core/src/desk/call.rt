@@ -1,8 +1,7 @@
 //! What a publisher and the owner of a subscription call.
-ghost use Rattle.std.specs.Prelude.{◌≡◌, ◌≤◌, ◌+◌, ◌↔◌, ◌<ℤ◌, ◌≤ℤ◌, pos, unsigned_abs, true, false, is_some, IsSome};
-ghost use Rattle.feed_core.specs.Desk.{Rests, desk_after_cancel, desk_after_signal};
+ghost use Rattle.std.specs.Prelude.{◌≡◌, ◌≤◌, ◌+◌, ◌↔◌, true, false, is_some, IsSome};
+ghost use Rattle.feed_core.specs.Desk.{Rests, desk_after_cancel, desk_after_request};
 ghost use Rattle.feed_core.specs.Lane.{IsFlow};
-ghost use Rattle.feed_core.specs.LaneCalls.{lane_with_bad_request, lane_with_demand};
 ghost use Rattle.feed_core.specs.Steps.{Asks};
 ghost use Rattle.flow_rules.specs.Amount.{amount_of};
 
@@ -69,9 +68,7 @@ impl<B: Listener> Desk<B> {
     /// cancelled one ignores it.
     #[must_use]
     pub fn request(&mut self, n: i64) -> Option<()>
-        ensures asked { self.old.is_cancelled ≡ false → pos 0 <ℤ n → self.new ≡ desk_after_signal self.old (lane_with_demand (unsigned_abs n) self.old.lane) }
-        ensures refused { self.old.is_cancelled ≡ false → n ≤ℤ pos 0 → self.new ≡ desk_after_signal self.old (lane_with_bad_request self.old.lane) }
-        ensures gone { self.old.is_cancelled ≡ true → self.new ≡ self.old }
+        ensures requested { self.new ≡ desk_after_request n self.old }
         ensures starts { IsSome result ↔ ((self.old.is_cancelled ≡ false) × Rests self.old) }
         ensures flow { IsFlow self.new.lane }
     {

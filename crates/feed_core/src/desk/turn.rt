@@ -30,8 +30,11 @@ impl<B: Listener> Desk<B> {
         ensures plain { self.old.is_steady ≡ true → MeetsPlainTurn (plain_turn_of self.old.lane) seen.new.signals result }
         ensures after { self.old.is_steady ≡ true → self.new ≡ desk_after_turn self.old seen.new.signals result }
 
-        // The Flow rules: the next items that were accepted, in order, and the lane as a whole.
+        // The Flow rules: the next items that were accepted, in order, none where something ends the subscription at once; a demand
+        // that only grows; and the lane as a whole.
         ensures in_order { IsPrefix (items_of seen.new.signals) (drop self.old.lane.given self.old.lane.accepted) }
+        ensures stopped { IsSome (stops self.old.lane.causes) → self.new.lane.given ≡ self.old.lane.given }
+        ensures demand { self.old.lane.asked ≤ self.new.lane.asked }
         ensures flow { IsFlow self.new.lane }
 
         // Its bounds.

@@ -1,13 +1,13 @@
 -- A request keeps what a Desk keeps, and so the Flow rules.
-use Rattle.std.proofs.Common.{◌≡◌, unsigned_abs, sym, subst, ap, ◌∙◌}
+use Rattle.std.proofs.Common.{◌≡◌, false, sym, subst, ap, ◌∙◌}
 use Rattle.std.proofs.Math.Facts.{to_z-of_z}
 use Rattle.flow_rules.specs.Amount.{amount_of}
 use Rattle.feed_core.specs.Desk.{DeskState}
 use Rattle.feed_core.specs.Lane.{LaneState, IsFlow}
-use Rattle.feed_core.specs.LaneCalls.{lane_with_bad_request, lane_with_demand, lane_with_request}
+use Rattle.feed_core.specs.LaneCalls.{lane_with_request}
 use Rattle.feed_core.specs.Sound.{lane_of}
 use Rattle.feed_core.proofs.FlowRules.{flow_kept}
-use Rattle.feed_core.proofs.ObeyedAnswers.{request_adds, request_refused, sound_asking}
+use Rattle.feed_core.proofs.ObeyedAnswers.{sound_asking}
 use Rattle.feed_core.proofs.desk.Desk.request.Goals as goal
 
 pub returns-then-self-clause-flow : goal.returns-then-self-clause-flow
@@ -31,23 +31,15 @@ invariant_of-self g c =
       greeted = kept.greeted;
     }
 
-pub returns-clause-asked : goal.returns-clause-asked
-returns-clause-asked g c uncancelled positive =
+pub returns-clause-requested : goal.returns-clause-requested
+returns-clause-requested g c =
     let s = c.self.inside in
     let lane : LaneState = lane_of (g.B.Listener.told s.subscriber) s.held.items s.given s.asked s.causes s.how in
     let old : DeskState = record { lane = lane; capacity = s.capacity; started = s.started; is_steady = g.B.Listener.is_steady s.subscriber; looks = amount_of s.looks; is_cancelled = s.cancelled } in
-    let same : record lane { asked = c.ask.new.asked; causes = c.ask.new.causes } ≡ lane_with_demand (unsigned_abs c.args.n) lane =
-    sym (c.ask.ensures.asks lane) ∙ ap (λ n. lane_with_request n lane) (to_z-of_z c.ranges.n) ∙ request_adds c.args.n lane positive in
-    rw (← c.self.view_is) (λ k. record old { lane = same k; started = c.signal.ensures.started k })
-
-pub returns-clause-refused : goal.returns-clause-refused
-returns-clause-refused g c uncancelled bad =
-    let s = c.self.inside in
-    let lane : LaneState = lane_of (g.B.Listener.told s.subscriber) s.held.items s.given s.asked s.causes s.how in
-    let old : DeskState = record { lane = lane; capacity = s.capacity; started = s.started; is_steady = g.B.Listener.is_steady s.subscriber; looks = amount_of s.looks; is_cancelled = s.cancelled } in
-    let same : record lane { asked = c.ask.new.asked; causes = c.ask.new.causes } ≡ lane_with_bad_request lane =
-    sym (c.ask.ensures.asks lane) ∙ ap (λ n. lane_with_request n lane) (to_z-of_z c.ranges.n) ∙ request_refused c.args.n lane bad in
-    rw (← c.self.view_is) (λ k. record old { lane = same k; started = c.signal.ensures.started k })
+    let same : record lane { asked = c.ask.new.asked; causes = c.ask.new.causes } ≡ lane_with_request c.args.n lane =
+    sym (c.ask.ensures.asks lane) ∙ ap (λ n. lane_with_request n lane) (to_z-of_z c.ranges.n) in
+    let uncancelled : s.cancelled ≡ false = c.if-self.false in
+    rw (← c.self.view_is, uncancelled) (λ k. record (record old { is_cancelled = false }) { lane = same k; started = c.signal.ensures.started k })
 
 pub returns-clause-flow : goal.returns-clause-flow
 returns-clause-flow g c =

@@ -4,6 +4,7 @@ use Rattle.feed_core.specs.Prelude.{Complete, Error}
 use Rattle.feed_core.specs.Seen.{SeenState}
 use Rattle.feed_core.proofs.GreetedTurns.{completes_greeted, errs_greeted, few_greeted, in_order_greeted, turns_greeted}
 use Rattle.feed_core.proofs.SteadyTurns.{turn_changes, turn_meets}
+use Rattle.feed_core.proofs.StoppedLooks.{stopped_gives_nothing}
 use Rattle.feed_core.proofs.TurnLoop.{completes, errs, few_signals, in_order, in_order_yet, items_of-so_far, length-so_far, no_terminal_yet, so_far_more, turns_end, turns_full}
 use Rattle.feed_core.proofs.desk.Desk.turn.Goals as goal
 
@@ -29,6 +30,8 @@ returns-in_default g c =
       plain = turn_meets turns.1 c.requires.owed.1;
       after = turn_changes turns.1 c.requires.owed.1;
       in_order = in_order_greeted greets other nothing;
+      stopped = stopped_gives_nothing turns.1;
+      demand = greets.part.grows;
       flow = greets.part.flow;
       at_most = let given = greets.given in omega arith;
       few = few_greeted greets other nothing;
@@ -49,6 +52,8 @@ returns-in_default-look g c =
       plain = turn_meets turns.1 c.requires.owed.1;
       after = turn_changes turns.1 c.requires.owed.1;
       in_order = in_order so_far looks;
+      stopped = stopped_gives_nothing turns.1;
+      demand = omega (arith, so_far.part.grows, looks.part.grows);
       flow = looks.part.flow;
       at_most = let given = so_far.given in let one = looks.few in let under = c.loop-test.true in omega arith;
       few = few_signals so_far looks c.loop-test.true;
@@ -69,6 +74,9 @@ returns-clause-after g c = turn_changes (turns_full c.loop.invariant.0 (omega ar
 
 pub returns-clause-in_order : goal.returns-clause-in_order
 returns-clause-in_order g c = in_order_yet c.loop.invariant.0
+
+pub returns-clause-stopped : goal.returns-clause-stopped
+returns-clause-stopped g c = stopped_gives_nothing (turns_full c.loop.invariant.0 (omega arith)).1
 
 pub returns-clause-again : goal.returns-clause-again
 returns-clause-again g c again =
