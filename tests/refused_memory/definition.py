@@ -1,12 +1,12 @@
 """What scripts are answered, as crates/lines_demo/specs/Script says it, written a second time.
 
 `play(lines, refused)` plays the lines of a script where memory is refused at the point of this number, or at none. A point is
-where the definition lets memory be refused: a command's own call, or a callback of a turn.
+where the definition lets memory be refused: a command's own call, or a callback of a turn, by what it tells.
 """
 
 import re
 
-MOST_LIVE, STOCK, UNBOUNDED = 64, 1024, 2**63 - 1
+MOST_LIVE, STOCK, UNBOUNDED, LARGEST_CODE = 64, 1024, 2**63 - 1, 2**32 - 1
 LONGEST_LINE, LONGEST_TEXT, LARGEST_CAPACITY, ITEMS_IN_A_TURN = 4200, 4096, 65536, 64
 MEMORY = b"refused 5 memory"
 
@@ -14,29 +14,36 @@ MEMORY = b"refused 5 memory"
 class Subscription:
     """A subscription: what its buffer has, what was requested, and why it may end."""
 
-    def __init__(self, name, number, is_closed):
-        self.name, self.asked, self.is_closed = name, number, is_closed
+    def __init__(self, name, number, closing):
+        self.name, self.asked, self.closing = name, number, closing
         self.waiting, self.given, self.dropped = [], 0, 0
-        self.is_greeted = self.is_double = self.has_ended = False
+        self.is_cancelled = self.is_bad = self.is_double = False
+        self.is_greeted = self.has_ended = False
         self.is_started = True
 
     def owes(self):
         return self.is_started and not self.has_ended
 
     def takes(self):
-        return not self.has_ended and not self.is_closed
+        return not self.has_ended and not self.closing
 
     def signals(self):
         """The signals of a turn that meets no want of memory, and what comes after it."""
         told = [] if self.is_greeted else [b"subscribed"]
+        if self.is_cancelled:
+            return told, "ended"
+        if self.is_bad:
+            return [*told, b"error argument"], "ended"
         if self.is_double:
             return [*told, b"error state"], "ended"
+        if self.closing and self.closing != b"complete":
+            return [*told, self.closing], "ended"
         items = self.waiting[: min(self.asked - self.given, ITEMS_IN_A_TURN)]
         told += [b"next " + it for it in items]
         if len(items) == ITEMS_IN_A_TURN:
             return told, "again"
-        if self.is_closed and len(items) == len(self.waiting):
-            return [*told, b"complete"], "ended"
+        if self.closing and len(items) == len(self.waiting):
+            return [*told, self.closing], "ended"
         return told, "resting"
 
 
@@ -45,7 +52,7 @@ class Script:
 
     def __init__(self, refused):
         self.refused, self.points, self.line = refused, [], 0
-        self.capacity, self.has_begun, self.is_closed, self.stock = 256, False, False, STOCK
+        self.capacity, self.has_begun, self.closing, self.stock = 256, False, None, STOCK
         self.subscriptions, self.woken, self.output = [], [], []
 
     def is_refused(self, kind):
@@ -61,15 +68,19 @@ class Script:
         name, _, digits = rest.partition(b" ")
         is_named = re.fullmatch(rb"[A-Za-z0-9_-]{1,32}", name)
         if line in (b"run", b"close"):
-            call = [self.run] if line == b"run" else [self.close]
+            call = [self.run] if line == b"run" else [self.close, b"complete"]
+        elif word == b"fail" and number_of(rest, 0, LARGEST_CODE) is not None:
+            call = [self.close, b"error published %d" % number_of(rest, 0, LARGEST_CODE)]
         elif word in (b"offer", b"retry", b"submit") and rest:
             call = [self.publish, word, rest]
         elif word == b"cap" and number_of(rest) is not None:
             return self.cap(number_of(rest))
         elif word == b"sub" and is_named and number_of(digits) is not None:
             call = [self.subscribe, name, number_of(digits)]
-        elif word == b"request" and is_named and number_of(digits):
-            call = [self.request, name, number_of(digits)]
+        elif word == b"request" and is_named and number_of(digits, -UNBOUNDED - 1) is not None:
+            call = [self.act, name, number_of(digits, -UNBOUNDED - 1)]
+        elif word == b"cancel" and is_named and name == rest:
+            call = [self.act, name, None]
         else:
             return b"refused 12 command"
         self.has_begun = True
@@ -103,7 +114,7 @@ class Script:
         if self.is_refused("sub"):
             return MEMORY
         self.stock -= 1
-        self.subscriptions.append(Subscription(name, number, self.is_closed))
+        self.subscriptions.append(Subscription(name, number, self.closing))
         return b"sub " + name
 
     def publish(self, word, text):
@@ -111,7 +122,7 @@ class Script:
             return b"refused 6 line"
         if self.is_refused(word.decode()):
             return MEMORY
-        if self.is_closed:
+        if self.closing:
             return b"refused 2 closed"
         takers = [it for it in self.subscriptions if it.takes()]
         full = [it for it in takers if len(it.waiting) == self.capacity]
@@ -126,23 +137,33 @@ class Script:
         number = -len(full) or max((len(it.waiting) for it in takers), default=0)
         return b"%s %d" % (word, number) + (b" calls %d" % len(full) if word == b"retry" else b"")
 
-    def request(self, name, number):
+    def act(self, name, number):
+        """A request of this number, or a cancel where it is none. Nothing comes of either after a cancel."""
         named = [it for it in self.subscriptions if it.name == name]
         if not named:
             return b"refused 10 unknown"
-        named[-1].asked = min(named[-1].asked + number, UNBOUNDED)
-        named[-1].is_started = True
+        latest = named[-1]
+        if latest.is_cancelled:
+            return b"ok"
+        latest.is_started = True
+        if number is None:
+            latest.is_cancelled = True
+        elif number > 0:
+            latest.asked = min(latest.asked + number, UNBOUNDED)
+        else:
+            latest.is_bad = True
         return b"ok"
 
-    def close(self):
-        if self.is_closed:
+    def close(self, signal):
+        """A close, which this signal tells. Only the first one does anything."""
+        if self.closing:
             return b"ok"
         if self.is_refused("close"):
             return MEMORY
-        self.is_closed = True
+        self.closing = signal
         for it in self.subscriptions:
             if not it.has_ended:
-                it.is_closed = it.is_started = True
+                it.closing, it.is_started = signal, True
         return b"ok"
 
     def run(self):
@@ -160,7 +181,7 @@ class Script:
             if is_next:
                 subscription.waiting.pop(0)
                 subscription.given += 1
-            if self.is_refused("callback"):
+            if self.is_refused("next" if is_next else signal.decode().rstrip(" 0123456789")):
                 self.output.append(subscription.name + b" memory\n")
                 subscription.has_ended = True
                 return False
@@ -171,9 +192,12 @@ class Script:
         return after == "again"
 
 
-def number_of(digits):
-    """The number that the digits spell, if they do."""
-    return int(digits) if re.fullmatch(rb"[0-9]{1,19}", digits) and int(digits) <= UNBOUNDED else None
+def number_of(word, least=0, most=UNBOUNDED):
+    """The number that the word spells, if it does and it is in this range. A `-` is only taken where the range goes below 0."""
+    sign = rb"-?" if least < 0 else rb""
+    if not re.fullmatch(sign + rb"[0-9]{1,19}", word):
+        return None
+    return int(word) if least <= int(word) <= most else None
 
 
 def play(lines, refused=None):

@@ -11,7 +11,8 @@ subscriber is told nothing more. One request is refused in a run, so of a run
 - it is a beginning of that, with status 1 and `lines_demo: memory` on standard error: the script was stopped.
 
 Each `sub`, `offer`, `retry` and `submit` that comes to a point with ample memory has to be refused it in some run, and so has
-some callback; some run has to be stopped. Where SCRIPT has a file .expected beside it, some run has to give just that.
+some callback; some run has to be stopped. Where SCRIPT has a file .expected beside it, some run has to give just that. Of all
+the scripts together, each kind of signal that is told with ample memory has to be refused it in some run.
 With --forget the subscriber keeps nothing, so no callback may be refused memory.
 """
 
@@ -24,6 +25,7 @@ from definition import play
 
 MOST = 20000
 HAVE_TO_BE_REFUSED = ("sub", "offer", "retry", "submit")
+CALLBACKS = ("subscribed", "next", "complete", "error argument", "error state", "error published")
 
 
 class Script:
@@ -31,7 +33,7 @@ class Script:
 
     def __init__(self, program, forgets, file):
         self.command = [program, "script", "--forget"] if forgets else [program, "script"]
-        self.forgets = forgets
+        self.forgets, self.file = forgets, file
         with open(file, "rb") as it:
             self.text = it.read()
         self.lines = self.text.splitlines(keepends=True)
@@ -62,10 +64,10 @@ class Script:
         if output == self.full:
             self.met["nothing"] += 1
             return None
-        points = [it for it in self.outputs.get(output, []) if not (self.forgets and it[1] == "callback")]
+        points = [it for it in self.outputs.get(output, []) if not (self.forgets and it[1] in CALLBACKS)]
         if not points:
             return f"by the definition no refusal gives this output: {difference(output, self.full)}"
-        self.met["callback" if points[0][1] == "callback" else "command"] += 1
+        self.met["callback" if points[0][1] in CALLBACKS else "command"] += 1
         self.refused_at.update(points)
         return None
 
@@ -84,9 +86,9 @@ def difference(output, wanted):
     return f"from line {at} on, {line!r}" if at else "it is cut, or goes on"
 
 
-def sweep(program, hook, forgets, file):
+def sweep(hook, script):
     """Refuses the requests of the script's run in turn, and returns what is wrong."""
-    script, outputs = Script(program, forgets, file), set()
+    outputs = set()
     for number in range(1, MOST):
         try:
             status, output, said, is_met = script.run(hook, number)
@@ -104,23 +106,33 @@ def sweep(program, hook, forgets, file):
         return "no request was refused: the hook has no effect"
     if (status, output, said) != (0, script.full, b""):
         return f"with ample memory it gives another output than the definition: {difference(output, script.full)}"
-    wanted = os.path.splitext(file)[0] + ".expected"
+    wanted = os.path.splitext(script.file)[0] + ".expected"
     if os.path.isfile(wanted):
         with open(wanted, "rb") as it:
             if it.read() not in outputs:
                 return f"no run gave {wanted}"
     if script.never_met():
         return f"never refused memory: {'; '.join(script.never_met())}"
-    how, met = ", with --forget" if forgets else "", script.met
-    print(f"{file}{how}: {number - 1} requests, each refused in turn: {met['stopped']} stopped the script,", end=" ")
+    how, met = ", with --forget" if script.forgets else "", script.met
+    print(f"{script.file}{how}: {number - 1} requests, each refused in turn: {met['stopped']} stopped the script,", end=" ")
     print(f"{met['callback']} a callback, {met['command']} a command, {met['nothing']} nothing")
     return None
+
+
+def never_told(scripts):
+    """The kinds of signals that the scripts tell, and that no refusal hit."""
+    told = {kind for it in scripts for _, kind in it.points}
+    hit = {kind for it in scripts for _, kind in it.refused_at}
+    return [it for it in CALLBACKS if it in told - hit]
 
 
 def main(program, hook, *words):
     files = [it for it in words if it != "--forget"]
     forgets = len(files) < len(words)
-    faults = [f"{it}: {why}" for it in files for why in [sweep(program, hook, forgets, it)] if why]
+    scripts = [Script(program, forgets, it) for it in files]
+    faults = [f"{it.file}: {why}" for it in scripts for why in [sweep(hook, it)] if why]
+    if not forgets and never_told(scripts):
+        faults.append(f"no run was refused memory at: {', '.join(never_told(scripts))}")
     print("\n".join(faults or ["each refusal is told as it is"]))
     return 1 if faults or not files else 0
 

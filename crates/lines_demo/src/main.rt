@@ -33,14 +33,19 @@ const SCRIPTS: &str = "Commands of a script, one a line, and their answers:
   offer TEXT      offer R   publishes; R is the greatest lag, or minus the number of drops; 0 where nobody takes it
   retry TEXT      retry R calls K  publishes as offer does, and once more, K times, where there was no room
   submit TEXT     submit R  publishes, and is refused where it would wait for room
-  request NAME N  ok        the latest of this name requests N items more, at least 1
-  close           ok        closes the publisher
+  request NAME N  ok        the latest of this name requests N items more; an N below 1 is a bad request
+  cancel NAME     ok        the latest of this name is cancelled
+  close           ok        closes the publisher: each subscriber completes after its items
+  fail C          ok        closes it with the error C, before the items that wait
   run             idle      makes turns until none is owed, after a line for each signal that they tell:
-                            NAME subscribed, NAME next TEXT, NAME complete, NAME error state, NAME memory
+                            NAME subscribed, NAME next TEXT, NAME complete, NAME memory,
+                            NAME error published C (of `fail`), NAME error argument (of a bad request),
+                            NAME error state (of a second `sub` of NAME)
 A command that does nothing is answered `refused N WORD`.
 
 All of standard input is read before the first command is obeyed. A script has 16,777,216 bytes at most, a line 4,200, a text
-4,096 and a name 32. A number has 19 digits at most, and is 9,223,372,036,854,775,807 at most.";
+4,096 and a name 32. A number has 19 digits at most, and is 9,223,372,036,854,775,807 at most; C is 4,294,967,295 at most. N of
+`request` may be negative, down to -9,223,372,036,854,775,808.";
 
 fn main(rt: HostRuntime) -> ExitCode {
     match run(&rt) {

@@ -1,10 +1,10 @@
 -- The commands of a script. Words are separated by exactly one space.
-use Rattle.std.specs.Prelude.{ℕ, ◌≤◌, ⊤, ◌==◌, Bool, if◌then◌else◌, nat_le, Option, Some, None, List, [], ◌∷◌, codes}
+use Rattle.std.specs.Prelude.{ℕ, ◌≤◌, ⊤, ◌==◌, Bool, if◌then◌else◌, Option, Some, None, option_map, List, [], ◌∷◌, codes}
 use Rattle.std.specs.List.{before_first, after_first}
 use Rattle.std.specs.Cmp.Lexicographic.{pointwise}
 use Rattle.flow_rules.specs.Name.{is_name}
 use Rattle.lines_demo.specs.Prelude.{UNBOUNDED}
-use Rattle.lines_demo.specs.Number.{spelled_number}
+use Rattle.lines_demo.specs.Number.{spelled_number, spelled_code, spelled_signed}
 use Rattle.lines_demo.specs.declared.script.command.Command.{Command}
 use Rattle.lines_demo.specs.declared.script.command.Command.TheVariants.{Cap, Sub, Offer, Retry, Submit, Request, Cancel, Close, Fail, Run}
 
@@ -28,30 +28,23 @@ after_space bytes = after_first is_space bytes
 abbrev pub spelled_name : List ℕ → Option (List ℕ)
 spelled_name bytes = if is_name bytes then Some bytes else None
 
--- a command of a number, if it is there
-abbrev pub with_number : (ℕ → Command) → Option ℕ → Option Command
-with_number command None = None
-with_number command (Some number) = Some (command number)
-
 -- a command of a name and a number, if both are there
-abbrev pub with_name : (List ℕ → ℕ → Command) → Option (List ℕ) → Option ℕ → Option Command
+abbrev pub with_name : {N : Type 0} → (List ℕ → N → Command) → Option (List ℕ) → Option N → Option Command
 with_name command None number = None
-with_name command (Some name) number = with_number (command name) number
-
--- a positive number
-abbrev pub positive : Option ℕ → Option ℕ
-positive None = None
-positive (Some number) = if nat_le 1 number then Some number else None
+with_name command (Some name) number = option_map (command name) number
 
 -- a text of at least one byte
 abbrev pub spelled_text : List ℕ → Option (List ℕ)
 spelled_text [] = None
 spelled_text (byte ∷ text) = Some (byte ∷ text)
 
--- a command of a text, if it is there
-abbrev pub with_text : (List ℕ → Command) → Option (List ℕ) → Option Command
-with_text command None = None
-with_text command (Some text) = Some (command text)
+-- the command that a word and what follows it spell, if it begins with a name
+unfoldable pub named_command_of : List ℕ → List ℕ → Option Command
+named_command_of word rest =
+    if is_word word (codes "sub") then with_name Sub (spelled_name (first_word rest)) (spelled_number (after_space rest))
+    else (if is_word word (codes "request") then with_name Request (spelled_name (first_word rest)) (spelled_signed (after_space rest))
+    else (if is_word word (codes "cancel") then option_map Cancel (spelled_name rest)
+    else None))
 
 -- the command that a line spells, if it spells one
 unfoldable pub command_of : List ℕ → Option Command
@@ -60,13 +53,12 @@ command_of line =
     let rest = after_space line in
     if is_word line (codes "run") then Some Run
     else (if is_word line (codes "close") then Some Close
-    else (if is_word word (codes "offer") then with_text Offer (spelled_text rest)
-    else (if is_word word (codes "retry") then with_text Retry (spelled_text rest)
-    else (if is_word word (codes "submit") then with_text Submit (spelled_text rest)
-    else (if is_word word (codes "cap") then with_number Cap (spelled_number rest)
-    else (if is_word word (codes "sub") then with_name Sub (spelled_name (first_word rest)) (spelled_number (after_space rest))
-    else (if is_word word (codes "request") then with_name Request (spelled_name (first_word rest)) (positive (spelled_number (after_space rest)))
-    else None)))))))
+    else (if is_word word (codes "fail") then option_map Fail (spelled_code rest)
+    else (if is_word word (codes "offer") then option_map Offer (spelled_text rest)
+    else (if is_word word (codes "retry") then option_map Retry (spelled_text rest)
+    else (if is_word word (codes "submit") then option_map Submit (spelled_text rest)
+    else (if is_word word (codes "cap") then option_map Cap (spelled_number rest)
+    else named_command_of word rest))))))
 
 -- the numbers of a command are in range
 abbrev pub IsInRange : Command → Type 0

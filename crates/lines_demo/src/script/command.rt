@@ -1,10 +1,10 @@
 //! The commands of a script, and how a line spells one.
-ghost use Rattle.std.specs.Prelude.{◌≡◌, ◌≤◌, Some, IfSome};
-ghost use Rattle.lines_demo.specs.Script.Command.{first_word, after_space, positive, spelled_text};
+ghost use Rattle.std.specs.Prelude.{◌≡◌};
+ghost use Rattle.lines_demo.specs.Script.Command.{first_word, after_space, spelled_text};
 
 use super::text_bytes::TextBytes;
 use crate::line::split_at_byte;
-use crate::number::parse_number;
+use crate::number::{parse_code, parse_number, parse_signed};
 use flow_rules::Name;
 
 /// A command of a script.
@@ -35,7 +35,7 @@ pub enum Command<'a> {
 
 impl<'a> Command<'a> {
     ghost use Rattle.std.specs.Prelude.{◌≡◌, IfSome};
-    ghost use Rattle.lines_demo.specs.Script.Command.{command_of, IsInRange};
+    ghost use Rattle.lines_demo.specs.Script.Command.{command_of, named_command_of, IsInRange};
 
     /// The command that a line spells, or `None` where its form is wrong.
     #[tactic(auto, unfolding(crate::specs::Script::Command::command_of))]
@@ -50,6 +50,9 @@ impl<'a> Command<'a> {
             return Some(Command::Close);
         }
         let (word, rest) = split_word(line);
+        if word == b"fail".as_slice() {
+            return Some(Command::Fail(parse_code(rest)?));
+        }
         if word == b"offer".as_slice() {
             return Some(Command::Offer(parse_text(rest)?));
         }
@@ -62,13 +65,25 @@ impl<'a> Command<'a> {
         if word == b"cap".as_slice() {
             return Some(Command::Cap(parse_number(rest)?));
         }
+        Command::parse_named(word, rest)
+    }
+
+    /// The command that a word and what follows it spell, if it begins with a name, or `None`.
+    #[tactic(auto, unfolding(crate::specs::Script::Command::named_command_of))]
+    fn parse_named(word: &[u8], rest: &[u8]) -> Option<Command<'a>>
+        ensures value { result ≡ named_command_of word.now rest.now }
+        ensures in_range { IfSome result IsInRange }
+    {
         if word == b"sub".as_slice() {
             let (name, digits) = split_word(rest);
             return Some(Command::Sub(Name::new(name)?, parse_number(digits)?));
         }
         if word == b"request".as_slice() {
             let (name, digits) = split_word(rest);
-            return Some(Command::Request(Name::new(name)?, positive(parse_number(digits)?)?));
+            return Some(Command::Request(Name::new(name)?, parse_signed(digits)?));
+        }
+        if word == b"cancel".as_slice() {
+            return Some(Command::Cancel(Name::new(rest)?));
         }
         None
     }
@@ -91,12 +106,4 @@ fn parse_text(bytes: &[u8]) -> Option<TextBytes<'_>>
     } else {
         Some(TextBytes::new(bytes))
     }
-}
-
-/// The number, if it is at least 1.
-fn positive(number: u64) -> Option<u64>
-    ensures value { result ≡ positive (Some number) }
-    ensures positive { IfSome result (λ n. (1 ≤ n) × (n ≡ number)) }
-{
-    if number == 0 { None } else { Some(number) }
 }
