@@ -1,5 +1,5 @@
 -- What a script sees where a subscription is added to its publisher, and when none may be.
-use Rattle.std.proofs.Common.{rules, ◌≡◌, ◌==◌, ◌⊎◌, inl, inr, ℕ, ◌-◌, ◌<◌, Bool, true, false, nat_le, Option, None, Some, List, [], ◌∷◌, ◌++◌, length, map, refl, sym, ap, subst, ◌∙◌, arith}
+use Rattle.std.proofs.Common.{rules, ◌≡◌, ◌==◌, ◌⊎◌, inl, inr, ℕ, zero, suc, pos, ◌-◌, ◌<◌, Bool, true, false, nat_le, Option, None, Some, List, [], ◌∷◌, ◌++◌, length, map, refl, sym, ap, subst, ◌∙◌, arith}
 use Rattle.std.specs.Prelude.{slice_get, count_by, IsSome, ◌↔◌}
 use Rattle.std.proofs.lemmas.Bool.Decides.{nat_tests}
 use Rattle.std.proofs.lemmas.List.{length-map, map-append}
@@ -14,8 +14,8 @@ use Rattle.publisher_hub.specs.declared.entry.Entry.{Entry}
 use Rattle.publisher_hub.specs.declared.hub.Hub.{Hub}
 use Rattle.publisher_hub.specs.declared.work.Work.{Work}
 use Rattle.publisher_hub.proofs.Grown.{get_grown}
-use Rattle.lines_demo.specs.Prelude.{DeskState, Ending, Refusal, owes, desk_after_demand, desk_without_looks}
-use Rattle.lines_demo.specs.Script.Session.{AreScriptEntries, IsScriptEntry, IsScriptHub, is_plain, state_of, subscription_of}
+use Rattle.lines_demo.specs.Prelude.{DeskState, Ending, Refusal, owes, desk_after_demand, desk_after_request, desk_without_looks}
+use Rattle.lines_demo.specs.Script.Session.{AreScriptEntries, IsScriptEntry, IsScriptHub, state_of, subscription_of}
 use Rattle.lines_demo.specs.Script.State.{SessionState}
 use Rattle.lines_demo.specs.Script.Subscribing.{MOST_LIVE, MOST_ENTRIES, desk_at_start, desk_at_subscribing, new_subscription, state_after_subscribing, subscribing_refusal}
 use Rattle.lines_demo.specs.Script.Waking.{is_live, newly_woken}
@@ -55,6 +55,11 @@ may_subscribe state few made some =
     rw (test, room, left) refl
 
 -- ---- the new one
+
+-- a request of a positive number by the owner of a new one raises what it asks for
+pub requests_demand : (number capacity : ℕ) → 0 < number → desk_after_request (pos number) (desk_at_start capacity) ≡ desk_after_demand number (desk_at_start capacity)
+requests_demand zero capacity some = absurd (omega arith)
+requests_demand (suc n) capacity some = refl
 
 -- what the publisher stores of a new subscription: requests and closings may come in either order, and nothing is started
 pub record IsNewDesk (closing : Option Ending) (capacity number : ℕ) (start : Option Unit) (desk : DeskState) : Type 0 where
@@ -105,12 +110,12 @@ module _ (old new : Hub DeskState) (name : List ℕ) (number entry : ℕ) (feed 
     by (inr last) = subst (λ (e : Entry DeskState). IsScriptEntry e) last.1 (record {
       desk = admits.after;
       there = refl;
-      plain = ap is_plain desk.is ∙ plain old.ending;
+      steady = ap (λ (d : DeskState). d.is_steady) desk.is ∙ steady old.ending;
       ended = λ retired. (let never : false ≡ true = retired in cc);
     }) where
-      plain : (closing : Option Ending) → is_plain (desk_after_demand number (desk_at_subscribing closing old.capacity)) ≡ true
-      plain None = refl
-      plain (Some ending) = refl
+      steady : (closing : Option Ending) → (desk_after_demand number (desk_at_subscribing closing old.capacity)).is_steady ≡ true
+      steady None = refl
+      steady (Some ending) = refl
 
   -- and the publisher is a script's
   pub admitted_publisher : IsSound (hub_of end_of new) → IsScriptHub new

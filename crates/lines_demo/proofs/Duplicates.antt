@@ -22,7 +22,7 @@ use Rattle.publisher_hub.proofs.PartialRounds.{same_some}
 use Rattle.lines_demo.specs.Prelude.{DeskState, owes}
 use Rattle.lines_demo.specs.Script.Command.{is_word}
 use Rattle.lines_demo.specs.Script.Kept.{IsReached}
-use Rattle.lines_demo.specs.Script.Session.{AreScriptEntries, IsScriptEntry, IsScriptHub, is_plain, numbers_of, state_of, subscription_of}
+use Rattle.lines_demo.specs.Script.Session.{AreScriptEntries, IsScriptEntry, IsScriptHub, numbers_of, state_of, subscription_of}
 use Rattle.lines_demo.specs.Script.State.{SubscriptionState}
 use Rattle.lines_demo.specs.Script.Subscribing.{is_live_as, is_subscribed, state_after_duplicate, subscription_after_duplicate}
 use Rattle.lines_demo.specs.Script.Waking.{is_live, newly_woken}
@@ -119,7 +119,7 @@ told_entry : (start : Option Unit) (old new : Entry DeskState) → IsScriptEntry
 told_entry start old new is told = subst (λ (e : Entry DeskState). IsScriptEntry e) (sym told.now) (record {
   desk = told.after;
   there = refl;
-  plain = ap is_plain told.exact.marked ∙ ap is_plain (sym (same_desk old told.before is told.was)) ∙ is.plain;
+  steady = ap (λ (d : DeskState). d.is_steady) told.exact.marked ∙ ap (λ (d : DeskState). d.is_steady) (sym (same_desk old told.before is told.was)) ∙ is.steady;
   ended = λ retired. (let never : false ≡ true = sym told.live ∙ retired in cc);
 })
 

@@ -15,7 +15,7 @@ use Rattle.publisher_hub.proofs.Places.{stood_by}
 use Rattle.lines_demo.specs.Prelude.{DeskState, Ending, How, LaneState, desk_after_end, desk_without_looks, owes}
 use Rattle.lines_demo.specs.Script.Kept.{IsKept, IsReached}
 use Rattle.lines_demo.specs.Script.Obeying.{closing_result, state_after_closing, subscription_after_closing}
-use Rattle.lines_demo.specs.Script.Session.{IsScriptEntry, IsScriptHub, IsSession, is_plain, numbers_of, state_of, subscription_of}
+use Rattle.lines_demo.specs.Script.Session.{IsScriptEntry, IsScriptHub, IsSession, numbers_of, state_of, subscription_of}
 use Rattle.lines_demo.specs.Script.State.{SubscriptionState}
 use Rattle.lines_demo.specs.Script.Waking.{is_live, newly_woken}
 use Rattle.lines_demo.proofs.EachMaps.{each_by_map}
@@ -50,7 +50,7 @@ closed_entry ending k None x y is retired unclosed closes = rw closes.1 (record 
   gone false e = refl
 closed_entry ending k (Some start) x y is retired unclosed closes = record {
   same = sees_now ∙ sym expected;
-  entry = rw closes.now (record { desk = closes.after; there = refl; plain = plain; ended = λ odd. (let never : false ≡ true = sym closes.live ∙ odd in cc) });
+  entry = rw closes.now (record { desk = closes.after; there = refl; steady = steady; ended = λ odd. (let never : false ≡ true = sym closes.live ∙ odd in cc) });
   wakes = wakes;
 } where
   before : DeskState
@@ -83,8 +83,8 @@ closed_entry ending k (Some start) x y is retired unclosed closes = record {
   sees : subscription_of y ≡ with_desk x closes.after
   sees = ap subscription_of closes.now
 
-  plain : is_plain closes.after ≡ true
-  plain = ap is_plain after_is ∙ ap is_plain (sym (same_desk x before is closes.was)) ∙ is.plain
+  steady : closes.after.is_steady ≡ true
+  steady = ap (λ (d : DeskState). d.is_steady) after_is ∙ ap (λ (d : DeskState). d.is_steady) (sym (same_desk x before is closes.was)) ∙ is.steady
 
   expected : subscription_after_closing ending (subscription_of x) ≡ with_desk x (desk_after_signal before lane_after)
   expected =

@@ -10,7 +10,7 @@ use Rattle.publisher_hub.specs.Looking.{IsReadied, MayPrepare, Prepares, Sees}
 use Rattle.publisher_hub.specs.declared.entry.Entry.{Entry}
 use Rattle.publisher_hub.proofs.Places.{stood_by}
 use Rattle.lines_demo.specs.Prelude.{DeskState, How, desk_without_looks}
-use Rattle.lines_demo.specs.Script.Session.{AreScriptEntries, IsScriptEntry, desk_in, is_plain, subscription_of}
+use Rattle.lines_demo.specs.Script.Session.{AreScriptEntries, IsScriptEntry, desk_in, subscription_of}
 use Rattle.lines_demo.specs.Script.State.{SubscriptionState}
 use Rattle.lines_demo.specs.Script.Waking.{is_live}
 use Rattle.lines_demo.proofs.EachMaps.{each_map, each_by_map, each_stood}
@@ -59,8 +59,8 @@ looked next standing old new is sees = by standing.ended refl where
   same_but_looks : desk_without_looks after ≡ desk_without_looks before
   same_but_looks = ap desk_without_looks after_is
 
-  plain : is_plain after ≡ true
-  plain = ap is_plain after_is ∙ ap is_plain (sym (same_desk old before is sees.was)) ∙ is.plain
+  steady : after.is_steady ≡ true
+  steady = ap (λ (d : DeskState). d.is_steady) after_is ∙ ap (λ (d : DeskState). d.is_steady) (sym (same_desk old before is sees.was)) ∙ is.steady
 
   ended_is : standing.ended ≡ is_some after.lane.how
   ended_is = sees.stands.exact.ended ∙ ap (λ (d : DeskState). is_some d.lane.how) (sym after_is)
@@ -69,14 +69,14 @@ looked next standing old new is sees = by standing.ended refl where
   by true e = subst (IsSeen old) (sym (sees.ended e)) (record {
     sees = record {
       same = ap (λ d. record { name = old.name; since = old.since; dropped = old.dropped; desk = d }) same_but_looks ∙ sym (seen_with old before sees.was);
-      entry = record { desk = after; there = refl; plain = plain; ended = λ retired. sym ended_is ∙ e };
+      entry = record { desk = after; there = refl; steady = steady; ended = λ retired. sym ended_is ∙ e };
     };
     retired = sym e ∙ ended_is ∙ live_is after.lane.how;
   })
   by false e = subst (IsSeen old) (sym (sees.stays e)) (record {
     sees = record {
       same = ap (λ d. record { name = old.name; since = old.since; dropped = old.dropped; desk = d }) same_but_looks ∙ sym (seen_with old before sees.was);
-      entry = record { desk = after; there = refl; plain = plain; ended = λ retired. (let never : false ≡ true = sym sees.live ∙ retired in cc) };
+      entry = record { desk = after; there = refl; steady = steady; ended = λ retired. (let never : false ≡ true = sym sees.live ∙ retired in cc) };
     };
     retired = sees.live ∙ sym e ∙ ended_is ∙ live_is after.lane.how;
   })

@@ -6,22 +6,25 @@ use Rattle.std.proofs.lemmas.List.Elements.{All-cons, All-head, All-tail, All-pu
 use Rattle.feed_core.specs.Desk.{desk_after_signal, desk_after_duplicate}
 use Rattle.feed_core.specs.LaneCalls.{lane_with_item, lane_with_closing}
 use Rattle.feed_core.proofs.SoundDesks.{owes_live}
-use Rattle.lines_demo.specs.Prelude.{Item, Ending, Refusal, LONGEST_TEXT, DeskState, LaneState, owes, desk_after_request, is_gone, lag_of}
+use Rattle.lines_demo.specs.Prelude.{Item, Ending, Refusal, LONGEST_TEXT, DeskState, LaneState, owes, is_gone, lag_of}
 use Rattle.lines_demo.specs.Script.Command.{is_word}
 use Rattle.lines_demo.specs.Script.State.{SubscriptionState, SessionState, CommandResult, unchanged_result, result_unless_no_memory}
 use Rattle.lines_demo.specs.Script.Waking.{is_live, owes_turn, with_subscriptions}
 use Rattle.lines_demo.specs.Script.Subscribing.{MOST_LIVE, new_subscription, is_live_as, is_subscribed, subscription_after_duplicate, subscribing_refusal, subscribing_unless, duplicate_result, sub_result}
 use Rattle.lines_demo.specs.Script.Publishing.{next_item, subscription_after_offer, state_after_publication, publication_refusal, refusal_or_wait, submit_refusal, publication_unless, publication_result, is_full, offered_reply, retried_reply, submitted_reply}
-use Rattle.lines_demo.specs.Script.Obeying.{cap_result, is_known, subscriptions_after_request, request_result, subscription_after_closing, state_after_closing, closing_result, state_at_command, call_result, command_result}
+use Rattle.lines_demo.specs.Script.Obeying.{cap_result, desk_after_act, is_known, subscriptions_after_act, act_result, subscription_after_closing, state_after_closing, closing_result, state_at_command, call_result, command_result}
 use Rattle.lines_demo.specs.Script.Kept.{IsKept, IsLawful, IsReached}
 use Rattle.lines_demo.specs.Script.Laws.{WakesWhoOwes}
 use Rattle.lines_demo.specs.declared.script.command.Command.{Command}
-use Rattle.lines_demo.specs.declared.script.command.Command.TheVariants.{Cap, Sub, Offer, Retry, Submit, Request, Close, Run}
+use Rattle.lines_demo.specs.declared.script.command.Command.TheVariants.{Cap, Sub, Offer, Retry, Submit, Request, Cancel, Close, Fail, Run}
+use Rattle.lines_demo.specs.declared.script.session.acting.Act.{Act}
+use Rattle.lines_demo.specs.declared.script.session.acting.Act.TheVariants as Act
 use Rattle.lines_demo.specs.declared.script.reply.Reply.{Reply}
 use Rattle.lines_demo.specs.declared.script.reply.Reply.TheVariants.{Done}
-use Rattle.lines_demo.proofs.KeptSubscriptions.{kept_request, kept_duplicate, kept_closing, kept_offer, kept_new, texts_with}
-use Rattle.lines_demo.proofs.LiveSubscriptions.{duplicate_live, offer_live, closing_live, live_map, request_live, room_for_one, live_push}
-use Rattle.lines_demo.proofs.OneName.{duplicate_named, offer_named, closing_named, one_map, one_request, one_push}
+use Rattle.lines_demo.proofs.Acts.{act_owes}
+use Rattle.lines_demo.proofs.KeptSubscriptions.{kept_act, kept_duplicate, kept_closing, kept_offer, kept_new, texts_with}
+use Rattle.lines_demo.proofs.LiveSubscriptions.{duplicate_live, offer_live, closing_live, live_map, acts_live, room_for_one, live_push}
+use Rattle.lines_demo.proofs.OneName.{duplicate_named, offer_named, closing_named, one_map, one_act, one_push}
 use Rattle.lines_demo.proofs.WokenLists.{wakes_with, owes_map, owes_append}
 
 -- a call that keeps each subscription and forgets nobody's turn
@@ -67,16 +70,16 @@ closing_owes ending s owed = by (is_live s) (is_some s.desk.lane.causes.closing)
   by true true = owed
   by true false = ap is_none (owes_live s.desk owed)
 
-request_owes : (name : List ℕ) (number : ℕ) (subscriptions : List SubscriptionState) (k : ℕ) → owes_turn subscriptions k ≡ true
-    → owes_turn (subscriptions_after_request name number subscriptions) k ≡ true
-request_owes name number [] k owed = owed
-request_owes name number (s ∷ later) k owed = by (is_known name later) (is_word s.name name) k owed (request_owes name number later) where
+acts_owe : (name : List ℕ) (act : Act) (subscriptions : List SubscriptionState) (k : ℕ) → owes_turn subscriptions k ≡ true
+    → owes_turn (subscriptions_after_act name act subscriptions) k ≡ true
+acts_owe name act [] k owed = owed
+acts_owe name act (s ∷ later) k owed = by (is_known name later) (is_word s.name name) k owed (acts_owe name act later) where
   by : (known named : Bool) (k : ℕ) → owes_turn (s ∷ later) k ≡ true
-      → ((j : ℕ) → owes_turn later j ≡ true → owes_turn (subscriptions_after_request name number later) j ≡ true)
-      → owes_turn (if known then s ∷ subscriptions_after_request name number later else (if named then (record s { desk = desk_after_request number s.desk }) ∷ later else s ∷ later)) k ≡ true
+      → ((j : ℕ) → owes_turn later j ≡ true → owes_turn (subscriptions_after_act name act later) j ≡ true)
+      → owes_turn (if known then s ∷ subscriptions_after_act name act later else (if named then (record s { desk = desk_after_act act s.desk }) ∷ later else s ∷ later)) k ≡ true
   by true named zero owed rest = owed
   by true named (suc j) owed rest = rest j owed
-  by false true zero owed rest = ap is_none (owes_live s.desk owed)
+  by false true zero owed rest = act_owes act s.desk owed
   by false true (suc j) owed rest = owed
   by false false k owed rest = owed
 
@@ -165,36 +168,36 @@ submit_allowed state allowed = by (publication_refusal state) (list_any is_full 
   by None waits e = refl
   by (Some refusal) waits e = cc
 
--- ---- `request`, `close` and `cap`
+-- ---- acts, closings and `cap`
 
-request_kept : (texts : ℕ → List ℕ) (next : ℕ) (closed : Option Ending) (name : List ℕ) (number : ℕ) (subscriptions : List SubscriptionState) → All (IsKept texts next closed) subscriptions
-    → All (IsKept texts next closed) (subscriptions_after_request name number subscriptions)
-request_kept texts next closed name number [] kept = kept
-request_kept texts next closed name number (s ∷ later) kept =
-    by (is_known name later) (is_word s.name name) (request_kept texts next closed name number later (All-tail (IsKept texts next closed) s later kept)) where
+acts_kept : (texts : ℕ → List ℕ) (next : ℕ) (closed : Option Ending) (name : List ℕ) (act : Act) (subscriptions : List SubscriptionState) → All (IsKept texts next closed) subscriptions
+    → All (IsKept texts next closed) (subscriptions_after_act name act subscriptions)
+acts_kept texts next closed name act [] kept = kept
+acts_kept texts next closed name act (s ∷ later) kept =
+    by (is_known name later) (is_word s.name name) (acts_kept texts next closed name act later (All-tail (IsKept texts next closed) s later kept)) where
       first : IsKept texts next closed s
       first = All-head (IsKept texts next closed) s later kept
 
       rest : All (IsKept texts next closed) later
       rest = All-tail (IsKept texts next closed) s later kept
 
-      by : (known named : Bool) → All (IsKept texts next closed) (subscriptions_after_request name number later)
-          → All (IsKept texts next closed) (if known then s ∷ subscriptions_after_request name number later else (if named then (record s { desk = desk_after_request number s.desk }) ∷ later else s ∷ later))
-      by true named after = All-cons (IsKept texts next closed) s (subscriptions_after_request name number later) first after
-      by false true after = All-cons (IsKept texts next closed) (record s { desk = desk_after_request number s.desk }) later (kept_request texts next closed s number first) rest
+      by : (known named : Bool) → All (IsKept texts next closed) (subscriptions_after_act name act later)
+          → All (IsKept texts next closed) (if known then s ∷ subscriptions_after_act name act later else (if named then (record s { desk = desk_after_act act s.desk }) ∷ later else s ∷ later))
+      by true named after = All-cons (IsKept texts next closed) s (subscriptions_after_act name act later) first after
+      by false true after = All-cons (IsKept texts next closed) (record s { desk = desk_after_act act s.desk }) later (kept_act texts next closed s act first) rest
       by false false after = kept
 
-pub request_reached : (state : SessionState) (refusals : List Bool) (name : List ℕ) (number : ℕ) → IsReached state → IsReached (request_result state refusals name number).state
-request_reached state refusals name number is =
+pub act_reached : (state : SessionState) (refusals : List Bool) (name : List ℕ) (act : Act) → IsReached state → IsReached (act_result state refusals name act).state
+act_reached state refusals name act is =
     let texts = is.0 in
     let lawful = is.1 in
     either (is_known name state.subscriptions) _ _ (
       texts,
-      lawful_with texts state (subscriptions_after_request name number state.subscriptions) lawful.woken
-          (request_kept texts state.serial state.closing name number state.subscriptions lawful.subscriptions)
-          (request_owes name number state.subscriptions)
-          (subst (λ n. n ≤ MOST_LIVE) (sym (request_live name number state.subscriptions)) lawful.few)
-          (one_request name number state.subscriptions lawful.names),
+      lawful_with texts state (subscriptions_after_act name act state.subscriptions) lawful.woken
+          (acts_kept texts state.serial state.closing name act state.subscriptions lawful.subscriptions)
+          (acts_owe name act state.subscriptions)
+          (subst (λ n. n ≤ MOST_LIVE) (sym (acts_live name act state.subscriptions)) lawful.few)
+          (one_act name act state.subscriptions lawful.names),
     )
     is
 
@@ -233,8 +236,10 @@ call_reached (Sub name number) state refusals is = sub_reached state refusals na
 call_reached (Offer text) state refusals is = publication_reached publication_refusal offered_reply state refusals text (λ allowed. allowed) is
 call_reached (Retry text) state refusals is = publication_reached publication_refusal retried_reply state refusals text (λ allowed. allowed) is
 call_reached (Submit text) state refusals is = publication_reached submit_refusal submitted_reply state refusals text (submit_allowed state) is
-call_reached (Request name number) state refusals is = request_reached state refusals name number is
+call_reached (Request name number) state refusals is = act_reached state refusals name (Act.Request number) is
+call_reached (Cancel name) state refusals is = act_reached state refusals name Act.Cancel is
 call_reached Close state refusals is = closing_reached Ending.Normal state refusals is
+call_reached (Fail code) state refusals is = closing_reached (Ending.Failed code) state refusals is
 call_reached Run state refusals is = is
 
 -- the end of the time of `cap` changes no subscription
@@ -250,7 +255,9 @@ begun_reached command state is = by command where
   by (Retry text) = begun
   by (Submit text) = begun
   by (Request name number) = begun
+  by (Cancel name) = begun
   by Close = begun
+  by (Fail code) = begun
   by Run = begun
 
 -- each command leaves a script where it may stand

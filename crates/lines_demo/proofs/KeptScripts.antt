@@ -8,7 +8,7 @@ use Rattle.lines_demo.specs.Script.Laws.{script_state}
 use Rattle.lines_demo.specs.Script.Kept.{IsKept, IsReached}
 use Rattle.lines_demo.specs.Script.State.{SessionState, LineResult, state_at_start}
 use Rattle.lines_demo.specs.declared.script.command.Command.{Command}
-use Rattle.lines_demo.specs.declared.script.command.Command.TheVariants.{Cap, Sub, Offer, Retry, Submit, Request, Close, Run}
+use Rattle.lines_demo.specs.declared.script.command.Command.TheVariants.{Cap, Sub, Offer, Retry, Submit, Request, Cancel, Close, Fail, Run}
 use Rattle.lines_demo.specs.declared.script.player.TheConstants.{LONGEST_LINE}
 use Rattle.lines_demo.proofs.KeptCommands.{command_reached}
 use Rattle.lines_demo.proofs.KeptTurns.{run_reached}
@@ -29,7 +29,9 @@ turns_before_reached (Offer text) state refusals is = is
 turns_before_reached (Retry text) state refusals is = is
 turns_before_reached (Submit text) state refusals is = is
 turns_before_reached (Request name number) state refusals is = is
+turns_before_reached (Cancel name) state refusals is = is
 turns_before_reached Close state refusals is = is
+turns_before_reached (Fail code) state refusals is = is
 turns_before_reached Run state refusals is = run_reached state refusals is
 
 spelled_reached : (command : Option Command) (state : SessionState) (refusals : List Bool) → IsReached state → IsReached (spelled_result command state refusals).state

@@ -7,24 +7,27 @@ use Rattle.feed_core.specs.Desk.{desk_after_signal, desk_after_duplicate}
 use Rattle.feed_core.specs.LaneCalls.{lane_with_item, lane_with_closing}
 use Rattle.feed_core.specs.PlainTurn.{plain_turn_of}
 use Rattle.feed_core.specs.Turn.{MeetsPlainTurn, how_after, causes_after}
-use Rattle.feed_core.proofs.SoundDesks.{sound_new_desk, sound_desk_put, sound_desk_request, sound_desk_end, sound_desk_duplicate, sound_desk_turn}
-use Rattle.lines_demo.specs.Prelude.{Item, Signal, Ending, How, Outlook, desk_after_request, desk_after_end, is_gone, lag_of}
+use Rattle.feed_core.proofs.SoundDesks.{sound_new_desk, sound_desk_put, sound_desk_demand, sound_desk_end, sound_desk_duplicate, sound_desk_turn}
+use Rattle.lines_demo.specs.Prelude.{Item, Signal, Ending, How, Outlook, desk_after_demand, desk_after_end, is_gone, lag_of}
 use Rattle.lines_demo.specs.Script.State.{SubscriptionState, SessionState}
 use Rattle.lines_demo.specs.Script.Subscribing.{desk_at_start, desk_at_subscribing, new_subscription}
 use Rattle.lines_demo.specs.Script.Publishing.{subscription_after_offer}
-use Rattle.lines_demo.specs.Script.Obeying.{subscription_after_closing}
+use Rattle.lines_demo.specs.Script.Obeying.{desk_after_act, subscription_after_closing}
 use Rattle.lines_demo.specs.Script.Running.{subscription_after_turn}
 use Rattle.lines_demo.specs.Script.Kept.{IsPublished, IsKept}
 use Rattle.lines_demo.specs.Script.Laws.{SerialsRise}
 use Rattle.feed_core.specs.Sound.{IsSoundDesk}
+use Rattle.lines_demo.specs.declared.script.session.acting.Act.{Act}
+use Rattle.lines_demo.proofs.Acts.{act_sound, by_act}
 use Rattle.lines_demo.proofs.WokenLists.{same_test, other_test}
 
--- ---- requests and duplicates
+-- ---- acts and duplicates
 
-pub kept_request : (texts : ℕ → List ℕ) (next : ℕ) (closed : Option Ending) (s : SubscriptionState) (number : ℕ) → IsKept texts next closed s
-    → IsKept texts next closed (record s { desk = desk_after_request number s.desk })
-kept_request texts next closed s number kept =
-    record { sound = sound_desk_request s.desk number kept.sound; rise = kept.rise; published = kept.published; most = kept.most; all = kept.all; closing = kept.closing }
+pub kept_act : (texts : ℕ → List ℕ) (next : ℕ) (closed : Option Ending) (s : SubscriptionState) (act : Act) → IsKept texts next closed s
+    → IsKept texts next closed (record s { desk = desk_after_act act s.desk })
+kept_act texts next closed s act kept =
+    by_act act s.desk (λ desk. IsSoundDesk desk → IsKept texts next closed (record s { desk = desk })) (λ asked cancel argument started cancelled goes_on sound.
+    record { sound = sound; rise = kept.rise; published = kept.published; most = kept.most; all = kept.all; closing = kept.closing }) (act_sound act s.desk kept.sound)
 
 pub kept_duplicate : (texts : ℕ → List ℕ) (next : ℕ) (closed : Option Ending) (s : SubscriptionState) → IsKept texts next closed s
     → IsKept texts next closed (record s { desk = desk_after_duplicate s.desk })
@@ -155,9 +158,9 @@ kept_new texts state name number = by state.closing where
   fresh = sound_new_desk state.capacity true true 0 refl
 
   by : (closing : Option Ending)
-      → IsKept texts state.serial closing (record { name = name; since = state.serial; dropped = 0; desk = desk_after_request number (desk_at_subscribing closing state.capacity) })
+      → IsKept texts state.serial closing (record { name = name; since = state.serial; dropped = 0; desk = desk_after_demand number (desk_at_subscribing closing state.capacity) })
   by None = record {
-    sound = sound_desk_request (desk_at_start state.capacity) number fresh;
+    sound = sound_desk_demand (desk_at_start state.capacity) number fresh;
     rise = λ i j d less within. absurd (omega arith);
     published = All-nil (IsPublished texts state.serial state.serial);
     most = omega arith;
@@ -165,7 +168,7 @@ kept_new texts state name number = by state.closing where
     closing = λ live. refl;
   }
   by (Some ending) = record {
-    sound = sound_desk_request (desk_after_end ending (desk_at_start state.capacity)) number (sound_desk_end (desk_at_start state.capacity) ending fresh);
+    sound = sound_desk_demand (desk_after_end ending (desk_at_start state.capacity)) number (sound_desk_end (desk_at_start state.capacity) ending fresh);
     rise = λ i j d less within. absurd (omega arith);
     published = All-nil (IsPublished texts state.serial state.serial);
     most = omega arith;

@@ -1,10 +1,10 @@
--- A `request` means the latest subscription of its name.
+-- A `request` or a `cancel` means the latest subscription of its name.
 use Rattle.std.proofs.Common.{◌≡◌, ℕ, zero, suc, ◌<◌, Bool, true, false, ◌||◌, List, [], ◌∷◌, set, refl, ap, ◌∙◌, arith, Some}
 use Rattle.std.specs.Prelude.{slice_get}
-use Rattle.lines_demo.specs.Prelude.{desk_after_request}
 use Rattle.lines_demo.specs.Script.Command.{is_word}
 use Rattle.lines_demo.specs.Script.State.{SubscriptionState}
-use Rattle.lines_demo.specs.Script.Obeying.{is_known, subscriptions_after_request}
+use Rattle.lines_demo.specs.Script.Obeying.{desk_after_act, is_known, subscriptions_after_act}
+use Rattle.lines_demo.specs.declared.script.session.acting.Act.{Act}
 
 -- nobody after this place has the name
 abbrev pub NoneAfter : List ℕ → List SubscriptionState → ℕ → Type 0
@@ -27,18 +27,18 @@ somebody_known name (other ∷ later) (suc place) s at named = ap (λ b. is_word
   either true = refl
   either false = refl
 
--- the latest one of the name requests, and all others stay
-pub request_latest : (name : List ℕ) (number : ℕ) (subscriptions : List SubscriptionState) (place : ℕ) (s : SubscriptionState) → slice_get subscriptions place ≡ Some s → is_word s.name name ≡ true
+-- the act is done to the latest one of the name, and all others stay
+pub act_latest : (name : List ℕ) (act : Act) (subscriptions : List SubscriptionState) (place : ℕ) (s : SubscriptionState) → slice_get subscriptions place ≡ Some s → is_word s.name name ≡ true
     → NoneAfter name subscriptions place
-    → subscriptions_after_request name number subscriptions ≡ set subscriptions place (record s { desk = desk_after_request number s.desk })
-request_latest name number [] place s at named none = cc
-request_latest name number (other ∷ later) zero s at named none =
+    → subscriptions_after_act name act subscriptions ≡ set subscriptions place (record s { desk = desk_after_act act s.desk })
+act_latest name act [] place s at named none = cc
+act_latest name act (other ∷ later) zero s at named none =
     let is : other ≡ s = value at in
     let unknown : is_known name later ≡ false = nobody_known name later (λ place t there. none (suc place) t (omega arith) there) in
     let this : is_word other.name name ≡ true = ap (λ (t : SubscriptionState). is_word t.name name) is ∙ named in
-    rw (unknown, this) (ap (λ (t : SubscriptionState). (record t { desk = desk_after_request number t.desk }) ∷ later) is) where
+    rw (unknown, this) (ap (λ (t : SubscriptionState). (record t { desk = desk_after_act act t.desk }) ∷ later) is) where
       value : {a b : SubscriptionState} → Some a ≡ Some b → a ≡ b
       value e = cc
-request_latest name number (other ∷ later) (suc place) s at named none =
+act_latest name act (other ∷ later) (suc place) s at named none =
     let known : is_known name later ≡ true = somebody_known name later place s at named in
-    rw known (ap (λ rest. other ∷ rest) (request_latest name number later place s at named (λ k t after there. none (suc k) t (omega arith) there)))
+    rw known (ap (λ rest. other ∷ rest) (act_latest name act later place s at named (λ k t after there. none (suc k) t (omega arith) there)))

@@ -1,5 +1,5 @@
 -- A session whose publisher's end of one subscription was lent, as to a request or a turn.
-use Rattle.std.proofs.Common.{◌≡◌, ℕ, Bool, true, false, not, ◌&&◌, Option, None, Some, List, map, set, refl, sym, ap, subst, ◌∙◌}
+use Rattle.std.proofs.Common.{◌≡◌, ℕ, Bool, true, Option, None, Some, List, map, set, refl, sym, ap, subst, ◌∙◌}
 use Rattle.std.specs.Prelude.{is_some, IsSome, option_map, slice_get}
 use Rattle.std.specs.Borrow.{MutBor}
 use Rattle.std.specs.Option.{option_and_then, option_copied_mut}
@@ -13,7 +13,7 @@ use Rattle.publisher_hub.specs.declared.entry.Entry.{Entry}
 use Rattle.publisher_hub.specs.declared.hub.Hub.{Hub}
 use Rattle.publisher_hub.proofs.Lending.{sound_with_feed}
 use Rattle.lines_demo.specs.Prelude.{DeskState}
-use Rattle.lines_demo.specs.Script.Session.{IsScriptEntry, IsScriptHub, is_plain, state_of, subscription_of}
+use Rattle.lines_demo.specs.Script.Session.{IsScriptEntry, IsScriptHub, state_of, subscription_of}
 use Rattle.lines_demo.specs.Script.State.{SubscriptionState}
 use Rattle.lines_demo.proofs.Duplicates.{set_entries}
 use Rattle.lines_demo.proofs.HubLooks.{same_desk, seen_with, with_desk}
@@ -69,8 +69,8 @@ module _ (hub : Hub DeskState) (number : ℕ) (before after : DeskState) (at : f
       ∙ ap (λ subscriptions. record (state_of hub stock woken begun) { subscriptions = subscriptions }) (map-set subscription_of hub.entries.items number (record lent_one.entry { feed = Some after }))
 
   -- a script's publisher is one still
-  pub lent_publisher : IsScriptHub hub → MayBecome (end_of before) (end_of after) → is_plain after ≡ is_plain before → IsScriptHub (lent hub number after)
-  lent_publisher is becomes plain =
+  pub lent_publisher : IsScriptHub hub → MayBecome (end_of before) (end_of after) → after.is_steady ≡ before.is_steady → IsScriptHub (lent hub number after)
+  lent_publisher is becomes steady =
       let sound = sound_with_feed end_of hub number before after is.sound at becomes in
       subst IsScriptHub (sym lent_is) (record {
         sound = subst (λ h. IsSound (hub_of end_of h)) lent_is sound;
@@ -88,17 +88,13 @@ module _ (hub : Hub DeskState) (number : ℕ) (before after : DeskState) (at : f
         mended = record {
           desk = after;
           there = refl;
-          plain = plain ∙ ap is_plain (sym same) ∙ own.plain;
+          steady = steady ∙ ap (λ (d : DeskState). d.is_steady) (sym same) ∙ own.steady;
           ended = λ retired. becomes.over (ap (λ (d : DeskState). is_some d.lane.how) (sym same) ∙ own.ended retired);
         }
 
--- an end of a script that is there is steady and was not cancelled
-pub plain_there : (hub : Hub DeskState) (number : ℕ) (desk : DeskState) → IsScriptHub hub → feed_at hub number ≡ Some desk → (desk.is_steady ≡ true) × (desk.is_cancelled ≡ false)
-plain_there hub number desk is at =
+-- the subscriber of an end that is there is steady
+pub steady_there : (hub : Hub DeskState) (number : ℕ) (desk : DeskState) → IsScriptHub hub → feed_at hub number ≡ Some desk → desk.is_steady ≡ true
+steady_there hub number desk is at =
     let one = lent_one hub number desk desk at in
     let own = is.entries number one.entry one.stands in
-    by desk.is_steady desk.is_cancelled (ap is_plain (sym (same_desk one.entry desk own one.there)) ∙ own.plain) where
-      by : (steady cancelled : Bool) → (steady && not cancelled) ≡ true → (steady ≡ true) × (cancelled ≡ false)
-      by true false e = (refl, refl)
-      by true true e = cc
-      by false cancelled e = cc
+    ap (λ (d : DeskState). d.is_steady) (sym (same_desk one.entry desk own one.there)) ∙ own.steady

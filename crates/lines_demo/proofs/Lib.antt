@@ -1,4 +1,7 @@
+pub mod ActingSessions
+pub mod Acts
 pub mod Admissions
+pub mod AnsweredSessions
 pub mod Digits
 pub mod Duplicates
 pub mod EachMaps
@@ -25,7 +28,6 @@ pub mod Places
 pub mod Reading
 pub mod RepliedTexts
 pub mod Replying
-pub mod RequestingSessions
 pub mod Results
 pub mod RunEnds
 pub mod ScriptLaws

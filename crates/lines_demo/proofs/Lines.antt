@@ -13,7 +13,7 @@ use Rattle.lines_demo.specs.Script.Running.{run_turns}
 use Rattle.lines_demo.specs.Script.Answering.{reply_result, turns_before, spelled_result, line_result, lines_result}
 use Rattle.lines_demo.specs.Script.Playing.{Replies, Answers}
 use Rattle.lines_demo.specs.declared.script.command.Command.{Command}
-use Rattle.lines_demo.specs.declared.script.command.Command.TheVariants.{Cap, Sub, Offer, Retry, Submit, Request, Close, Run}
+use Rattle.lines_demo.specs.declared.script.command.Command.TheVariants.{Cap, Sub, Offer, Retry, Submit, Request, Cancel, Close, Fail, Run}
 use Rattle.lines_demo.specs.declared.script.player.TheConstants.{LONGEST_LINE}
 use Rattle.lines_demo.specs.declared.script.reply.Reply.{Reply}
 use Rattle.lines_demo.specs.declared.script.reply.Reply.TheVariants.{Refused}
@@ -29,7 +29,9 @@ no_turns (Offer text) state other refusals = refl
 no_turns (Retry text) state other refusals = refl
 no_turns (Submit text) state other refusals = refl
 no_turns (Request name number) state other refusals = refl
+no_turns (Cancel name) state other refusals = refl
 no_turns Close state other refusals = refl
+no_turns (Fail code) state other refusals = refl
 no_turns Run state other refusals = absurd (other refl)
 
 -- a command other than `run` is answered by its reply alone

@@ -5,14 +5,16 @@ use Rattle.std.proofs.lemmas.Bool.Decides.{nat_tests}
 use Rattle.std.proofs.lemmas.List.Sums.{sum_by-append, sum_by-cons, sum_by-set}
 use Rattle.feed_core.specs.Desk.{desk_after_signal, desk_after_duplicate}
 use Rattle.feed_core.specs.LaneCalls.{lane_with_item, lane_with_closing}
-use Rattle.lines_demo.specs.Prelude.{Item, Ending, Refusal, desk_after_request, is_gone, lag_of}
+use Rattle.lines_demo.specs.Prelude.{Item, Ending, Refusal, is_gone, lag_of}
 use Rattle.lines_demo.specs.Script.Command.{is_word}
 use Rattle.lines_demo.specs.Script.State.{SubscriptionState, SessionState}
 use Rattle.lines_demo.specs.Script.Waking.{is_live}
 use Rattle.lines_demo.specs.Script.Subscribing.{MOST_LIVE, MOST_ENTRIES, is_live_as, subscription_after_duplicate, subscribing_refusal}
 use Rattle.lines_demo.specs.Script.Publishing.{subscription_after_offer}
-use Rattle.lines_demo.specs.Script.Obeying.{is_known, subscriptions_after_request, subscription_after_closing}
+use Rattle.lines_demo.specs.Script.Obeying.{desk_after_act, is_known, subscriptions_after_act, subscription_after_closing}
 use Rattle.lines_demo.specs.Script.Laws.{FewAreLive}
+use Rattle.lines_demo.specs.declared.script.session.acting.Act.{Act}
+use Rattle.lines_demo.proofs.Acts.{act_how}
 use Rattle.lines_demo.proofs.WokenLists.{bit}
 
 -- ---- one subscription
@@ -37,6 +39,9 @@ closing_live ending s = by (is_live s) (is_some s.desk.lane.causes.closing) wher
   by true true = refl
   by true false = refl
 
+pub act_live : (act : Act) (s : SubscriptionState) → is_live (record s { desk = desk_after_act act s.desk }) ≡ is_live s
+act_live act s = ap is_none (act_how act s.desk)
+
 at_most_one : (b : Bool) → bit b ≤ 1
 at_most_one true = omega arith
 at_most_one false = omega arith
@@ -55,14 +60,15 @@ live_map change keeps (s ∷ later) =
     live_cons (change s) (map change later) ∙ ap (λ live. bit live + count_by is_live (map change later)) (keeps s)
     ∙ ap (λ n. bit (is_live s) + n) (live_map change keeps later) ∙ sym (live_cons s later)
 
-pub request_live : (name : List ℕ) (number : ℕ) (subscriptions : List SubscriptionState) → count_by is_live (subscriptions_after_request name number subscriptions) ≡ count_by is_live subscriptions
-request_live name number [] = refl
-request_live name number (s ∷ later) = by (is_known name later) (is_word s.name name) (request_live name number later) where
-  by : (known named : Bool) → count_by is_live (subscriptions_after_request name number later) ≡ count_by is_live later
-      → count_by is_live (if known then s ∷ subscriptions_after_request name number later else (if named then (record s { desk = desk_after_request number s.desk }) ∷ later else s ∷ later))
+pub acts_live : (name : List ℕ) (act : Act) (subscriptions : List SubscriptionState) → count_by is_live (subscriptions_after_act name act subscriptions) ≡ count_by is_live subscriptions
+acts_live name act [] = refl
+acts_live name act (s ∷ later) = by (is_known name later) (is_word s.name name) (acts_live name act later) where
+  by : (known named : Bool) → count_by is_live (subscriptions_after_act name act later) ≡ count_by is_live later
+      → count_by is_live (if known then s ∷ subscriptions_after_act name act later else (if named then (record s { desk = desk_after_act act s.desk }) ∷ later else s ∷ later))
       ≡ count_by is_live (s ∷ later)
-  by true named same = live_cons s (subscriptions_after_request name number later) ∙ ap (λ n. bit (is_live s) + n) same ∙ sym (live_cons s later)
-  by false true same = live_cons (record s { desk = desk_after_request number s.desk }) later ∙ sym (live_cons s later)
+  by true named same = live_cons s (subscriptions_after_act name act later) ∙ ap (λ n. bit (is_live s) + n) same ∙ sym (live_cons s later)
+  by false true same =
+      live_cons (record s { desk = desk_after_act act s.desk }) later ∙ ap (λ live. bit live + count_by is_live later) (act_live act s) ∙ sym (live_cons s later)
   by false false same = refl
 
 -- fewer are live than may be where nobody is refused for that

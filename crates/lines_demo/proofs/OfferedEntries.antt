@@ -11,7 +11,7 @@ use Rattle.publisher_hub.specs.Offering.{Gives, GivesAgain, Offered, Second, dro
 use Rattle.publisher_hub.specs.declared.entry.Entry.{Entry}
 use Rattle.lines_demo.specs.Prelude.{Item, How, Ending, DeskState, LaneState, desk_after_put, desk_without_looks, is_gone, lag_of, owes}
 use Rattle.lines_demo.specs.Script.Publishing.{is_full, lag_with, subscription_after_offer}
-use Rattle.lines_demo.specs.Script.Session.{IsScriptEntry, desk_in, is_plain, numbers_of, subscription_of}
+use Rattle.lines_demo.specs.Script.Session.{IsScriptEntry, desk_in, numbers_of, subscription_of}
 use Rattle.lines_demo.specs.Script.Waking.{is_live}
 use Rattle.lines_demo.proofs.HubLooks.{seen_with, with_desk}
 use Rattle.lines_demo.proofs.StartedTasks.{starts}
@@ -51,14 +51,14 @@ starts_where start before k runs rests starts_it =
       by (Some u) false e rests starts_it = ap (λ b. if true && true && not (b && true) then k ∷ [] else []) (sym e)
 
 -- one that took the item
-took : (item : Item) (old : Entry DeskState) (before after : DeskState) (lag : ℕ) (start : Option Unit) → is_plain before ≡ true → old.retired ≡ false → AcceptsItem before after item lag start
+took : (item : Item) (old : Entry DeskState) (before after : DeskState) (lag : ℕ) (start : Option Unit) → before.is_steady ≡ true → old.retired ≡ false → AcceptsItem before after item lag start
     → BecomesOffered item (Some (Accepted lag start)) (entry_with old before) (entry_with old after)
-took item old before after lag start plain live does = record {
+took item old before after lag start steady live does = record {
   same = ap (λ d. with_desk old d) does.taken ∙ sym after_offer;
   entry = record {
     desk = after;
     there = refl;
-    plain = ap is_plain does.taken ∙ plain;
+    steady = ap (λ (d : DeskState). d.is_steady) does.taken ∙ steady;
     ended = λ retired. (let never : false ≡ true = sym live ∙ retired in cc);
   };
   started = λ k. starts_where start before k does.open_before.0 does.starts.0 does.starts.1
@@ -81,14 +81,14 @@ took item old before after lag start plain live does = record {
       ∙ ap (λ b. record (with_desk old before) { desk = if b then desk_after_signal (desk_without_looks before) (lane_with_item item before.lane) else desk_without_looks before }) takes
 
 -- one that had no room, and counts the drop
-dropped : (item back : Item) (old : Entry DeskState) (before after : DeskState) → is_plain before ≡ true → old.retired ≡ false → IsFull before → after ≡ desk_after_look before
+dropped : (item back : Item) (old : Entry DeskState) (before after : DeskState) → before.is_steady ≡ true → old.retired ≡ false → IsFull before → after ≡ desk_after_look before
     → BecomesOffered item (Some (Full back)) (entry_with old before) (record old { feed = Some after; dropped = old.dropped + 1 })
-dropped item back old before after plain live full is = record {
+dropped item back old before after steady live full is = record {
   same = ap (λ d. record (with_desk old before) { dropped = old.dropped + 1; desk = desk_without_looks d }) is ∙ sym after_offer;
   entry = record {
     desk = after;
     there = refl;
-    plain = ap is_plain is ∙ plain;
+    steady = ap (λ (d : DeskState). d.is_steady) is ∙ steady;
     ended = λ retired. (let never : false ≡ true = sym live ∙ retired in cc);
   };
   started = λ k. nobody k (owes before) ∙ ap (λ (d : DeskState). if owes d && not (owes before) then k ∷ [] else []) (sym is);
@@ -154,8 +154,8 @@ becomes_offered item (Some answer) old new may offered = by answer offered where
   was_is : (desk : DeskState) → old.feed ≡ Some desk → entry_with old desk ≡ old
   was_is desk was = ap (λ feed. record old { feed = feed }) (sym was)
 
-  plain : (desk : DeskState) → old.feed ≡ Some desk → is_plain desk ≡ true
-  plain desk was = ap (λ feed. is_plain (desk_in feed)) (sym was ∙ may.is.there) ∙ may.is.plain
+  steady : (desk : DeskState) → old.feed ≡ Some desk → desk.is_steady ≡ true
+  steady desk was = ap (λ feed. (desk_in feed).is_steady) (sym was ∙ may.is.there) ∙ may.is.steady
 
   open_desk : (desk : DeskState) → old.feed ≡ Some desk → old.retired ≡ false → is_gone desk.lane ≡ false
   open_desk desk was live = gone_not desk.lane (
@@ -166,10 +166,10 @@ becomes_offered item (Some answer) old new may offered = by answer offered where
   by : (answer : Put Unit) → Offered end_of DoesCall item answer old new → BecomesOffered item (Some answer) old new
   by (Accepted lag start) is =
       subst (λ x. BecomesOffered item (Some (Accepted lag start)) x new) (was_is is.before is.was)
-      (subst (BecomesOffered item (Some (Accepted lag start)) (entry_with old is.before)) (sym is.now) (took item old is.before is.after lag start (plain is.before is.was) is.live is.exact.answers))
+      (subst (BecomesOffered item (Some (Accepted lag start)) (entry_with old is.before)) (sym is.now) (took item old is.before is.after lag start (steady is.before is.was) is.live is.exact.answers))
   by (Full back) is =
       subst (λ x. BecomesOffered item (Some (Full back)) x new) (was_is is.before is.was)
-      (subst (BecomesOffered item (Some (Full back)) (entry_with old is.before)) (sym is.now) (dropped item back old is.before is.after (plain is.before is.was) is.live is.exact.answers.0 is.exact.answers.1.1))
+      (subst (BecomesOffered item (Some (Full back)) (entry_with old is.before)) (sym is.now) (dropped item back old is.before is.after (steady is.before is.was) is.live is.exact.answers.0 is.exact.answers.1.1))
   by (Gone back) is = let never : false ≡ true = sym (open_desk is.before is.was is.live) ∙ is.exact.answers.0 in cc
 
 -- ---- the second pass
@@ -208,7 +208,7 @@ full_still item middle new desk answer is some there full offered = by answer of
       let entry : IsScriptEntry new = subst IsScriptEntry (sym now) (record {
         desk = desk_after_look desk;
         there = refl;
-        plain = ap is_plain (sym same_desk) ∙ is.plain;
+        steady = ap (λ (d : DeskState). d.is_steady) (sym same_desk) ∙ is.steady;
         ended = λ retired. ap (λ (d : DeskState). is_some d.lane.how) (sym same_desk) ∙ is.ended retired;
       }) in
       (back, (refl, (ap subscription_of now ∙ sym (seen_with middle desk there), entry)))

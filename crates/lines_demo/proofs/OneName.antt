@@ -5,15 +5,16 @@ use Rattle.std.proofs.lemmas.Bool.Decides.{Decides-eqb}
 use Rattle.std.proofs.lemmas.List.Sums.{sum_by-append, sum_by-cons, sum_by-set}
 use Rattle.std.proofs.lemmas.Slice.Eq.{slice_eq-Decides}
 use Rattle.feed_core.specs.Desk.{desk_after_duplicate}
-use Rattle.lines_demo.specs.Prelude.{Item, Ending, desk_after_end, desk_after_request}
+use Rattle.lines_demo.specs.Prelude.{Item, Ending, desk_after_end}
 use Rattle.lines_demo.specs.Script.Command.{is_word}
 use Rattle.lines_demo.specs.Script.State.{SubscriptionState, SessionState}
 use Rattle.lines_demo.specs.Script.Waking.{is_live}
 use Rattle.lines_demo.specs.Script.Subscribing.{is_live_as, is_subscribed, subscription_after_duplicate}
 use Rattle.lines_demo.specs.Script.Publishing.{subscription_after_offer}
-use Rattle.lines_demo.specs.Script.Obeying.{is_known, subscriptions_after_request, subscription_after_closing}
+use Rattle.lines_demo.specs.Script.Obeying.{desk_after_act, is_known, subscriptions_after_act, subscription_after_closing}
 use Rattle.lines_demo.specs.Script.Laws.{OneLiveOfName}
-use Rattle.lines_demo.proofs.LiveSubscriptions.{duplicate_live, offer_live, closing_live}
+use Rattle.lines_demo.specs.declared.script.session.acting.Act.{Act}
+use Rattle.lines_demo.proofs.LiveSubscriptions.{act_live, duplicate_live, offer_live, closing_live}
 use Rattle.lines_demo.proofs.WokenLists.{bit}
 
 -- equal bytes are one word
@@ -54,19 +55,21 @@ pub one_map : (change : SubscriptionState → SubscriptionState) (subscriptions 
     → ((name : List ℕ) → count_by (is_live_as name) subscriptions ≤ 1) → (name : List ℕ) → count_by (is_live_as name) (map change subscriptions) ≤ 1
 one_map change subscriptions keeps one = λ name. (let same = named_map name change (keeps name) subscriptions in let most = one name in omega (arith, same, most))
 
-request_named : (other name : List ℕ) (number : ℕ) (subscriptions : List SubscriptionState) → count_by (is_live_as other) (subscriptions_after_request name number subscriptions) ≡ count_by (is_live_as other) subscriptions
-request_named other name number [] = refl
-request_named other name number (s ∷ later) = by (is_known name later) (is_word s.name name) (request_named other name number later) where
-  by : (known named : Bool) → count_by (is_live_as other) (subscriptions_after_request name number later) ≡ count_by (is_live_as other) later
-      → count_by (is_live_as other) (if known then s ∷ subscriptions_after_request name number later else (if named then (record s { desk = desk_after_request number s.desk }) ∷ later else s ∷ later))
+act_named : (other name : List ℕ) (act : Act) (subscriptions : List SubscriptionState) → count_by (is_live_as other) (subscriptions_after_act name act subscriptions) ≡ count_by (is_live_as other) subscriptions
+act_named other name act [] = refl
+act_named other name act (s ∷ later) = by (is_known name later) (is_word s.name name) (act_named other name act later) where
+  by : (known named : Bool) → count_by (is_live_as other) (subscriptions_after_act name act later) ≡ count_by (is_live_as other) later
+      → count_by (is_live_as other) (if known then s ∷ subscriptions_after_act name act later else (if named then (record s { desk = desk_after_act act s.desk }) ∷ later else s ∷ later))
       ≡ count_by (is_live_as other) (s ∷ later)
-  by true named same = named_cons other s (subscriptions_after_request name number later) ∙ ap (λ n. bit (is_live_as other s) + n) same ∙ sym (named_cons other s later)
-  by false true same = named_cons other (record s { desk = desk_after_request number s.desk }) later ∙ sym (named_cons other s later)
+  by true named same = named_cons other s (subscriptions_after_act name act later) ∙ ap (λ n. bit (is_live_as other s) + n) same ∙ sym (named_cons other s later)
+  by false true same =
+      let after : SubscriptionState = record s { desk = desk_after_act act s.desk } in
+      named_cons other after later ∙ ap (λ b. bit b + count_by (is_live_as other) later) (both other s after (act_live act s) refl) ∙ sym (named_cons other s later)
   by false false same = refl
 
-pub one_request : (name : List ℕ) (number : ℕ) (subscriptions : List SubscriptionState) → ((other : List ℕ) → count_by (is_live_as other) subscriptions ≤ 1)
-    → (other : List ℕ) → count_by (is_live_as other) (subscriptions_after_request name number subscriptions) ≤ 1
-one_request name number subscriptions one = λ other. (let same = request_named other name number subscriptions in let most = one other in omega (arith, same, most))
+pub one_act : (name : List ℕ) (act : Act) (subscriptions : List SubscriptionState) → ((other : List ℕ) → count_by (is_live_as other) subscriptions ≤ 1)
+    → (other : List ℕ) → count_by (is_live_as other) (subscriptions_after_act name act subscriptions) ≤ 1
+one_act name act subscriptions one = λ other. (let same = act_named other name act subscriptions in let most = one other in omega (arith, same, most))
 
 -- nobody live has a name that isn't subscribed
 none_named : (name : List ℕ) (subscriptions : List SubscriptionState) → is_subscribed name subscriptions ≡ false → count_by (is_live_as name) subscriptions ≡ 0

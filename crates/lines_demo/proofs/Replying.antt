@@ -4,13 +4,14 @@ use Rattle.std.specs.Prelude.{is_some}
 use Rattle.std.proofs.lemmas.Bool.Decides.{nat_tests}
 use Rattle.lines_demo.specs.Prelude.{Item, Ending, Refusal, LONGEST_TEXT, capacity_of}
 use Rattle.lines_demo.specs.Script.Kept.{IsReached}
-use Rattle.lines_demo.specs.Script.Obeying.{cap_result, closing_result, is_known, request_result, state_after_closing, subscriptions_after_request}
+use Rattle.lines_demo.specs.Script.Obeying.{act_result, cap_result, closing_result, is_known, state_after_closing, subscriptions_after_act}
 use Rattle.lines_demo.specs.Script.Playing.{Replies}
 use Rattle.lines_demo.specs.Script.Publishing.{next_item, publication_result, state_after_publication}
 use Rattle.lines_demo.specs.Script.State.{SubscriptionState, SessionState, CommandResult}
 use Rattle.lines_demo.specs.Script.Subscribing.{is_subscribed, sub_result, state_after_duplicate, state_after_subscribing, subscribing_refusal}
 use Rattle.lines_demo.specs.Script.Waking.{with_subscriptions}
 use Rattle.lines_demo.specs.declared.script.reply.Reply.{Reply}
+use Rattle.lines_demo.specs.declared.script.session.acting.Act.{Act}
 use Rattle.lines_demo.specs.declared.script.reply.Reply.TheVariants.{Capacity, Done, Name, Refused}
 
 -- a number that is not 0 is above it
@@ -99,15 +100,15 @@ publication_done refusal_of reply state text short nothing =
     let test : nat_lt LONGEST_TEXT (length text) ≡ false = grind (arith, nat_tests) in
     record { used = false ∷ []; replies = λ more. rw (test, nothing) refl }
 
--- ---- `request` and `close`
+-- ---- acts and closings
 
-pub request_unknown : (state : SessionState) (name : List ℕ) (number : ℕ) → is_known name state.subscriptions ≡ false
-    → Replies (λ refusals. request_result state refusals name number) (Refused Refusal.Unknown) state
-request_unknown state name number unknown = record { used = []; replies = λ more. rw unknown refl }
+pub act_unknown : (state : SessionState) (name : List ℕ) (act : Act) → is_known name state.subscriptions ≡ false
+    → Replies (λ refusals. act_result state refusals name act) (Refused Refusal.Unknown) state
+act_unknown state name act unknown = record { used = []; replies = λ more. rw unknown refl }
 
-pub request_done : (state : SessionState) (name : List ℕ) (number : ℕ) → is_known name state.subscriptions ≡ true
-    → Replies (λ refusals. request_result state refusals name number) Done (with_subscriptions (subscriptions_after_request name number state.subscriptions) state)
-request_done state name number known = record { used = []; replies = λ more. rw known refl }
+pub act_done : (state : SessionState) (name : List ℕ) (act : Act) → is_known name state.subscriptions ≡ true
+    → Replies (λ refusals. act_result state refusals name act) Done (with_subscriptions (subscriptions_after_act name act state.subscriptions) state)
+act_done state name act known = record { used = []; replies = λ more. rw known refl }
 
 pub closing_again : (ending : Ending) (state : SessionState) → is_some state.closing ≡ true → Replies (λ refusals. closing_result ending state refusals) Done state
 closing_again ending state closed = record { used = []; replies = λ more. rw closed refl }

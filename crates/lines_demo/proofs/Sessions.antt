@@ -17,7 +17,7 @@ use Rattle.lines_demo.specs.Script.Session.{IsScriptHub, IsSession, state_of, su
 use Rattle.lines_demo.specs.Script.State.{SessionState, state_at_start}
 use Rattle.lines_demo.specs.Script.Obeying.{state_at_command}
 use Rattle.lines_demo.specs.declared.script.command.Command.{Command}
-use Rattle.lines_demo.specs.declared.script.command.Command.TheVariants.{Cap, Sub, Offer, Retry, Submit, Request, Close, Run}
+use Rattle.lines_demo.specs.declared.script.command.Command.TheVariants.{Cap, Sub, Offer, Retry, Submit, Request, Cancel, Close, Fail, Run}
 use Rattle.lines_demo.specs.declared.script.session.TheConstants.{DEFAULT_CAPACITY}
 
 -- where a script starts, with another capacity
@@ -108,7 +108,9 @@ begun_by (Offer text) state other = refl
 begun_by (Retry text) state other = refl
 begun_by (Submit text) state other = refl
 begun_by (Request name number) state other = refl
+begun_by (Cancel name) state other = refl
 begun_by Close state other = refl
+begun_by (Fail code) state other = refl
 begun_by Run state other = refl
 
 -- reading a command again changes nothing
@@ -119,7 +121,9 @@ begun_again (Offer text) state = refl
 begun_again (Retry text) state = refl
 begun_again (Submit text) state = refl
 begun_again (Request name number) state = refl
+begun_again (Cancel name) state = refl
 begun_again Close state = refl
+begun_again (Fail code) state = refl
 begun_again Run state = refl
 
 -- a session that stands where a script may stand, after its beginning

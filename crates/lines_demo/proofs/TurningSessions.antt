@@ -11,11 +11,11 @@ use Rattle.publisher_hub.specs.Lending.{MayBecome, feed_at}
 use Rattle.publisher_hub.specs.declared.hub.Hub.{Hub}
 use Rattle.lines_demo.specs.Prelude.{DeskState, How, Outlook, Signal, desk_after_turn, owes}
 use Rattle.lines_demo.specs.Script.Playing.{MakesTurn}
-use Rattle.lines_demo.specs.Script.Session.{IsSession, is_plain, state_of}
+use Rattle.lines_demo.specs.Script.Session.{IsSession, state_of}
 use Rattle.lines_demo.specs.Script.State.{SessionState, SubscriptionState}
 use Rattle.lines_demo.specs.Script.Waking.{owes_if_there, owes_turn}
 use Rattle.lines_demo.proofs.HubLooks.{with_desk}
-use Rattle.lines_demo.proofs.LentSessions.{lent, lent_one, lent_publisher, lent_stands, lent_state, plain_there}
+use Rattle.lines_demo.proofs.LentSessions.{lent, lent_one, lent_publisher, lent_stands, lent_state, steady_there}
 use Rattle.lines_demo.proofs.SearchedNames.{known_name}
 use Rattle.lines_demo.proofs.SessionTurns.{first_owes, turn_reached}
 
@@ -66,7 +66,7 @@ module _ (hub : Hub DeskState) (stock : ℕ) (woken : List ℕ) (begun : Bool) (
     first_owed = owed_by before owed
 
     pub first_steady : before.is_steady ≡ true
-    first_steady = (plain_there hub number before is.publisher at).0
+    first_steady = steady_there hub number before is.publisher at
 
     module _ (after : DeskState) (told : List Signal) (outlook : Outlook) (name : List ℕ) (again : Bool) (turned : after ≡ desk_after_turn before told outlook) (plain : MeetsPlainTurn (plain_turn_of before.lane) told outlook)
         (named : option_map (λ (entry : EntryState). entry.name) (slice_get (map (entry_of end_of) hub.entries.items) number) ≡ Some name) (woken_again : again ≡ is_again outlook) where
@@ -108,7 +108,7 @@ module _ (hub : Hub DeskState) (stock : ℕ) (woken : List ℕ) (begun : Bool) (
 
       pub turned_session : IsSession (lent hub number after) stock (rest ++ (if again then number ∷ [] else [])) begun
       turned_session = record {
-        publisher = lent_publisher hub number before after at is.publisher becomes (ap is_plain turned);
+        publisher = lent_publisher hub number before after at is.publisher becomes (ap (λ (d : DeskState). d.is_steady) turned);
         reached = turn_reached state turned_state name told outlook is.reached makes_turn;
         fresh = λ unread. (let nobody = sym first ∙ ap (λ (s : SessionState). s.woken) (is.fresh unread) in cc);
       }

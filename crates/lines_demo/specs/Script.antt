@@ -1,4 +1,5 @@
 -- A script: its commands, what each one changes, and what it is answered.
+pub mod Acting
 pub mod Answering
 pub mod Command
 pub mod Fault

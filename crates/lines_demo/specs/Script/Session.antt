@@ -1,5 +1,5 @@
 -- How a script's publisher and its list of the woken stand for where the script stands, and what holds of them between two commands.
-use Rattle.std.specs.Prelude.{◌≡◌, ℕ, Bool, true, false, not, ◌&&◌, is_some, Option, Some, None, List, map, slice_get}
+use Rattle.std.specs.Prelude.{◌≡◌, ℕ, Bool, true, false, is_some, Option, Some, None, List, map, slice_get}
 use Rattle.feed_core.specs.Feed.{end_of}
 use Rattle.feed_core.specs.LaneCalls.{IsCapacity}
 use Rattle.publisher_hub.specs.Hub.{hub_of}
@@ -39,15 +39,11 @@ state_of hub stock woken has_begun = record {
 abbrev pub numbers_of : List (Work Unit) → List ℕ
 numbers_of due = map (λ (work : Work Unit). work.entry) due
 
--- its subscriber is steady, and its owner has not cancelled it
-abbrev pub is_plain : DeskState → Bool
-is_plain desk = desk.is_steady && not desk.is_cancelled
-
--- a subscription of a script: its desk is there and is a plain one, and where it is retired it has ended
+-- a subscription of a script: its desk is there and its subscriber is steady, and where it is retired it has ended
 pub record IsScriptEntry (entry : Entry DeskState) : Type 0 where
   pub desk : DeskState
   pub there : entry.feed ≡ Some desk
-  pub plain : is_plain desk ≡ true
+  pub steady : desk.is_steady ≡ true
   pub ended : entry.retired ≡ true → is_some desk.lane.how ≡ true
 
 -- so of each subscription

@@ -1,6 +1,7 @@
 //! `request` and `cancel`: what the owner of a subscription does.
-ghost use Rattle.std.specs.Prelude.{◌≡◌, ◌↔◌, ◌&&◌, not, true, IsSome};
-ghost use Rattle.feed_core.specs.Desk.{owes};
+ghost use Rattle.std.specs.Prelude.{◌≡◌, true, IsSome};
+ghost use Rattle.publisher_hub.specs.Lending.{feed_at};
+ghost use Rattle.lines_demo.specs.Script.Acting.{ActsOn, was_started};
 ghost use Rattle.lines_demo.specs.Script.Obeying.{act_result, desk_after_act};
 ghost use Rattle.lines_demo.specs.Script.Playing.{Replies, IsLatest};
 ghost use Rattle.lines_demo.specs.Script.Reply.{reply_or_refusal};
@@ -9,6 +10,7 @@ use super::Session;
 use crate::script::reply::Reply;
 use feed_core::Desk;
 use flow_rules::{Listener, Name, Refusal};
+use publisher_hub::Hub;
 
 /// What the owner of a subscription does to it (`Flow.Subscription`, Java SE 17).
 #[derive(Clone, Copy, Debug)]
@@ -28,8 +30,8 @@ impl<B: Listener> Session<B> {
         let Some(entry) = self.latest(name) else {
             return Err(Refusal::Unknown);
         };
-        let start = act_on(self.hub.feed_mut(entry).unwrap(), act);
-        self.woken.push_if(entry, start.is_some());
+        let is_started = act_at(&mut self.hub, entry, act);
+        self.woken.push_if(entry, is_started);
         Ok(Reply::Done)
     }
 
@@ -49,13 +51,21 @@ impl<B: Listener> Session<B> {
     }
 }
 
-/// Does this to a subscription. The answer says whether its task is to be started.
-fn act_on<B: Listener>(desk: &mut Desk<B>, act: Act) -> Option<()>
+/// Does this to the subscription of this number. The answer says whether that started its task.
+fn act_at<B: Listener>(hub: &mut Hub<Desk<B>>, entry: u32, act: Act) -> bool
+    requires there { IsSome (feed_at hub.old entry) }
+    ensures { ActsOn act entry hub.old result hub.new }
+{
+    act_on(hub.feed_mut(entry).unwrap(), act)
+}
+
+/// Does this to a subscription. The answer says whether that started its task.
+fn act_on<B: Listener>(desk: &mut Desk<B>, act: Act) -> bool
     ensures acts { desk.new ≡ desk_after_act act desk.old }
-    ensures starts { IsSome result ↔ ((owes desk.new && not (owes desk.old)) ≡ true) }
+    ensures starts { result ≡ was_started desk.old desk.new }
 {
     match act {
-        Act::Request(number) => desk.request(number),
-        Act::Cancel => desk.cancel(),
+        Act::Request(number) => desk.request(number).is_some(),
+        Act::Cancel => desk.cancel().is_some(),
     }
 }

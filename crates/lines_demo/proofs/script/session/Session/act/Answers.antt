@@ -1,64 +1,47 @@
-use Rattle.std.proofs.Common.{◌≡◌, ◌↔◌, true, Some, sym, ap, subst, ◌∙◌, arith, if◌then◌else◌, ◌∷◌, ◌++◌, [], length}
-use Rattle.std.specs.Option.{option_copied_mut}
-use Rattle.std.specs.Prelude.{IsSome}
-use Rattle.feed_core.specs.Desk.{Rests, desk_after_signal}
-use Rattle.feed_core.specs.LaneCalls.{lane_with_demand}
-use Rattle.publisher_hub.specs.Lending.{feed_at}
+use Rattle.std.proofs.Common.{◌≡◌, true, Some, [], ◌∷◌, ◌++◌, if◌then◌else◌, length, sym, ap, subst, ◌∙◌}
+use Rattle.lines_demo.specs.Script.Obeying.{act_result}
 use Rattle.lines_demo.specs.Script.Playing.{IsLatest}
-use Rattle.lines_demo.specs.Script.Session.{IsSession}
 use Rattle.lines_demo.specs.Script.State.{SessionState}
+use Rattle.lines_demo.specs.declared.script.reply.Reply.TheVariants.{Done}
+use Rattle.lines_demo.proofs.ActingSessions.{acted, acted_room, latest_there, woken_with}
+use Rattle.lines_demo.proofs.AnsweredSessions.{IsAnswered}
+use Rattle.lines_demo.proofs.Inside.{state_inside}
 use Rattle.lines_demo.proofs.LatestNames.{nobody_known}
-use Rattle.lines_demo.proofs.LentSessions.{end_there, lent, lends_some, plain_there}
-use Rattle.lines_demo.proofs.Replying.{request_unknown}
-use Rattle.lines_demo.proofs.RequestingSessions.{requested_replies, requested_room, requested_session, requested_state}
-use Rattle.lines_demo.proofs.SmallNumbers.{small_positive, small_signed_size}
-use Rattle.lines_demo.proofs.script.session.Session.request.Goals as goal
+use Rattle.lines_demo.proofs.Replying.{act_unknown}
+use Rattle.lines_demo.proofs.script.session.Session.act.Given.{Over}
+use Rattle.lines_demo.proofs.script.session.Session.act.Goals as goal
+use Rattle.lines_demo.proofs.script.session.Session.act.Goals.{In-Some, After-act_at-is_started}
 
 pub returns-in_default : goal.returns-in_default
-returns-in_default g c = request_unknown c.args.self.now c.args.name c.args.number (nobody_known c.args.name c.args.self.now.subscriptions (λ place s at. subst (IsLatest c.args.name c.args.self.now.subscriptions) c.in_default.is c.latest.ensures place s at))
+returns-in_default g c = act_unknown c.args.self.now c.args.name c.args.act (nobody_known c.args.name c.args.self.now.subscriptions (subst (IsLatest c.args.name c.args.self.now.subscriptions) c.in_default.is c.latest.ensures))
 
-pub unwrap-requires : goal.unwrap-requires
-unwrap-requires g c =
-    let hub = c.self.inside.hub in
-    let k = c.in-Some.entry in
-    let latest = subst (λ (state : SessionState). IsLatest c.args.name state.subscriptions (Some k)) (sym c.self.view_is) (subst (IsLatest c.args.name c.args.self.now.subscriptions) c.in-Some.is c.latest.ensures) in
-    let there = end_there hub k latest.0 c.self.invariant.2.publisher latest.1.0 in
-    lends_some c.feed_mut.result there.0 (c.feed_mut.ensures.value ∙ there.1)
+-- the latest of the name, as the fields have it
+latest : (g : Over) (c : In-Some g) → IsLatest c.args.name (state_inside c.self.inside).subscriptions (Some c.in-Some.entry)
+latest g c =
+    subst (λ (state : SessionState). IsLatest c.args.name state.subscriptions (Some c.in-Some.entry)) (sym c.self.view_is)
+    (subst (IsLatest c.args.name c.args.self.now.subscriptions) c.in-Some.is c.latest.ensures)
+
+pub act_at-is_started-requires-clause-there : goal.act_at-is_started-requires-clause-there
+act_at-is_started-requires-clause-there g c =
+    λ κs lives. latest_there c.self.inside.hub c.args.name c.in-Some.entry c.self.invariant.2.publisher (latest g (goal.at.act_at-is_started-requires-clause-there g c).In-Some)
+
+-- what is left once it was done
+done : (g : Over) (c : After-act_at-is_started g)
+    → IsAnswered (λ refusals. act_result (state_inside c.self.inside) refusals c.args.name c.args.act) Done c.act_at-is_started.new.hub (length c.self.inside.stock.items)
+    (woken_with c.self.inside.woken c.in-Some.entry c.act_at-is_started.result) c.self.inside.has_begun
+done g c =
+    acted c.self.inside c.act_at-is_started.new.hub c.args.name c.args.act c.in-Some.entry c.act_at-is_started.result c.self.invariant.2 (ap (λ (s : SessionState). s.has_begun) c.self.view_is ∙ c.requires.begun)
+    (latest g (goal.at.After-act_at-is_started g c).In-Some) c.act_at-is_started.ensures
 
 pub push_if-requires : goal.push_if-requires
-push_if-requires g c =
-    let hub = c.self.inside.hub in
-    let k = c.in-Some.entry in
-    let latest = subst (λ (state : SessionState). IsLatest c.args.name state.subscriptions (Some k)) (sym c.self.view_is) (subst (IsLatest c.args.name c.args.self.now.subscriptions) c.in-Some.is c.latest.ensures) in
-    let at : feed_at hub k ≡ Some c.unwrap.result.now = sym c.feed_mut.ensures.value ∙ ap option_copied_mut c.unwrap.ensures in
-    let plain = plain_there hub k c.unwrap.result.now c.self.invariant.2.publisher at in
-    let asked = c.request-start.ensures.asked plain.1 (small_positive c.args.number c.requires.positive (let bound = c.requires.bounded in omega arith)) ∙ ap (λ n. desk_after_signal c.unwrap.result.now (lane_with_demand n c.unwrap.result.now.lane)) (small_signed_size c.args.number (let bound = c.requires.bounded in omega arith)) in
-    let starts : IsSome c.request-start.result ↔ Rests c.unwrap.result.now = (λ some. (c.request-start.ensures.starts.0 some).1, λ rests. c.request-start.ensures.starts.1 (plain.1, rests)) in
-    let begun : c.self.inside.has_begun ≡ true = ap (λ (s : SessionState). s.has_begun) c.self.view_is ∙ c.requires.begun in
-    record { room = λ started. requested_room hub (length c.self.inside.stock.items) c.self.inside.woken c.self.inside.has_begun c.self.invariant.2 begun c.args.name c.args.number k c.request-start.result c.unwrap.result.now c.request-start.new.self latest at asked starts (sym c.is_some.ensures ∙ started) }
+push_if-requires g c = record {
+  room =
+      acted_room c.self.inside c.act_at-is_started.new.hub c.args.name c.args.act c.in-Some.entry c.act_at-is_started.result c.self.invariant.2 (ap (λ (s : SessionState). s.has_begun) c.self.view_is ∙ c.requires.begun)
+      (latest g (goal.at.push_if-requires g c).In-Some) c.act_at-is_started.ensures;
+}
 
 pub invariant_of-self : goal.invariant_of-self
-invariant_of-self g c =
-    let hub = c.self.inside.hub in
-    let k = c.in-Some.entry in
-    let latest = subst (λ (state : SessionState). IsLatest c.args.name state.subscriptions (Some k)) (sym c.self.view_is) (subst (IsLatest c.args.name c.args.self.now.subscriptions) c.in-Some.is c.latest.ensures) in
-    let at : feed_at hub k ≡ Some c.unwrap.result.now = sym c.feed_mut.ensures.value ∙ ap option_copied_mut c.unwrap.ensures in
-    let plain = plain_there hub k c.unwrap.result.now c.self.invariant.2.publisher at in
-    let asked = c.request-start.ensures.asked plain.1 (small_positive c.args.number c.requires.positive (let bound = c.requires.bounded in omega arith)) ∙ ap (λ n. desk_after_signal c.unwrap.result.now (lane_with_demand n c.unwrap.result.now.lane)) (small_signed_size c.args.number (let bound = c.requires.bounded in omega arith)) in
-    let starts : IsSome c.request-start.result ↔ Rests c.unwrap.result.now = (λ some. (c.request-start.ensures.starts.0 some).1, λ rests. c.request-start.ensures.starts.1 (plain.1, rests)) in
-    let begun : c.self.inside.has_begun ≡ true = ap (λ (s : SessionState). s.has_begun) c.self.view_is ∙ c.requires.begun in
-    let woken = c.push_if.ensures ∙ ap (λ started. c.self.inside.woken ++ (if started then k ∷ [] else [])) c.is_some.ensures in
-    (c.self.invariant.0, c.self.invariant.1, subst (λ numbers. IsSession (lent hub k c.request-start.new.self) (length c.self.inside.stock.items) numbers c.self.inside.has_begun) (sym woken) (requested_session hub (length c.self.inside.stock.items) c.self.inside.woken c.self.inside.has_begun c.self.invariant.2 begun c.args.name c.args.number k c.request-start.result c.unwrap.result.now c.request-start.new.self latest at asked starts), c.self.invariant.3)
+invariant_of-self g c = rw c.push_if.ensures (c.self.invariant.0, c.self.invariant.1, (done g (goal.at.invariant_of-self g c).After-act_at-is_started).session, c.self.invariant.3)
 
 pub returns : goal.returns
-returns g c =
-    let hub = c.self.inside.hub in
-    let k = c.in-Some.entry in
-    let latest = subst (λ (state : SessionState). IsLatest c.args.name state.subscriptions (Some k)) (sym c.self.view_is) (subst (IsLatest c.args.name c.args.self.now.subscriptions) c.in-Some.is c.latest.ensures) in
-    let at : feed_at hub k ≡ Some c.unwrap.result.now = sym c.feed_mut.ensures.value ∙ ap option_copied_mut c.unwrap.ensures in
-    let plain = plain_there hub k c.unwrap.result.now c.self.invariant.2.publisher at in
-    let asked = c.request-start.ensures.asked plain.1 (small_positive c.args.number c.requires.positive (let bound = c.requires.bounded in omega arith)) ∙ ap (λ n. desk_after_signal c.unwrap.result.now (lane_with_demand n c.unwrap.result.now.lane)) (small_signed_size c.args.number (let bound = c.requires.bounded in omega arith)) in
-    let starts : IsSome c.request-start.result ↔ Rests c.unwrap.result.now = (λ some. (c.request-start.ensures.starts.0 some).1, λ rests. c.request-start.ensures.starts.1 (plain.1, rests)) in
-    let begun : c.self.inside.has_begun ≡ true = ap (λ (s : SessionState). s.has_begun) c.self.view_is ∙ c.requires.begun in
-    let woken = c.push_if.ensures ∙ ap (λ started. c.self.inside.woken ++ (if started then k ∷ [] else [])) c.is_some.ensures in
-    rw (← c.self.view_is, woken, requested_state hub (length c.self.inside.stock.items) c.self.inside.woken c.self.inside.has_begun c.self.invariant.2 begun c.args.name c.args.number k c.request-start.result c.unwrap.result.now c.request-start.new.self latest at asked starts) (requested_replies hub (length c.self.inside.stock.items) c.self.inside.woken c.self.inside.has_begun c.self.invariant.2 begun c.args.name c.args.number k c.request-start.result c.unwrap.result.now c.request-start.new.self latest at asked starts)
+returns g c = rw (← c.self.view_is, c.push_if.ensures) (done g (goal.at.returns g c).After-act_at-is_started).replies

@@ -1,10 +1,9 @@
 -- A new subscription has requested as many items as it is asked to.
-use Rattle.std.proofs.Common.{◌≡◌, false, ap, sym, ◌∙◌, arith, rules}
-use Rattle.feed_core.specs.Desk.{DeskState, desk_after_signal}
-use Rattle.feed_core.specs.LaneCalls.{lane_with_demand}
-use Rattle.lines_demo.specs.Prelude.{desk_after_demand}
+use Rattle.std.proofs.Common.{◌≡◌, zero, suc, false, ap, sym, ◌∙◌, arith, rules}
+use Rattle.lines_demo.specs.Prelude.{desk_after_demand, desk_after_request}
 use Rattle.lines_demo.specs.Script.Subscribing.{desk_at_start}
-use Rattle.lines_demo.proofs.SmallNumbers.{small_positive, small_signed_size}
+use Rattle.lines_demo.proofs.SmallNumbers.{small_signed}
+use Rattle.lines_demo.proofs.Admissions.{requests_demand}
 use Rattle.lines_demo.proofs.script.session.subscribing.new_desk.Goals as goal
 use Rattle.lines_demo.proofs.script.session.subscribing.new_desk.Goals.{then-number-gt0, else-number-gt0}
 
@@ -15,11 +14,7 @@ returns-after-number-gt0-clause-ok g c =
     elim c.if-number-gt0.branch [
       | then-number-gt0 w ↦
           let some = w.if-number-gt0.true in
-          let uncancelled : c.in-Ok.desk.is_cancelled ≡ false = ap (λ (d : DeskState). d.is_cancelled) new in
-          let asked = w.request.ensures.asked uncancelled (small_positive c.args.number (omega arith) (omega arith))
-          ∙ ap (λ n. desk_after_signal c.in-Ok.desk (lane_with_demand n c.in-Ok.desk.lane)) (small_signed_size c.args.number (omega arith))
-          ∙ ap (λ d. desk_after_demand c.args.number d) new in
-          w.desk-is ∙ asked
+          w.desk-is ∙ w.request.ensures.requested ∙ (λ i. desk_after_request (small_signed c.args.number (omega arith) i) (new i)) ∙ requests_demand c.args.number c.args.capacity (omega arith)
       | else-number-gt0 w ↦
           let none : 0 ≡ c.args.number = omega (arith, w.if-number-gt0.false) in
           w.desk-is ∙ new ∙ ap (λ n. desk_after_demand n (desk_at_start c.args.capacity)) none

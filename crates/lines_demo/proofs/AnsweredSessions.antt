@@ -1,0 +1,24 @@
+-- A session after a command was answered.
+use Rattle.std.proofs.Common.{◌≡◌, ℕ, Bool, true, List, refl}
+use Rattle.publisher_hub.specs.declared.hub.Hub.{Hub}
+use Rattle.lines_demo.specs.Prelude.{DeskState}
+use Rattle.lines_demo.specs.Script.Kept.{IsReached}
+use Rattle.lines_demo.specs.Script.Playing.{Replies}
+use Rattle.lines_demo.specs.Script.Session.{IsScriptHub, IsSession, state_of}
+use Rattle.lines_demo.specs.Script.State.{CommandResult}
+use Rattle.lines_demo.specs.declared.script.reply.Reply.{Reply}
+use Rattle.lines_demo.proofs.Replying.{replies_reached}
+use Rattle.lines_demo.proofs.Sessions.{session_at}
+
+-- a session that a command leaves with this reply, as the definition says
+pub record IsAnswered (results : List Bool → CommandResult) (reply : Reply) (hub : Hub DeskState) (stock : ℕ) (woken : List ℕ) (begun : Bool) : Type 0 where
+  pub session : IsSession hub stock woken begun
+  pub replies : Replies results reply (state_of hub stock woken begun)
+
+-- what the definition gives is a session, where each result of the command is where a script may stand
+pub answered : (results : List Bool → CommandResult) (reply : Reply) (hub : Hub DeskState) (stock : ℕ) (woken : List ℕ) (begun : Bool) → begun ≡ true → IsScriptHub hub
+    → Replies results reply (state_of hub stock woken begun) → ((refusals : List Bool) → IsReached (results refusals).state) → IsAnswered results reply hub stock woken begun
+answered results reply hub stock woken begun read publisher replies reached = record {
+  session = session_at hub stock woken begun (state_of hub stock woken begun) publisher refl (replies_reached results reply (state_of hub stock woken begun) replies reached) read;
+  replies = replies;
+}
