@@ -1,9 +1,9 @@
 -- What a row says of a Desk.
-use Rattle.std.specs.Prelude.{◌≡◌, ◌↔◌, Bool, false, ℤ, pos, ◌<ℤ◌, ◌≤ℤ◌, unsigned_abs, is_some, Option, IsSome, List, [], ◌∷◌, length, true}
+use Rattle.std.specs.Prelude.{◌≡◌, ◌↔◌, Bool, false, is_some, Option, IsSome, List, [], ◌∷◌, length, true}
 use Rattle.feed_core.specs.Prelude.{Signal, Ending}
 use Rattle.feed_core.specs.AnsweredTurn.{Reply}
 use Rattle.feed_core.specs.Steps.{TurnsAs}
-use Rattle.feed_core.specs.Desk.{DeskState, AcceptsItem, IsFull, Rests, Owes, desk_after_look, desk_after_try, desk_after_signal, desk_after_request, desk_after_bad_request, desk_after_cancel, desk_after_end}
+use Rattle.feed_core.specs.Desk.{DeskState, AcceptsItem, IsFull, Rests, Owes, desk_after_look, desk_after_try, desk_after_signal, desk_after_request, desk_after_cancel, desk_after_end}
 use Rattle.feed_core.specs.declared.turn.outlook.Outlook.{Outlook}
 use Rattle.feed_core.specs.LaneCalls.{is_gone, lag_of, lane_with_duplicate}
 use Rattle.call_tests.specs.Letters.{lettered_item}
@@ -13,12 +13,6 @@ use Rattle.call_tests.specs.declared.row.Row.TheVariants.{Accepted, Full, Gone, 
 -- a turn was owed, and it changed the Desk as a turn does that tells some signals, has some outlook and whose callbacks come back somehow
 abbrev pub MakesTurn : DeskState → DeskState → Type 0
 MakesTurn old new = Owes old × ((seen : List Signal) × ((outlook : Outlook) × ((replies : List Reply) × TurnsAs old new seen outlook replies)))
-
--- so many items were requested, unless the owner had cancelled it: a number that is not positive is a cause of its end
-pub record Requests (n : ℤ) (old new : DeskState) : Type 0 where
-  pub asked : old.is_cancelled ≡ false → pos 0 <ℤ n → new ≡ desk_after_request (unsigned_abs n) old
-  pub refused : old.is_cancelled ≡ false → n ≤ℤ pos 0 → new ≡ desk_after_bad_request old
-  pub gone : old.is_cancelled ≡ true → new ≡ old
 
 -- the task is started by its owner
 abbrev pub Starts : Bool → DeskState → Type 0
@@ -30,7 +24,7 @@ Fits (Accepted letter lag starts) old new =
     (start : Option Unit) × AcceptsItem old new (lettered_item (letter ∷ [])) lag start × ((starts ≡ true) ↔ IsSome start)
 Fits (Full _) old new = IsFull old × (new ≡ desk_after_look old)
 Fits (Gone _) old new = (is_gone old.lane ≡ true) × (new ≡ desk_after_try old)
-Fits (Request n starts) old new = Requests n old new × Starts starts old
+Fits (Request n starts) old new = (new ≡ desk_after_request n old) × Starts starts old
 Fits (Cancel starts) old new = (new ≡ desk_after_cancel old) × Starts starts old
 Fits (Close starts) old new = new ≡ desk_after_end Ending.Normal old
 Fits (Fail code starts) old new = new ≡ desk_after_end (Ending.Failed code) old

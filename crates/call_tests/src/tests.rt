@@ -1,6 +1,7 @@
 //! Tests of the public calls, one subject a file: what no clause can say.
 mod count;
 mod desks;
+mod endings;
 mod hub;
 mod listeners;
 mod names;

@@ -53,6 +53,8 @@ pub enum Ask<'a> {
     Subscribed(u8, bool),
     /// The subscription of this number has dropped so many items, or is not there.
     Dropped(u32, Option<u64>),
+    /// The producer's end of the subscription of this number comes out, or is not there.
+    TakesFeed(u32, bool),
     /// The Hub is closed, and the opening comes out, which is the last ticket, or none comes out.
     Ends(bool),
 }
@@ -103,6 +105,7 @@ impl<F: Feed> Trial<F> {
             Ask::Names(letters) => self.are_names(letters),
             Ask::Subscribed(letter, want) => Ok(self.hub.is_subscribed(name_of(letter)?) == want),
             Ask::Dropped(number, want) => Ok(self.hub.dropped(number) == want),
+            Ask::TakesFeed(number, want) => Ok(self.hub.take_feed(number).is_some() == want),
             Ask::Ends(want) => Ok(self.end()? == want),
         }
     }

@@ -5,6 +5,7 @@ pub mod Desk
 pub mod Feed
 pub mod Lane
 pub mod LaneCalls
+pub mod LeftLane
 pub mod PlainTurn
 pub mod Prelude
 pub mod Seen

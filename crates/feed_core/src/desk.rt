@@ -17,6 +17,7 @@ mod call;
 mod turn;
 
 use crate::cause::Causes;
+use crate::lane::Lane;
 use buffer::Buffer;
 use flow_rules::{Amount, Demand, How, Listener, NoMemory};
 use std::alloc::Global;
@@ -76,6 +77,7 @@ impl<B: Listener> Model for Desk<B> {
 impl<B: Listener> Desk<B> {
     ghost use Rattle.std.specs.Prelude.{◌≡◌, ◌≤◌, ◌+◌, ◌↔◌, [], true, length, IfOk, IfErr, false};
     ghost use Rattle.feed_core.specs.Desk.{IsNew, Owes};
+    ghost use Rattle.feed_core.specs.LeftLane.{IsLaneOf};
     ghost use Rattle.feed_core.specs.LaneCalls.{IsCapacity, lag_of};
     ghost use Rattle.feed_core.specs.Prelude.{UNBOUNDED};
     ghost use Rattle.feed_core.specs.Lane.{IsFlow, IsSettled};
@@ -160,6 +162,23 @@ impl<B: Listener> Desk<B> {
         ensures { B.told result ≡ self.lane.told }
     {
         self.subscriber
+    }
+
+    /// Takes the subscription apart, with its subscriber. Items that were not told are dropped.
+    pub fn into_lane(self) -> Lane<B>
+        ensures left { IsLaneOf B.told self result }
+        ensures flow { IsFlow self.lane }
+        ensures settled { result.running ≡ false → IsSettled self.lane }
+    {
+        let running = self.owes();
+        Lane {
+            subscriber: Some(self.subscriber),
+            accepted: self.accepted,
+            given: self.given,
+            asked: self.asked.total(),
+            ending: self.how,
+            running,
+        }
     }
 
     /// Whether a turn is owed. Where none is, nothing is forgotten: the subscriber was told all that its demand and its

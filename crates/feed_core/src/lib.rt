@@ -3,10 +3,12 @@
 
 mod cause;
 mod desk;
+mod lane;
 mod laws;
 mod turn;
 
 pub use cause::Causes;
 pub use desk::Desk;
+pub use lane::Lane;
 pub use laws::desks_keep_the_flow_rules;
 pub use turn::{ITEMS_IN_A_TURN, Outlook, SIGNALS_IN_A_TURN, Seen};

@@ -30,6 +30,7 @@ pub mod SecondOffers
 pub mod Shares
 pub mod Starting
 pub mod Subscriptions
+pub mod Taken
 pub mod Telling
 pub mod Tickets
 pub mod WholeOffers

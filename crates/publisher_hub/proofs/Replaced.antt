@@ -1,5 +1,5 @@
--- A sound Hub stays sound where one subscription is replaced by one that accepted and dropped the same.
-use Rattle.std.proofs.Common.{rules, ◌≡◌, ◌⊎◌, ℕ, zero, suc, ◌<◌, ◌≤◌, true, false, Some, List, [], ◌∷◌, set, refl, ap, sym, subst, ◌∙◌, inl, inr}
+-- A sound Hub stays sound where one subscription is replaced by one that accepted and dropped the same, or whose producer's end was taken out.
+use Rattle.std.proofs.Common.{rules, ◌≡◌, ◌⊎◌, ℕ, zero, suc, ◌<◌, ◌≤◌, true, false, None, Some, List, [], ◌∷◌, set, refl, ap, sym, subst, ◌∙◌, inl, inr}
 use Rattle.std.specs.Prelude.{IsSome, slice_get}
 use Rattle.std.proofs.lemmas.List.{length-set}
 use Rattle.flow_rules.specs.Feed.{End, is_gone}
@@ -53,28 +53,40 @@ entry_after p old new s is = record {
   drops = subst (λ dropped. dropped ≤ p.dropping) (sym s.dropped) is.drops;
 }
 
--- a subscription is as it was, or was replaced so
-abbrev Stays : Progress → EntryState → EntryState → Type 0
-Stays p old new = (new ≡ old) ⊎ Succeeds p old new
+-- what a subscription owes to the one in whose place it stands, so that a sound Hub stays sound
+pub record Replaces (p : Progress) (old new : EntryState) : Type 0 where
+  pub entry : IsEntry p old → IsEntry p new
+  pub lives : new.retired ≡ false → old.retired ≡ false
+  pub had : (f : End) → new.feed ≡ Some f → (e : End) × (old.feed ≡ Some e) × (f.accepted ≡ e.accepted)
 
-entry_stays : (p : Progress) (old new : EntryState) → Stays p old new → IsEntry p old → IsEntry p new
-entry_stays p old new (inl same) is = subst (λ (entry : EntryState). IsEntry p entry) (sym same) is
-entry_stays p old new (inr s) is = entry_after p old new s is
+-- it owes nothing where it is the same
+replaces_same : (p : Progress) (entry : EntryState) → Replaces p entry entry
+replaces_same p entry = record { entry = λ is. is; lives = λ lives. lives; had = λ f is. (f, is, refl) }
 
--- it was live before
-was_live : (p : Progress) (old new : EntryState) → Stays p old new → new.retired ≡ false → old.retired ≡ false
-was_live p old new (inl same) lives = ap (λ (entry : EntryState). entry.retired) (sym same) ∙ lives
-was_live p old new (inr s) lives = s.lives lives
+-- and where it accepted and dropped the same
+replaces_after : (p : Progress) (old new : EntryState) → Succeeds p old new → Replaces p old new
+replaces_after p old new s = record {
+  entry = entry_after p old new s;
+  lives = s.lives;
+  had = λ f is. (s.before, s.was, ap (λ (end : End). end.accepted) (same_some (sym is ∙ s.now)) ∙ s.accepted);
+}
 
--- it had accepted what it has accepted now
-had_accepted : (p : Progress) (old new : EntryState) (f : End) → Stays p old new → new.feed ≡ Some f → (e : End) × (old.feed ≡ Some e) × (f.accepted ≡ e.accepted)
-had_accepted p old new f (inl same) is = (f, sym (ap (λ (entry : EntryState). entry.feed) same) ∙ is, refl)
-had_accepted p old new f (inr s) is = (s.before, s.was, ap (λ (end : End). end.accepted) (same_some (sym is ∙ s.now)) ∙ s.accepted)
+-- or where it was retired and its producer's end was taken out
+pub replaces_taken : (p : Progress) (old new : EntryState) → new.retired ≡ true → new.feed ≡ None → new.dropped ≡ old.dropped → Replaces p old new
+replaces_taken p old new retired none dropped = record {
+  entry = λ is. record {
+    here = λ lives. let never : true ≡ false = sym retired ∙ lives in cc;
+    counted = λ e there. let never : None ≡ Some e = sym none ∙ there in cc;
+    drops = subst (λ drops. drops ≤ p.dropping) (sym dropped) is.drops;
+  };
+  lives = λ lives. let never : true ≡ false = sym retired ∙ lives in cc;
+  had = λ f there. let never : None ≡ Some f = sym none ∙ there in cc;
+}
 
-was_accepted : (p : Progress) (xs ys : List EntryState) (x : Item) → Each (Stays p) xs ys → IsAccepted ys x → IsAccepted xs x
+was_accepted : (p : Progress) (xs ys : List EntryState) (x : Item) → Each (Replaces p) xs ys → IsAccepted ys x → IsAccepted xs x
 was_accepted p xs ys x each is =
-    let stood = stood_at (Stays p) xs ys is.number is.entry each is.stands in
-    let before = had_accepted p stood.entry is.entry is.feed stood.became is.end_of in
+    let stood = stood_at (Replaces p) xs ys is.number is.entry each is.stands in
+    let before = stood.became.had is.feed is.end_of in
     record {
       number = is.number;
       place = is.place;
@@ -85,14 +97,14 @@ was_accepted p xs ys x each is =
       item = subst (λ (items : List Item). slice_get items is.place ≡ Some x) before.2 is.item;
     }
 
-live_after : (p : Progress) (live : List ℕ) (xs ys : List EntryState) → Each (Stays p) xs ys → AreLive live xs → AreLive live ys
+live_after : (p : Progress) (live : List ℕ) (xs ys : List EntryState) → Each (Replaces p) xs ys → AreLive live xs → AreLive live ys
 live_after p live xs ys each are = record {
   numbers = record {
     rising = are.numbers.rising;
     within = λ i n at. subst (λ many. n < many) (sym each.as_long) (are.numbers.within i n at);
   };
-  covers = λ k entry at lives. let stood = stood_at (Stays p) xs ys k entry each at in
-      are.covers k stood.entry stood.at (was_live p stood.entry entry stood.became lives);
+  covers = λ k entry at lives. let stood = stood_at (Replaces p) xs ys k entry each at in
+      are.covers k stood.entry stood.at (stood.became.lives lives);
 }
 
 -- a list where an element was set to what it was
@@ -112,27 +124,27 @@ set_or_stood {X} (first ∷ xs) (suc place) value (suc i) y at = by (set_or_stoo
   by (inl now) = inl (ap suc now.0, now.1)
   by (inr before) = inr before
 
-each_stays : (p : Progress) (xs : List EntryState) (number : ℕ) (old new : EntryState) → slice_get xs number ≡ Some old → Succeeds p old new → Each (Stays p) xs (set xs number new)
-each_stays p xs number old new stood s = record {
+each_replaces : (p : Progress) (xs : List EntryState) (number : ℕ) (old new : EntryState) → slice_get xs number ≡ Some old → Replaces p old new → Each (Replaces p) xs (set xs number new)
+each_replaces p xs number old new stood s = record {
   as_long = length-set xs number new;
   each = λ k x y at at'. by k x y at (set_or_stood xs number new k y at');
 } where
-  by : (k : ℕ) (x y : EntryState) → slice_get xs k ≡ Some x → ((number ≡ k) × (new ≡ y)) ⊎ (slice_get xs k ≡ Some y) → Stays p x y
+  by : (k : ℕ) (x y : EntryState) → slice_get xs k ≡ Some x → ((number ≡ k) × (new ≡ y)) ⊎ (slice_get xs k ≡ Some y) → Replaces p x y
   by k x y at (inl now) =
       let same : old ≡ x = same_some (sym stood ∙ subst (λ j. slice_get xs j ≡ Some x) (sym now.0) at) in
-      inr (subst (λ (entry : EntryState). Succeeds p x entry) now.1 (subst (λ (entry : EntryState). Succeeds p entry new) same s))
-  by k x y at (inr before) = inl (same_some (sym before ∙ at))
+      subst (λ (entry : EntryState). Replaces p x entry) now.1 (subst (λ (entry : EntryState). Replaces p entry new) same s)
+  by k x y at (inr before) = subst (λ (entry : EntryState). Replaces p x entry) (same_some (sym at ∙ before)) (replaces_same p x)
 
 -- a sound Hub stays sound where one subscription is replaced so
-pub sound_replaced : (hub : HubState) (number : ℕ) (old new : EntryState) → IsSound hub → slice_get hub.entries number ≡ Some old → Succeeds hub.progress old new
+pub sound_with : (hub : HubState) (number : ℕ) (old new : EntryState) → IsSound hub → slice_get hub.entries number ≡ Some old → Replaces hub.progress old new
     → IsSound (record hub { entries = set hub.entries number new })
-sound_replaced hub number old new sound stood s =
+sound_with hub number old new sound stood s =
     let p = hub.progress in
     let xs = hub.entries in
     let ys = set xs number new in
-    let each = each_stays p xs number old new stood s in
+    let each = each_replaces p xs number old new stood s in
     record {
-      entries = λ k entry at. let before = stood_at (Stays p) xs ys k entry each at in entry_stays p before.entry entry before.became (sound.entries k before.entry before.at);
+      entries = λ k entry at. let before = stood_at (Replaces p) xs ys k entry each at in before.became.entry (sound.entries k before.entry before.at);
       agreed = λ x y a b same. sound.agreed x y (was_accepted p xs ys x each a) (was_accepted p xs ys y each b) same;
       live = live_after p hub.live xs ys each sound.live;
       few_live = sound.few_live;
@@ -143,3 +155,8 @@ sound_replaced hub number old new sound stood s =
       all_sources = sound.all_sources;
       few_counts = sound.few_counts;
     }
+
+-- so by one that accepted and dropped the same
+pub sound_replaced : (hub : HubState) (number : ℕ) (old new : EntryState) → IsSound hub → slice_get hub.entries number ≡ Some old → Succeeds hub.progress old new
+    → IsSound (record hub { entries = set hub.entries number new })
+sound_replaced hub number old new sound stood s = sound_with hub number old new sound stood (replaces_after hub.progress old new s)

@@ -15,4 +15,5 @@ pub mod Readiness
 pub mod Sound
 pub mod Steps
 pub mod Subscribing
+pub mod Taking
 pub mod Tickets

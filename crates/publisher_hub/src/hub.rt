@@ -12,6 +12,7 @@ mod publishing;
 mod seeing;
 mod sources;
 mod subscribing;
+mod taking;
 mod tickets;
 
 ghost use Rattle.std.specs.Prelude.{Err, ◌⊎◌, ◌≡◌, ◌≤◌, ◌↔◌, IfOk, IfErr, replicate};

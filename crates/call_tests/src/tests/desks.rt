@@ -2,10 +2,10 @@
 ghost use Rattle.std.specs.Prelude.{◌≡◌, []};
 
 use super::subscribers::was_told;
-use crate::{Answering, Refused, Row, answers, desk_of};
+use crate::{Row, answers, desk_of};
 use feed_core::{Desk, Outlook, desks_keep_the_flow_rules};
 use flow_rules::{
-    Answer, Collector, Fault, How, Listener, NoMemory, Shown, Subscriber, Tally, UNBOUNDED, audit,
+    Collector, Fault, How, Listener, NoMemory, Shown, Subscriber, Tally, UNBOUNDED, audit,
 };
 use std::alloc::Global;
 use std::process::Abort;
@@ -75,39 +75,6 @@ const SECOND_SUBSCRIBING: [Row<'static>; 6] = [
     Row::Turn(b"t", Outlook::Ended(How::Errored(Fault::IllegalState))),
 ];
 
-const BAD_REQUEST: [Row<'static>; 10] = [
-    Row::Request(1, false),
-    Row::Turn(b"s", Outlook::Resting),
-    Row::Request(0, true),
-    Row::Request(-1, false),
-    Row::Accepted(b'x', 1, false),
-    Row::Fail(7, false),
-    Row::Turn(b"a", Outlook::Ended(How::Errored(Fault::IllegalArgument))),
-    Row::Request(5, false),
-    Row::Counts(1, 0, 6),
-    Row::Gone(b'y'),
-];
-
-const CANCEL: [Row<'static>; 11] = [
-    Row::Request(9, false),
-    Row::Turn(b"s", Outlook::Resting),
-    Row::Accepted(b'x', 1, true),
-    Row::Request(-1, false),
-    Row::Cancel(false),
-    Row::Cancel(false),
-    Row::Request(1, false),
-    Row::Turn(b"", Outlook::Ended(How::Cancelled)),
-    Row::Cancel(false),
-    Row::Counts(1, 0, 9),
-    Row::Gone(b'y'),
-];
-
-const CANCEL_AT_ONCE: [Row<'static>; 3] = [
-    Row::Cancel(false),
-    Row::Turn(b"s", Outlook::Ended(How::Cancelled)),
-    Row::Ended(Some(How::Cancelled)),
-];
-
 const UNBOUNDED_DEMAND: [Row<'static>; 7] = [
     Row::Turn(b"s", Outlook::Resting),
     Row::Request(i64::MAX, true),
@@ -135,7 +102,7 @@ fn first_wrong<B: Listener>(
 
 /// Makes the calls on a Desk of this listener, for which this capacity is asked, compares each with its row, and takes the listener
 /// out.
-fn play<B: Listener>(
+pub(super) fn play<B: Listener>(
     rt: &impl Abort,
     alloc: Global,
     listener: B,
@@ -152,12 +119,12 @@ fn play<B: Listener>(
 }
 
 /// Whether a subscriber was told what these letters write, which the Flow rules allow.
-fn has_told<S: Subscriber>(alloc: Global, subscriber: &S, told: &[u8]) -> Result<bool, NoMemory> {
+pub(super) fn has_told<S: Subscriber>(alloc: Global, subscriber: &S, told: &[u8]) -> Result<bool, NoMemory> {
     Ok(was_told(alloc, subscriber, told)? && audit(subscriber.told()))
 }
 
 /// Plays rows on listeners of each kind that are refused nothing, and compares what those were told that show it.
-fn play_on_all(
+pub(super) fn play_on_all(
     rt: &impl Abort,
     alloc: Global,
     asked: usize,
@@ -202,15 +169,33 @@ fn a_second_subscribing_starts_the_task_once(rt: HostRuntime) -> Result<(), Fail
     play_on_all(&rt, rt.alloc(), 4, &SECOND_SUBSCRIBING, b"st")
 }
 
-#[test]
-fn a_bad_request_ends_it(rt: HostRuntime) -> Result<(), Fail> {
-    play_on_all(&rt, rt.alloc(), 4, &BAD_REQUEST, b"sa")
+/// Whether a Desk that was called so leaves this many items accepted, taken and requested, this end, and a turn that is owed or not.
+fn leaves(
+    rt: &impl Abort,
+    alloc: Global,
+    rows: &[Row<'_>],
+    told: &[u8],
+    want: (u64, u64, u64, Option<How>, bool),
+) -> Result<(), Fail> {
+    let mut desk = desk_of(alloc, 4, Collector::new(alloc))?;
+    let wrong = first_wrong(alloc, &mut desk, rows)?;
+    assert!(rt; wrong.is_none(), "row {wrong:?}");
+    let lane = desk.into_lane();
+    assert!(rt; (lane.accepted, lane.given, lane.asked, lane.ending, lane.running) == want);
+    let Some(subscriber) = lane.subscriber else {
+        assert!(rt; false, "no subscriber");
+        return Ok(());
+    };
+    assert!(rt; has_told(alloc, &subscriber, told)?);
+    Ok(())
 }
 
 #[test]
-fn a_cancel_ends_it(rt: HostRuntime) -> Result<(), Fail> {
-    play_on_all(&rt, rt.alloc(), 4, &CANCEL, b"s")?;
-    play_on_all(&rt, rt.alloc(), 4, &CANCEL_AT_ONCE, b"s")
+fn a_lane_is_left_of_it(rt: HostRuntime) -> Result<(), Fail> {
+    let alloc = rt.alloc();
+    leaves(&rt, alloc, &[], b"", (0, 0, 0, None, true))?;
+    leaves(&rt, alloc, &DEMAND, b"sxyz", (3, 3, 4, None, false))?;
+    leaves(&rt, alloc, &COMPLETION, b"sxc", (1, 1, 2, Some(How::Completed), false))
 }
 
 #[test]
@@ -234,73 +219,4 @@ fn a_turn_gives_64_items(rt: HostRuntime) -> Result<(), Fail> {
     told[0] = b's';
     told[66] = b'c';
     play_on_all(&rt, rt.alloc(), 65, &rows, &told)
-}
-
-#[test]
-fn a_refused_callback_ends_it(rt: HostRuntime) -> Result<(), Fail> {
-    let alloc = rt.alloc();
-    // The callbacks that are answered, what they tell, and how many items are given.
-    let rows: [(u32, &[u8], u64); 4] = [(0, b"", 0), (1, b"s", 1), (2, b"sx", 2), (3, b"sxy", 2)];
-    for (callbacks, told, given) in rows {
-        let rows = [
-            Row::Request(9, false),
-            Row::Accepted(b'x', 1, false),
-            Row::Accepted(b'y', 2, false),
-            Row::Close(false),
-            Row::Turn(told, Outlook::Ended(How::OutOfMemory)),
-            Row::Counts(2, given, 9),
-            Row::Ended(Some(How::OutOfMemory)),
-            Row::Request(1, false),
-            Row::Gone(b'z'),
-        ];
-        let refused = Refused::after(Collector::new(alloc), callbacks);
-        let refused = play(&rt, alloc, refused, 4, &rows)?;
-        assert!(rt; has_told(alloc, refused.listener(), told)?);
-    }
-    Ok(())
-}
-
-#[test]
-fn each_answer(rt: HostRuntime) -> Result<(), Fail> {
-    let alloc = rt.alloc();
-    // The callbacks that go on before one that answers so, what the turn tells, and its outlook.
-    let rows: [(u32, Answer, &[u8], Outlook); 8] = [
-        (1, Answer::Cancel, b"sv", Outlook::Ended(How::Cancelled)),
-        (1, Answer::Fail(7), b"sv", Outlook::Ended(How::Failed(7))),
-        (1, Answer::Request(0), b"sva", Outlook::Ended(How::Errored(Fault::IllegalArgument))),
-        (1, Answer::Request(2), b"svwx", Outlook::Resting),
-        (0, Answer::Cancel, b"s", Outlook::Ended(How::Cancelled)),
-        (0, Answer::Fail(7), b"s", Outlook::Ended(How::Failed(7))),
-        (0, Answer::Request(-1), b"sa", Outlook::Ended(How::Errored(Fault::IllegalArgument))),
-        (0, Answer::Request(3), b"svwxy", Outlook::Resting),
-    ];
-    for (callbacks, answer, told, outlook) in rows {
-        let rows = [
-            Row::Request(1, false),
-            Row::Accepted(b'v', 1, false),
-            Row::Accepted(b'w', 2, false),
-            Row::Accepted(b'x', 3, false),
-            Row::Accepted(b'y', 4, false),
-            Row::Accepted(b'z', 5, false),
-            Row::Turn(told, outlook),
-        ];
-        let _ = play(&rt, alloc, Answering::after(callbacks, answer), 8, &rows)?;
-    }
-    Ok(())
-}
-
-#[test]
-fn a_terminal_callback_is_not_obeyed(rt: HostRuntime) -> Result<(), Fail> {
-    let alloc = rt.alloc();
-    for answer in [Answer::Request(-1), Answer::Cancel, Answer::Fail(7)] {
-        let rows = [
-            Row::Request(1, false),
-            Row::Accepted(b'x', 1, false),
-            Row::Close(false),
-            Row::Turn(b"sxc", Outlook::Ended(How::Completed)),
-            Row::Counts(1, 1, 1),
-        ];
-        let _ = play(&rt, alloc, Answering::after(2, answer), 8, &rows)?;
-    }
-    Ok(())
 }

@@ -15,7 +15,7 @@ const LAST_ITEM: [Ask<'static>; 3] = [
     Ask::Offers(Err(Why::Number(13))),
 ];
 
-const WHOLE_LIFE: [Ask<'static>; 21] = [
+const WHOLE_LIFE: [Ask<'static>; 27] = [
     Ask::Names(b"abc"),
     Ask::Subscribed(b'b', true),
     Ask::Subscribed(b'd', false),
@@ -33,6 +33,12 @@ const WHOLE_LIFE: [Ask<'static>; 21] = [
     Ask::Dropped(0, Some(2)),
     Ask::Dropped(2, Some(2)),
     Ask::Dropped(3, None),
+    Ask::TakesFeed(0, true),
+    Ask::TakesFeed(0, false),
+    Ask::TakesFeed(3, false),
+    Ask::Names(b"bc"),
+    Ask::Offers(Ok(-2)),
+    Ask::Dropped(0, Some(2)),
     Ask::Ends(true),
     Ask::Ends(false),
     Ask::Publishes(Err(Why::Closed(Ending::Normal))),

@@ -47,7 +47,7 @@ impl<F: Feed> Entry<F> {
     }
 
     /// Retires a subscription; one that was retired before stays so since then.
-    fn retire(&mut self, next: u64)
+    pub(super) fn retire(&mut self, next: u64)
         ensures { self.new ≡ record self.old { retired = true; until = if self.old.retired then self.old.until else next } }
     {
         if !self.retired {

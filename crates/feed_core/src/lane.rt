@@ -1,0 +1,20 @@
+//! What is left of a subscription.
+use flow_rules::How;
+
+/// What is left of a subscription once its publisher is done with it: its subscriber, with what that was told, and the numbers of what
+/// was accepted, taken and requested.
+#[derive(Debug, Drop)]
+pub struct Lane<B> {
+    /// Its subscriber; `None` only where a turn is running.
+    pub subscriber: Option<B>,
+    /// How many items its buffer has accepted.
+    pub accepted: u64,
+    /// How many items were taken for `onNext`: those that were told, and one more where its callback was refused memory.
+    pub given: u64,
+    /// How many items were requested in all, at most [`UNBOUNDED`](flow_rules::UNBOUNDED).
+    pub asked: u64,
+    /// How it ended, if it did.
+    pub ending: Option<How>,
+    /// Whether a turn is owed. Where none is, its subscriber was told all that its demand and its ending allow.
+    pub running: bool,
+}
