@@ -19,7 +19,7 @@ use Rattle.lines_demo.specs.declared.script.session.Session.TheInside.{Inside}
 use Rattle.lines_demo.proofs.Acts.{act_becomes, act_steady, act_without_looks}
 use Rattle.lines_demo.proofs.AnsweredSessions.{IsAnswered, answered}
 use Rattle.lines_demo.proofs.HubLooks.{with_desk}
-use Rattle.lines_demo.proofs.Inside.{state_inside}
+use Rattle.lines_demo.proofs.Inside.{state_inside, woken_with}
 use Rattle.lines_demo.proofs.KeptCommands.{act_reached}
 use Rattle.lines_demo.proofs.LatestNames.{act_latest, somebody_known}
 use Rattle.lines_demo.proofs.LentSessions.{end_there, lent, lent_one, lent_publisher, lent_stands, lent_state}
@@ -30,10 +30,6 @@ use Rattle.lines_demo.proofs.StartedNumbers.{newly_woken_one}
 -- the latest subscription of a name has its end
 pub latest_there : (hub : Hub DeskState) (name : List ℕ) (k : ℕ) → IsScriptHub hub → IsLatest name (map subscription_of hub.entries.items) (Some k) → IsSome (feed_at hub k)
 latest_there hub name k is latest = ap is_some (end_there hub k latest.0 is latest.1.0).1
-
--- who is woken once this one is, if it was started
-abbrev pub woken_with : List ℕ → ℕ → Bool → List ℕ
-woken_with woken k is_started = woken ++ (if is_started then k ∷ [] else [])
 
 module _ {B : Type 0} (session : Inside B) (new : Hub DeskState) (name : List ℕ) (act : Act) (k : ℕ) (is_started : Bool) (is : IsSession session.hub (length session.stock.items) session.woken session.has_begun)
     (begun : session.has_begun ≡ true) (latest : IsLatest name (state_inside session).subscriptions (Some k)) (acts : ActsOn act k session.hub is_started new) where

@@ -115,7 +115,7 @@ duplicate_reached state refusals name is =
         by true = kept_duplicate texts state.serial state.closing s kept
         by false = kept
 
-sub_reached : (state : SessionState) (refusals : List Bool) (name : List ℕ) (number : ℕ) → IsReached state → IsReached (sub_result state refusals name number).state
+pub sub_reached : (state : SessionState) (refusals : List Bool) (name : List ℕ) (number : ℕ) → IsReached state → IsReached (sub_result state refusals name number).state
 sub_reached state refusals name number is =
     unless_reached state refusals _ is
     (λ left. by left (is_subscribed name state.subscriptions) refl) where
