@@ -11,3 +11,4 @@ pub mod Seen
 pub mod Sound
 pub mod Steps
 pub mod Turn
+pub mod World
