@@ -3,6 +3,7 @@ mod events;
 mod laws;
 mod parts;
 mod possible;
+mod reads;
 mod runs;
 mod steps;
 

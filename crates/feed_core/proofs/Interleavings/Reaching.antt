@@ -1,5 +1,5 @@
 -- What any list of events leads to.
-use Rattle.std.proofs.Common.{◌≡◌, ℕ, refl, sym, ap, subst, ◌∙◌, Option, Some, None, List, [], ◌∷◌, ◌++◌, inl, inr}
+use Rattle.std.proofs.Common.{◌≡◌, ℕ, ◌↔◌, Bool, true, false, refl, sym, ap, subst, ◌∙◌, Option, Some, None, List, [], ◌∷◌, ◌++◌, inl, inr}
 use Rattle.std.specs.Prelude.{◌⊎◌}
 use Rattle.feed_core.specs.LaneCalls.{IsCapacity}
 use Rattle.feed_core.specs.World.Types.{Event, Make, Room, Put, See, Take, Ask, Signal, Hand, Look, Measure, Rest, End, Parts}
@@ -26,6 +26,18 @@ next_kept (Look answer) None cut k may = absurd may
 next_kept Measure None cut k may = absurd may
 next_kept Rest None cut k may = absurd may
 next_kept (End how) None cut k may = absurd may
+
+-- of a subscription that was made
+pub parts_kept : (event : Event) (w v : Parts) (cut cut' : Option ℕ) → IsKeptIn (Some w) cut → IsPossible event w
+    → v ≡ after event w → cut' ≡ cut_after event w cut → IsKeptIn (Some v) cut'
+parts_kept event w v cut cut' k may parts number =
+    subst (λ (p : Parts). IsKeptIn (Some p) cut') (sym parts) (subst (IsKeptIn (Some (after event w))) (sym number) (next_kept event (Some w) cut k may))
+
+-- what a call of `apply` promises is one event
+pub applied : (event : Event) (old new : WorldState) (did : Bool) → (did ≡ true) ↔ IsPossibleIn event old.parts
+    → (did ≡ true → new ≡ next_of event old.parts old.cut) → (did ≡ false → new ≡ old) → Steps event old new
+applied event old new true possible done unchanged = inl (possible.0 refl, done refl)
+applied event old new false possible done unchanged = inr (λ may. (let never = possible.1 may in cc), unchanged refl)
 
 pub steps_kept : (event : Event) (old new : WorldState) → IsKeptIn old.parts old.cut → Steps event old new → IsKeptIn new.parts new.cut
 steps_kept event old new k (inl s) = subst (λ (w : WorldState). IsKeptIn w.parts w.cut) (sym s.1) (next_kept event old.parts old.cut k s.0)

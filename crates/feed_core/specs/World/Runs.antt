@@ -12,6 +12,11 @@ pub record WorldState : Type 0 where
   pub parts : Option Parts
   pub cut : Option ℕ
 
+-- a part of what there is, or this, where nothing is
+abbrev pub part : {A : Type 0} → A → (Parts → A) → Option Parts → A
+part other read None = other
+part other read (Some w) = read w
+
 -- before any event
 abbrev pub nothing : WorldState
 nothing = record { parts = None; cut = None }

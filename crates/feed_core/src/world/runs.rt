@@ -17,9 +17,9 @@ use std::marker::Model;
 #[derive(Clone, Copy, Debug, PartialEq, Eq)]
 pub struct World {
     /// What there is, once it was made.
-    made: Option<Parts>,
+    pub(crate) made: Option<Parts>,
     /// How many items were given before the first signal that ends the subscription at once, but for one that was just taken.
-    cut: Option<u64>,
+    pub(crate) cut: Option<u64>,
 }
 
 impl Model for World {
@@ -116,6 +116,7 @@ fn cut_where(cause: Option<Cause>, parts: &Parts) -> Option<u64>
 /// The subscription after all events of a list that are possible, in order.
 pub fn all_runs(events: &[Event]) -> World
     ensures leads { Leads nothing events.now result }
+    ensures kept { IsKeptIn result.parts result.cut }
     ensures lawful { IsLawfulIn result.parts result.cut }
 {
     let mut world = World {
