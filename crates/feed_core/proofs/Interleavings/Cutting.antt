@@ -159,8 +159,10 @@ adds_stop : (event : Event) (w : Parts) → IsPossible event w → stops w.cause
 adds_stop event w may none stopped = by event may stopped where
   never : IsSome (stops w.causes) → ⊥
   never some = none_some (stops w.causes) none some
+
   few : w.given ≤ given_before w.given w.runner + may_follow w.runner
   few = few_before w.given w.runner
+
   by : (event : Event) → IsPossible event w → IsSome (stops (after event w).causes) → IsCut (after event w) (given_before w.given w.runner)
   by (Make n) may some = absurd may
   by Room may some = absurd (never some)

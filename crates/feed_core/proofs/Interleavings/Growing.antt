@@ -31,9 +31,9 @@ rested_kept {w} {v} g quiet s =
       runs_on = ap stops same ∙ s.runs_on;
       waits = λ some. (let waits = s.waits (subst (λ c. IsSome (closes c)) same some) in let given = g.given in let accepted = g.accepted in omega arith);
       all_given = λ put asked. (
-        let one = g.put quiet put in let two = g.asked quiet asked in
-        let all = s.all_given one.0 two.0 in let given = g.given in let accepted = one.1 in let total = two.1 in
-        given ∙ all ∙ ap (λ n. min n (total_of w)) (sym accepted) ∙ ap (λ n. min v.accepted n) (sym total));
+          let one = g.put quiet put in let two = g.asked quiet asked in
+          let all = s.all_given one.0 two.0 in let given = g.given in let accepted = one.1 in let total = two.1 in
+          given ∙ all ∙ ap (λ n. min n (total_of w)) (sym accepted) ∙ ap (λ n. min v.accepted n) (sym total));
     }
 
 looked_kept : {w v : Parts} {c : Causes} → Grows w v → HasLooked c w → HasLooked c v

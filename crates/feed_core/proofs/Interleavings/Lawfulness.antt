@@ -33,8 +33,8 @@ lawful {w} k = record {
   requested = k.requested;
   coming = (λ e. hands_one w.producer w.handle (k.handed ∙ ap coming e), handed_comes k);
   from_one = λ producer handle. (
-    let one : producer_hands w.producer ≡ 1 = ap producer_hands producer in let two : handle_hands w.handle ≡ 1 = ap handle_hands handle in
-    let handed = k.handed in let few = coming_few w.runner in omega arith);
+      let one : producer_hands w.producer ≡ 1 = ap producer_hands producer in let two : handle_hands w.handle ≡ 1 = ap handle_hands handle in
+      let handed = k.handed in let few = coming_few w.runner in omega arith);
   runs_on = λ e. (stage_at k e).runs_on;
   unfailed = λ e. (k.unfailed (ap is_over e), k.remembered (ap is_over e));
   all_given = λ e quiet. (stage_at k e).all_given quiet.put quiet.asked;

@@ -20,12 +20,13 @@ rested w c t a k s quiet done waits =
       waits = λ some. still (subst (λ causes. IsSome (closes causes)) same some) waits;
       all_given = λ put asked. all done (s.seen.all_put quiet put) (s.all_asked quiet asked);
     } where
-  still : IsSome (closes c) → (closes c ≡ None) ⊎ (w.given ≡ t → ⊥) → w.given < w.accepted
-  still some (inl none) = absurd (none_some (closes c) none some)
-  still some (inr short) = let last = s.seen.last some in let taken = k.taken in omega (arith, short)
-  all : (t ≤ w.given) ⊎ (a ≤ w.given) → t ≡ w.accepted → a ≡ total_of w → w.given ≡ min w.accepted (total_of w)
-  all (inl few) put asked = let taken = k.taken in let requested = k.requested in omega arith
-  all (inr few) put asked = let taken = k.taken in let requested = k.requested in omega arith
+      still : IsSome (closes c) → (closes c ≡ None) ⊎ (w.given ≡ t → ⊥) → w.given < w.accepted
+      still some (inl none) = absurd (none_some (closes c) none some)
+      still some (inr short) = let last = s.seen.last some in let taken = k.taken in omega (arith, short)
+
+      all : (t ≤ w.given) ⊎ (a ≤ w.given) → t ≡ w.accepted → a ≡ total_of w → w.given ≡ min w.accepted (total_of w)
+      all (inl few) put asked = let taken = k.taken in let requested = k.requested in omega arith
+      all (inr few) put asked = let taken = k.taken in let requested = k.requested in omega arith
 
 pub rest_kept : (w : Parts) → IsKept w → IsPossible Rest w → IsKept (after Rest w)
 rest_kept w k may = by w.active refl where

@@ -4,8 +4,8 @@ ghost use Rattle.feed_core.specs.Cause.{no_causes};
 ghost use Rattle.feed_core.specs.World.Runs.{part};
 ghost use Rattle.feed_core.specs.World.Types.{Free, Idle, Nobody};
 
+use super::World;
 use super::parts::{Parts, Producing, Requesting, Runner};
-use super::runs::World;
 use crate::cause::Causes;
 
 impl World {

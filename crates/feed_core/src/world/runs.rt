@@ -1,42 +1,20 @@
-//! A subscription as a list of events has left it.
+//! Events, one after the other.
 ghost use Rattle.std.specs.Prelude.{◌≡◌, ◌↔◌, true, false};
+ghost use Rattle.feed_core.specs.Cause.{stops, no_causes};
 ghost use Rattle.feed_core.specs.World.Kept.{IsKeptIn};
 ghost use Rattle.feed_core.specs.World.Lawful.{IsLawfulIn};
-ghost use Rattle.feed_core.specs.Cause.{stops, no_causes};
 ghost use Rattle.feed_core.specs.World.Runs.{nothing, IsPossibleIn, next_of, Leads, made, cut_after, cut_where};
 ghost use Rattle.feed_core.specs.World.Table.{joined};
 
+use super::World;
 use super::events::{Cause, Event};
 use super::parts::{Parts, Producing, Requesting, Runner};
 use super::possible::is_capacity;
 use super::steps::join;
 use crate::cause::Causes;
-use std::marker::Model;
-
-/// One subscription.
-#[derive(Clone, Copy, Debug, PartialEq, Eq)]
-pub struct World {
-    /// What there is, once it was made.
-    pub(crate) made: Option<Parts>,
-    /// How many items were given before the first signal that ends the subscription at once, but for one that was just taken.
-    pub(crate) cut: Option<u64>,
-}
-
-impl Model for World {
-    ghost use Rattle.feed_core.specs.World.Runs.{WorldState};
-    ghost use Rattle.feed_core.specs.World.Kept.{IsKeptIn};
-
-    ghost Value = { WorldState };
-
-    ghost view = { λ world. record { parts = world.made; cut = world.cut } };
-
-    ghost invariant = { λ world. IsKeptIn world.made world.cut };
-
-    ghost inverse = { λ state. record { made = state.parts; cut = state.cut } };
-}
 
 impl World {
-    /// One event.
+    /// One step of one party. Answers whether it is possible now; where it is not, it changes nothing.
     pub fn apply(&mut self, event: Event) -> bool
         ensures possible { (result ≡ true) ↔ IsPossibleIn event self.old.parts }
         ensures done { result ≡ true → self.new ≡ next_of event self.old.parts self.old.cut }
@@ -55,7 +33,7 @@ impl World {
         true
     }
 
-    /// The first event.
+    /// The first event, which makes the subscription.
     fn make(&mut self, event: Event) -> bool
         requires unmade { self.old ≡ nothing }
         ensures possible { (result ≡ true) ↔ IsPossibleIn event self.old.parts }
@@ -64,8 +42,8 @@ impl World {
         ensures lawful { IsLawfulIn self.new.parts self.new.cut }
     {
         match event {
-            Event::Make(size) if is_capacity(size) => {
-                self.made = Some(new_parts(size));
+            Event::Make(capacity) if is_capacity(capacity) => {
+                self.made = Some(new_parts(capacity));
                 true
             }
             _ => false,
@@ -73,7 +51,24 @@ impl World {
     }
 }
 
-/// A new subscription.
+/// What the events of this list lead to, in their order; those that are not possible where they come are left out. Whatever the list is,
+/// the subscription keeps its law.
+pub fn all_runs(events: &[Event]) -> World
+    ensures leads { Leads nothing events.now result }
+    ensures kept { IsKeptIn result.parts result.cut }
+    ensures lawful { IsLawfulIn result.parts result.cut }
+{
+    let mut world = World {
+        made: None,
+        cut: None,
+    };
+    for event in events {
+        world.apply(*event);
+    }
+    world
+}
+
+/// A new subscription: its task was never run.
 fn new_parts(capacity: usize) -> Parts
     ensures { result ≡ made capacity }
 {
@@ -91,7 +86,7 @@ fn new_parts(capacity: usize) -> Parts
     }
 }
 
-/// The cut after an event.
+/// The cut after an event: the first signal that ends the subscription at once sets it.
 fn cut_after(event: Event, parts: &Parts, cut: Option<u64>) -> Option<u64>
     ensures { result ≡ cut_after event parts.now cut }
 {
@@ -101,7 +96,7 @@ fn cut_after(event: Event, parts: &Parts, cut: Option<u64>) -> Option<u64>
     }
 }
 
-/// The cut that a signal makes.
+/// The cut that a signal sets, if its cause ends the subscription at once.
 fn cut_where(cause: Option<Cause>, parts: &Parts) -> Option<u64>
     ensures { result ≡ cut_where (stops (joined cause no_causes)) parts.now }
 {
@@ -111,20 +106,4 @@ fn cut_where(cause: Option<Cause>, parts: &Parts) -> Option<u64>
         Some(_) => Some(parts.runner.given_before(parts.given)),
         None => None,
     }
-}
-
-/// The subscription after all events of a list that are possible, in order.
-pub fn all_runs(events: &[Event]) -> World
-    ensures leads { Leads nothing events.now result }
-    ensures kept { IsKeptIn result.parts result.cut }
-    ensures lawful { IsLawfulIn result.parts result.cut }
-{
-    let mut world = World {
-        made: None,
-        cut: None,
-    };
-    for event in events {
-        world.apply(*event);
-    }
-    world
 }

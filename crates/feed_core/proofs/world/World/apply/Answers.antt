@@ -5,7 +5,7 @@ use Rattle.feed_core.specs.World.Lawful.{IsLawfulIn}
 use Rattle.feed_core.specs.World.Runs.{WorldState}
 use Rattle.feed_core.proofs.Interleavings.Lawfulness.{lawful_in}
 use Rattle.feed_core.proofs.Interleavings.Reaching.{parts_kept}
-use Rattle.feed_core.proofs.world.runs.World.apply.Goals as goal
+use Rattle.feed_core.proofs.world.World.apply.Goals as goal
 
 pub returns-then-not-can-clause-lawful : goal.returns-then-not-can-clause-lawful
 returns-then-not-can-clause-lawful c =
