@@ -1,9 +1,8 @@
 -- The handle stores a request.
-use Rattle.std.proofs.Common.{◌≡◌, ℕ, ◌+◌, ◌<◌, ◌≤◌, min, refl, ap, arith}
-use Rattle.feed_core.specs.Prelude.{UNBOUNDED}
+use Rattle.std.proofs.Common.{◌≡◌, ℕ, refl, ap, arith}
 use Rattle.feed_core.specs.World.Types.{Ask, Parts}
-use Rattle.feed_core.specs.World.Table.{total_of, IsPossible, after}
-use Rattle.feed_core.specs.World.Kept.{IsKept, producer_hands, handle_hands, coming}
+use Rattle.feed_core.specs.World.Table.{IsPossible, after}
+use Rattle.feed_core.specs.World.Kept.{IsKept, handle_hands}
 use Rattle.feed_core.proofs.Interleavings.Causing.{within_same}
 use Rattle.feed_core.proofs.Interleavings.Growing.{Grows, stage_at, stage_kept}
 

@@ -1,5 +1,5 @@
 -- Causes within causes, and the ends that they have.
-use Rattle.std.proofs.Common.{◌≡◌, ℕ, Bool, true, false, refl, sym, ap, subst, ◌∙◌, Option, Some, None}
+use Rattle.std.proofs.Common.{◌≡◌, ℕ, Bool, true, false, refl, sym, subst, Option, Some, None}
 use Rattle.std.specs.Prelude.{IsSome}
 use Rattle.feed_core.specs.Prelude.{Published, IllegalArgument, IllegalState, Ending, How}
 use Rattle.feed_core.specs.Cause.{IsFaultOf, stops, closes, completion, end_where, closing_error, with_cause_of, no_causes}

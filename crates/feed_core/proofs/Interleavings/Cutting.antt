@@ -1,12 +1,12 @@
 -- At most one item is taken after an end at once was signalled: the runner may have looked before.
-use Rattle.std.proofs.Common.{◌≡◌, ℕ, zero, suc, ℤ, pos, negsuc, ◌+◌, ◌-◌, ◌<◌, ◌≤◌, Bool, true, false, refl, sym, ap, subst, ◌∙◌, arith, Option, Some, None}
+use Rattle.std.proofs.Common.{◌≡◌, ℕ, zero, suc, ℤ, pos, negsuc, ◌+◌, ◌≤◌, Bool, true, false, refl, sym, ap, subst, ◌∙◌, arith, Option, Some, None}
 use Rattle.std.specs.Prelude.{IsSome}
 use Rattle.feed_core.specs.Prelude.{Answer, How}
 use Rattle.feed_core.specs.Cause.{stops, no_causes}
-use Rattle.feed_core.specs.World.Types.{Causes, Producer, Handle, Cause, Event, Make, Room, Put, See, Take, Ask, Signal, Hand, Look, Measure, Rest, End, Runner, Nobody, Coming, Fresh, Ready, Looked, Saw, Measured, Taken, Over, Parts}
-use Rattle.feed_core.specs.World.Table.{IsPossible, joined, requested, answered, started, seeing, measuring, resting_after, after}
+use Rattle.feed_core.specs.World.Types.{Producer, Handle, Cause, Event, Make, Room, Put, See, Take, Ask, Signal, Hand, Look, Measure, Rest, End, Runner, Nobody, Coming, Fresh, Ready, Looked, Saw, Measured, Taken, Over, Parts}
+use Rattle.feed_core.specs.World.Table.{IsPossible, joined, requested, answered, started, seeing, resting_after, after}
 use Rattle.feed_core.specs.World.Runs.{given_before, cut_where, cut_by, cut_after}
-use Rattle.feed_core.specs.World.Kept.{IsKept, IsCut, IsCutAt, may_follow, one_where}
+use Rattle.feed_core.specs.World.Kept.{IsCut, IsCutAt, may_follow, one_where}
 use Rattle.feed_core.proofs.Interleavings.Causing.{none_some, within_argument, within_producer, within_handle, stops_within, joined_stops, stops_with_cause}
 use Rattle.feed_core.proofs.Interleavings.Signalling.{may_follow_started}
 

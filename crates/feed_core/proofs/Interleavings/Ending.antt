@@ -1,12 +1,12 @@
 -- The runner ends the subscription.
-use Rattle.std.proofs.Common.{◌≡◌, ℕ, ◌+◌, ◌<◌, ◌≤◌, true, false, refl, sym, ap, subst, ◌∙◌, arith, Option, Some, None, inl, inr}
-use Rattle.std.specs.Prelude.{IsSome, ◌⊎◌}
+use Rattle.std.proofs.Common.{◌≡◌, ℕ, refl, sym, subst, ◌∙◌, arith, Option, Some, None, inl, inr}
+use Rattle.std.specs.Prelude.{IsSome}
 use Rattle.feed_core.specs.Prelude.{Published, IllegalArgument, IllegalState, Ending, How}
-use Rattle.feed_core.specs.Cause.{stops, closes, completion, with_cause_of}
+use Rattle.feed_core.specs.Cause.{stops, closes, completion}
 use Rattle.feed_core.specs.World.Types.{Causes, End, Runner, Nobody, Coming, Fresh, Ready, Looked, Saw, Measured, Taken, Over, Parts}
 use Rattle.feed_core.specs.World.Table.{MayEnd, IsAnswered, IsEndBy, IsStop, IsPossible, after}
 use Rattle.feed_core.specs.World.Kept.{IsAt, IsKept, IsWithin, HasEnded, HasLooked, HasMeasured, coming}
-use Rattle.feed_core.proofs.Interleavings.Causing.{IsStopOf, stops_cause, closes_cause}
+use Rattle.feed_core.proofs.Interleavings.Causing.{IsStopOf, stops_cause}
 
 -- what a callback answered is a cause
 answered_ended : (how : How) (w : Parts) → IsAnswered how → HasEnded how (after (End how) w)

@@ -1,5 +1,5 @@
 -- Every event keeps what is kept.
-use Rattle.std.proofs.Common.{◌≡◌, ℕ, refl, arith}
+use Rattle.std.proofs.Common.{ℕ, refl, arith}
 use Rattle.feed_core.specs.LaneCalls.{IsCapacity}
 use Rattle.feed_core.specs.World.Types.{Producer, Handle, Event, Make, Room, Put, See, Take, Ask, Signal, Hand, Look, Measure, Rest, End, Parts}
 use Rattle.feed_core.specs.World.Table.{IsPossible, after}

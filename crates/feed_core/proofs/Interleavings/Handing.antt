@@ -1,7 +1,6 @@
 -- A side hands the task over that its signal started.
-use Rattle.std.proofs.Common.{◌≡◌, ℕ, ◌+◌, ◌<◌, ◌≤◌, Bool, true, false, refl, sym, ap, ◌∙◌, arith, inl, inr}
-use Rattle.std.specs.Prelude.{◌⊎◌}
-use Rattle.feed_core.specs.World.Types.{Producer, Handle, Hand, Producing, Free, HasRoom, HasPut, Hands, Requesting, Idle, HasAsked, HandsOver, Runner, Nobody, Coming, Fresh, Ready, Looked, Saw, Measured, Taken, Over, Parts}
+use Rattle.std.proofs.Common.{◌≡◌, ◌+◌, ◌≤◌, false, refl, ap, arith}
+use Rattle.feed_core.specs.World.Types.{Producer, Handle, Hand, Producing, Free, HasRoom, Requesting, Idle, Runner, Nobody, Coming, Fresh, Ready, Looked, Saw, Measured, Taken, Over, Parts}
 use Rattle.feed_core.specs.World.Table.{is_over, IsPossible, after}
 use Rattle.feed_core.specs.World.Kept.{IsKept, producer_hands, handle_hands, coming}
 

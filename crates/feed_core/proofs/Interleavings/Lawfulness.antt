@@ -1,9 +1,9 @@
 -- What is kept gives the law.
-use Rattle.std.proofs.Common.{◌≡◌, ℕ, ◌+◌, ◌<◌, ◌≤◌, false, refl, sym, ap, subst, ◌∙◌, arith, Option, Some, None, inl, inr}
+use Rattle.std.proofs.Common.{◌≡◌, ℕ, ◌+◌, refl, ap, ◌∙◌, arith, Option, Some, None, inl, inr}
 use Rattle.std.specs.Prelude.{◌⊎◌}
-use Rattle.feed_core.specs.World.Types.{Producing, Free, HasRoom, HasPut, Hands, Requesting, Idle, HasAsked, HandsOver, Runner, Coming, Parts}
+use Rattle.feed_core.specs.World.Types.{Producing, Free, HasRoom, HasPut, Hands, Requesting, Idle, HasAsked, HandsOver, Coming, Parts}
 use Rattle.feed_core.specs.World.Table.{is_over}
-use Rattle.feed_core.specs.World.Kept.{IsKept, IsCut, IsCutAt, IsKeptIn, producer_hands, handle_hands, coming}
+use Rattle.feed_core.specs.World.Kept.{IsKept, IsCutAt, IsKeptIn, producer_hands, handle_hands, coming}
 use Rattle.feed_core.specs.World.Lawful.{IsLawful, IsLawfulIn, FollowsCut}
 use Rattle.feed_core.proofs.Interleavings.Cutting.{may_follow_few}
 use Rattle.feed_core.proofs.Interleavings.Growing.{stage_at}

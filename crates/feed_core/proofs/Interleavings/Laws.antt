@@ -1,6 +1,5 @@
 -- The laws follow from what every event keeps.
-use Rattle.std.proofs.Common.{◌≡◌, ℕ, ◌+◌, ◌<◌, ◌≤◌, min, refl, sym, ap, subst, ◌∙◌, arith, Option, Some, None, List, [], ◌∷◌, inl, inr}
-use Rattle.std.specs.Prelude.{IsSome, ◌⊎◌}
+use Rattle.std.proofs.Common.{ℕ, refl, sym, subst, arith, Option, Some, None, List, [], ◌∷◌, inl, inr}
 use Rattle.feed_core.specs.World.Types.{Event, Parts}
 use Rattle.feed_core.specs.World.Runs.{WorldState, nothing, world_of, IsPossibleIn, given_before, next_of, Steps, Leads}
 use Rattle.feed_core.specs.World.Kept.{IsKept, IsCut}

@@ -1,11 +1,10 @@
 -- The producer looks for room, and puts an item.
-use Rattle.std.proofs.Common.{◌≡◌, ℕ, ◌+◌, ◌-◌, ◌<◌, ◌≤◌, Bool, true, false, ◌&&◌, not, refl, sym, ap, subst, ◌∙◌, arith, Some, None, inl, inr}
-use Rattle.std.specs.Prelude.{IsSome, nat_lt, ◌⊎◌}
+use Rattle.std.proofs.Common.{◌≡◌, ◌+◌, ◌-◌, ◌<◌, ◌≤◌, Bool, true, false, ◌&&◌, not, refl, sym, ap, ◌∙◌, arith, inl, inr}
+use Rattle.std.specs.Prelude.{nat_lt}
 use Rattle.std.proofs.lemmas.Bool.Decides.{nat_tests}
-use Rattle.feed_core.specs.Cause.{closes}
-use Rattle.feed_core.specs.World.Types.{Causes, Room, Put, Producing, Free, HasRoom, HasPut, Nobody, Parts}
-use Rattle.feed_core.specs.World.Table.{total_of, is_over, MayBegin, IsPossible, has_room, shown_room, after}
-use Rattle.feed_core.specs.World.Kept.{IsKept, producer_hands, handle_hands, coming}
+use Rattle.feed_core.specs.World.Types.{Room, Put, Producing, Free, HasRoom, HasPut, Parts}
+use Rattle.feed_core.specs.World.Table.{is_over, MayBegin, IsPossible, has_room, shown_room, after}
+use Rattle.feed_core.specs.World.Kept.{IsKept, producer_hands}
 use Rattle.feed_core.proofs.Interleavings.Causing.{within_same, unclosed_waits}
 use Rattle.feed_core.proofs.Interleavings.Growing.{Grows, stage_at, stage_kept}
 

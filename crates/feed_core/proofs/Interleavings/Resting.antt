@@ -1,10 +1,10 @@
 -- The runner rests, or finds that something is new.
-use Rattle.std.proofs.Common.{◌≡◌, ℕ, ◌+◌, ◌<◌, ◌≤◌, min, Bool, true, false, refl, sym, ap, subst, ◌∙◌, arith, Option, Some, None, inl, inr}
+use Rattle.std.proofs.Common.{◌≡◌, ℕ, ◌<◌, ◌≤◌, min, Bool, true, false, refl, ap, subst, ◌∙◌, arith, None, inl, inr}
 use Rattle.std.specs.Prelude.{IsSome, ◌⊎◌}
 use Rattle.feed_core.specs.Cause.{stops, closes}
-use Rattle.feed_core.specs.World.Types.{Causes, Rest, Runner, Nobody, Ready, Measured, Parts}
+use Rattle.feed_core.specs.World.Types.{Causes, Rest, Nobody, Ready, Parts}
 use Rattle.feed_core.specs.World.Table.{total_of, is_over, IsPossible, resting_after, after}
-use Rattle.feed_core.specs.World.Kept.{IsAt, IsKept, HasRested, HasMeasured, coming}
+use Rattle.feed_core.specs.World.Kept.{IsKept, HasRested, HasMeasured, coming}
 use Rattle.feed_core.proofs.Interleavings.Causing.{none_some}
 use Rattle.feed_core.proofs.Interleavings.Growing.{stage_at}
 use Rattle.feed_core.proofs.Interleavings.Running.{moved_kept}

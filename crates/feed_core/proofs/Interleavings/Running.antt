@@ -1,8 +1,7 @@
 -- The runner looks, sees how many items were put, sees how many were requested, and takes one.
-use Rattle.std.proofs.Common.{◌≡◌, ℕ, zero, suc, ℤ, pos, negsuc, ◌+◌, ◌<◌, ◌≤◌, min, Bool, true, false, refl, sym, ap, subst, ◌∙◌, arith, Option, Some, None, inl, inr}
-use Rattle.std.specs.Prelude.{◌⊎◌}
+use Rattle.std.proofs.Common.{◌≡◌, ℕ, zero, suc, ℤ, pos, negsuc, ◌≤◌, true, false, refl, sym, ap, subst, ◌∙◌, arith, inl, inr}
 use Rattle.feed_core.specs.Prelude.{UNBOUNDED, Answer, total_after}
-use Rattle.feed_core.specs.World.Types.{Causes, Look, See, Measure, Take, Runner, Fresh, Ready, Looked, Saw, Measured, Taken, Parts}
+use Rattle.feed_core.specs.World.Types.{Causes, Look, See, Measure, Take, Runner, Looked, Saw, Measured, Parts}
 use Rattle.feed_core.specs.World.Table.{total_of, is_over, MayLook, IsPossible, requested, answered, looking, seeing, measuring, after}
 use Rattle.feed_core.specs.World.Kept.{IsAt, IsKept, HasSeen, HasMeasured, coming}
 use Rattle.feed_core.proofs.Interleavings.Causing.{within_same}

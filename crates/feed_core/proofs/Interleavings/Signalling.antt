@@ -1,7 +1,7 @@
 -- A side signals.
-use Rattle.std.proofs.Common.{◌≡◌, ℕ, ◌+◌, ◌<◌, ◌≤◌, Bool, true, false, refl, sym, ap, subst, ◌∙◌, arith, Option, Some, None}
+use Rattle.std.proofs.Common.{◌≡◌, ℕ, ◌+◌, Bool, true, false, refl, sym, ap, ◌∙◌, arith, Option, Some, None}
 use Rattle.feed_core.specs.World.Types.{Causes, Producer, Handle, Cause, Cancel, Argument, State, Closing, Signal, Producing, HasRoom, Requesting, Runner, Nobody, Coming, Fresh, Ready, Looked, Saw, Measured, Taken, Over, Parts}
-use Rattle.feed_core.specs.World.Table.{total_of, is_over, is_started, started, ProducerMay, HandleMay, IsPossible, producing_after, requesting_after, joined, after}
+use Rattle.feed_core.specs.World.Table.{is_over, is_started, started, ProducerMay, HandleMay, IsPossible, producing_after, requesting_after, joined, after}
 use Rattle.feed_core.specs.World.Kept.{IsKept, IsAt, IsWithin, producer_hands, handle_hands, coming, may_follow}
 use Rattle.feed_core.proofs.Interleavings.Causing.{within_producer, within_handle, joined_failed, joined_memory}
 use Rattle.feed_core.proofs.Interleavings.Growing.{Grows, stage_kept}

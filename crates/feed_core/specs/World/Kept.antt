@@ -1,11 +1,10 @@
 -- What every event keeps, and from which all else follows.
-use Rattle.std.specs.Prelude.{◌≡◌, ℕ, ◌+◌, ◌<◌, ◌≤◌, min, Bool, true, false, Option, None, Some, IsSome}
+use Rattle.std.specs.Prelude.{◌≡◌, ℕ, ◌+◌, ◌<◌, ◌≤◌, min, true, false, Option, None, Some, IsSome}
 use Rattle.feed_core.specs.Prelude.{UNBOUNDED, Ending, How}
 use Rattle.feed_core.specs.Cause.{stops, closes, IsFaultOf}
 use Rattle.feed_core.specs.LaneCalls.{IsCapacity}
 use Rattle.feed_core.specs.World.Types.{Causes, Producing, HasRoom, HasPut, Hands, Requesting, HasAsked, HandsOver, Runner, Nobody, Coming, Fresh, Looked, Saw, Measured, Taken, Over, Parts}
 use Rattle.feed_core.specs.World.Table.{total_of, is_over}
-use Rattle.feed_core.specs.World.Runs.{WorldState}
 
 -- the causes are all among those
 pub record IsWithin (some all : Causes) : Type 0 where

@@ -1,5 +1,5 @@
 -- What holds of a subscription after any list of events.
-use Rattle.std.specs.Prelude.{◌≡◌, ◌↔◌, ℕ, ◌+◌, ◌<◌, ◌≤◌, ◌⊎◌, min, true, false, Option, None, Some, IsSome}
+use Rattle.std.specs.Prelude.{◌≡◌, ◌↔◌, ℕ, ◌+◌, ◌<◌, ◌≤◌, ◌⊎◌, min, false, Option, None, Some, IsSome}
 use Rattle.feed_core.specs.Prelude.{How}
 use Rattle.feed_core.specs.Cause.{stops, closes}
 use Rattle.feed_core.specs.World.Types.{HasPut, Hands, HasAsked, HandsOver, Nobody, Coming, Over, Parts}

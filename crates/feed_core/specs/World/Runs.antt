@@ -3,7 +3,7 @@ use Rattle.std.specs.Prelude.{◌≡◌, ℕ, ◌-◌, ◌⊎◌, false, Option,
 use Rattle.feed_core.specs.Prelude.{How}
 use Rattle.feed_core.specs.Cause.{no_causes, stops}
 use Rattle.feed_core.specs.LaneCalls.{IsCapacity}
-use Rattle.feed_core.specs.World.Types.{Cause, Event, Make, Signal, Free, Idle, Runner, Fresh, Taken, Parts}
+use Rattle.feed_core.specs.World.Types.{Event, Make, Signal, Free, Idle, Runner, Fresh, Taken, Parts}
 use Rattle.feed_core.specs.World.Table.{joined, IsPossible, after}
 
 -- parts: what there is, if the subscription was made

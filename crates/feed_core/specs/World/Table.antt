@@ -2,7 +2,7 @@
 use Rattle.std.specs.Prelude.{◌≡◌, ℕ, zero, suc, ℤ, pos, negsuc, ◌+◌, ◌-◌, ◌<◌, ◌≤◌, ◌⊎◌, nat_lt, Bool, true, false, ◌&&◌, not, Option, None, Some}
 use Rattle.feed_core.specs.Prelude.{Answer, Ending, How, total_after}
 use Rattle.feed_core.specs.Cause.{stops, closes, with_cause_of}
-use Rattle.feed_core.specs.World.Types.{Causes, Side, Producer, Handle, Cause, Cancel, Argument, State, Closing, Event, Make, Room, Put, See, Take, Ask, Signal, Hand, Look, Measure, Rest, End, Producing, Free, HasRoom, HasPut, Hands, Requesting, Idle, HasAsked, HandsOver, Runner, Nobody, Coming, Fresh, Ready, Looked, Saw, Measured, Taken, Over, Parts}
+use Rattle.feed_core.specs.World.Types.{Causes, Producer, Handle, Cause, Cancel, Argument, State, Closing, Event, Make, Room, Put, See, Take, Ask, Signal, Hand, Look, Measure, Rest, End, Producing, Free, HasRoom, HasPut, Hands, Requesting, Idle, HasAsked, HandsOver, Runner, Nobody, Coming, Fresh, Ready, Looked, Saw, Measured, Taken, Over, Parts}
 
 -- all that was requested, by the handle and by the answers of callbacks (`Flow.Subscription.request`, Java SE 17)
 abbrev pub total_of : Parts → ℕ
