@@ -9,3 +9,4 @@ mod pool;
 mod refusals;
 mod subscribers;
 mod texts;
+mod worlds;
