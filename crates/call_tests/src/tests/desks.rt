@@ -90,8 +90,7 @@ fn first_wrong<B: Listener>(
     alloc: Global,
     desk: &mut Desk<B>,
     rows: &[Row<'_>],
-) -> Result<Option<usize>, NoMemory>
-{
+) -> Result<Option<usize>, NoMemory> {
     for (place, row) in rows.iter().enumerate() {
         if !answers(alloc, desk, *row)? {
             return Ok(Some(place));
