@@ -5,7 +5,7 @@ use Rattle.publisher_hub.specs.Lending.{feed_at}
 use Rattle.publisher_hub.specs.declared.hub.Hub.{Hub}
 use Rattle.publisher_hub.specs.declared.work.Work.{Work}
 use Rattle.lines_demo.specs.Prelude.{DeskState}
-use Rattle.lines_demo.specs.Script.Acting.{ActsOn, was_started}
+use Rattle.lines_demo.specs.Script.Acting.{ActsOn}
 use Rattle.lines_demo.specs.Script.Command.{is_word}
 use Rattle.lines_demo.specs.Script.Obeying.{act_result, desk_after_act, subscriptions_after_act}
 use Rattle.lines_demo.specs.Script.Playing.{IsLatest, Replies}
@@ -22,7 +22,7 @@ use Rattle.lines_demo.proofs.HubLooks.{with_desk}
 use Rattle.lines_demo.proofs.Inside.{state_inside, woken_with}
 use Rattle.lines_demo.proofs.KeptCommands.{act_reached}
 use Rattle.lines_demo.proofs.LatestNames.{act_latest, somebody_known}
-use Rattle.lines_demo.proofs.LentSessions.{end_there, lent, lent_one, lent_publisher, lent_stands, lent_state}
+use Rattle.lines_demo.proofs.LentSessions.{end_there, lent_one, lent_publisher, lent_stands, lent_state}
 use Rattle.lines_demo.proofs.Replying.{act_done}
 use Rattle.lines_demo.proofs.SessionStates.{room_for}
 use Rattle.lines_demo.proofs.StartedNumbers.{newly_woken_one}

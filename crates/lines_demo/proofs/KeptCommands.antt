@@ -18,7 +18,6 @@ use Rattle.lines_demo.specs.Script.Laws.{WakesWhoOwes}
 use Rattle.lines_demo.specs.declared.script.command.Command.{Command}
 use Rattle.lines_demo.specs.declared.script.command.Command.TheVariants.{Cap, Sub, Offer, Retry, Submit, Request, Cancel, Close, Fail, Run}
 use Rattle.lines_demo.specs.declared.script.session.acting.Act.{Act}
-use Rattle.lines_demo.specs.declared.script.session.acting.Act.TheVariants as Act
 use Rattle.lines_demo.specs.declared.script.reply.Reply.{Reply}
 use Rattle.lines_demo.specs.declared.script.reply.Reply.TheVariants.{Done}
 use Rattle.lines_demo.proofs.Acts.{act_owes}

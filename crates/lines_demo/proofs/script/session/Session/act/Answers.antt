@@ -1,4 +1,4 @@
-use Rattle.std.proofs.Common.{◌≡◌, true, Some, [], ◌∷◌, ◌++◌, if◌then◌else◌, length, sym, ap, subst, ◌∙◌}
+use Rattle.std.proofs.Common.{Some, length, sym, ap, subst, ◌∙◌}
 use Rattle.lines_demo.specs.Script.Obeying.{act_result}
 use Rattle.lines_demo.specs.Script.Playing.{IsLatest}
 use Rattle.lines_demo.specs.Script.State.{SessionState}
