@@ -5,7 +5,7 @@ use Rattle.publisher_hub.specs.Lending.{feed_at}
 use Rattle.publisher_hub.specs.declared.hub.Hub.{Hub}
 use Rattle.publisher_hub.specs.declared.work.Work.{Work}
 use Rattle.lines_demo.specs.Prelude.{DeskState}
-use Rattle.lines_demo.specs.Script.Acting.{ActsOn, was_started}
+use Rattle.lines_demo.specs.Script.Acting.{ActsOn}
 use Rattle.lines_demo.specs.Script.Command.{is_word}
 use Rattle.lines_demo.specs.Script.Obeying.{act_result, desk_after_act, subscriptions_after_act}
 use Rattle.lines_demo.specs.Script.Playing.{IsLatest, Replies}
@@ -19,10 +19,10 @@ use Rattle.lines_demo.specs.declared.script.session.Session.TheInside.{Inside}
 use Rattle.lines_demo.proofs.Acts.{act_becomes, act_steady, act_without_looks}
 use Rattle.lines_demo.proofs.AnsweredSessions.{IsAnswered, answered}
 use Rattle.lines_demo.proofs.HubLooks.{with_desk}
-use Rattle.lines_demo.proofs.Inside.{state_inside}
+use Rattle.lines_demo.proofs.Inside.{state_inside, woken_with}
 use Rattle.lines_demo.proofs.KeptCommands.{act_reached}
 use Rattle.lines_demo.proofs.LatestNames.{act_latest, somebody_known}
-use Rattle.lines_demo.proofs.LentSessions.{end_there, lent, lent_one, lent_publisher, lent_stands, lent_state}
+use Rattle.lines_demo.proofs.LentSessions.{end_there, lent_one, lent_publisher, lent_stands, lent_state}
 use Rattle.lines_demo.proofs.Replying.{act_done}
 use Rattle.lines_demo.proofs.SessionStates.{room_for}
 use Rattle.lines_demo.proofs.StartedNumbers.{newly_woken_one}
@@ -30,10 +30,6 @@ use Rattle.lines_demo.proofs.StartedNumbers.{newly_woken_one}
 -- the latest subscription of a name has its end
 pub latest_there : (hub : Hub DeskState) (name : List ℕ) (k : ℕ) → IsScriptHub hub → IsLatest name (map subscription_of hub.entries.items) (Some k) → IsSome (feed_at hub k)
 latest_there hub name k is latest = ap is_some (end_there hub k latest.0 is latest.1.0).1
-
--- who is woken once this one is, if it was started
-abbrev pub woken_with : List ℕ → ℕ → Bool → List ℕ
-woken_with woken k is_started = woken ++ (if is_started then k ∷ [] else [])
 
 module _ {B : Type 0} (session : Inside B) (new : Hub DeskState) (name : List ℕ) (act : Act) (k : ℕ) (is_started : Bool) (is : IsSession session.hub (length session.stock.items) session.woken session.has_begun)
     (begun : session.has_begun ≡ true) (latest : IsLatest name (state_inside session).subscriptions (Some k)) (acts : ActsOn act k session.hub is_started new) where

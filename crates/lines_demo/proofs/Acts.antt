@@ -10,7 +10,6 @@ use Rattle.publisher_hub.specs.Lending.{MayBecome}
 use Rattle.lines_demo.specs.Prelude.{DeskState, desk_without_looks, owes}
 use Rattle.lines_demo.specs.Script.Obeying.{desk_after_act}
 use Rattle.lines_demo.specs.declared.script.session.acting.Act.{Act}
-use Rattle.lines_demo.specs.declared.script.session.acting.Act.TheVariants as Act
 
 -- all that an act may change: how much is requested, the causes cancel and bad request, whether its task was started, and whether it
 -- was cancelled

@@ -1,5 +1,5 @@
 -- What a close of a script's publisher does to where the script stands.
-use Rattle.std.proofs.Common.{◌≡◌, ℕ, Bool, true, false, not, ◌&&◌, if◌then◌else◌, Option, None, Some, List, [], ◌∷◌, ◌++◌, map, refl, sym, ap, subst, ◌∙◌}
+use Rattle.std.proofs.Common.{◌≡◌, ℕ, ◌+◌, ◌≤◌, Bool, true, false, not, ◌&&◌, if◌then◌else◌, Option, None, Some, List, [], ◌∷◌, ◌++◌, length, map, refl, sym, ap, subst, ◌∙◌}
 use Rattle.std.specs.Prelude.{is_none, is_some, All, slice_get}
 use Rattle.feed_core.specs.Desk.{desk_after_signal}
 use Rattle.feed_core.specs.Feed.{DoesCall, end_of}
@@ -13,17 +13,22 @@ use Rattle.publisher_hub.specs.declared.hub.Hub.{Hub}
 use Rattle.publisher_hub.specs.declared.work.Work.{Work}
 use Rattle.publisher_hub.proofs.Places.{stood_by}
 use Rattle.lines_demo.specs.Prelude.{DeskState, Ending, How, LaneState, desk_after_end, desk_without_looks, owes}
-use Rattle.lines_demo.specs.Script.Kept.{IsKept, IsReached}
+use Rattle.lines_demo.specs.Script.Kept.{IsKept}
 use Rattle.lines_demo.specs.Script.Obeying.{closing_result, state_after_closing, subscription_after_closing}
+use Rattle.lines_demo.specs.Script.Playing.{Replies}
 use Rattle.lines_demo.specs.Script.Session.{IsScriptEntry, IsScriptHub, IsSession, numbers_of, state_of, subscription_of}
-use Rattle.lines_demo.specs.Script.State.{SubscriptionState}
+use Rattle.lines_demo.specs.Script.State.{SessionState, SubscriptionState}
+use Rattle.lines_demo.specs.Script.Subscribing.{MOST_LIVE}
 use Rattle.lines_demo.specs.Script.Waking.{is_live, newly_woken}
+use Rattle.lines_demo.specs.declared.script.session.Session.TheInside.{Inside}
+use Rattle.lines_demo.proofs.AnsweredSessions.{IsAnswered, answered}
 use Rattle.lines_demo.proofs.EachMaps.{each_by_map}
 use Rattle.lines_demo.proofs.HubLooks.{ListSeesSame, prepared_all_same, prepared_retired, same_desk, seen_with, with_desk}
 use Rattle.lines_demo.specs.declared.script.reply.Reply.TheVariants.{Done}
+use Rattle.lines_demo.proofs.Inside.{state_inside}
 use Rattle.lines_demo.proofs.KeptCommands.{closing_reached}
-use Rattle.lines_demo.proofs.Replying.{closing_done, replies_reached}
-use Rattle.lines_demo.proofs.SessionStates.{all_seen_at, state_of_is}
+use Rattle.lines_demo.proofs.Replying.{closing_done}
+use Rattle.lines_demo.proofs.SessionStates.{all_seen_at, room_for, state_of_is}
 use Rattle.lines_demo.proofs.Signals.{signal_wakes}
 use Rattle.lines_demo.proofs.StartedTasks.{gathered_woken, starts}
 
@@ -103,13 +108,16 @@ closed_entry ending k (Some start) x y is retired unclosed closes = record {
       signal_wakes before lane_after k start refl ((λ some. (closes.exact.starts.0 some).1), (λ rests. closes.exact.starts.1 (free, rests)))
       ∙ ap (λ b. if b then k ∷ [] else []) (sym (λ i. started_desks (sees_now i).desk (seen i).desk))
 
--- a session whose publisher was closed
-pub record IsClosedSession (ending : Ending) (old new : Hub DeskState) (stock : ℕ) (woken : List ℕ) (begun : Bool) (due : List (Work Unit)) : Type 0 where
-  pub publisher : IsScriptHub new
-  pub state : state_of new stock (woken ++ numbers_of due) begun ≡ state_after_closing ending (state_of old stock woken begun)
+module _ {B : Type 0} (session : Inside B) (new : Hub DeskState) (ending : Ending) (due : List (Work Unit)) (is : IsSession session.hub (length session.stock.items) session.woken session.has_begun)
+    (nothing_due : session.due.items ≡ []) (unclosed : session.hub.ending ≡ None) (sound : IsSound (hub_of end_of new)) (closes : ClosesAll end_of DoesCall ending session.due.items due session.hub new) where
+  -- where it stood
+  abbrev pub state : SessionState
+  state = state_inside session
 
-module _ (ending : Ending) (old new : Hub DeskState) (stock : ℕ) (woken : List ℕ) (begun : Bool) (before due : List (Work Unit)) (is : IsSession old stock woken begun) (nothing_due : before ≡ []) (unclosed : old.ending ≡ None)
-    (sound : IsSound (hub_of end_of new)) (closes : ClosesAll end_of DoesCall ending before due old new) where
+  -- its publisher, the subscriptions of that, and what they are after the looks
+  abbrev pub old : Hub DeskState
+  old = session.hub
+
   looked : ListSeesSame old.entries.items closes.middle
   looked = prepared_all_same old.next closes.glances old.entries.items closes.middle is.publisher.entries closes.prepared
 
@@ -126,34 +134,45 @@ module _ (ending : Ending) (old new : Hub DeskState) (stock : ℕ) (woken : List
   one : (k : ℕ) (start : Option (Option Unit)) (x y : Entry DeskState) → slice_get closes.middle k ≡ Some x → Closes end_of DoesCall ending start x y → IsClosedEntry ending k start x y
   one k start x y at closed = closed_entry ending k start x y (looked.entries k x at) (retired k x at) (open_still k x at) closed
 
-  subscriptions : map subscription_of new.entries.items ≡ map (subscription_after_closing ending) (map subscription_of old.entries.items)
+  subscriptions : map subscription_of new.entries.items ≡ map (subscription_after_closing ending) state.subscriptions
   subscriptions =
       each_by_map subscription_of (subscription_after_closing ending) (Closes end_of DoesCall ending) closes.closes.answers closes.middle new.entries.items closes.closes.each (λ k start x y at closed. (one k start x y at closed).same)
       ∙ ap (map (subscription_after_closing ending)) looked.same
 
-  woken_now : numbers_of due ≡ newly_woken (map subscription_of old.entries.items) (map (subscription_after_closing ending) (map subscription_of old.entries.items))
+  woken_now : numbers_of due ≡ newly_woken state.subscriptions (map (subscription_after_closing ending) state.subscriptions)
   woken_now =
       ap numbers_of (closes.closes.due ∙ ap (λ ws. ws ++ started_by_ends closes.closes.answers) nothing_due)
       ∙ gathered_woken started_by_end (Closes end_of DoesCall ending) closes.closes.answers closes.middle new.entries.items closes.closes.each (λ k start x y at closed. (one k start x y at closed).wakes)
       ∙ (λ i. newly_woken (looked.same i) (subscriptions i))
 
-  pub closed_session : IsClosedSession ending old new stock woken begun due
-  closed_session = record {
-    publisher = record {
-      sound = sound;
-      sized = subst IsCapacity (sym (ap (λ (h : HubState). h.progress.capacity) closes.rest)) is.publisher.sized;
-      entries = λ k y at.
-          (let stood = stood_by (Closes end_of DoesCall ending) closes.closes.answers closes.middle new.entries.items k y closes.closes.each at in
-          (one k stood.answer stood.entry y stood.at stood.became).entry);
-      numbered = ap (λ (h : HubState). slice_get h.progress.counts 0) closes.rest ∙ is.publisher.numbered ∙ ap Some (sym (ap (λ (h : HubState). h.progress.next) closes.rest));
-    };
-    state = state_of_is new stock (woken ++ numbers_of due) begun (state_after_closing ending (state_of old stock woken begun)) (ap (λ (h : HubState). h.progress.capacity) closes.rest) refl
-        (ap (λ (h : HubState). h.progress.ending) closes.rest) (ap (λ (h : HubState). h.progress.next) closes.rest) refl subscriptions (ap (λ numbers. woken ++ numbers) woken_now);
+  publisher : IsScriptHub new
+  publisher = record {
+    sound = sound;
+    sized = subst IsCapacity (sym (ap (λ (h : HubState). h.progress.capacity) closes.rest)) is.publisher.sized;
+    entries = λ k y at.
+        (let stood = stood_by (Closes end_of DoesCall ending) closes.closes.answers closes.middle new.entries.items k y closes.closes.each at in
+        (one k stood.answer stood.entry y stood.at stood.became).entry);
+    numbered = ap (λ (h : HubState). slice_get h.progress.counts 0) closes.rest ∙ is.publisher.numbered ∙ ap Some (sym (ap (λ (h : HubState). h.progress.next) closes.rest));
   }
 
-  -- and that is where a script may stand
-  pub closed_reached : IsReached (state_after_closing ending (state_of old stock woken begun))
-  closed_reached =
-      let state = state_of old stock woken begun in
-      replies_reached (λ refusals. closing_result ending state refusals) Done (state_after_closing ending state)
-      (closing_done ending state (ap is_some unclosed)) (λ refusals. closing_reached ending state refusals is.reached)
+  -- where it stands then
+  abbrev pub new_state : SessionState
+  new_state = state_of new (length session.stock.items) (session.woken ++ numbers_of due) session.has_begun
+
+  closed_state : new_state ≡ state_after_closing ending state
+  closed_state =
+      state_of_is new (length session.stock.items) (session.woken ++ numbers_of due) session.has_begun (state_after_closing ending state) (ap (λ (h : HubState). h.progress.capacity) closes.rest) refl
+      (ap (λ (h : HubState). h.progress.ending) closes.rest) (ap (λ (h : HubState). h.progress.next) closes.rest) refl subscriptions (ap (λ numbers. session.woken ++ numbers) woken_now)
+
+  closed_replies : Replies (λ refusals. closing_result ending state refusals) Done new_state
+  closed_replies = subst (Replies (λ refusals. closing_result ending state refusals) Done) (sym closed_state) (closing_done ending state (ap is_some unclosed))
+
+  -- what it leaves
+  pub closed : session.has_begun ≡ true → IsAnswered (λ refusals. closing_result ending state refusals) Done new (length session.stock.items) (session.woken ++ numbers_of due) session.has_begun
+  closed begun =
+      answered (λ refusals. closing_result ending state refusals) Done new (length session.stock.items) (session.woken ++ numbers_of due) session.has_begun begun publisher closed_replies
+      (λ refusals. closing_reached ending state refusals is.reached)
+
+  -- and there is room for whom it wakes
+  pub closed_room : session.has_begun ≡ true → length session.woken + length due ≤ MOST_LIVE
+  closed_room begun = room_for new_state session.woken due (closed begun).session.reached refl

@@ -18,7 +18,6 @@ use Rattle.lines_demo.specs.Script.Laws.{WakesWhoOwes}
 use Rattle.lines_demo.specs.declared.script.command.Command.{Command}
 use Rattle.lines_demo.specs.declared.script.command.Command.TheVariants.{Cap, Sub, Offer, Retry, Submit, Request, Cancel, Close, Fail, Run}
 use Rattle.lines_demo.specs.declared.script.session.acting.Act.{Act}
-use Rattle.lines_demo.specs.declared.script.session.acting.Act.TheVariants as Act
 use Rattle.lines_demo.specs.declared.script.reply.Reply.{Reply}
 use Rattle.lines_demo.specs.declared.script.reply.Reply.TheVariants.{Done}
 use Rattle.lines_demo.proofs.Acts.{act_owes}
@@ -115,7 +114,7 @@ duplicate_reached state refusals name is =
         by true = kept_duplicate texts state.serial state.closing s kept
         by false = kept
 
-sub_reached : (state : SessionState) (refusals : List Bool) (name : List ℕ) (number : ℕ) → IsReached state → IsReached (sub_result state refusals name number).state
+pub sub_reached : (state : SessionState) (refusals : List Bool) (name : List ℕ) (number : ℕ) → IsReached state → IsReached (sub_result state refusals name number).state
 sub_reached state refusals name number is =
     unless_reached state refusals _ is
     (λ left. by left (is_subscribed name state.subscriptions) refl) where

@@ -12,24 +12,22 @@ use Rattle.publisher_hub.specs.declared.hub.Hub.{Hub}
 use Rattle.publisher_hub.specs.declared.work.Work.{Work}
 use Rattle.lines_demo.specs.Prelude.{DeskState, Refusal, desk_after_demand}
 use Rattle.lines_demo.specs.Script.Kept.{IsReached}
-use Rattle.lines_demo.specs.Script.Obeying.{begun_state}
 use Rattle.lines_demo.specs.Script.Playing.{Replies}
 use Rattle.lines_demo.specs.Script.Session.{IsScriptHub, IsSession, numbers_of, state_of, subscription_of}
 use Rattle.lines_demo.specs.Script.State.{SubscriptionState, SessionState}
 use Rattle.lines_demo.specs.Script.Subscribing.{MOST_LIVE, MOST_ENTRIES, desk_at_start, is_subscribed, state_after_subscribing, sub_result}
 use Rattle.lines_demo.specs.Script.Waking.{is_live}
-use Rattle.lines_demo.specs.declared.script.command.Command.TheVariants.{Sub}
 use Rattle.lines_demo.specs.declared.script.reply.Reply.{Reply}
 use Rattle.lines_demo.specs.declared.script.reply.Reply.TheVariants.{Name, Refused}
+use Rattle.lines_demo.proofs.AnsweredSessions.{IsAnswered, answered}
 use Rattle.lines_demo.proofs.Admissions.{admitted_due, admitted_publisher, admitted_state, may_subscribe, refused_exhausted, refused_full, refused_stock}
 use Rattle.lines_demo.proofs.Duplicates.{told_publisher, told_state, told_subscribed}
 use Rattle.lines_demo.proofs.FewWoken.{few_woken}
-use Rattle.lines_demo.proofs.KeptCommands.{command_reached}
+use Rattle.lines_demo.proofs.KeptCommands.{sub_reached}
 use Rattle.lines_demo.proofs.LookedSessions.{IsSameSession, session_looked}
-use Rattle.lines_demo.proofs.Replying.{replies_reached, sub_against, sub_done, sub_duplicate, sub_no_buffer, sub_no_memory}
+use Rattle.lines_demo.proofs.Replying.{sub_against, sub_done, sub_duplicate, sub_no_buffer, sub_no_memory}
 use Rattle.lines_demo.proofs.SeenPublishers.{seen_as_far, seen_count, seen_in_part_as_far, seen_in_part_same, seen_same, seen_unnamed}
 use Rattle.lines_demo.proofs.SessionStates.{room_for}
-use Rattle.lines_demo.proofs.Sessions.{session_at}
 
 -- nobody is left where the first can't be taken
 pub nobody : {A : Type 0} (stock rest : List A) → stock ≡ rest → rest ≡ drop 1 stock → length stock ≡ 0
@@ -53,22 +51,14 @@ all_back P first last stock rest now cut same back all =
     subst (All P) (sym back) (All-push P rest last (All-tail P first rest cut_all) (subst P (sym same) (All-head P first rest cut_all)))
 
 -- a session after `sub` was answered so
-pub record AnswersSub (old : SessionState) (name : List ℕ) (number : ℕ) (reply : Reply) (hub : Hub DeskState) (stock : ℕ) (woken : List ℕ) : Type 0 where
-  pub session : IsSession hub stock woken old.has_begun
-  pub replies : Replies (λ refusals. sub_result old refusals name number) reply (state_of hub stock woken old.has_begun)
+abbrev pub AnswersSub : SessionState → List ℕ → ℕ → Reply → Hub DeskState → ℕ → List ℕ → Type 0
+AnswersSub old name number reply hub stock woken = IsAnswered (λ refusals. sub_result old refusals name number) reply hub stock woken old.has_begun
 
 -- a reply that the definition gives leaves a session
 answers : (old : SessionState) (name : List ℕ) (number : ℕ) (reply : Reply) (hub : Hub DeskState) (stock : ℕ) (woken : List ℕ) → old.has_begun ≡ true → IsReached old → IsScriptHub hub
     → Replies (λ refusals. sub_result old refusals name number) reply (state_of hub stock woken old.has_begun) → AnswersSub old name number reply hub stock woken
 answers old name number reply hub stock woken begun reached publisher replies =
-    let begun_same : begun_state old ≡ old = ap (λ b. record old { has_begun = b }) (sym begun) in
-    let kept : (refusals : List Bool) → IsReached (sub_result old refusals name number).state = λ refusals.
-    subst (λ (s : SessionState). IsReached (sub_result s refusals name number).state) begun_same (command_reached (Sub name number) old refusals reached) in
-    let now : IsReached (state_of hub stock woken old.has_begun) = replies_reached (λ refusals. sub_result old refusals name number) reply (state_of hub stock woken old.has_begun) replies kept in
-    record {
-      session = session_at hub stock woken old.has_begun (state_of hub stock woken old.has_begun) publisher refl now begun;
-      replies = replies;
-    }
+    answered (λ refusals. sub_result old refusals name number) reply hub stock woken old.has_begun begun publisher replies (λ refusals. sub_reached old refusals name number reached)
 
 module _ (old : Hub DeskState) (stock : ℕ) (woken : List ℕ) (has_begun : Bool) (name : List ℕ) (number : ℕ) (is : IsSession old stock woken has_begun) (begun : has_begun ≡ true) where
   -- where the script stands before

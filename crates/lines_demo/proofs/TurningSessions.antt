@@ -1,23 +1,27 @@
 -- A session after the turn of the first of its woken.
-use Rattle.std.proofs.Common.{◌≡◌, ℕ, Bool, true, false, ◌&&◌, if◌then◌else◌, Option, None, Some, List, [], ◌∷◌, ◌++◌, map, set, refl, sym, ap, subst, ◌∙◌, arith}
+use Rattle.std.proofs.Common.{◌≡◌, ℕ, ◌<◌, Bool, true, false, ◌&&◌, Option, None, Some, List, ◌∷◌, length, map, set, refl, sym, ap, subst, ◌∙◌, arith}
 use Rattle.std.specs.Prelude.{is_none, is_some, option_map, slice_get}
 use Rattle.feed_core.specs.declared.cause.Causes.{Causes}
 use Rattle.feed_core.specs.Desk.{Owes}
 use Rattle.feed_core.specs.Feed.{end_of}
-use Rattle.feed_core.specs.PlainTurn.{plain_turn_of}
-use Rattle.feed_core.specs.Turn.{MeetsPlainTurn, causes_after, is_again}
+use Rattle.feed_core.specs.Turn.{causes_after, is_again}
 use Rattle.publisher_hub.specs.Entry.{EntryState, entry_of}
 use Rattle.publisher_hub.specs.Lending.{MayBecome, feed_at}
 use Rattle.publisher_hub.specs.declared.hub.Hub.{Hub}
 use Rattle.lines_demo.specs.Prelude.{DeskState, How, Outlook, Signal, desk_after_turn, owes}
+use Rattle.lines_demo.specs.Script.Acting.{OwesTurn, TurnsOn}
 use Rattle.lines_demo.specs.Script.Playing.{MakesTurn}
-use Rattle.lines_demo.specs.Script.Session.{IsSession, state_of}
+use Rattle.lines_demo.specs.Script.Running.{most_turns}
+use Rattle.lines_demo.specs.Script.Session.{IsScriptHub, IsSession, state_of}
 use Rattle.lines_demo.specs.Script.State.{SessionState, SubscriptionState}
 use Rattle.lines_demo.specs.Script.Waking.{owes_if_there, owes_turn}
+use Rattle.lines_demo.specs.declared.script.session.Session.TheInside.{Inside}
 use Rattle.lines_demo.proofs.HubLooks.{with_desk}
-use Rattle.lines_demo.proofs.LentSessions.{lent, lent_one, lent_publisher, lent_stands, lent_state, steady_there}
+use Rattle.lines_demo.proofs.Inside.{state_inside, woken_with}
+use Rattle.lines_demo.proofs.LentSessions.{end_there, lent_one, lent_publisher, lent_stands, lent_state, steady_there}
 use Rattle.lines_demo.proofs.SearchedNames.{known_name}
 use Rattle.lines_demo.proofs.SessionTurns.{first_owes, turn_reached}
+use Rattle.lines_demo.proofs.Turns.{turn_fewer}
 
 -- who owes a turn is there
 pub owes_there : (subscriptions : List SubscriptionState) (number : ℕ) → owes_turn subscriptions number ≡ true → (s : SubscriptionState) × (slice_get subscriptions number ≡ Some s)
@@ -48,67 +52,87 @@ same_closing (Outlook.Ended How.Cancelled) causes = refl
 same_closing (Outlook.Ended (How.Failed code)) causes = refl
 same_closing (Outlook.Ended How.OutOfMemory) causes = refl
 
-module _ (hub : Hub DeskState) (stock : ℕ) (woken : List ℕ) (begun : Bool) (is : IsSession hub stock woken begun) (number : ℕ) (rest : List ℕ) (first : woken ≡ number ∷ rest) where
+-- a session after the turn of the first of its woken
+pub record HasTurned (old : SessionState) (hub : Hub DeskState) (stock : ℕ) (woken : List ℕ) (begun : Bool) (name : List ℕ) (told : List Signal) (outlook : Outlook) : Type 0 where
+  pub session : IsSession hub stock woken begun
+  pub makes : MakesTurn old (state_of hub stock woken begun) name told outlook
+  pub fewer : most_turns (state_of hub stock woken begun) < most_turns old
+
+module _ {B : Type 0} (session : Inside B) (is : IsSession session.hub (length session.stock.items) session.woken session.has_begun) (number : ℕ) (rest : List ℕ) (first : session.woken ≡ number ∷ rest) where
   -- where it stood
   abbrev pub state : SessionState
-  state = state_of hub stock woken begun
+  state = state_inside session
 
   -- the first of the woken is there
-  pub first_there : (s : SubscriptionState) × (slice_get state.subscriptions number ≡ Some s)
-  first_there = owes_there state.subscriptions number (first_owes state number rest is.reached first)
+  there : (s : SubscriptionState) × (slice_get state.subscriptions number ≡ Some s)
+  there = owes_there state.subscriptions number (first_owes state number rest is.reached first)
 
-  module _ (before : DeskState) (at : feed_at hub number ≡ Some before) where
-    owed : owes before ≡ true
-    owed = sym (ap owes_if_there (lent_stands hub number before before at)) ∙ first_owes state number rest is.reached first
+  -- it has a name
+  pub first_named : is_some (option_map (λ (entry : EntryState). entry.name) (slice_get (map (entry_of end_of) session.hub.entries.items) number)) ≡ true
+  first_named = ap is_some (known_name session.hub.entries.items number ∙ ap (option_map (λ (s : SubscriptionState). s.name)) there.1)
 
-    -- it owes a turn, and its subscriber is steady
-    pub first_owed : Owes before
-    first_owed = owed_by before owed
+  owed : (before : DeskState) → feed_at session.hub number ≡ Some before → Owes before
+  owed before at = owed_by before (sym (ap owes_if_there (lent_stands session.hub number before before at)) ∙ first_owes state number rest is.reached first)
 
-    pub first_steady : before.is_steady ≡ true
-    first_steady = steady_there hub number before is.publisher at
+  -- it owes a turn
+  pub first_turn : OwesTurn number session.hub
+  first_turn =
+      let desk = end_there session.hub number there.0 is.publisher there.1 in
+      record { desk = desk.0; stands = desk.1; owed = owed desk.0 desk.1; steady = steady_there session.hub number desk.0 is.publisher desk.1 }
 
-    module _ (after : DeskState) (told : List Signal) (outlook : Outlook) (name : List ℕ) (again : Bool) (turned : after ≡ desk_after_turn before told outlook) (plain : MeetsPlainTurn (plain_turn_of before.lane) told outlook)
-        (named : option_map (λ (entry : EntryState). entry.name) (slice_get (map (entry_of end_of) hub.entries.items) number) ≡ Some name) (woken_again : again ≡ is_again outlook) where
-      -- the subscription whose turn it was
-      abbrev pub turner : SubscriptionState
-      turner = with_desk (lent_one hub number before after at).entry before
+  module _ (new : Hub DeskState) (told : List Signal) (outlook : Outlook) (name : List ℕ) (again : Bool) (turns : TurnsOn number session.hub told outlook new)
+      (named : option_map (λ (entry : EntryState). entry.name) (slice_get (map (entry_of end_of) session.hub.entries.items) number) ≡ Some name) (woken_again : again ≡ is_again outlook) where
+    -- the desk of the subscription whose turn it was, before and after
+    abbrev pub before : DeskState
+    before = turns.before
 
-      name_is : turner.name ≡ name
-      name_is = value (ap (option_map (λ (s : SubscriptionState). s.name)) (sym (lent_stands hub number before after at)) ∙ sym (known_name hub.entries.items number) ∙ named) where
-        value : {a b : List ℕ} → Some a ≡ Some b → a ≡ b
-        value e = cc
+    abbrev pub after : DeskState
+    after = desk_after_turn before told outlook
 
-      -- where it stands then
-      abbrev pub turned_state : SessionState
-      turned_state = state_of (lent hub number after) stock (rest ++ (if again then number ∷ [] else [])) begun
+    abbrev pub turner : DeskState → SubscriptionState
+    turner = with_desk (lent_one session.hub number before after turns.stood).entry
 
-      pub makes_turn : MakesTurn state turned_state name told outlook
-      makes_turn = record {
-        number = number;
-        rest = rest;
-        before = turner;
-        woken = first;
-        stands = lent_stands hub number before after at;
-        named = name_is;
-        plain = plain;
-        after = lent_state hub number before after at stock (rest ++ (if again then number ∷ [] else [])) begun ∙ (λ i. build (turned i) (woken_again i));
-      } where
-        build : DeskState → Bool → SessionState
-        build desk b = record state { subscriptions = set state.subscriptions number (with_desk (lent_one hub number before after at).entry desk); woken = rest ++ (if b then number ∷ [] else []) }
+    name_is : (turner before).name ≡ name
+    name_is = value (ap (option_map (λ (s : SubscriptionState). s.name)) (sym (lent_stands session.hub number before after turns.stood)) ∙ sym (known_name session.hub.entries.items number) ∙ named) where
+      value : {a b : List ℕ} → Some a ≡ Some b → a ≡ b
+      value e = cc
 
-      becomes : MayBecome (end_of before) (end_of after)
-      becomes = subst (λ desk. MayBecome (end_of before) (end_of desk)) (sym turned) (record {
-        capacity = refl;
-        accepted = refl;
-        closing = same_closing outlook before.lane.causes;
-        seen = omega arith;
-        over = λ over. (let never : false ≡ true = ap is_some (sym first_owed.1) ∙ over in cc);
-      })
+    -- where it stands then
+    abbrev pub turned_state : SessionState
+    turned_state = state_of new (length session.stock.items) (woken_with rest number again) session.has_begun
 
-      pub turned_session : IsSession (lent hub number after) stock (rest ++ (if again then number ∷ [] else [])) begun
-      turned_session = record {
-        publisher = lent_publisher hub number before after at is.publisher becomes (ap (λ (d : DeskState). d.is_steady) turned);
+    makes_turn : MakesTurn state turned_state name told outlook
+    makes_turn = record {
+      number = number;
+      rest = rest;
+      before = turner before;
+      woken = first;
+      stands = lent_stands session.hub number before after turns.stood;
+      named = name_is;
+      plain = turns.plain;
+      after =
+          ap (λ hub. state_of hub (length session.stock.items) (woken_with rest number again) session.has_begun) turns.left
+          ∙ lent_state session.hub number before after turns.stood (length session.stock.items) (woken_with rest number again) session.has_begun
+          ∙ ap (λ b. record state { subscriptions = set state.subscriptions number (turner after); woken = woken_with rest number b }) woken_again;
+    }
+
+    becomes : MayBecome (end_of before) (end_of after)
+    becomes = record {
+      capacity = refl;
+      accepted = refl;
+      closing = same_closing outlook before.lane.causes;
+      seen = omega arith;
+      over = λ over. (let never : false ≡ true = ap is_some (sym (owed before turns.stood).1) ∙ over in cc);
+    }
+
+    -- what it leaves
+    pub turned : HasTurned state new (length session.stock.items) (woken_with rest number again) session.has_begun name told outlook
+    turned = record {
+      session = record {
+        publisher = subst IsScriptHub (sym turns.left) (lent_publisher session.hub number before after turns.stood is.publisher becomes refl);
         reached = turn_reached state turned_state name told outlook is.reached makes_turn;
         fresh = λ unread. (let nobody = sym first ∙ ap (λ (s : SessionState). s.woken) (is.fresh unread) in cc);
-      }
+      };
+      makes = makes_turn;
+      fewer = turn_fewer state turned_state name told outlook is.reached makes_turn;
+    }

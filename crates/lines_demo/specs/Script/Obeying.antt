@@ -1,5 +1,5 @@
 -- What each command but `run` changes, and what it is answered.
-use Rattle.std.specs.Prelude.{ℕ, ℤ, ◌==◌, Bool, true, if◌then◌else◌, Some, is_some, List, [], ◌∷◌, map}
+use Rattle.std.specs.Prelude.{ℕ, ◌==◌, Bool, true, if◌then◌else◌, Some, is_some, List, [], ◌∷◌, map}
 use Rattle.std.specs.List.{list_any}
 use Rattle.lines_demo.specs.Prelude.{Ending, Refusal, capacity_of, DeskState, desk_after_end, desk_after_request, desk_after_cancel}
 use Rattle.lines_demo.specs.Script.Command.{is_word}
@@ -10,7 +10,6 @@ use Rattle.lines_demo.specs.Script.Publishing.{offer_result, retry_result, submi
 use Rattle.lines_demo.specs.declared.script.command.Command.{Command}
 use Rattle.lines_demo.specs.declared.script.command.Command.TheVariants.{Cap, Sub, Offer, Retry, Submit, Request, Cancel, Close, Fail, Run}
 use Rattle.lines_demo.specs.declared.script.session.acting.Act.{Act}
-use Rattle.lines_demo.specs.declared.script.session.acting.Act.TheVariants as Act
 use Rattle.lines_demo.specs.declared.script.reply.Reply.TheVariants.{Capacity, Done, Idle}
 
 -- `cap N`: the capacity may be asked for as long as no other command was read

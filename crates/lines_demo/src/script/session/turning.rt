@@ -1,12 +1,14 @@
 //! The turns of a `run`.
 ghost use Rattle.std.specs.Prelude.{◌≡◌, ◌<◌, true};
+ghost use Rattle.lines_demo.specs.Script.Acting.{OwesTurn, TurnsOn};
 ghost use Rattle.lines_demo.specs.Script.Playing.{MakesTurn};
 ghost use Rattle.lines_demo.specs.Script.Running.{most_turns};
 ghost use Rattle.lines_demo.specs.Script.Waking.{has_woken};
 
 use super::Session;
-use feed_core::{Outlook, Seen};
+use feed_core::{Desk, Outlook, Seen};
 use flow_rules::{Listener, Name};
+use publisher_hub::Hub;
 
 impl<B: Listener> Session<B> {
     /// Makes the turn of the first of the woken, and answers whose it was. What it told stands in `seen`.
@@ -17,8 +19,16 @@ impl<B: Listener> Session<B> {
     {
         let entry = self.woken.pop().unwrap();
         let name = self.hub.name_of(entry).unwrap();
-        let outlook = self.hub.feed_mut(entry).unwrap().turn(seen);
+        let outlook = turn_at(&mut self.hub, entry, seen);
         self.woken.push_if(entry, matches!(outlook, Outlook::Again));
         (name, outlook)
     }
+}
+
+/// Makes the turn that the subscription of this number owes. What it told stands in `seen`.
+fn turn_at<B: Listener>(hub: &mut Hub<Desk<B>>, entry: u32, seen: &mut Seen) -> Outlook
+    requires owed { OwesTurn entry hub.old }
+    ensures { TurnsOn entry hub.old seen.new.signals result hub.new }
+{
+    hub.feed_mut(entry).unwrap().turn(seen)
 }

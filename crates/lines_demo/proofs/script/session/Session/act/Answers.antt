@@ -1,11 +1,11 @@
-use Rattle.std.proofs.Common.{◌≡◌, true, Some, [], ◌∷◌, ◌++◌, if◌then◌else◌, length, sym, ap, subst, ◌∙◌}
+use Rattle.std.proofs.Common.{Some, length, sym, ap, subst, ◌∙◌}
 use Rattle.lines_demo.specs.Script.Obeying.{act_result}
 use Rattle.lines_demo.specs.Script.Playing.{IsLatest}
 use Rattle.lines_demo.specs.Script.State.{SessionState}
 use Rattle.lines_demo.specs.declared.script.reply.Reply.TheVariants.{Done}
-use Rattle.lines_demo.proofs.ActingSessions.{acted, acted_room, latest_there, woken_with}
+use Rattle.lines_demo.proofs.ActingSessions.{acted, acted_room, latest_there}
 use Rattle.lines_demo.proofs.AnsweredSessions.{IsAnswered}
-use Rattle.lines_demo.proofs.Inside.{state_inside}
+use Rattle.lines_demo.proofs.Inside.{state_inside, woken_with}
 use Rattle.lines_demo.proofs.LatestNames.{nobody_known}
 use Rattle.lines_demo.proofs.Replying.{act_unknown}
 use Rattle.lines_demo.proofs.script.session.Session.act.Given.{Over}

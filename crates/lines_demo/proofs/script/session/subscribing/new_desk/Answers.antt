@@ -1,5 +1,5 @@
 -- A new subscription has requested as many items as it is asked to.
-use Rattle.std.proofs.Common.{◌≡◌, zero, suc, false, ap, sym, ◌∙◌, arith, rules}
+use Rattle.std.proofs.Common.{◌≡◌, ap, ◌∙◌, arith, rules}
 use Rattle.lines_demo.specs.Prelude.{desk_after_demand, desk_after_request}
 use Rattle.lines_demo.specs.Script.Subscribing.{desk_at_start}
 use Rattle.lines_demo.proofs.SmallNumbers.{small_signed}
