@@ -1,7 +1,8 @@
 #!/usr/bin/env bash
 # Plants flaws of its own in a tiny crate, and compares what try.py says of each: a bug is refused, and all else is reported.
 # All is tried over what a check kept of the crate without them: what has changed since has to be proved anew.
-# It needs the toolchain's command `rt`, and takes a dozen checks of a crate of five functions, about a minute.
+# It needs the toolchain's command `rt`, and takes a dozen checks of a crate of five functions and a few of one above it, about a
+# minute.
 set -eu
 here=$(cd "$(dirname "$0")" && pwd)
 work=$(mktemp -d)
@@ -56,11 +57,15 @@ impl Picks for Low {
 }
 END
 cat >"$crate/proofs/least_of_three/Answers.antt" <<'END'
-use Rattle.std.proofs.Common.{rules}
+use Rattle.std.proofs.Common.{rules, ◌≡◌}
+use Rattle.std.specs.Prelude.{min}
 use Rattle.tiny.proofs.least_of_three.Goals as goal
 
+low_is : (c : goal.After-least) → c.least-low.result ≡ min c.args.a c.args.b
+low_is c = c.least-low.ensures
+
 pub returns : goal.returns
-returns c = search (c.least-low.ensures, c.least.ensures, rules)
+returns c = search (low_is c, c.least.ensures, rules)
 END
 
 # edit NAME LINE..
@@ -129,9 +134,46 @@ try --proved "$sum" tiny/a_bug
 said 'a crate is not proved as it is'
 sed -i '/result ≤ 200/,/^}/s/^    a$/    a.min(MOST)/' "$crate/src/lib.rt"
 
+# A crate above: the one below it is built where it isn't, and else taken as it is.
+above=$work/crates/above
+mkdir -p "$above/src" "$above/wrong-bodies"
+echo 'above: tiny' >>"$work/crates.txt"
+cat >"$above/src/lib.rt" <<'END'
+#![tactic(auto)]
+
+ghost use Rattle.std.specs.Prelude.{◌≡◌, min};
+
+use tiny::least;
+
+pub fn least_of_two(a: u8, b: u8) -> u8
+    ensures { result ≡ min a b }
+{
+    least(a, b)
+}
+END
+printf '%s\n' 'file: src/lib.rt' 'old: least(a, b)' 'new: least(a, a)' >"$above/wrong-bodies/a_bug.edit"
+sum=$("$here/try.py" --root "$work" --sum above)
+try --proved "$sum" above
+[ "$status" -eq 0 ]
+said 'tiny: proved as it is'
+said 'above/a_bug: refused: note: src/lib.rt:'
+said '1 passed, 0 failed'
+(cd "$crate" && rt lib --jobs 1 >"$work/said" 2>&1)
+try --proved "$sum" above
+[ "$status" -eq 0 ]
+if grep -q 'proved as it is' "$work/said"; then
+    echo 'what is proved and built was proved once more'
+    exit 1
+fi
+said '1 passed, 0 failed'
+try above
+[ "$status" -eq 0 ]
+said 'tiny: proved as it is'
+said 'above: proved as it is'
+
 sed -i 's/result ≡ min a b/result ≤ b/' "$crate/src/lib.rt"
 rm "$crate/proofs/least_of_three/Answers.antt"
-try --proved "$sum" tiny/a_bug
+try --proved "$sum" above
 [ "$status" -eq 1 ]
 said 'a crate is not proved as it is'
 echo 'each planted flaw is told from a bug'

@@ -8,9 +8,10 @@ a callee that is not proved is none. What is not refused so is tried alone befor
 functions, or of anything but a body (a constant, a type, a clause, an invariant), is tried alone; of the last, any open
 goal of the crate counts. Where edits are of bodies alone, only those functions are checked, with what they call.
 
-It works on a copy in a temporary folder, and proves the crates there first as they are; with --proved SUM only where the
-copy has another sum than this, of sources that were proved. The crates below others are built there in any case. Each
-check starts from what was kept of the crate as it is, if anything was; what has another text there is proved anew.
+It works on a copy in a temporary folder. The crates are proved there first as they are, and those below others built. With
+--proved SUM that is left out where the copy has this sum: its sources were proved, and what is built of them in out/rlib is
+taken as it is. Each check starts from what was kept of the crate as it is, if anything was; what has another text there is
+proved anew.
 The last line is `N passed, M failed`. The status is 1 where anything failed, or where there was no edit to try.
 """
 
@@ -27,6 +28,7 @@ from concurrent.futures import ThreadPoolExecutor
 sys.dont_write_bytecode = True
 sys.path.append(f"{os.path.dirname(os.path.realpath(__file__))}/../lib")
 from edits import Edit, batches, named_by, together
+from prover import check_words
 from verdicts import Check
 
 SOURCES = ("src", "specs", "proofs")
@@ -42,8 +44,8 @@ def say(text):
 class Crate:
     """A crate with its wrong bodies, those that are wanted; none, where it is only below one that has some."""
 
-    def __init__(self, name, below, root, wanted):
-        self.name, self.below, self.folder = name, below, f"{root}/crates/{name}"
+    def __init__(self, name, libraries, below, root, wanted):
+        self.name, self.libraries, self.below, self.folder = name, libraries, below, f"{root}/crates/{name}"
         folder = f"{self.folder}/wrong-bodies"
         files = sorted(os.listdir(folder)) if os.path.isdir(folder) else []
         edits = [Edit(f"{folder}/{it}", self.folder) for it in files if not it.endswith(".md")]
@@ -58,10 +60,11 @@ class Crate:
             with open(f"{folder}/{file}", "w", encoding="utf-8") as it:
                 it.write(texts[file])
         only = [] if None in functions else [word for it in functions for word in ("--only", it)]
-        check = self.run("check", 1, only)
+        words = check_words(self.room, self.name, self.libraries, self.below)
+        check = self.run(*words, *only)
         if only and not check.is_judged and not check.errors:
             # A name that fits several functions, or none.
-            check = self.run("check")
+            check = self.run(*words)
         for file in texts:
             shutil.copyfile(f"{self.folder}/{file}", f"{folder}/{file}")
         self.take_back_kept()
@@ -74,11 +77,11 @@ class Crate:
             shutil.rmtree(here, ignore_errors=True)
             shutil.copytree(kept, here)
 
-    def run(self, command, jobs=1, only=()):
-        """Runs this command of rt, which proves the crate, in its room."""
+    def run(self, *words):
+        """Runs this command, which proves the crate, in its room."""
         start = time.monotonic()
         how = {"stdin": subprocess.DEVNULL, "stdout": subprocess.PIPE, "stderr": subprocess.STDOUT, "errors": "replace"}
-        ran = subprocess.run(["rt", command, "--jobs", str(jobs), *only], cwd=f"{self.room}/crates/{self.name}", **how)
+        ran = subprocess.run(words, cwd=f"{self.room}/crates/{self.name}", **how)
         self.checks, self.seconds = self.checks + 1, self.seconds + time.monotonic() - start
         return Check(self.name, ran.stdout, ran.returncode)
 
@@ -161,22 +164,22 @@ def crates_of(root, wanted):
     def below(name):
         return list(dict.fromkeys(low for it in named[name] if it in named for low in [*below(it), it]))
 
-    crates = [Crate(it, below(it), root, wanted) for it in named]
+    crates = [Crate(it, named[it], below(it), root, wanted) for it in named]
     needed = {name for it in crates if it.edits for name in [*it.below, it.name]}
     return sorted((it for it in crates if it.name in needed), key=lambda it: len(it.below))
 
 
 def prove(crates, root, base, jobs, proved):
-    """Builds the crates below others in a copy, over what earlier checks kept, and proves each other that has not this sum
-    of what was proved. False where one is not proved."""
+    """Builds the crates below others in a copy, over what earlier checks kept, and proves the others there; neither, where
+    the copy has this sum of what was proved, and is built. False where one is not proved."""
     copy_crates({it.name: (*OF_CRATE, "out/rlib") for it in crates}, root, base)
-    is_proved = sum_of(base, crates) == proved
     low = {name for it in crates for name in it.below}
+    is_built = all(os.path.isdir(f"{base}/crates/{it}/out/rlib/{it}.rlib") for it in low)
+    if is_built and sum_of(base, crates) == proved:
+        return True
     for crate in crates:
-        if is_proved and crate.name not in low:
-            continue
         crate.room = base
-        check = crate.run("lib" if crate.name in low else "check", jobs)
+        check = crate.run("rt", "lib" if crate.name in low else "check", "--jobs", str(jobs))
         say(f"{crate.name}: {'proved' if check.is_proved else 'NOT PROVED'} as it is, {crate.seconds:.0f} seconds")
         if not check.is_proved:
             say(check.text)

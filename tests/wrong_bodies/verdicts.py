@@ -4,6 +4,8 @@ import re
 
 # A proof file that names what an edit took away: it says nothing of the contract.
 GONE = re.compile(r"has no field|is not in scope|has no `|not admitted")
+# What was not checked because it cites what was refused, which has a line of its own.
+CITES = re.compile(r"\d+ declarations? that depends? on ")
 PROOF = re.compile(r"(?:\./)?proofs/(\S+)/(?:Answers|Invariants|Proof)\.antt:\d+:\d+: error: (.*)")
 SOURCE = re.compile(r"(?:\./)?((?:src|specs)/\S+?):(\d+):\d+: error(?:\[\S+\])?: (?:(`[^`]*`): )?(.*)")
 GOAL = re.compile(r"note: (?:\./)?src/\S+:\d+:\d+: .*(is not proved|found no proof)")
@@ -36,7 +38,7 @@ class Check:
 
     def read_error(self, line):
         proof, source = PROOF.match(line), SOURCE.match(line)
-        if proof:
+        if proof and not CITES.match(proof[2]):
             name = "::".join([self.crate, *proof[1].split("/")])
             (self.gone if GONE.search(proof[2]) else self.goals).setdefault(name, []).append(line)
         elif source and (not source[3] or GONE.search(source[4])):

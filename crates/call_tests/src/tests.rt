@@ -10,3 +10,4 @@ mod pool;
 mod refusals;
 mod subscribers;
 mod texts;
+mod worlds;

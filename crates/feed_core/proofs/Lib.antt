@@ -4,6 +4,7 @@ pub mod DeskSteps
 pub mod FlowRules
 pub mod GreetedTurns
 pub mod Greetings
+pub mod Interleavings
 pub mod Looks
 pub mod ObeyedAnswers
 pub mod PlainAnswers

@@ -12,3 +12,4 @@ pub mod Seen
 pub mod Sound
 pub mod Steps
 pub mod Turn
+pub mod World

@@ -90,8 +90,7 @@ fn first_wrong<B: Listener>(
     alloc: Global,
     desk: &mut Desk<B>,
     rows: &[Row<'_>],
-) -> Result<Option<usize>, NoMemory>
-{
+) -> Result<Option<usize>, NoMemory> {
     for (place, row) in rows.iter().enumerate() {
         if !answers(alloc, desk, *row)? {
             return Ok(Some(place));
@@ -119,7 +118,11 @@ pub(super) fn play<B: Listener>(
 }
 
 /// Whether a subscriber was told what these letters write, which the Flow rules allow.
-pub(super) fn has_told<S: Subscriber>(alloc: Global, subscriber: &S, told: &[u8]) -> Result<bool, NoMemory> {
+pub(super) fn has_told<S: Subscriber>(
+    alloc: Global,
+    subscriber: &S,
+    told: &[u8],
+) -> Result<bool, NoMemory> {
     Ok(was_told(alloc, subscriber, told)? && audit(subscriber.told()))
 }
 
@@ -181,7 +184,15 @@ fn leaves(
     let wrong = first_wrong(alloc, &mut desk, rows)?;
     assert!(rt; wrong.is_none(), "row {wrong:?}");
     let lane = desk.into_lane();
-    assert!(rt; (lane.accepted, lane.given, lane.asked, lane.ending, lane.running) == want);
+    assert!(rt;
+        (
+            lane.accepted,
+            lane.given,
+            lane.asked,
+            lane.ending,
+            lane.running
+        ) == want
+    );
     let Some(subscriber) = lane.subscriber else {
         assert!(rt; false, "no subscriber");
         return Ok(());
@@ -195,7 +206,13 @@ fn a_lane_is_left_of_it(rt: HostRuntime) -> Result<(), Fail> {
     let alloc = rt.alloc();
     leaves(&rt, alloc, &[], b"", (0, 0, 0, None, true))?;
     leaves(&rt, alloc, &DEMAND, b"sxyz", (3, 3, 4, None, false))?;
-    leaves(&rt, alloc, &COMPLETION, b"sxc", (1, 1, 2, Some(How::Completed), false))
+    leaves(
+        &rt,
+        alloc,
+        &COMPLETION,
+        b"sxc",
+        (1, 1, 2, Some(How::Completed), false),
+    )
 }
 
 #[test]

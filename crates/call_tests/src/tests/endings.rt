@@ -84,11 +84,21 @@ fn each_answer(rt: HostRuntime) -> Result<(), Fail> {
     let rows: [(u32, Answer, &[u8], Outlook); 8] = [
         (1, Answer::Cancel, b"sv", Outlook::Ended(How::Cancelled)),
         (1, Answer::Fail(7), b"sv", Outlook::Ended(How::Failed(7))),
-        (1, Answer::Request(0), b"sva", Outlook::Ended(How::Errored(Fault::IllegalArgument))),
+        (
+            1,
+            Answer::Request(0),
+            b"sva",
+            Outlook::Ended(How::Errored(Fault::IllegalArgument)),
+        ),
         (1, Answer::Request(2), b"svwx", Outlook::Resting),
         (0, Answer::Cancel, b"s", Outlook::Ended(How::Cancelled)),
         (0, Answer::Fail(7), b"s", Outlook::Ended(How::Failed(7))),
-        (0, Answer::Request(-1), b"sa", Outlook::Ended(How::Errored(Fault::IllegalArgument))),
+        (
+            0,
+            Answer::Request(-1),
+            b"sa",
+            Outlook::Ended(How::Errored(Fault::IllegalArgument)),
+        ),
         (0, Answer::Request(3), b"svwxy", Outlook::Resting),
     ];
     for (callbacks, answer, told, outlook) in rows {
@@ -146,7 +156,12 @@ fn end_by(letter: u8) -> (&'static [u8], How) {
 }
 
 /// Sets this cause, and each of them after it.
-fn play_after(rt: &impl Abort, alloc: Global, first: Row<'static>, letters: &[u8]) -> Result<(), Fail> {
+fn play_after(
+    rt: &impl Abort,
+    alloc: Global,
+    first: Row<'static>,
+    letters: &[u8],
+) -> Result<(), Fail> {
     for (second, letter) in CAUSES.iter().zip(letters) {
         let (told, how) = end_by(*letter);
         let rows = [
@@ -190,17 +205,59 @@ fn each_answer_at_an_item(rt: HostRuntime) -> Result<(), Fail> {
     // The item whose callback answers so, the items that the turn tells and what comes then, its outlook, and the total.
     let bad = Outlook::Ended(How::Errored(Fault::IllegalArgument));
     let rows: [(u32, Answer, (u32, &[u8]), Outlook, u64); 12] = [
-        (1, Answer::Cancel, (1, b""), Outlook::Ended(How::Cancelled), 64),
-        (32, Answer::Cancel, (32, b""), Outlook::Ended(How::Cancelled), 64),
-        (64, Answer::Cancel, (64, b""), Outlook::Ended(How::Cancelled), 64),
-        (1, Answer::Fail(7), (1, b""), Outlook::Ended(How::Failed(7)), 64),
-        (32, Answer::Fail(7), (32, b""), Outlook::Ended(How::Failed(7)), 64),
-        (64, Answer::Fail(7), (64, b""), Outlook::Ended(How::Failed(7)), 64),
+        (
+            1,
+            Answer::Cancel,
+            (1, b""),
+            Outlook::Ended(How::Cancelled),
+            64,
+        ),
+        (
+            32,
+            Answer::Cancel,
+            (32, b""),
+            Outlook::Ended(How::Cancelled),
+            64,
+        ),
+        (
+            64,
+            Answer::Cancel,
+            (64, b""),
+            Outlook::Ended(How::Cancelled),
+            64,
+        ),
+        (
+            1,
+            Answer::Fail(7),
+            (1, b""),
+            Outlook::Ended(How::Failed(7)),
+            64,
+        ),
+        (
+            32,
+            Answer::Fail(7),
+            (32, b""),
+            Outlook::Ended(How::Failed(7)),
+            64,
+        ),
+        (
+            64,
+            Answer::Fail(7),
+            (64, b""),
+            Outlook::Ended(How::Failed(7)),
+            64,
+        ),
         (1, Answer::Request(-1), (1, b"a"), bad, 64),
         (32, Answer::Request(-1), (32, b"a"), bad, 64),
         (64, Answer::Request(-1), (64, b""), Outlook::Again, 64),
         (1, Answer::Request(5), (64, b""), Outlook::Again, 69),
-        (32, Answer::Request(i64::MAX), (64, b""), Outlook::Again, UNBOUNDED),
+        (
+            32,
+            Answer::Request(i64::MAX),
+            (64, b""),
+            Outlook::Again,
+            UNBOUNDED,
+        ),
         (64, Answer::Request(5), (64, b""), Outlook::Again, 69),
     ];
     for (item, answer, (items, last), outlook, asked) in rows {

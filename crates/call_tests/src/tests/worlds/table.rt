@@ -1,0 +1,212 @@
+//! The table of events, read a second time, line by line and as plainly as can be.
+use super::MADE;
+use feed_core::{Cause, Causes, Event, Parts, Producing, Requesting, Runner, Side};
+use flow_rules::{Answer, Ending, Fault, How, UNBOUNDED};
+
+/// What there is after an event, if it is possible.
+pub(super) fn next(now: Option<Parts>, event: Event) -> Option<Parts> {
+    match (now, event) {
+        (None, Event::Make(capacity @ (1 | 2 | 4))) => Some(Parts { capacity, ..MADE }),
+        (None, _) => None,
+        (Some(now), Event::Signal(side, cause)) => signal(now, side, cause),
+        (Some(now), Event::End(how)) => end(now, how),
+        (Some(now), event) => match of_a_side(now, event) {
+            None => of_the_runner(now, event),
+            then => then,
+        },
+    }
+}
+
+/// Lines of the producer and of the handle, but for signals.
+fn of_a_side(now: Parts, event: Event) -> Option<Parts> {
+    let is_over = matches!(now.runner, Runner::Over(_));
+    let held = now.accepted.saturating_sub(now.given);
+    match (event, now.producer, now.handle) {
+        (Event::Room, Producing::Free | Producing::HasRoom, _) => Some(Parts {
+            producer: if is_over || held >= now.capacity as u64 {
+                Producing::Free
+            } else {
+                Producing::HasRoom
+            },
+            ..now
+        }),
+        (Event::Put, Producing::HasRoom, _) if now.causes.closing == None => Some(Parts {
+            accepted: now.accepted.saturating_add(1),
+            producer: Producing::HasPut,
+            ..now
+        }),
+        (Event::Ask(n), _, Requesting::Idle) if n != 0 => Some(Parts {
+            asked: UNBOUNDED.min(now.asked.saturating_add(n)),
+            handle: Requesting::HasAsked,
+            ..now
+        }),
+        (Event::Hand(Side::Producer), Producing::Hands, _) => Some(Parts {
+            producer: Producing::Free,
+            runner: Runner::Ready,
+            ..now
+        }),
+        (Event::Hand(Side::Handle), _, Requesting::HandsOver) => Some(Parts {
+            handle: Requesting::Idle,
+            runner: Runner::Ready,
+            ..now
+        }),
+        _ => None,
+    }
+}
+
+/// Lines of the runner, but for its end.
+fn of_the_runner(now: Parts, event: Event) -> Option<Parts> {
+    match (event, now.runner) {
+        (Event::Look(Answer::Go), Runner::Fresh | Runner::Ready | Runner::Taken) => {
+            Some(look(now, now.own, now.causes))
+        }
+        (Event::Look(Answer::Request(n)), Runner::Fresh | Runner::Taken) => Some(if n <= 0 {
+            let causes = Causes {
+                argument: true,
+                ..now.causes
+            };
+            look(now, now.own, causes)
+        } else {
+            let own = UNBOUNDED.min(now.own.saturating_add(n.unsigned_abs()));
+            look(now, own, now.causes)
+        }),
+        (Event::See, Runner::Looked(causes)) if first_end(causes) == None => Some(Parts {
+            runner: Runner::Saw(causes, now.accepted),
+            ..now
+        }),
+        (Event::Measure, Runner::Saw(causes, put)) => {
+            let asked = UNBOUNDED.min(now.asked.saturating_add(now.own));
+            Some(Parts {
+                runner: Runner::Measured(causes, put, asked),
+                ..now
+            })
+        }
+        (Event::Take, Runner::Measured(_, put, asked)) if now.given < put.min(asked) => Some(
+            Parts {
+                given: now.given.saturating_add(1),
+                runner: Runner::Taken,
+                ..now
+            },
+        ),
+        (Event::Rest, Runner::Measured(causes, put, asked)) if now.given >= put.min(asked) => {
+            let is_complete = causes.closing == Some(Ending::Normal) && now.given == put;
+            if is_complete { None } else { Some(rest(now)) }
+        }
+        _ => None,
+    }
+}
+
+/// A look, with what was requested by answers and the causes.
+fn look(now: Parts, own: u64, causes: Causes) -> Parts {
+    Parts {
+        own,
+        causes,
+        active: false,
+        runner: Runner::Looked(causes),
+        ..now
+    }
+}
+
+/// A rest that is due: it fails where a signal was made since the look.
+fn rest(now: Parts) -> Parts {
+    Parts {
+        runner: if now.active {
+            Runner::Ready
+        } else {
+            Runner::Nobody
+        },
+        ..now
+    }
+}
+
+/// Lines of signals.
+fn signal(now: Parts, side: Side, cause: Option<Cause>) -> Option<Parts> {
+    let is_free = now.producer == Producing::Free || now.producer == Producing::HasRoom;
+    let is_idle = now.handle == Requesting::Idle;
+    let old = now.causes;
+    let (is_possible, causes) = match (side, cause) {
+        (Side::Producer, None) => (now.producer == Producing::HasPut, old),
+        (Side::Handle, None) => (now.handle == Requesting::HasAsked, old),
+        (Side::Producer, Some(Cause::State)) => (is_free, Causes { state: true, ..old }),
+        (Side::Producer, Some(Cause::Closing(ending))) => {
+            let closing = Some(ending);
+            (is_free && old.closing == None, Causes { closing, ..old })
+        }
+        (Side::Handle, Some(Cause::Cancel)) => (
+            is_idle,
+            Causes {
+                cancel: true,
+                ..old
+            },
+        ),
+        (Side::Handle, Some(Cause::Argument)) => (
+            is_idle,
+            Causes {
+                argument: true,
+                ..old
+            },
+        ),
+        _ => (false, old),
+    };
+    if !is_possible {
+        return None;
+    }
+    let mut then = Parts {
+        causes,
+        active: true,
+        ..now
+    };
+    match (side, now.runner) {
+        (Side::Producer, Runner::Nobody) => then.producer = Producing::Hands,
+        (Side::Handle, Runner::Nobody) => then.handle = Requesting::HandsOver,
+        (Side::Producer, _) => then.producer = Producing::Free,
+        (Side::Handle, _) => then.handle = Requesting::Idle,
+    }
+    if now.runner == Runner::Nobody {
+        then.runner = Runner::Coming;
+    }
+    Some(then)
+}
+
+/// Lines of ends.
+fn end(now: Parts, how: How) -> Option<Parts> {
+    let is_possible = match (now.runner, how) {
+        (Runner::Fresh | Runner::Taken, How::Cancelled | How::Failed(_) | How::OutOfMemory) => true,
+        (Runner::Looked(causes), How::OutOfMemory) => {
+            !causes.cancel && first_end(causes) != None
+        }
+        (Runner::Looked(causes), how) => first_end(causes) == Some(how),
+        (Runner::Measured(causes, put, _), How::Completed | How::OutOfMemory) => {
+            causes.closing == Some(Ending::Normal) && now.given == put
+        }
+        _ => false,
+    };
+    if !is_possible {
+        return None;
+    }
+    let mut then = Parts {
+        runner: Runner::Over(how),
+        ..now
+    };
+    match how {
+        How::Cancelled => then.causes.cancel = true,
+        How::Failed(code) => then.causes.failed = Some(code),
+        How::OutOfMemory => then.causes.memory = true,
+        How::Completed | How::Errored(_) => {}
+    }
+    Some(then)
+}
+
+/// The end at once of these causes.
+fn first_end(causes: Causes) -> Option<How> {
+    match causes {
+        Causes { cancel: true, .. } => Some(How::Cancelled),
+        Causes { argument: true, .. } => Some(How::Errored(Fault::IllegalArgument)),
+        Causes { state: true, .. } => Some(How::Errored(Fault::IllegalState)),
+        Causes {
+            closing: Some(Ending::Failed(code)),
+            ..
+        } => Some(How::Errored(Fault::Published(code))),
+        _ => None,
+    }
+}

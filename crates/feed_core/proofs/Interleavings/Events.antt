@@ -1,0 +1,46 @@
+-- Every event keeps what is kept.
+use Rattle.std.proofs.Common.{ℕ, refl, arith}
+use Rattle.feed_core.specs.LaneCalls.{IsCapacity}
+use Rattle.feed_core.specs.World.Types.{Producer, Handle, Event, Make, Room, Put, See, Take, Ask, Signal, Hand, Look, Measure, Rest, End, Parts}
+use Rattle.feed_core.specs.World.Table.{IsPossible, after}
+use Rattle.feed_core.specs.World.Runs.{made}
+use Rattle.feed_core.specs.World.Kept.{IsKept}
+use Rattle.feed_core.proofs.Interleavings.Asking.{ask_kept}
+use Rattle.feed_core.proofs.Interleavings.Ending.{end_kept}
+use Rattle.feed_core.proofs.Interleavings.Handing.{producer_hand_kept, handle_hand_kept}
+use Rattle.feed_core.proofs.Interleavings.Putting.{room_kept, put_kept}
+use Rattle.feed_core.proofs.Interleavings.Resting.{rest_kept}
+use Rattle.feed_core.proofs.Interleavings.Running.{look_kept, see_kept, measure_kept, take_kept}
+use Rattle.feed_core.proofs.Interleavings.Signalling.{producer_signal_kept, handle_signal_kept}
+
+-- a new subscription has it
+pub made_kept : (n : ℕ) → IsCapacity n → IsKept (made n)
+made_kept n sized = record {
+  sized = sized;
+  asked_bounded = omega arith;
+  own_bounded = omega arith;
+  taken = omega arith;
+  fits = omega arith;
+  requested = omega arith;
+  roomy = λ e. cc;
+  handed = refl;
+  unfailed = λ e. refl;
+  remembered = λ e. refl;
+  stage = refl;
+}
+
+pub event_kept : (event : Event) (w : Parts) → IsKept w → IsPossible event w → IsKept (after event w)
+event_kept (Make n) w k may = absurd may
+event_kept Room w k may = room_kept w k may
+event_kept Put w k may = put_kept w k may
+event_kept See w k may = see_kept w k may
+event_kept Take w k may = take_kept w k may
+event_kept (Ask n) w k may = ask_kept n w k may
+event_kept (Signal Producer cause) w k may = producer_signal_kept cause w k may
+event_kept (Signal Handle cause) w k may = handle_signal_kept cause w k may
+event_kept (Hand Producer) w k may = producer_hand_kept w k may
+event_kept (Hand Handle) w k may = handle_hand_kept w k may
+event_kept (Look answer) w k may = look_kept answer w k may
+event_kept Measure w k may = measure_kept w k may
+event_kept Rest w k may = rest_kept w k may
+event_kept (End how) w k may = end_kept how w k may

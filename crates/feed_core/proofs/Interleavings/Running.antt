@@ -1,0 +1,124 @@
+-- The runner looks, sees how many items were put, sees how many were requested, and takes one.
+use Rattle.std.proofs.Common.{◌≡◌, ℕ, zero, suc, ℤ, pos, negsuc, ◌≤◌, true, false, refl, sym, ap, subst, ◌∙◌, arith, inl, inr}
+use Rattle.feed_core.specs.Prelude.{UNBOUNDED, Answer, total_after}
+use Rattle.feed_core.specs.World.Types.{Causes, Look, See, Measure, Take, Runner, Looked, Saw, Measured, Parts}
+use Rattle.feed_core.specs.World.Table.{total_of, is_over, MayLook, IsPossible, requested, answered, looking, seeing, measuring, after}
+use Rattle.feed_core.specs.World.Kept.{IsAt, IsKept, HasSeen, HasMeasured, coming}
+use Rattle.feed_core.proofs.Interleavings.Causing.{within_same}
+use Rattle.feed_core.proofs.Interleavings.Growing.{stage_at}
+
+-- where the task goes on by itself, only what holds at its new stage is to be shown
+pub moved_kept : (w : Parts) (r : Runner) → IsKept w → coming w.runner ≡ 0 → coming r ≡ 0 → is_over w.runner ≡ false
+    → IsAt r (record w { runner = r }) → IsKept (record w { runner = r })
+moved_kept w r k before after unended stage =
+    let handed = k.handed in
+    record {
+      sized = k.sized;
+      asked_bounded = k.asked_bounded;
+      own_bounded = k.own_bounded;
+      taken = k.taken;
+      fits = k.fits;
+      requested = k.requested;
+      roomy = k.roomy;
+      handed = omega arith;
+      unfailed = λ e. k.unfailed unended;
+      remembered = λ e. k.remembered unended;
+      stage = stage;
+    }
+
+-- after a look, which may bring a request or the cause of a bad one
+looked_kept : (w : Parts) (own : ℕ) (causes : Causes) → IsKept w → coming w.runner ≡ 0 → is_over w.runner ≡ false
+    → own ≤ UNBOUNDED → w.own ≤ own → causes.failed ≡ w.causes.failed → causes.memory ≡ w.causes.memory
+    → IsKept (record w { own = own; causes = causes; active = false; runner = Looked causes })
+looked_kept w own causes k quiet unended bounded grows failed memory =
+    let handed = k.handed in let requested = k.requested in
+    record {
+      sized = k.sized;
+      asked_bounded = k.asked_bounded;
+      own_bounded = bounded;
+      taken = k.taken;
+      fits = k.fits;
+      requested = omega arith;
+      roomy = k.roomy;
+      handed = omega arith;
+      unfailed = λ e. failed ∙ k.unfailed unended;
+      remembered = λ e. memory ∙ k.remembered unended;
+      stage = record { within = within_same causes; newest = λ e. refl };
+    }
+
+-- who may look has the task
+looks : (answer : Answer) (r : Runner) → MayLook answer r → (coming r ≡ 0) × (is_over r ≡ false)
+looks Answer.Go r (inl e) = (ap coming e, ap is_over e)
+looks Answer.Go r (inr (inl e)) = (ap coming e, ap is_over e)
+looks Answer.Go r (inr (inr e)) = (ap coming e, ap is_over e)
+looks (Answer.Request n) r (inl e) = (ap coming e, ap is_over e)
+looks (Answer.Request n) r (inr e) = (ap coming e, ap is_over e)
+looks Answer.Cancel r may = absurd may
+looks (Answer.Fail _) r may = absurd may
+
+requested_kept : (n : ℤ) (w : Parts) → IsKept w → coming w.runner ≡ 0 → is_over w.runner ≡ false → IsKept (looking (requested n w))
+requested_kept (pos zero) w k quiet unended = looked_kept w w.own (record w.causes { argument = true }) k quiet unended k.own_bounded (omega arith) refl refl
+requested_kept (pos (suc n)) w k quiet unended =
+    let bounded = k.own_bounded in
+    looked_kept w (total_after w.own (suc n)) w.causes k quiet unended (omega arith) (omega arith) refl refl
+requested_kept (negsuc n) w k quiet unended = looked_kept w w.own (record w.causes { argument = true }) k quiet unended k.own_bounded (omega arith) refl refl
+
+pub look_kept : (answer : Answer) (w : Parts) → IsKept w → IsPossible (Look answer) w → IsKept (after (Look answer) w)
+look_kept answer w k may = by answer (looks answer w.runner may) where
+  by : (answer : Answer) → (coming w.runner ≡ 0) × (is_over w.runner ≡ false) → IsKept (looking (answered answer w))
+  by Answer.Go has = looked_kept w w.own w.causes k has.0 has.1 k.own_bounded (omega arith) refl refl
+  by (Answer.Request n) has = requested_kept n w k has.0 has.1
+  by Answer.Cancel has = looked_kept w w.own w.causes k has.0 has.1 k.own_bounded (omega arith) refl refl
+  by (Answer.Fail _) has = looked_kept w w.own w.causes k has.0 has.1 k.own_bounded (omega arith) refl refl
+
+pub see_kept : (w : Parts) → IsKept w → IsPossible See w → IsKept (after See w)
+see_kept w k may =
+    let c = may.0 in let at : w.runner ≡ Looked c = may.1 in let s = stage_at k at in
+    let runner : Runner = Saw c w.accepted in
+    let seen : HasSeen c w.accepted (record w { runner = runner }) = record {
+      looked = record { within = s.within; newest = s.newest };
+      runs_on = may.2;
+      put = omega arith;
+      last = λ some. refl;
+      all_put = λ quiet put. refl;
+    } in
+    subst (λ r. IsKept (record w { runner = r })) (sym (ap (seeing w.accepted) at)) (moved_kept w runner k (ap coming at) refl (ap is_over at) seen)
+
+pub measure_kept : (w : Parts) → IsKept w → IsPossible Measure w → IsKept (after Measure w)
+measure_kept w k may =
+    let c = may.0 in let t = may.1 in let at : w.runner ≡ Saw c t = may.2 in let s = stage_at k at in
+    let runner : Runner = Measured c t (total_of w) in
+    let measured : HasMeasured c t (total_of w) (record w { runner = runner }) = record {
+      seen = record {
+        looked = record { within = s.looked.within; newest = s.looked.newest };
+        runs_on = s.runs_on;
+        put = s.put;
+        last = s.last;
+        all_put = s.all_put;
+      };
+      asked = omega arith;
+      all_asked = λ quiet asked. refl;
+    } in
+    subst (λ r. IsKept (record w { runner = r })) (sym (ap (measuring (total_of w)) at)) (moved_kept w runner k (ap coming at) refl (ap is_over at) measured)
+
+pub take_kept : (w : Parts) → IsKept w → IsPossible Take w → IsKept (after Take w)
+take_kept w k may =
+    let at : w.runner ≡ Measured may.0 may.1 may.2 = may.3 in
+    let s = stage_at k at in
+    let waits = may.4 in let wanted = may.5 in
+    let put = s.seen.put in let asked = s.asked in let fits = k.fits in let handed = k.handed in
+    let quiet : coming w.runner ≡ 0 = ap coming at in
+    let unended : is_over w.runner ≡ false = ap is_over at in
+    record {
+      sized = k.sized;
+      asked_bounded = k.asked_bounded;
+      own_bounded = k.own_bounded;
+      taken = omega arith;
+      fits = omega arith;
+      requested = omega arith;
+      roomy = λ e. (let room = k.roomy e in omega arith);
+      handed = omega arith;
+      unfailed = λ e. k.unfailed unended;
+      remembered = λ e. k.remembered unended;
+      stage = omega arith;
+    }

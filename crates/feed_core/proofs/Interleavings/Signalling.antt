@@ -1,0 +1,167 @@
+-- A side signals.
+use Rattle.std.proofs.Common.{◌≡◌, ℕ, ◌+◌, Bool, true, false, refl, sym, ap, ◌∙◌, arith, Option, Some, None}
+use Rattle.feed_core.specs.World.Types.{Causes, Producer, Handle, Cause, Cancel, Argument, State, Closing, Signal, Producing, HasRoom, Requesting, Runner, Nobody, Coming, Fresh, Ready, Looked, Saw, Measured, Taken, Over, Parts}
+use Rattle.feed_core.specs.World.Table.{is_over, is_started, started, ProducerMay, HandleMay, IsPossible, producing_after, requesting_after, joined, after}
+use Rattle.feed_core.specs.World.Kept.{IsKept, IsAt, IsWithin, producer_hands, handle_hands, coming, may_follow}
+use Rattle.feed_core.proofs.Interleavings.Causing.{within_producer, within_handle, joined_failed, joined_memory}
+use Rattle.feed_core.proofs.Interleavings.Growing.{Grows, stage_kept}
+use Rattle.feed_core.proofs.Interleavings.Putting.{begins_idle}
+
+-- a signal leaves nobody's task at rest
+pub started_never : (r : Runner) → started r ≡ Nobody → ⊥
+started_never Nobody e = cc
+started_never Coming e = cc
+started_never Fresh e = cc
+started_never Ready e = cc
+started_never (Looked c) e = cc
+started_never (Saw c t) e = cc
+started_never (Measured c t a) e = cc
+started_never Taken e = cc
+started_never (Over how) e = cc
+
+pub starts_nobody : (r : Runner) → is_started r ≡ false → r ≡ Nobody
+starts_nobody Nobody e = refl
+starts_nobody Coming e = cc
+starts_nobody Fresh e = cc
+starts_nobody Ready e = cc
+starts_nobody (Looked c) e = cc
+starts_nobody (Saw c t) e = cc
+starts_nobody (Measured c t a) e = cc
+starts_nobody Taken e = cc
+starts_nobody (Over how) e = cc
+
+-- and leaves a started task where it is
+pub started_same : (r : Runner) → is_started r ≡ true → started r ≡ r
+started_same Nobody e = cc
+started_same Coming e = refl
+started_same Fresh e = refl
+started_same Ready e = refl
+started_same (Looked c) e = refl
+started_same (Saw c t) e = refl
+started_same (Measured c t a) e = refl
+started_same Taken e = refl
+started_same (Over how) e = refl
+
+pub is_started_started : (r : Runner) → is_started (started r) ≡ true
+is_started_started Nobody = refl
+is_started_started Coming = refl
+is_started_started Fresh = refl
+is_started_started Ready = refl
+is_started_started (Looked c) = refl
+is_started_started (Saw c t) = refl
+is_started_started (Measured c t a) = refl
+is_started_started Taken = refl
+is_started_started (Over how) = refl
+
+pub is_over_started : (r : Runner) → is_over (started r) ≡ is_over r
+is_over_started Nobody = refl
+is_over_started Coming = refl
+is_over_started Fresh = refl
+is_over_started Ready = refl
+is_over_started (Looked c) = refl
+is_over_started (Saw c t) = refl
+is_over_started (Measured c t a) = refl
+is_over_started Taken = refl
+is_over_started (Over how) = refl
+
+pub may_follow_started : (r : Runner) → may_follow (started r) ≡ may_follow r
+may_follow_started Nobody = refl
+may_follow_started Coming = refl
+may_follow_started Fresh = refl
+may_follow_started Ready = refl
+may_follow_started (Looked c) = refl
+may_follow_started (Saw c t) = refl
+may_follow_started (Measured c t a) = refl
+may_follow_started Taken = refl
+may_follow_started (Over how) = refl
+
+stage_started : (w : Parts) (r : Runner) → IsAt r w → IsAt (started r) w
+stage_started w Nobody s = tt
+stage_started w Coming s = tt
+stage_started w Fresh s = s
+stage_started w Ready s = tt
+stage_started w (Looked c) s = s
+stage_started w (Saw c t) s = s
+stage_started w (Measured c t a) s = s
+stage_started w Taken s = s
+stage_started w (Over how) s = s
+
+-- a task that was started is with the side that started it
+signal_handed : (r : Runner) (n : ℕ) → n ≡ coming r → producer_hands (producing_after (is_started r)) + n ≡ coming (started r)
+signal_handed Nobody n e = omega arith
+signal_handed Coming n e = omega arith
+signal_handed Fresh n e = omega arith
+signal_handed Ready n e = omega arith
+signal_handed (Looked c) n e = omega arith
+signal_handed (Saw c t) n e = omega arith
+signal_handed (Measured c t a) n e = omega arith
+signal_handed Taken n e = omega arith
+signal_handed (Over how) n e = omega arith
+
+-- the two sides hand over alike
+same_hands : (b : Bool) → handle_hands (requesting_after b) ≡ producer_hands (producing_after b)
+same_hands true = refl
+same_hands false = refl
+
+no_room : (b : Bool) → producing_after b ≡ HasRoom → ⊥
+no_room true e = cc
+no_room false e = cc
+
+producer_idle : (cause : Option Cause) (producer : Producing) (w : Parts) → ProducerMay cause producer w.causes.closing → producer_hands producer ≡ 0
+producer_idle None producer w may = ap producer_hands may
+producer_idle (Some Cancel) producer w may = absurd may
+producer_idle (Some Argument) producer w may = absurd may
+producer_idle (Some State) producer w may = begins_idle may
+producer_idle (Some (Closing _)) producer w may = begins_idle may.0
+
+handle_idle : (cause : Option Cause) (handle : Requesting) → HandleMay cause handle → handle_hands handle ≡ 0
+handle_idle None handle may = ap handle_hands may
+handle_idle (Some Cancel) handle may = ap handle_hands may
+handle_idle (Some Argument) handle may = ap handle_hands may
+handle_idle (Some State) handle may = absurd may
+handle_idle (Some (Closing _)) handle may = absurd may
+
+-- whichever side signals
+signal_kept : (w : Parts) (causes : Causes) (producer : Producing) (handle : Requesting) → IsKept w → IsWithin w.causes causes
+    → causes.failed ≡ w.causes.failed → causes.memory ≡ w.causes.memory
+    → (producer ≡ HasRoom → w.producer ≡ HasRoom) → producer_hands producer + handle_hands handle ≡ coming (started w.runner)
+    → IsKept (record w { causes = causes; active = true; producer = producer; handle = handle; runner = started w.runner })
+signal_kept w causes producer handle k within failed memory roomy handed =
+    let v : Parts = record w { causes = causes; active = true; producer = producer; handle = handle; runner = started w.runner } in
+    let grows : Grows w v = record {
+      given = refl;
+      accepted = omega arith;
+      total = omega arith;
+      causes = within;
+      quiet = λ e. cc;
+      put = λ e never. cc;
+      asked = λ e never. cc;
+      closed = λ some. refl;
+    } in
+    record {
+      sized = k.sized;
+      asked_bounded = k.asked_bounded;
+      own_bounded = k.own_bounded;
+      taken = k.taken;
+      fits = k.fits;
+      requested = k.requested;
+      roomy = λ e. k.roomy (roomy e);
+      handed = handed;
+      unfailed = λ e. failed ∙ k.unfailed (sym (is_over_started w.runner) ∙ e);
+      remembered = λ e. memory ∙ k.remembered (sym (is_over_started w.runner) ∙ e);
+      stage = stage_kept grows (started w.runner) (λ e. absurd (started_never w.runner e)) (stage_started w w.runner k.stage);
+    }
+
+pub producer_signal_kept : (cause : Option Cause) (w : Parts) → IsKept w → IsPossible (Signal Producer cause) w → IsKept (after (Signal Producer cause) w)
+producer_signal_kept cause w k may =
+    let idle = producer_idle cause w.producer w may in let handed = k.handed in
+    signal_kept w (joined cause w.causes) (producing_after (is_started w.runner)) w.handle k (within_producer cause w.producer w.causes may)
+    (joined_failed cause w.causes) (joined_memory cause w.causes) (λ e. absurd (no_room (is_started w.runner) e))
+    (signal_handed w.runner (handle_hands w.handle) (omega arith))
+
+pub handle_signal_kept : (cause : Option Cause) (w : Parts) → IsKept w → IsPossible (Signal Handle cause) w → IsKept (after (Signal Handle cause) w)
+handle_signal_kept cause w k may =
+    let idle = handle_idle cause w.handle may in let handed = k.handed in
+    let same = same_hands (is_started w.runner) in let one = signal_handed w.runner (producer_hands w.producer) (omega arith) in
+    signal_kept w (joined cause w.causes) w.producer (requesting_after (is_started w.runner)) k (within_handle cause w.handle w.causes may)
+    (joined_failed cause w.causes) (joined_memory cause w.causes) (λ e. e) (omega arith)
