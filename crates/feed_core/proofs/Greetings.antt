@@ -11,7 +11,7 @@ use Rattle.feed_core.specs.Sound.{is_begun, terminal_part, lane_of, IsInOrder}
 use Rattle.feed_core.specs.Steps.{Greets, IsGreetedBy, Obeys}
 use Rattle.feed_core.proofs.FlowRules.{all_counted, flow_kept}
 use Rattle.feed_core.proofs.DeskSteps.{has_cause, no_cause}
-use Rattle.feed_core.proofs.Looks.{desk_of}
+use Rattle.feed_core.proofs.Looks.{desk_of, part_refused}
 use Rattle.feed_core.proofs.ObeyedAnswers.{in_order_obeying, obeying_greeted, obeying_how, obeying_loss}
 
 -- nothing was told to a subscriber that was not greeted
@@ -168,20 +168,7 @@ module _ {told : List Signal} {held : List Item} {given asked capacity : ℕ} {c
         replies = refused ∷ [];
         shape = (inl refl, refl);
         seen_after = same_seen ∙ sym (append-nil seen);
-        part = record {
-          recorded = same_told ∙ sym (append-nil told);
-          answered = refl;
-          accepted = accepted;
-          grows = omega arith;
-          how = refl;
-          started = runs;
-          capacity = refl;
-          looks = refl;
-          cancelled = refl;
-          steady = stays;
-          plain = λ steady. (tt, tt);
-          flow = flow_kept (in_order_ungreeted same_told).sound;
-        };
+        part = part_refused same_told accepted (omega arith) refl (flow_kept (in_order_ungreeted same_told).sound) runs stays;
         given = refl;
         left = λ more.
             ap (λ text. turn_after text old (refused ∷ more)) nothing

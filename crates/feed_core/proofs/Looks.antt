@@ -9,7 +9,7 @@ use Rattle.feed_core.specs.Desk.{DeskState, started_after}
 use Rattle.feed_core.specs.Lane.{LaneState, IsFlow}
 use Rattle.feed_core.specs.PlainTurn.{terminal_of}
 use Rattle.feed_core.specs.Sound.{is_begun, lane_of, loss_of, IsInOrder}
-use Rattle.feed_core.specs.Steps.{HasTerminal, IsToldBy, Looks, MovesNext, Obeys, OwesEnd}
+use Rattle.feed_core.specs.Steps.{HasTerminal, IsPart, IsToldBy, Looks, MovesNext, Obeys, OwesEnd}
 use Rattle.feed_core.proofs.FlowRules.{all_counted, flow_kept}
 use Rattle.feed_core.proofs.DeskSteps.{accepted_kept, ended_items, one_more, in_order_owed, in_order_ended, in_order_given, in_order_lost, is_begun_append, items_of_terminal, waiting_held}
 use Rattle.feed_core.proofs.ObeyedAnswers.{in_order_obeying, obeying_how, obeying_loss, obeying_told}
@@ -128,6 +128,25 @@ looks_rested old seen flow unended unstopped all waits =
           ap (λ after. and_then after (looks_within most (later_replies more))) rested;
     }
 
+-- a part of a turn whose callback was refused memory, which ended the subscription: nothing was told
+pub part_refused : {lane lane' : LaneState} {capacity : ℕ} {started steady steady' : Bool} {looks : ℕ} {cancelled : Bool}
+    → lane'.told ≡ lane.told → lane'.accepted ≡ lane.accepted → lane.asked ≤ lane'.asked → lane'.how ≡ Some How.OutOfMemory → IsFlow lane' → started ≡ true → (steady ≡ true → steady' ≡ true)
+    → IsPart (desk_of lane capacity started steady looks cancelled) (desk_of lane' capacity started steady' looks cancelled) [] (Ended How.OutOfMemory) (refused ∷ [])
+part_refused {lane} same_told accepted grows how flow runs stays = record {
+  recorded = same_told ∙ sym (append-nil lane.told);
+  answered = refl;
+  accepted = accepted;
+  grows = grows;
+  how = how;
+  started = runs;
+  capacity = refl;
+  looks = refl;
+  cancelled = refl;
+  steady = stays;
+  plain = λ steady. (tt, tt);
+  flow = flow;
+}
+
 module _ {told : List Signal} {held : List Item} {given asked capacity : ℕ} {causes : Causes} {how : Option How} {started : Bool}
     (kept : IsInOrder (lane_of told held given asked causes how) held capacity started) (unended : how ≡ None) (runs : started ≡ true) (begun : is_begun told ≡ true) where
   -- an item was taken and told, and its answer was obeyed
@@ -199,20 +218,7 @@ module _ {told : List Signal} {held : List Item} {given asked capacity : ℕ} {c
         replies = refused ∷ [];
         shape = inl refl;
         seen_after = same_seen ∙ sym (append-nil seen);
-        part = record {
-          recorded = same_told ∙ sym (append-nil told);
-          answered = refl;
-          accepted = accepted;
-          grows = omega arith;
-          how = refl;
-          started = runs;
-          capacity = refl;
-          looks = refl;
-          cancelled = refl;
-          steady = stays;
-          plain = λ steady. (tt, tt);
-          flow = flow_kept (in_order_lost kept unended runs begun same_told same_held waits requested).sound;
-        };
+        part = part_refused same_told accepted (omega arith) refl (flow_kept (in_order_lost kept unended runs begun same_told same_held waits requested).sound) runs stays;
         few = omega arith;
         ahead = (drop given old.accepted, refl);
         again = λ e. cc;
@@ -277,20 +283,7 @@ module _ {told : List Signal} {held : List Item} {given asked capacity : ℕ} {c
           replies = refused ∷ [];
           shape = inl refl;
           seen_after = same_seen ∙ sym (append-nil seen);
-          part = record {
-            recorded = same_told ∙ sym (append-nil told);
-            answered = refl;
-            accepted = accepted;
-            grows = omega arith;
-            how = refl;
-            started = runs;
-            capacity = refl;
-            looks = refl;
-            cancelled = refl;
-            steady = stays;
-            plain = λ steady. (tt, tt);
-            flow = flow_kept (in_order_ended kept unended runs begun How.OutOfMemory tt (same_told ∙ sym (append-nil told))).sound;
-          };
+          part = part_refused same_told accepted (omega arith) refl (flow_kept (in_order_ended kept unended runs begun How.OutOfMemory tt (same_told ∙ sym (append-nil told))).sound) runs stays;
           few = omega arith;
           ahead = (drop given old.accepted, refl);
           again = λ e. cc;

@@ -1,5 +1,5 @@
 -- The calls of a subscription keep its lane sound.
-use Rattle.std.proofs.Common.{◌≡◌, ℕ, zero, suc, ℤ, pos, negsuc, ◌≤◌, [], ◌∷◌, ◌++◌, ap, sym, ◌∙◌, append_assoc, length-append, arith, refl, None}
+use Rattle.std.proofs.Common.{◌≡◌, ℕ, zero, suc, ℤ, pos, negsuc, ◌≤◌, Bool, true, [], ◌∷◌, ◌++◌, ap, sym, ◌∙◌, append_assoc, length-append, arith, refl, None}
 use Rattle.feed_core.specs.Prelude.{Item, Ending, items_of, total_after}
 use Rattle.feed_core.specs.Lane.{LaneState}
 use Rattle.feed_core.specs.LaneCalls.{lane_with_item, lane_with_closing, lane_with_duplicate, lane_with_bad_request, lane_with_cancel, lane_with_request}
@@ -58,49 +58,43 @@ sound_lane_with_closing lane ending sound unclosed =
       remembered = sound.remembered;
     }
 
+-- a lane stays sound with more causes of an end at once
+sound_lane_with_causes : (lane : LaneState) (cancel argument state : Bool) → (lane.causes.cancel ≡ true → cancel ≡ true) → (lane.causes.argument ≡ true → argument ≡ true)
+    → (lane.causes.state ≡ true → state ≡ true) → IsSound lane → IsSound (record lane { causes = record lane.causes { cancel = cancel; argument = argument; state = state } })
+sound_lane_with_causes lane cancel argument state cancelled refused doubled sound =
+    let counts = sound.counts in
+    let cause = sound.cause in
+    record {
+      told_is = sound.told_is;
+      in_order = sound.in_order;
+      counts = record { tells = counts.tells; loses = counts.loses; taken = counts.taken; requested = counts.requested };
+      cause = record {
+        completed = cause.completed;
+        whole = cause.whole;
+        published = cause.published;
+        argument = λ e. refused (cause.argument e);
+        state = λ e. doubled (cause.state e);
+        cancelled = λ e. cancelled (cause.cancelled e);
+        failed = cause.failed;
+        refused = cause.refused;
+      };
+      unfailed = sound.unfailed;
+      remembered = sound.remembered;
+    }
+
 -- a lane stays sound when its subscriber subscribes a second time
 pub sound_lane_with_duplicate : (lane : LaneState) → IsSound lane → IsSound (lane_with_duplicate lane)
-sound_lane_with_duplicate lane sound =
-    let counts = sound.counts in
-    let cause = sound.cause in
-    record {
-      told_is = sound.told_is;
-      in_order = sound.in_order;
-      counts = record { tells = counts.tells; loses = counts.loses; taken = counts.taken; requested = counts.requested };
-      cause = record { completed = cause.completed; whole = cause.whole; published = cause.published; argument = cause.argument; state = λ e. refl; cancelled = cause.cancelled; failed = cause.failed; refused = cause.refused };
-      unfailed = sound.unfailed;
-      remembered = sound.remembered;
-    }
+sound_lane_with_duplicate lane sound = sound_lane_with_causes lane lane.causes.cancel lane.causes.argument true (λ e. e) (λ e. e) (λ _. refl) sound
 
--- a lane stays sound when a number that is not positive is requested
+-- when a number that is not positive is requested
 pub sound_lane_with_bad_request : (lane : LaneState) → IsSound lane → IsSound (lane_with_bad_request lane)
-sound_lane_with_bad_request lane sound =
-    let counts = sound.counts in
-    let cause = sound.cause in
-    record {
-      told_is = sound.told_is;
-      in_order = sound.in_order;
-      counts = record { tells = counts.tells; loses = counts.loses; taken = counts.taken; requested = counts.requested };
-      cause = record { completed = cause.completed; whole = cause.whole; published = cause.published; argument = λ e. refl; state = cause.state; cancelled = cause.cancelled; failed = cause.failed; refused = cause.refused };
-      unfailed = sound.unfailed;
-      remembered = sound.remembered;
-    }
+sound_lane_with_bad_request lane sound = sound_lane_with_causes lane lane.causes.cancel true lane.causes.state (λ e. e) (λ _. refl) (λ e. e) sound
 
--- a lane stays sound when it is cancelled
+-- when it is cancelled
 pub sound_lane_with_cancel : (lane : LaneState) → IsSound lane → IsSound (lane_with_cancel lane)
-sound_lane_with_cancel lane sound =
-    let counts = sound.counts in
-    let cause = sound.cause in
-    record {
-      told_is = sound.told_is;
-      in_order = sound.in_order;
-      counts = record { tells = counts.tells; loses = counts.loses; taken = counts.taken; requested = counts.requested };
-      cause = record { completed = cause.completed; whole = cause.whole; published = cause.published; argument = cause.argument; state = cause.state; cancelled = λ e. refl; failed = cause.failed; refused = cause.refused };
-      unfailed = sound.unfailed;
-      remembered = sound.remembered;
-    }
+sound_lane_with_cancel lane sound = sound_lane_with_causes lane true lane.causes.argument lane.causes.state (λ _. refl) (λ e. e) (λ e. e) sound
 
--- a lane stays sound when any number is requested, where the total does not fall
+-- and when any number is requested, where the total does not fall
 pub sound_lane_with_request : (n : ℤ) (lane : LaneState) → IsSound lane → lane.asked ≤ (lane_with_request n lane).asked → IsSound (lane_with_request n lane)
 sound_lane_with_request (pos zero) lane sound grows = sound_lane_with_bad_request lane sound
 sound_lane_with_request (pos (suc n)) lane sound grows = let requested = sound.counts.requested in sound_asked lane (total_after lane.asked (suc n)) sound (omega arith)

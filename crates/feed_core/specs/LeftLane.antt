@@ -1,5 +1,5 @@
 -- What is left of a subscription.
-use Rattle.std.specs.Prelude.{◌≡◌, ◌↔◌, true, Option, Some, List, length}
+use Rattle.std.specs.Prelude.{◌≡◌, ◌↔◌, true, Some, List, length}
 use Rattle.feed_core.specs.Prelude.{Signal}
 use Rattle.feed_core.specs.Desk.{DeskState, Owes}
 use Rattle.feed_core.specs.declared.lane.Lane.{Lane}
