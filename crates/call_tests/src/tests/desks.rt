@@ -123,7 +123,8 @@ fn first_wrong<B: Listener>(
     alloc: Global,
     desk: &mut Desk<B>,
     rows: &[Row<'_>],
-) -> Result<Option<usize>, NoMemory> {
+) -> Result<Option<usize>, NoMemory>
+{
     for (place, row) in rows.iter().enumerate() {
         if !answers(alloc, desk, *row)? {
             return Ok(Some(place));
@@ -266,21 +267,11 @@ fn each_answer(rt: HostRuntime) -> Result<(), Fail> {
     let rows: [(u32, Answer, &[u8], Outlook); 8] = [
         (1, Answer::Cancel, b"sv", Outlook::Ended(How::Cancelled)),
         (1, Answer::Fail(7), b"sv", Outlook::Ended(How::Failed(7))),
-        (
-            1,
-            Answer::Request(0),
-            b"sva",
-            Outlook::Ended(How::Errored(Fault::IllegalArgument)),
-        ),
+        (1, Answer::Request(0), b"sva", Outlook::Ended(How::Errored(Fault::IllegalArgument))),
         (1, Answer::Request(2), b"svwx", Outlook::Resting),
         (0, Answer::Cancel, b"s", Outlook::Ended(How::Cancelled)),
         (0, Answer::Fail(7), b"s", Outlook::Ended(How::Failed(7))),
-        (
-            0,
-            Answer::Request(-1),
-            b"sa",
-            Outlook::Ended(How::Errored(Fault::IllegalArgument)),
-        ),
+        (0, Answer::Request(-1), b"sa", Outlook::Ended(How::Errored(Fault::IllegalArgument))),
         (0, Answer::Request(3), b"svwxy", Outlook::Resting),
     ];
     for (callbacks, answer, told, outlook) in rows {
