@@ -272,3 +272,30 @@ fn no_race_loses_anything(rt: HostRuntime) -> Result<(), Fail> {
     }
     Ok(())
 }
+
+#[test]
+fn a_world_shows_its_parts(rt: HostRuntime) -> Result<(), Fail> {
+    let nothing = all_runs(&[]);
+    assert!(rt; nothing.parts() == None && nothing.capacity() == 0 && nothing.cut() == None);
+    assert!(rt; nothing.runner() == Runner::Nobody && !nothing.runner().is_started());
+    let world = all_runs(&[
+        Event::Make(2),
+        Event::Look(Answer::Request(3)),
+        Event::Room,
+        Event::Put,
+        Event::Ask(4),
+        SIGNAL_PUT,
+        Event::See,
+        Event::Measure,
+        Event::Take,
+        Event::Signal(Side::Handle, None),
+        SIGNAL_CANCEL,
+    ]);
+    assert!(rt; (world.capacity(), world.accepted(), world.given()) == (2, 1, 1));
+    assert!(rt; (world.asked(), world.own(), world.cut()) == (4, 3, Some(0)));
+    assert!(rt; world.active() && world.causes() == CANCELLED);
+    assert!(rt; world.producer() == Producing::Free && world.handle() == Requesting::Idle);
+    assert!(rt; world.runner() == Runner::Taken && world.runner().is_started());
+    assert!(rt; !world.runner().is_over());
+    Ok(())
+}

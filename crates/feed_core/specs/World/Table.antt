@@ -38,7 +38,7 @@ HandleMay (Some Argument) handle = handle ≡ Idle
 HandleMay (Some State) handle = ⊥
 HandleMay (Some (Closing _)) handle = ⊥
 
--- where the runner may look, by what the callback before it answered: none was called since the task was handed over
+-- where the runner may look, by what the callback before that answered; where it is only ready there was none
 abbrev pub MayLook : Answer → Runner → Type 0
 MayLook Answer.Go runner = (runner ≡ Ready) ⊎ ((runner ≡ Fresh) ⊎ (runner ≡ Taken))
 MayLook (Answer.Request _) runner = (runner ≡ Fresh) ⊎ (runner ≡ Taken)
@@ -49,6 +49,7 @@ MayLook (Answer.Fail _) runner = ⊥
 abbrev pub MaySee : Runner → Type 0
 MaySee runner = (c : Causes) × (runner ≡ Looked c) × (stops c ≡ None)
 
+-- and how many were requested only after that
 abbrev pub MayMeasure : Runner → Type 0
 MayMeasure runner = (c : Causes) × (t : ℕ) × (runner ≡ Saw c t)
 
@@ -73,12 +74,13 @@ IsAnswered How.OutOfMemory = Unit {0}
 abbrev pub IsEndBy : How → How → Type 0
 IsEndBy due how = (how ≡ due) ⊎ ((how ≡ How.OutOfMemory) × (due ≡ How.Cancelled → ⊥))
 
--- the end that a look found due at once, or none
+-- an end, where one is due
 abbrev pub IsStop : Option How → How → Type 0
 IsStop None how = ⊥
 IsStop (Some due) how = IsEndBy due how
 
--- where the runner may end the subscription, with so many items given
+-- where the runner may end the subscription, with so many items given: by what a callback came back with, by what its look saw, or
+-- by completion, where it counted no more items than were given
 abbrev pub MayEnd : How → ℕ → Runner → Type 0
 MayEnd how given Fresh = IsAnswered how
 MayEnd how given Taken = IsAnswered how
@@ -107,6 +109,7 @@ IsPossible (End how) w = MayEnd how w.given w.runner
 abbrev pub has_room : Parts → Bool
 has_room w = not (is_over w.runner) && nat_lt (w.accepted - w.given) w.capacity
 
+-- what the producer knows after its look
 abbrev pub shown_room : Bool → Producing
 shown_room true = HasRoom
 shown_room false = Free
@@ -119,15 +122,17 @@ joined (Some Argument) causes = record causes { argument = true }
 joined (Some State) causes = record causes { state = true }
 joined (Some (Closing ending)) causes = record causes { closing = Some ending }
 
--- after a signal that found the task started, or not: in the second case it starts the task, and has to hand it over
+-- after a signal of the producer's that found the task started, or not: in the second case it starts the task, and has to hand it over
 abbrev pub producing_after : Bool → Producing
 producing_after true = Free
 producing_after false = Hands
 
+-- and of the handle
 abbrev pub requesting_after : Bool → Requesting
 requesting_after true = Idle
 requesting_after false = HandsOver
 
+-- and where the task stands then
 abbrev pub started : Runner → Runner
 started Nobody = Coming
 started runner = runner
@@ -138,6 +143,7 @@ requested (pos zero) w = record w { causes = record w.causes { argument = true }
 requested (pos (suc n)) w = record w { own = total_after w.own (suc n) }
 requested (negsuc n) w = record w { causes = record w.causes { argument = true } }
 
+-- what a callback answered; any other answer than a request is an end
 abbrev pub answered : Answer → Parts → Parts
 answered Answer.Go w = w
 answered (Answer.Request n) w = requested n w

@@ -1,4 +1,4 @@
-//! Where an event is possible.
+//! Where an event is possible: the first half of the table, in code.
 ghost use Rattle.std.specs.Prelude.{◌≡◌, ◌↔◌, true};
 ghost use Rattle.feed_core.specs.LaneCalls.{IsCapacity};
 ghost use Rattle.feed_core.specs.World.Table.{IsPossible, MayBegin, ProducerMay, HandleMay, MayLook, MaySee, MayMeasure, MayTake, MayRest, MayEnd, IsAnswered, IsStop};
@@ -73,7 +73,7 @@ fn handle_may(cause: Option<Cause>, handle: Requesting) -> bool
     }
 }
 
-/// Whether the runner may look, after this answer.
+/// Whether the runner may look, after a callback with this answer, or after none.
 fn may_look(answer: Answer, runner: Runner) -> bool
     ensures { (result ≡ true) ↔ MayLook answer runner }
 {

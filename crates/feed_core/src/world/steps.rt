@@ -1,11 +1,10 @@
-//! What there is after an event.
-ghost use Rattle.std.specs.Prelude.{◌≡◌};
-ghost use Rattle.feed_core.specs.World.Kept.{IsKept};
-ghost use Rattle.feed_core.specs.World.Table.{IsPossible, after, answered, is_over, is_started, joined, looking, measuring, producing_after, requesting_after, resting_after, seeing, shown_room, has_room, started, total_of};
-ghost use Rattle.feed_core.specs.World.Runs.{given_before};
-ghost use Rattle.feed_core.specs.World.Types.{Signal, Look};
+//! What there is after an event: the second half of the table, in code.
+ghost use Rattle.std.specs.Prelude.{◌≡◌, ◌≤◌};
 ghost use Rattle.feed_core.specs.Prelude.{UNBOUNDED};
-ghost use Rattle.std.specs.Prelude.{◌≤◌};
+ghost use Rattle.feed_core.specs.World.Kept.{IsKept};
+ghost use Rattle.feed_core.specs.World.Runs.{given_before};
+ghost use Rattle.feed_core.specs.World.Table.{IsPossible, total_of, is_started, is_over, has_room, shown_room, joined, producing_after, requesting_after, started, answered, seeing, measuring, resting_after, after};
+ghost use Rattle.feed_core.specs.World.Types.{Signal, Look};
 
 use super::events::{Cause, Event, Side};
 use super::parts::{Parts, Producing, Requesting, Runner};
@@ -14,7 +13,7 @@ use flow_rules::{Answer, UNBOUNDED};
 
 impl Parts {
     /// All that was requested, by the handle and by the answers of callbacks.
-    pub(crate) fn total(&self) -> u64
+    fn total(&self) -> u64
         requires asked { self.now.asked ≤ UNBOUNDED }
         requires own { self.now.own ≤ UNBOUNDED }
         ensures { result ≡ total_of self.now }
