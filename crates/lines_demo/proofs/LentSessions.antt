@@ -1,4 +1,4 @@
--- A session whose publisher's end of one subscription was lent, as to a request or a turn.
+-- A session whose publisher lent its end of one subscription, as for what its owner does or for a turn.
 use Rattle.std.proofs.Common.{◌≡◌, ℕ, Bool, true, Option, None, Some, List, map, set, refl, sym, ap, subst, ◌∙◌}
 use Rattle.std.specs.Prelude.{is_some, IsSome, option_map, slice_get}
 use Rattle.std.specs.Borrow.{MutBor}
