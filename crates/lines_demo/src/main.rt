@@ -41,7 +41,7 @@ const SCRIPTS: &str = "Commands of a script, one a line, and their answers:
                             NAME subscribed, NAME next TEXT, NAME complete, NAME memory,
                             NAME error published C (of `fail`), NAME error argument (of a bad request),
                             NAME error state (of a second `sub` of NAME)
-A command that does nothing is answered `refused N WORD`.
+A command that is refused is answered `refused N WORD`.
 
 All of standard input is read before the first command is obeyed. A script has 16,777,216 bytes at most, a line 4,200, a text
 4,096 and a name 32. A number has 19 digits at most, and is 9,223,372,036,854,775,807 at most; C is 4,294,967,295 at most. N of
