@@ -169,15 +169,24 @@ def crates_of(root, wanted):
     return sorted((it for it in crates if it.name in needed), key=lambda it: len(it.below))
 
 
+def is_built(crate, root):
+    """Whether the crate was built after its sources, and those of the crates below it, were last written."""
+    built = f"{root}/crates/{crate.name}/out/rlib/{crate.name}.rlib"
+    sources = (file for name in [*crate.below, crate.name] for file in files_of(f"{root}/crates/{name}"))
+    return os.path.isdir(built) and os.path.getmtime(built) >= max(map(os.path.getmtime, sources))
+
+
 def prove(crates, root, base, jobs, proved):
-    """Builds the crates below others in a copy, over what earlier checks kept, and proves the others there; neither, where
-    the copy has this sum of what was proved, and is built. False where one is not proved."""
+    """Builds the crates below others in a copy, over what earlier checks kept, and proves the others there. Where the copy has
+    this sum of what was proved, only what isn't built is left to do. False where one is not proved."""
     copy_crates({it.name: (*OF_CRATE, "out/rlib") for it in crates}, root, base)
     low = {name for it in crates for name in it.below}
-    is_built = all(os.path.isdir(f"{base}/crates/{it}/out/rlib/{it}.rlib") for it in low)
-    if is_built and sum_of(base, crates) == proved:
+    is_proved = sum_of(base, crates) == proved
+    if is_proved and all(is_built(it, base) for it in crates if it.name in low):
         return True
     for crate in crates:
+        if is_proved and crate.name not in low:
+            continue
         crate.room = base
         check = crate.run("rt", "lib" if crate.name in low else "check", "--jobs", str(jobs))
         say(f"{crate.name}: {'proved' if check.is_proved else 'NOT PROVED'} as it is, {crate.seconds:.0f} seconds")
