@@ -9,6 +9,14 @@ use std::alloc::Global;
 use std::process::Abort;
 use std::test::Fail;
 
+const CANCELLED: Outlook = Outlook::Ended(How::Cancelled);
+
+const FAILED: Outlook = Outlook::Ended(How::Failed(7));
+
+const BAD_ARGUMENT: Outlook = Outlook::Ended(How::Errored(Fault::IllegalArgument));
+
+const UNBOUNDED_REQUEST: Answer = Answer::Request(i64::MAX);
+
 const BAD_REQUEST: [Row<'static>; 10] = [
     Row::Request(1, false),
     Row::Turn(b"s", Outlook::Resting),
@@ -16,7 +24,7 @@ const BAD_REQUEST: [Row<'static>; 10] = [
     Row::Request(-1, false),
     Row::Accepted(b'x', 1, false),
     Row::Fail(7, false),
-    Row::Turn(b"a", Outlook::Ended(How::Errored(Fault::IllegalArgument))),
+    Row::Turn(b"a", BAD_ARGUMENT),
     Row::Request(5, false),
     Row::Counts(1, 0, 6),
     Row::Gone(b'y'),
@@ -30,7 +38,7 @@ const CANCEL: [Row<'static>; 11] = [
     Row::Cancel(false),
     Row::Cancel(false),
     Row::Request(1, false),
-    Row::Turn(b"", Outlook::Ended(How::Cancelled)),
+    Row::Turn(b"", CANCELLED),
     Row::Cancel(false),
     Row::Counts(1, 0, 9),
     Row::Gone(b'y'),
@@ -38,7 +46,7 @@ const CANCEL: [Row<'static>; 11] = [
 
 const CANCEL_AT_ONCE: [Row<'static>; 3] = [
     Row::Cancel(false),
-    Row::Turn(b"s", Outlook::Ended(How::Cancelled)),
+    Row::Turn(b"s", CANCELLED),
     Row::Ended(Some(How::Cancelled)),
 ];
 
@@ -82,23 +90,13 @@ fn each_answer(rt: HostRuntime) -> Result<(), Fail> {
     let alloc = rt.alloc();
     // The callbacks that go on before one that answers so, what the turn tells, and its outlook.
     let rows: [(u32, Answer, &[u8], Outlook); 8] = [
-        (1, Answer::Cancel, b"sv", Outlook::Ended(How::Cancelled)),
-        (1, Answer::Fail(7), b"sv", Outlook::Ended(How::Failed(7))),
-        (
-            1,
-            Answer::Request(0),
-            b"sva",
-            Outlook::Ended(How::Errored(Fault::IllegalArgument)),
-        ),
+        (1, Answer::Cancel, b"sv", CANCELLED),
+        (1, Answer::Fail(7), b"sv", FAILED),
+        (1, Answer::Request(0), b"sva", BAD_ARGUMENT),
         (1, Answer::Request(2), b"svwx", Outlook::Resting),
-        (0, Answer::Cancel, b"s", Outlook::Ended(How::Cancelled)),
-        (0, Answer::Fail(7), b"s", Outlook::Ended(How::Failed(7))),
-        (
-            0,
-            Answer::Request(-1),
-            b"sa",
-            Outlook::Ended(How::Errored(Fault::IllegalArgument)),
-        ),
+        (0, Answer::Cancel, b"s", CANCELLED),
+        (0, Answer::Fail(7), b"s", FAILED),
+        (0, Answer::Request(-1), b"sa", BAD_ARGUMENT),
         (0, Answer::Request(3), b"svwxy", Outlook::Resting),
     ];
     for (callbacks, answer, told, outlook) in rows {
@@ -199,68 +197,26 @@ fn told_items(alloc: Global, items: u32, last: &[u8]) -> Result<Vec<u8>, NoMemor
     Ok(told)
 }
 
+/// The item whose callback answers so, the items that the turn tells and what comes then, its outlook, and the total.
+const AT_AN_ITEM: [(u32, Answer, (u32, &[u8]), Outlook, u64); 12] = [
+    (1, Answer::Cancel, (1, b""), CANCELLED, 64),
+    (32, Answer::Cancel, (32, b""), CANCELLED, 64),
+    (64, Answer::Cancel, (64, b""), CANCELLED, 64),
+    (1, Answer::Fail(7), (1, b""), FAILED, 64),
+    (32, Answer::Fail(7), (32, b""), FAILED, 64),
+    (64, Answer::Fail(7), (64, b""), FAILED, 64),
+    (1, Answer::Request(-1), (1, b"a"), BAD_ARGUMENT, 64),
+    (32, Answer::Request(-1), (32, b"a"), BAD_ARGUMENT, 64),
+    (64, Answer::Request(-1), (64, b""), Outlook::Again, 64),
+    (1, Answer::Request(5), (64, b""), Outlook::Again, 69),
+    (32, UNBOUNDED_REQUEST, (64, b""), Outlook::Again, UNBOUNDED),
+    (64, Answer::Request(5), (64, b""), Outlook::Again, 69),
+];
+
 #[test]
 fn each_answer_at_an_item(rt: HostRuntime) -> Result<(), Fail> {
     let alloc = rt.alloc();
-    // The item whose callback answers so, the items that the turn tells and what comes then, its outlook, and the total.
-    let bad = Outlook::Ended(How::Errored(Fault::IllegalArgument));
-    let rows: [(u32, Answer, (u32, &[u8]), Outlook, u64); 12] = [
-        (
-            1,
-            Answer::Cancel,
-            (1, b""),
-            Outlook::Ended(How::Cancelled),
-            64,
-        ),
-        (
-            32,
-            Answer::Cancel,
-            (32, b""),
-            Outlook::Ended(How::Cancelled),
-            64,
-        ),
-        (
-            64,
-            Answer::Cancel,
-            (64, b""),
-            Outlook::Ended(How::Cancelled),
-            64,
-        ),
-        (
-            1,
-            Answer::Fail(7),
-            (1, b""),
-            Outlook::Ended(How::Failed(7)),
-            64,
-        ),
-        (
-            32,
-            Answer::Fail(7),
-            (32, b""),
-            Outlook::Ended(How::Failed(7)),
-            64,
-        ),
-        (
-            64,
-            Answer::Fail(7),
-            (64, b""),
-            Outlook::Ended(How::Failed(7)),
-            64,
-        ),
-        (1, Answer::Request(-1), (1, b"a"), bad, 64),
-        (32, Answer::Request(-1), (32, b"a"), bad, 64),
-        (64, Answer::Request(-1), (64, b""), Outlook::Again, 64),
-        (1, Answer::Request(5), (64, b""), Outlook::Again, 69),
-        (
-            32,
-            Answer::Request(i64::MAX),
-            (64, b""),
-            Outlook::Again,
-            UNBOUNDED,
-        ),
-        (64, Answer::Request(5), (64, b""), Outlook::Again, 69),
-    ];
-    for (item, answer, (items, last), outlook, asked) in rows {
+    for (item, answer, (items, last), outlook, asked) in AT_AN_ITEM {
         let told = told_items(alloc, items, last)?;
         let mut rows = [Row::Request(64, false); 68];
         for lag in 1..65 {
