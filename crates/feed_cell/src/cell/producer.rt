@@ -47,10 +47,8 @@ impl Putter {
         let slot = (self.tail % self.capacity) as usize;
         let nothing = table.shared.exchange(&mut self.seat, slot, Some(item));
         drop(nothing);
-        table
-            .shared
-            .store::<Put>(&mut self.seat, TAIL, self.tail + 1);
         self.tail += 1;
+        table.shared.store::<Put>(&mut self.seat, TAIL, self.tail);
         Ok(self.tail - head)
     }
 }

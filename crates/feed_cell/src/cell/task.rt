@@ -49,10 +49,8 @@ impl Taker {
         }
         let slot = (self.head % self.capacity) as usize;
         let item = table.shared.exchange(&mut self.seat, slot, None);
-        table
-            .shared
-            .store::<Take>(&mut self.seat, HEAD, self.head + 1);
         self.head += 1;
+        table.shared.store::<Take>(&mut self.seat, HEAD, self.head);
         item
     }
 }
