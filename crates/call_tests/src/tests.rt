@@ -8,6 +8,7 @@ mod names;
 mod numbers;
 mod pool;
 mod refusals;
+mod rings;
 mod subscribers;
 mod texts;
 mod worlds;

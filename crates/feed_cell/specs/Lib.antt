@@ -1,0 +1,4 @@
+pub mod Views
+pub mod Cell
+pub mod Steps
+pub mod Ends
