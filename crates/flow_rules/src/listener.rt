@@ -10,7 +10,7 @@ use crate::subscriber::Subscriber;
 /// added nothing. A struct meets it with a field [`Told`](crate::Told), which takes no memory.
 ///
 /// A [`Subscriber`] keeps the list and shows it. [`Shown`] makes a listener of any.
-pub trait Listener: Send + Drop {
+pub trait Listener: Drop {
     ghost use Rattle.std.specs.Prelude.{List, Bool};
     ghost use Rattle.flow_rules.specs.Callback.{Tells, StaysSteady};
     ghost use Rattle.flow_rules.specs.declared.signal.Signal.{Signal};

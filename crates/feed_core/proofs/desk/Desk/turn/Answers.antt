@@ -9,12 +9,12 @@ use Rattle.feed_core.proofs.TurnLoop.{completes, errs, few_signals, in_order, in
 use Rattle.feed_core.proofs.desk.Desk.turn.Goals as goal
 
 pub look-requires-clause-mid_turn : goal.look-requires-clause-mid_turn
-look-requires-clause-mid_turn g c κs within =
+look-requires-clause-mid_turn g c =
     let so_far = c.loop.invariant.0 in
     record { owed = (so_far.part.started, so_far.part.how); begun = so_far.begun }
 
 pub look-requires-clause-room : goal.look-requires-clause-room
-look-requires-clause-room g c κs within = let short = length-so_far c.loop.invariant.0 in omega arith
+look-requires-clause-room g c = let short = length-so_far c.loop.invariant.0 in omega arith
 
 pub loop-preserved : goal.loop-preserved
 loop-preserved g c = (so_far_more c.loop.invariant.0 c.loop-test.true c.in-Again-look.ensures.looks, c.in-Again-look.ensures.room ∙ c.loop.invariant.1)

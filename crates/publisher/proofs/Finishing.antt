@@ -1,0 +1,142 @@
+-- What the end of a publisher leaves.
+use Rattle.std.proofs.Common.{◌≡◌, ◌⊎◌, inl, inr, ℕ, zero, suc, ◌+◌, ◌<◌, ◌≤◌, ◌||◌, ◌&&◌, is_none, Bool, true, false, Option, None, Some, Result, Ok, Err, List, [], ◌∷◌, length, replicate, refl, sym, ap, subst, ◌∙◌, arith, rules}
+use Rattle.std.specs.Prelude.{IsSome, slice_get, sum_by}
+use Rattle.std.specs.Option.{option_or}
+use Rattle.std.proofs.lemmas.Option.{slice_get_within}
+use Rattle.flow_rules.specs.declared.refusal.Refusal.{Refusal}
+use Rattle.flow_rules.specs.declared.refusal.Refusal.TheVariants as Refusal
+use Rattle.feed_core.specs.Prelude.{How, Signal}
+use Rattle.feed_core.specs.Desk.{DeskState}
+use Rattle.feed_core.specs.Feed.{end_of}
+use Rattle.publisher_hub.specs.Hub.{HubState, hub_of}
+use Rattle.publisher_hub.specs.Sound.{IsSound}
+use Rattle.publisher_hub.specs.declared.hub.Hub.{Hub}
+use Rattle.publisher_hub.proofs.Places.{there}
+use Rattle.publisher.specs.Handles.{SubmitterState, SubscriptionState}
+use Rattle.publisher.specs.Lanes.{AreFound, AreLeft, AreMarked, Gathers, IsHandedIn, IsLeftOf}
+use Rattle.publisher.specs.Outcome.{AnyKnows, AreDone, AreHandedIn, Finishes, IsMissing, IsOutcome, IsWhole, Judges, NamesUndone, is_undone, outcome_of}
+use Rattle.publisher.specs.Together.{AreTogether, Audits}
+use Rattle.publisher.specs.declared.outcome.NamedLane.{NamedLane}
+use Rattle.publisher.specs.declared.outcome.Outcome.{Outcome}
+use Rattle.publisher.proofs.Outcomes.{few_drops, is_outcome}
+
+no_true : (n k : ℕ) → slice_get (replicate n false) k ≡ Some true → ⊥
+no_true zero k at = cc
+no_true (suc n) zero at = cc
+no_true (suc n) (suc k) at = no_true n k at
+
+module _ {B : Type 0} (told : B → List Signal) (subscriptions : List SubscriptionState) (old new : Hub DeskState) (n : ℕ) (handed : List Bool) (outcome : Outcome B) (lost : Option (List ℕ))
+    (sound : IsSound (hub_of end_of old)) (marked : AreMarked subscriptions (replicate n false) handed) (gathers : Gathers told old new handed (length handed) outcome.lanes.items lost) where
+  left_at : (i : ℕ) (left : NamedLane B) → slice_get outcome.lanes.items i ≡ Some left → (desk : DeskState) × IsLeftOf told old handed (length handed) left desk
+  left_at i left at =
+      let desk = there gathers.left.desks i (subst (λ m. i < m) (sym gathers.left.as_many) (slice_get_within outcome.lanes.items i left at)) in
+      (desk.0, gathers.left.each i left desk.0 at desk.1)
+
+  pub handed_in : AreHandedIn subscriptions outcome.lanes.items
+  handed_in = record { rising = gathers.left.rising; each = λ i left at. by left (marked.marked left.entry (left_at i left at).1.marked) } where
+    by : (left : NamedLane B) → (slice_get (replicate n false) left.entry ≡ Some true) ⊎ IsHandedIn subscriptions left.entry → IsHandedIn subscriptions left.entry
+    by left (inl was) = absurd (no_true n left.entry was)
+    by left (inr is) = is
+
+  same_next : new.next ≡ old.next
+  same_next = ap (λ (h : HubState). h.progress.next) gathers.rest
+
+  same_dropping : new.dropping ≡ old.dropping
+  same_dropping = ap (λ (h : HubState). h.progress.dropping) gathers.rest
+
+  pub is_outcome_of : outcome.published ≡ new.next → IsOutcome told outcome
+  is_outcome_of published = is_outcome told old handed (length handed) sound outcome gathers.left (published ∙ same_next)
+
+  module _ (submitters : List SubmitterState) (published dropping parts drop_parts : ℕ) (sources : List Bool) (knows : Bool) (missing : Option (List ℕ))
+      (are : AreTogether submitters [] published dropping parts drop_parts sources knows) (audits : Audits sources published dropping new.next new.dropping missing) where
+    pub is_missing : (name : List ℕ) → option_or lost missing ≡ Some name → IsMissing submitters outcome.lanes.items
+    is_missing name is = by lost missing is gathers.found audits where
+      by : (l m : Option (List ℕ)) → option_or l m ≡ Some name → AreFound old handed (length handed) outcome.lanes.items l → Audits sources published dropping new.next new.dropping m → IsMissing submitters outcome.lanes.items
+      by (Some first) m e found audit = inl (found.number, found.missing)
+      by None (Some first) e found audit = inr (audit.0, are.away audit.0 audit.1 (λ i s at same. cc))
+      by None None e found audit = cc
+
+    pub is_whole : option_or lost missing ≡ None → outcome.published ≡ new.next → IsWhole submitters outcome
+    is_whole is now = by lost missing is gathers.found audits where
+      by : (l m : Option (List ℕ)) → option_or l m ≡ None → AreFound old handed (length handed) outcome.lanes.items l → Audits sources published dropping new.next new.dropping m → IsWhole submitters outcome
+      by (Some first) m e found audit = cc
+      by None (Some first) e found audit = cc
+      by None None e found audit = record {
+        numbered = found.numbered;
+        published = let sum = are.published_are in let all = audit.0 in omega arith;
+        dropped = λ i left at.
+            let is = left_at i left at in
+            let few = few_drops told old handed (length handed) sound left is.0 is.1 in
+            let sum = are.dropping_are in let all = audit.1 in let same = same_dropping in omega arith;
+      }
+
+module _ {B : Type 0} (submitters : List SubmitterState) (outcome : Outcome B) (closed : Bool) where
+  rests : (left : NamedLane B) → is_undone closed left ≡ false → left.lane.running ≡ false
+  rests left done = by left.lane.running done where
+    by : (running : Bool) → (running || (closed && is_none left.lane.ending)) ≡ false → running ≡ false
+    by true e = cc
+    by false e = refl
+
+  ends : (left : NamedLane B) → closed ≡ true → is_undone closed left ≡ false → IsSome left.lane.ending
+  ends left shut done = by left.lane.running closed left.lane.ending shut done where
+    by : (running c : Bool) (ending : Option How) → c ≡ true → (running || (c && is_none ending)) ≡ false → IsSome ending
+    by true c ending y e = cc
+    by false true None y e = cc
+    by false true (Some how) y e = refl
+    by false false ending y e = cc
+
+  pub judged_same : (result : Result (Outcome B) (Refusal × Outcome B)) → Judges outcome closed result → outcome_of result ≡ outcome
+  judged_same (Ok same) judges = judges.0
+  judged_same (Err (Refusal.Unsettled names, same)) judges = judges.0
+  judged_same (Err (Refusal.BadCapacity, same)) judges = absurd judges
+  judged_same (Err (Refusal.Closed ending, same)) judges = absurd judges
+  judged_same (Err (Refusal.Duplicate, same)) judges = absurd judges
+  judged_same (Err (Refusal.TooMany, same)) judges = absurd judges
+  judged_same (Err (Refusal.NoMemory, same)) judges = absurd judges
+  judged_same (Err (Refusal.LineTooLong, same)) judges = absurd judges
+  judged_same (Err (Refusal.BadWorkers, same)) judges = absurd judges
+  judged_same (Err (Refusal.StillHeld name, same)) judges = absurd judges
+  judged_same (Err (Refusal.Unknown, same)) judges = absurd judges
+  judged_same (Err (Refusal.WouldWait, same)) judges = absurd judges
+  judged_same (Err (Refusal.BadCommand, same)) judges = absurd judges
+  judged_same (Err (Refusal.Exhausted, same)) judges = absurd judges
+
+  pub finishes : (result : Result (Outcome B) (Refusal × Outcome B)) → Judges outcome closed result → IsWhole submitters outcome → (AnyKnows submitters → closed ≡ true) → Finishes submitters result
+  finishes (Ok same) judges whole knows =
+      let done : AreDone submitters outcome.lanes.items = record {
+        rests = λ i left at. rests left (judges.1 i left at);
+        ended = λ any i left at. ends left (knows any) (judges.1 i left at);
+      } in
+      subst (λ (o : Outcome B). IsWhole submitters o × AreDone submitters o.lanes.items) (sym judges.0) (whole, done)
+  finishes (Err (Refusal.Unsettled names, same)) judges whole knows = subst (λ (o : Outcome B). IsWhole submitters o × NamesUndone names.items o.lanes.items) (sym judges.0) (whole, judges.1)
+  finishes (Err (Refusal.BadCapacity, same)) judges whole knows = absurd judges
+  finishes (Err (Refusal.Closed ending, same)) judges whole knows = absurd judges
+  finishes (Err (Refusal.Duplicate, same)) judges whole knows = absurd judges
+  finishes (Err (Refusal.TooMany, same)) judges whole knows = absurd judges
+  finishes (Err (Refusal.NoMemory, same)) judges whole knows = absurd judges
+  finishes (Err (Refusal.LineTooLong, same)) judges whole knows = absurd judges
+  finishes (Err (Refusal.BadWorkers, same)) judges whole knows = absurd judges
+  finishes (Err (Refusal.StillHeld name, same)) judges whole knows = absurd judges
+  finishes (Err (Refusal.Unknown, same)) judges whole knows = absurd judges
+  finishes (Err (Refusal.WouldWait, same)) judges whole knows = absurd judges
+  finishes (Err (Refusal.BadCommand, same)) judges whole knows = absurd judges
+  finishes (Err (Refusal.Exhausted, same)) judges whole knows = absurd judges
+
+pub handed_none : {B : Type 0} (subscriptions : List SubscriptionState) (lanes : List (NamedLane B)) → lanes ≡ [] → AreHandedIn subscriptions lanes
+handed_none subscriptions [] e = record { rising = λ i j left other at on less. cc; each = λ i left at. cc }
+handed_none subscriptions (left ∷ lanes) e = cc
+
+-- one that was handed in knows that the publisher is closed
+pub closed_by : (submitters : List SubmitterState) (published dropping parts drop_parts : ℕ) (sources : List Bool) (knows also : Bool) → AreTogether submitters [] published dropping parts drop_parts sources knows
+    → AnyKnows submitters → (knows || also) ≡ true
+closed_by submitters published dropping parts drop_parts sources knows also are any = by (are.knows_is any) where
+  either : (a : Bool) → a ≡ true → (a || also) ≡ true
+  either true e = refl
+  either false e = cc
+  by : (knows ≡ true) ⊎ AnyKnows [] → (knows || also) ≡ true
+  by (inl known) = either knows known
+  by (inr one) = let no = one.2.0 in cc
+
+pub all_found : {B : Type 0} (old : Hub DeskState) (handed : List Bool) (most : ℕ) (lanes : List (NamedLane B)) (lost missing : Option (List ℕ)) → option_or lost missing ≡ None → AreFound old handed most lanes lost → length lanes ≡ most
+all_found old handed most lanes None missing is found = found.many
+all_found old handed most lanes (Some name) missing is found = cc

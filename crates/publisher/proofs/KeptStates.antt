@@ -1,0 +1,113 @@
+-- What stands behind a publisher's lock stays as it should, whatever is asked of its Hub.
+use Rattle.std.proofs.Common.{◌≡◌, ◌⊎◌, inl, inr, ℕ, ◌+◌, Bool, Option, None, Some, List, [], ◌∷◌, ◌++◌, length, map, refl, sym, ap, subst, ◌∙◌, arith, rules}
+use Rattle.std.specs.Prelude.{IsSome, slice_get, slice_set}
+use Rattle.std.proofs.lemmas.List.{length-map, length-append, length-set, map-set}
+use Rattle.flow_rules.specs.declared.feed.standing.Standing.{Standing}
+use Rattle.flow_rules.specs.declared.refusal.Refusal.{Refusal}
+use Rattle.flow_rules.specs.declared.refusal.Refusal.TheVariants as Refusal
+use Rattle.feed_core.specs.Desk.{DeskState}
+use Rattle.feed_core.specs.Feed.{end_of, DoesCall}
+use Rattle.feed_core.specs.LaneCalls.{IsCapacity}
+use Rattle.publisher_hub.specs.Entry.{EntryState, entry_of}
+use Rattle.publisher_hub.specs.Hub.{HubState, Progress, hub_of}
+use Rattle.publisher_hub.specs.Lists.{Each}
+use Rattle.publisher_hub.specs.Looking.{IsKept, IsLookedAt, LooksAtAll}
+use Rattle.publisher_hub.specs.Sound.{IsSound}
+use Rattle.publisher_hub.specs.Subscribing.{IsSeen, IsSeenInPart, Refuses, FindsNoPlace, TellsOne, TellsAt}
+use Rattle.publisher_hub.specs.declared.entry.Entry.{Entry}
+use Rattle.publisher_hub.specs.declared.hub.Hub.{Hub}
+use Rattle.publisher_hub.specs.declared.work.Work.{Work}
+use Rattle.publisher.specs.State.{IsState, Sums}
+
+-- what a Hub's calls leave that neither publish nor add nor close
+pub record Stays (v w : HubState) : Type 0 where
+  pub progress : w.progress ≡ v.progress
+  pub sources : w.sources ≡ v.sources
+  pub opening : w.opening ≡ v.opening
+  pub many : length w.entries ≡ length v.entries
+
+pub stays_here : (v : HubState) → Stays v v
+stays_here v = record { progress = refl; sources = refl; opening = refl; many = refl }
+
+pub stays_then : {v w u : HubState} → Stays v w → Stays w u → Stays v u
+stays_then one other = record {
+  progress = other.progress ∙ one.progress;
+  sources = other.sources ∙ one.sources;
+  opening = other.opening ∙ one.opening;
+  many = other.many ∙ one.many;
+}
+
+pub stays_by : (v w : HubState) → w ≡ record v { entries = w.entries } → length w.entries ≡ length v.entries → Stays v w
+stays_by v w rest many = record {
+  progress = ap (λ (h : HubState). h.progress) rest;
+  sources = ap (λ (h : HubState). h.sources) rest;
+  opening = ap (λ (h : HubState). h.opening) rest;
+  many = many;
+}
+
+pub stays_seen : (v w : HubState) → w ≡ record v { entries = w.entries; live = w.live } → length w.entries ≡ length v.entries → Stays v w
+stays_seen v w rest many = record {
+  progress = ap (λ (h : HubState). h.progress) rest;
+  sources = ap (λ (h : HubState). h.sources) rest;
+  opening = ap (λ (h : HubState). h.opening) rest;
+  many = many;
+}
+
+pub stays_looked : (v w : HubState) → IsLookedAt v w → Stays v w
+stays_looked v w looked = stays_by v w looked.rest looked.entries.as_long
+
+-- lists of subscriptions that are as long
+pub as_many : (xs ys : List (Entry DeskState)) → length ys ≡ length xs → length (map (entry_of end_of) ys) ≡ length (map (entry_of end_of) xs)
+as_many xs ys same = length-map ys (entry_of end_of) ∙ same ∙ sym (length-map xs (entry_of end_of))
+
+pub stays_all_looked : (old new : Hub DeskState) (glances : List (Option Standing)) → LooksAtAll end_of DoesCall glances old new → Stays (hub_of end_of old) (hub_of end_of new)
+stays_all_looked old new glances looks = stays_by (hub_of end_of old) (hub_of end_of new) looks.rest (as_many old.entries.items new.entries.items looks.entries.as_long)
+
+-- so what stands behind the lock stays
+pub state_stays : (v w : HubState) (sums : Sums) → IsState v sums → IsSound w → Stays v w → IsState w sums
+state_stays v w sums is sound stays = record {
+  sound = sound;
+  sized = subst IsCapacity (sym (ap (λ (p : Progress). p.capacity) stays.progress)) is.sized;
+  opened = λ none. subst IsSome (sym stays.opening) (is.opened (sym (ap (λ (p : Progress). p.ending) stays.progress) ∙ none));
+  published_is = is.published_is ∙ sym (ap (λ (p : Progress). p.next) stays.progress);
+  dropping_is = is.dropping_is ∙ sym (ap (λ (p : Progress). p.dropping) stays.progress);
+  parts_are = is.parts_are;
+  none_published = is.none_published;
+  drop_parts_are = is.drop_parts_are;
+  none_dropped = is.none_dropped;
+  sources_are = is.sources_are ∙ sym stays.sources;
+  entries_are = is.entries_are ∙ sym stays.many;
+}
+
+pub state_all_looked : (old new : Hub DeskState) (glances : List (Option Standing)) (sums : Sums) → IsState (hub_of end_of old) sums → IsSound (hub_of end_of new)
+    → LooksAtAll end_of DoesCall glances old new → IsState (hub_of end_of new) sums
+state_all_looked old new glances sums is sound looks = state_stays (hub_of end_of old) (hub_of end_of new) sums is sound (stays_all_looked old new glances looks)
+
+-- a subscribing that is refused
+module _ (name : List ℕ) (due_before due_after : List (Work Unit)) (old new : Hub DeskState) where
+  stays_no_place : (refusal : Refusal) → FindsNoPlace end_of DoesCall name refusal old new → Stays (hub_of end_of old) (hub_of end_of new)
+  stays_no_place refusal finds = stays_seen (hub_of end_of old) (hub_of end_of new) finds.seen.rest finds.seen.kept.as_long
+
+  stays_in_part : IsSeenInPart end_of DoesCall old new ⊎ FindsNoPlace end_of DoesCall name Refusal.NoMemory old new → Stays (hub_of end_of old) (hub_of end_of new)
+  stays_in_part (inl seen) = stays_by (hub_of end_of old) (hub_of end_of new) seen.rest seen.kept.as_long
+  stays_in_part (inr finds) = stays_no_place Refusal.NoMemory finds
+
+  stays_told : (middle : Hub DeskState) → IsSeen end_of DoesCall old middle → TellsOne end_of DoesCall name due_before due_after middle new → Stays (hub_of end_of old) (hub_of end_of new)
+  stays_told middle seen tells = stays_then
+      (stays_seen (hub_of end_of old) (hub_of end_of middle) seen.rest seen.kept.as_long)
+      (stays_by (hub_of end_of middle) (hub_of end_of new) tells.tells.rest (as_many middle.entries.items new.entries.items (ap length tells.tells.entries ∙ length-set middle.entries.items tells.number tells.tells.after)))
+
+  pub stays_refused : (refusal : Refusal) → Refuses end_of DoesCall name refusal due_before due_after old new → Stays (hub_of end_of old) (hub_of end_of new)
+  stays_refused Refusal.Duplicate refuses = stays_told refuses.0 refuses.1.0 refuses.1.1
+  stays_refused Refusal.NoMemory refuses = stays_in_part refuses.0
+  stays_refused Refusal.BadCapacity refuses = stays_no_place Refusal.BadCapacity refuses.0
+  stays_refused (Refusal.Closed ending) refuses = stays_no_place (Refusal.Closed ending) refuses.0
+  stays_refused Refusal.TooMany refuses = stays_no_place Refusal.TooMany refuses.0
+  stays_refused Refusal.LineTooLong refuses = stays_no_place Refusal.LineTooLong refuses.0
+  stays_refused Refusal.BadWorkers refuses = stays_no_place Refusal.BadWorkers refuses.0
+  stays_refused (Refusal.StillHeld other) refuses = stays_no_place (Refusal.StillHeld other) refuses.0
+  stays_refused (Refusal.Unsettled names) refuses = stays_no_place (Refusal.Unsettled names) refuses.0
+  stays_refused Refusal.Unknown refuses = stays_no_place Refusal.Unknown refuses.0
+  stays_refused Refusal.WouldWait refuses = stays_no_place Refusal.WouldWait refuses.0
+  stays_refused Refusal.BadCommand refuses = stays_no_place Refusal.BadCommand refuses.0
+  stays_refused Refusal.Exhausted refuses = stays_no_place Refusal.Exhausted refuses.0

@@ -1,0 +1,12 @@
+pub mod Finishing
+pub mod GrownStates
+pub mod Judged
+pub mod KeptLanes
+pub mod KeptStates
+pub mod LeftLanes
+pub mod LentStates
+pub mod Marking
+pub mod Outcomes
+pub mod Refused
+pub mod TogetherSums
+pub mod TurnedStates

@@ -1,0 +1,110 @@
+use Rattle.std.proofs.Common.{◌≡◌, ◌∙◌, [], length, None, sym, ap, subst, arith, refl}
+use Rattle.std.proofs.lemmas.List.{length-replicate, with_items_is}
+use Rattle.feed_core.specs.Feed.{end_of}
+use Rattle.publisher_hub.specs.Hub.{hub_of}
+use Rattle.publisher.specs.Lanes.{AreMarked, Gathers}
+use Rattle.publisher.specs.Outcome.{AreHandedIn, IsOutcome}
+use Rattle.publisher.specs.State.{PublisherState}
+use Rattle.publisher.specs.Together.{Audits}
+use Rattle.publisher.proofs.Finishing.{all_found, closed_by, finishes, handed_in, handed_none, is_missing, is_outcome_of, is_whole, judged_same}
+use Rattle.publisher.proofs.KeptStates.{as_many, state_stays, stays_by}
+use Rattle.publisher.proofs.LeftLanes.{going_none}
+use Rattle.publisher.proofs.Outcomes.{is_outcome}
+use Rattle.publisher.proofs.state.State.finish.Goals as goal
+
+pub returns-in_default-clause-outcome : goal.returns-in_default-clause-outcome
+returns-in_default-clause-outcome g c =
+    let empty = ap (λ v. v.items) c.outcome.ensures.lanes ∙ c.new.ensures.items in
+    let published = c.outcome.ensures.published ∙ ap (λ (s : PublisherState). s.hub.next) (sym c.self.view_is) in
+    is_outcome g.B.Listener.told c.self.inside.hub [] 0 c.self.invariant.sound c.outcome.result (going_none g.B.Listener.told c.self.inside.hub [] c.outcome.result.lanes.items empty c.self.invariant.sound).gathers.left published
+
+pub returns-in_default-clause-handed : goal.returns-in_default-clause-handed
+returns-in_default-clause-handed g c = handed_none c.args.subscriptions.now c.outcome.result.lanes.items (ap (λ v. v.items) c.outcome.ensures.lanes ∙ c.new.ensures.items)
+
+pub invariant_of-self : goal.invariant_of-self
+invariant_of-self g c =
+    let gathers = c.take_lanes-lost.ensures.gathers in
+    let old = c.self.inside.hub in
+    let new = c.take_lanes-lost.new.hub in
+    state_stays (hub_of end_of old) (hub_of end_of new) _ c.self.invariant gathers.sound (stays_by (hub_of end_of old) (hub_of end_of new) gathers.rest (as_many old.entries.items new.entries.items gathers.as_long))
+
+pub returns-in-Some-clause-outcome : goal.returns-in-Some-clause-outcome
+returns-in-Some-clause-outcome g c =
+    let lanes = ap (λ v. v.items) c.outcome-outcome.ensures.lanes in
+    let n = c.self.inside.entries in
+    let whole_list = with_items_is c.in-Ok.room.handed c.mark_all.new.handed (c.mark_all.ensures.as_long ∙ c.deref_mut.ensures.len) in
+    let marked = subst (λ was. AreMarked c.args.subscriptions.now was c.deref.result.now) (c.deref_mut.ensures.value ∙ c.in-Ok.ensures.handed)
+        (subst (λ now. AreMarked c.args.subscriptions.now c.deref_mut.result.now now) (sym (c.deref.ensures.value ∙ whole_list)) c.mark_all.ensures) in
+    let gathers = subst (λ ls. Gathers g.B.Listener.told c.self.inside.hub c.take_lanes-lost.new.hub c.deref.result.now (length c.deref.result.now) ls c.take_lanes-lost.result) (sym lanes) c.take_lanes-lost.ensures.gathers in
+    let published = c.outcome-outcome.ensures.published ∙ ap (λ (s : PublisherState). s.hub.next) (c.audit-missing.ensures.same ∙ c.put_together-together.ensures.same) in
+    is_outcome_of g.B.Listener.told c.args.subscriptions.now c.self.inside.hub c.take_lanes-lost.new.hub n c.deref.result.now c.outcome-outcome.result c.take_lanes-lost.result c.self.invariant.sound marked gathers published
+
+pub returns-in-Some-clause-handed : goal.returns-in-Some-clause-handed
+returns-in-Some-clause-handed g c =
+    let lanes = ap (λ v. v.items) c.outcome-outcome.ensures.lanes in
+    let n = c.self.inside.entries in
+    let whole_list = with_items_is c.in-Ok.room.handed c.mark_all.new.handed (c.mark_all.ensures.as_long ∙ c.deref_mut.ensures.len) in
+    let marked = subst (λ was. AreMarked c.args.subscriptions.now was c.deref.result.now) (c.deref_mut.ensures.value ∙ c.in-Ok.ensures.handed)
+        (subst (λ now. AreMarked c.args.subscriptions.now c.deref_mut.result.now now) (sym (c.deref.ensures.value ∙ whole_list)) c.mark_all.ensures) in
+    let gathers = subst (λ ls. Gathers g.B.Listener.told c.self.inside.hub c.take_lanes-lost.new.hub c.deref.result.now (length c.deref.result.now) ls c.take_lanes-lost.result) (sym lanes) c.take_lanes-lost.ensures.gathers in
+    handed_in g.B.Listener.told c.args.subscriptions.now c.self.inside.hub c.take_lanes-lost.new.hub n c.deref.result.now c.outcome-outcome.result c.take_lanes-lost.result c.self.invariant.sound marked gathers
+
+pub returns-in-Some-clause-finishes : goal.returns-in-Some-clause-finishes
+returns-in-Some-clause-finishes g c =
+    let lanes = ap (λ v. v.items) c.outcome-outcome.ensures.lanes in
+    let n = c.self.inside.entries in
+    let whole_list = with_items_is c.in-Ok.room.handed c.mark_all.new.handed (c.mark_all.ensures.as_long ∙ c.deref_mut.ensures.len) in
+    let marked = subst (λ was. AreMarked c.args.subscriptions.now was c.deref.result.now) (c.deref_mut.ensures.value ∙ c.in-Ok.ensures.handed)
+        (subst (λ now. AreMarked c.args.subscriptions.now c.deref_mut.result.now now) (sym (c.deref.ensures.value ∙ whole_list)) c.mark_all.ensures) in
+    let gathers = subst (λ ls. Gathers g.B.Listener.told c.self.inside.hub c.take_lanes-lost.new.hub c.deref.result.now (length c.deref.result.now) ls c.take_lanes-lost.result) (sym lanes) c.take_lanes-lost.ensures.gathers in
+    let t = c.put_together-together.result in
+    let audits = subst (λ (s : PublisherState). Audits t.sources t.publications.amount t.drops.amount s.hub.next s.hub.dropping c.audit-missing.result) c.put_together-together.ensures.same c.audit-missing.ensures.audits in
+    is_missing g.B.Listener.told c.args.subscriptions.now c.self.inside.hub c.take_lanes-lost.new.hub n c.deref.result.now c.outcome-outcome.result c.take_lanes-lost.result c.self.invariant.sound marked gathers c.args.submitters.items t.publications.amount t.drops.amount t.publications.parts t.drops.parts t.sources t.knows c.audit-missing.result c.put_together-together.ensures.together audits c.in-Some.name (sym c.or.ensures ∙ c.in-Some.is)
+
+pub judge-requires-clause-room : goal.judge-requires-clause-room
+judge-requires-clause-room g c =
+    let lanes = ap (λ v. v.items) c.outcome-outcome.ensures.lanes in
+    let n = c.self.inside.entries in
+    let whole_list = with_items_is c.in-Ok.room.handed c.mark_all.new.handed (c.mark_all.ensures.as_long ∙ c.deref_mut.ensures.len) in
+    let marked = subst (λ was. AreMarked c.args.subscriptions.now was c.deref.result.now) (c.deref_mut.ensures.value ∙ c.in-Ok.ensures.handed)
+        (subst (λ now. AreMarked c.args.subscriptions.now c.deref_mut.result.now now) (sym (c.deref.ensures.value ∙ whole_list)) c.mark_all.ensures) in
+    let gathers = subst (λ ls. Gathers g.B.Listener.told c.self.inside.hub c.take_lanes-lost.new.hub c.deref.result.now (length c.deref.result.now) ls c.take_lanes-lost.result) (sym lanes) c.take_lanes-lost.ensures.gathers in
+    let many = all_found c.self.inside.hub c.deref.result.now (length c.deref.result.now) c.outcome-outcome.result.lanes.items c.take_lanes-lost.result c.audit-missing.result (sym c.or.ensures ∙ c.in-None.is) gathers.found in
+    let long = marked.as_long ∙ length-replicate n _ in
+    let room = c.in-Ok.ensures.unsettled.1 in
+    omega arith
+
+pub returns-clause-outcome : goal.returns-clause-outcome
+returns-clause-outcome g c =
+    let lanes = ap (λ v. v.items) c.outcome-outcome.ensures.lanes in
+    let n = c.self.inside.entries in
+    let whole_list = with_items_is c.in-Ok.room.handed c.mark_all.new.handed (c.mark_all.ensures.as_long ∙ c.deref_mut.ensures.len) in
+    let marked = subst (λ was. AreMarked c.args.subscriptions.now was c.deref.result.now) (c.deref_mut.ensures.value ∙ c.in-Ok.ensures.handed)
+        (subst (λ now. AreMarked c.args.subscriptions.now c.deref_mut.result.now now) (sym (c.deref.ensures.value ∙ whole_list)) c.mark_all.ensures) in
+    let gathers = subst (λ ls. Gathers g.B.Listener.told c.self.inside.hub c.take_lanes-lost.new.hub c.deref.result.now (length c.deref.result.now) ls c.take_lanes-lost.result) (sym lanes) c.take_lanes-lost.ensures.gathers in
+    let published = c.outcome-outcome.ensures.published ∙ ap (λ (s : PublisherState). s.hub.next) (c.audit-missing.ensures.same ∙ c.put_together-together.ensures.same) in
+    subst (λ o. IsOutcome g.B.Listener.told o) (sym (judged_same c.args.submitters.items c.outcome-outcome.result _ c.judge.result c.judge.ensures)) (is_outcome_of g.B.Listener.told c.args.subscriptions.now c.self.inside.hub c.take_lanes-lost.new.hub n c.deref.result.now c.outcome-outcome.result c.take_lanes-lost.result c.self.invariant.sound marked gathers published)
+
+pub returns-clause-handed : goal.returns-clause-handed
+returns-clause-handed g c =
+    let lanes = ap (λ v. v.items) c.outcome-outcome.ensures.lanes in
+    let n = c.self.inside.entries in
+    let whole_list = with_items_is c.in-Ok.room.handed c.mark_all.new.handed (c.mark_all.ensures.as_long ∙ c.deref_mut.ensures.len) in
+    let marked = subst (λ was. AreMarked c.args.subscriptions.now was c.deref.result.now) (c.deref_mut.ensures.value ∙ c.in-Ok.ensures.handed)
+        (subst (λ now. AreMarked c.args.subscriptions.now c.deref_mut.result.now now) (sym (c.deref.ensures.value ∙ whole_list)) c.mark_all.ensures) in
+    let gathers = subst (λ ls. Gathers g.B.Listener.told c.self.inside.hub c.take_lanes-lost.new.hub c.deref.result.now (length c.deref.result.now) ls c.take_lanes-lost.result) (sym lanes) c.take_lanes-lost.ensures.gathers in
+    subst (λ o. AreHandedIn c.args.subscriptions.now o.lanes.items) (sym (judged_same c.args.submitters.items c.outcome-outcome.result _ c.judge.result c.judge.ensures)) (handed_in g.B.Listener.told c.args.subscriptions.now c.self.inside.hub c.take_lanes-lost.new.hub n c.deref.result.now c.outcome-outcome.result c.take_lanes-lost.result c.self.invariant.sound marked gathers)
+
+pub returns-clause-finishes : goal.returns-clause-finishes
+returns-clause-finishes g c =
+    let lanes = ap (λ v. v.items) c.outcome-outcome.ensures.lanes in
+    let n = c.self.inside.entries in
+    let whole_list = with_items_is c.in-Ok.room.handed c.mark_all.new.handed (c.mark_all.ensures.as_long ∙ c.deref_mut.ensures.len) in
+    let marked = subst (λ was. AreMarked c.args.subscriptions.now was c.deref.result.now) (c.deref_mut.ensures.value ∙ c.in-Ok.ensures.handed)
+        (subst (λ now. AreMarked c.args.subscriptions.now c.deref_mut.result.now now) (sym (c.deref.ensures.value ∙ whole_list)) c.mark_all.ensures) in
+    let gathers = subst (λ ls. Gathers g.B.Listener.told c.self.inside.hub c.take_lanes-lost.new.hub c.deref.result.now (length c.deref.result.now) ls c.take_lanes-lost.result) (sym lanes) c.take_lanes-lost.ensures.gathers in
+    let t = c.put_together-together.result in
+    let audits = subst (λ (s : PublisherState). Audits t.sources t.publications.amount t.drops.amount s.hub.next s.hub.dropping c.audit-missing.result) c.put_together-together.ensures.same c.audit-missing.ensures.audits in
+    let published = c.outcome-outcome.ensures.published ∙ ap (λ (s : PublisherState). s.hub.next) (c.audit-missing.ensures.same ∙ c.put_together-together.ensures.same) in
+    finishes c.args.submitters.items c.outcome-outcome.result _ c.judge.result c.judge.ensures (is_whole g.B.Listener.told c.args.subscriptions.now c.self.inside.hub c.take_lanes-lost.new.hub n c.deref.result.now c.outcome-outcome.result c.take_lanes-lost.result c.self.invariant.sound marked gathers c.args.submitters.items t.publications.amount t.drops.amount t.publications.parts t.drops.parts t.sources t.knows c.audit-missing.result c.put_together-together.ensures.together audits (sym c.or.ensures ∙ c.in-None.is) published)
+        (closed_by c.args.submitters.items t.publications.amount t.drops.amount t.publications.parts t.drops.parts t.sources t.knows _ c.put_together-together.ensures.together)

@@ -1,0 +1,23 @@
+use Rattle.std.proofs.Common.{◌≡◌}
+use Rattle.feed_core.specs.Feed.{end_of}
+use Rattle.publisher_hub.specs.Hub.{hub_of}
+use Rattle.publisher.proofs.GrownStates.{on_ok_all, opened_after, state_ticketed}
+use Rattle.publisher.proofs.KeptStates.{state_stays, stays_refused, stays_seen}
+use Rattle.publisher.proofs.state.State.prepare.Goals as goal
+
+pub invariant_of-self : goal.invariant_of-self
+invariant_of-self g c =
+    let old = hub_of end_of c.self.inside.hub in
+    let new = hub_of end_of c.may_subscribe.new.self in
+    state_stays old new _ c.self.invariant c.may_subscribe.ensures.sound (stays_refused c.args.name c.args.due.now.items c.may_subscribe.new.due.items c.self.inside.hub c.may_subscribe.new.self c.in_err-may_subscribe.field-0.0 c.in_err-may_subscribe.ensures.err)
+
+pub invariant_of-self-2 : goal.invariant_of-self-2
+invariant_of-self-2 g c =
+    let old = hub_of end_of c.self.inside.hub in
+    let middle = hub_of end_of c.may_subscribe.new.self in
+    let seen = c.in_ok-may_subscribe.ensures.seen in
+    let is = state_stays old middle _ c.self.invariant c.may_subscribe.ensures.sound (stays_seen old middle seen.rest seen.kept.as_long) in
+    state_ticketed c.may_subscribe.new.self c.add_ticket.new.self _ is c.add_ticket.ensures.sound c.add_ticket.ensures.rest (λ none. opened_after c.add_ticket.result c.may_subscribe.new.self c.add_ticket.new.self (c.add_ticket.ensures.ok none) c.add_ticket.ensures.unchanged (is.opened none))
+
+pub returns : goal.returns
+returns g c = record { can = on_ok_all c.add_ticket.result (c.add_ticket.ensures.keeps c.args.name c.may_subscribe.new.due c.in_ok-may_subscribe.ensures.can) }

@@ -1,0 +1,9 @@
+pub mod Acting
+pub mod Handles
+pub mod Lanes
+pub mod Note
+pub mod Outcome
+pub mod Publishing
+pub mod State
+pub mod Together
+pub mod Turning

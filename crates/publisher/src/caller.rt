@@ -1,0 +1,140 @@
+//! How a thread has turns run, and publishes.
+ghost use Rattle.std.specs.Prelude.{◌≡◌, ◌+◌, [], IfErr, IfOk, OnErr, OnOk};
+ghost use Rattle.publisher.specs.Publishing.{drop_of};
+
+use crate::shared::{Shared, Turn, Worker};
+use async_pool::{Job, Pool};
+use crossbeam_utils::Backoff;
+use crate::state::Own;
+use flow_rules::{DropHandler, Listener, NoMemory, Refusal, Text};
+use publisher_hub::{Unpublished, Work};
+use std::alloc::Global;
+use std::sync::ledger::Ledger;
+use std::sync::{Arc, Wait};
+
+/// How often a blocked submitter looks for room before it sleeps.
+const LOOKS: u32 = 12;
+
+/// What one thread hands turns to the pool with, and runs those that come back.
+#[derive(Drop)]
+pub struct Caller<L: Ledger + Send, D: Ledger + Send, B: Listener + Send> {
+    pub worker: Worker<L, D, B>,
+    pool: Arc<Pool<Turn<L, D, B>>>,
+}
+
+impl<L: Ledger + Send, D: Ledger + Send, B: Listener + Send> Caller<L, D, B> {
+    /// One for one more thread.
+    pub fn new(
+        alloc: Global,
+        shared: &Arc<Shared<L, D, B>>,
+        pool: &Arc<Pool<Turn<L, D, B>>>,
+    ) -> Result<Caller<L, D, B>, NoMemory> {
+        Ok(Caller {
+            worker: Worker::new(alloc, shared)?,
+            pool: Arc::try_clone(pool)?,
+        })
+    }
+
+    /// Has the started turn of a subscription run.
+    pub fn start<R: Wait>(&mut self, rt: &R, entry: u32) {
+        self.hand_in(rt, Turn::of(entry));
+    }
+
+    /// Has all started turns run, in order. None is due then.
+    pub fn start_all<R: Wait>(&mut self, rt: &R, due: &mut Vec<Work<()>>) {
+        for work in due.iter() {
+            self.start(rt, work.entry);
+        }
+        due.clear();
+    }
+
+    /// Runs the turn that the pool would run next. False where there is none.
+    pub fn run_one<R: Wait>(&mut self, rt: &R) -> bool {
+        let Some(turn) = self.pool.run_one(rt) else {
+            return false;
+        };
+        if let Some(again) = turn.run(rt, &mut self.worker) {
+            self.hand_in(rt, again);
+        }
+        true
+    }
+
+    /// Publishes a text, if all live subscriptions have room, and has the started turns run.
+    pub fn publish<R: Wait>(
+        &mut self,
+        rt: &R,
+        own: &mut Own<L, D>,
+        text: Text,
+        due: &mut Vec<Work<()>>,
+    ) -> Result<u64, Unpublished>
+        ensures one_more { OnOk result (own.new.publications.amount ≡ own.old.publications.amount + 1) }
+        ensures none { OnErr result (own.new.publications.amount ≡ own.old.publications.amount) }
+        ensures source { own.new.source ≡ own.old.source }
+        ensures drops { own.new.drops.amount ≡ own.old.drops.amount }
+    {
+        let published = self.worker.shared.state.lock(rt).publish(own, text, due);
+        self.start_all(rt, due);
+        published
+    }
+
+    /// Gives a text to all live subscriptions that have room, and has the started turns run.
+    pub fn offer<R: Wait>(
+        &mut self,
+        rt: &R,
+        own: &mut Own<L, D>,
+        text: Text,
+        handler: Option<&mut Box<dyn DropHandler>>,
+        due: &mut Vec<Work<()>>,
+    ) -> Result<i64, Refusal>
+        ensures one_more { OnOk result (own.new.publications.amount ≡ own.old.publications.amount + 1) }
+        ensures none { OnErr result (own.new.publications.amount ≡ own.old.publications.amount) }
+        ensures dropped { IfOk result (λ answer. own.new.drops.amount ≡ own.old.drops.amount + drop_of answer) }
+        ensures none_dropped { OnErr result (own.new.drops.amount ≡ own.old.drops.amount) }
+        ensures source { own.new.source ≡ own.old.source }
+    {
+        let answer = self.worker.shared.state.lock(rt).offer(own, text, handler, due);
+        self.start_all(rt, due);
+        answer
+    }
+
+    /// Does what may make room: it runs a turn of the pool; else it looks again soon, a bounded number of times; and then it
+    /// sleeps until another thread tells. The answer is how often it has looked since it did anything else.
+    pub fn pause<R: Wait>(&mut self, rt: &R, looks: u32, backoff: &Backoff) -> u32 {
+        if self.run_one(rt) {
+            return 0;
+        }
+        if looks < LOOKS {
+            backoff.snooze();
+            return looks + 1;
+        }
+        self.wait_for_room(rt);
+        0
+    }
+
+    /// Sleeps until another thread tells, where a publication would have to wait still.
+    fn wait_for_room<R: Wait>(&self, rt: &R) {
+        let shared = &self.worker.shared;
+        let mut state = shared.state.lock(rt);
+        if !state.may_publish() {
+            shared.wait(rt, state);
+        }
+    }
+
+    /// Hands turns to the pool, or runs them where they come back.
+    fn hand_in<R: Wait>(&mut self, rt: &R, turn: Turn<L, D, B>) {
+        if let Err(turn) = self.pool.execute(rt, turn) {
+            self.run(rt, turn);
+        }
+    }
+
+    /// Runs turns until none is owed.
+    fn run<R: Wait>(&mut self, rt: &R, turn: Turn<L, D, B>) {
+        let mut next = turn;
+        for _ in rt.forever() {
+            match next.run(rt, &mut self.worker) {
+                Some(again) => next = again,
+                None => return,
+            }
+        }
+    }
+}

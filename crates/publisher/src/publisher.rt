@@ -1,0 +1,264 @@
+//! The publisher.
+ghost use Rattle.std.specs.Prelude.{◌≡◌, ◌↔◌, ◌⊎◌, ◌<◌, [], zero, Err, IfErr, IfOk, IfSome, IsSome, OnErr, OnOk, Some};
+ghost use Rattle.std.specs.Arc.{arc_value};
+ghost use Rattle.flow_rules.specs.declared.refusal.Refusal.TheVariants as Refusal;
+ghost use Rattle.async_pool.specs.Crew.{IsWorkerCount};
+ghost use Rattle.async_pool.specs.Pool.{pool_workers};
+ghost use Rattle.publisher.specs.declared.state.TheConstants.{PARTS};
+
+use crate::caller::Caller;
+use crate::note::Note;
+use crate::shared::{Shared, Turn, Worker};
+use crate::state::State;
+use crate::submitter::Submitter;
+use crate::subscription::Subscription;
+use async_pool::{MOST_WORKERS, Pool, Wide};
+use flow_rules::{Ending, Listener, Name, NoMemory, Refusal};
+use std::alloc::Global;
+use std::sync::ledger::{Blank, Ledger};
+use std::sync::{Arc, Condvar, Mutex, Wait};
+use std::thread;
+use std::thread::Threads;
+
+/// A publisher that threads share (`java.util.concurrent.SubmissionPublisher`).
+#[derive(Drop)]
+pub struct Publisher<L: Ledger + Send, D: Ledger + Send, B: Listener + Send> {
+    pub(crate) shared: Arc<Shared<L, D, B>>,
+    pool: Arc<Pool<Turn<L, D, B>>>,
+}
+
+impl<L: Ledger + Send + Sync + 'static, D: Ledger + Send + Sync + 'static, B: Listener + Send + 'static> Publisher<L, D, B> {
+    /// A publisher without subscriptions, whose buffers have the capacity that is enforced where this one is asked for, and whose
+    /// turns so many workers run, each a thread of its own. The two blanks are those of its ledgers.
+    ///
+    /// Refused 7 for any other number of workers than 1 to [`MOST_WORKERS`], then 1 where the capacity is 0, and then 5 where a growth
+    /// is refused or a thread can't be started; those that were started have ended then.
+    pub fn new<R: Threads + Wait + Copy + Send + 'static>(
+        rt: R,
+        alloc: Global,
+        publications: Blank,
+        drops: Blank,
+        workers: usize,
+        capacity: usize,
+    ) -> Result<Publisher<L, D, B>, Refusal>
+        requires publications { (publications.name ≡ L.name) × ((publications.parts ≡ L.parts) × (L.parts ≡ PARTS)) }
+        requires drops { (drops.name ≡ D.name) × ((drops.parts ≡ D.parts) × (D.parts ≡ PARTS)) }
+        ensures bad_workers { (result ≡ Err Refusal.BadWorkers) ↔ (¬ IsWorkerCount workers) }
+        ensures bad_capacity { IsWorkerCount workers → (result ≡ Err Refusal.BadCapacity) ↔ (capacity ≡ 0) }
+        ensures refusals { IfErr result (λ refusal. (refusal ≡ Refusal.BadWorkers) ⊎ ((refusal ≡ Refusal.BadCapacity) ⊎ (refusal ≡ Refusal.NoMemory))) }
+    {
+        if workers == 0 || workers > MOST_WORKERS {
+            return Err(Refusal::BadWorkers);
+        }
+        let state = State::new(alloc, capacity, publications, drops)?;
+        let publisher = Publisher::with(alloc, state, workers)?;
+        for worker in 0..workers {
+            if publisher.start(rt, alloc, worker).is_err() {
+                publisher.stop(&rt);
+                return Err(Refusal::NoMemory);
+            }
+        }
+        Ok(publisher)
+    }
+
+    /// A publisher whose workers were not started.
+    fn with(alloc: Global, state: State<L, D, B>, workers: usize) -> Result<Publisher<L, D, B>, NoMemory>
+        requires { IsWorkerCount workers }
+        ensures { IfOk result (λ publisher. pool_workers (arc_value publisher.pool) ≡ workers) }
+    {
+        let Ok(pool) = Pool::new(alloc, workers) else {
+            return Err(NoMemory);
+        };
+        Ok(Publisher {
+            shared: Arc::new(
+                alloc,
+                Shared {
+                    capacity: state.capacity(),
+                    state: Mutex::new(state),
+                    changed: Condvar::new(),
+                },
+            )?,
+            pool: Arc::new(alloc, pool)?,
+        })
+    }
+
+    /// Starts the thread of one worker.
+    fn start<R: Threads + Wait + Copy + Send + 'static>(
+        &self,
+        rt: R,
+        alloc: Global,
+        worker: usize,
+    ) -> Result<(), NoMemory>
+        requires { worker < pool_workers (arc_value self.now.pool) }
+    {
+        let mut context = Worker::new(alloc, &self.shared)?;
+        let pool = Arc::try_clone(&self.pool)?;
+        self.shared.state.lock(&rt).begin_loop();
+        let run = move ||
+            requires { worker < pool_workers (arc_value pool) }
+        {
+            pool.worker_loop(&rt, worker, &Wide, &mut context);
+            end_loop(&rt, &*context.shared);
+        };
+        if thread::spawn(&rt, run).is_err() {
+            end_loop(&rt, &*self.shared);
+            return Err(NoMemory);
+        }
+        Ok(())
+    }
+}
+
+impl<L: Ledger + Send, D: Ledger + Send, B: Listener + Send> Publisher<L, D, B> {
+    /// A note that knows nothing of the close.
+    pub fn note() -> Note
+        ensures { result.known ≡ None }
+    {
+        Note::new()
+    }
+
+    /// The capacity of each buffer (`SubmissionPublisher.getMaxBufferCapacity`).
+    pub fn max_buffer_capacity(&self) -> usize {
+        self.shared.capacity
+    }
+
+    /// How many items wait for that live subscription for which most do, and 0 where there is none
+    /// (`SubmissionPublisher.estimateMaximumLag`).
+    pub fn estimate_maximum_lag<R: Wait>(&self, rt: &R) -> u64 {
+        self.shared.state.lock(rt).max_lag()
+    }
+
+    /// How many subscriptions are live (`SubmissionPublisher.getNumberOfSubscribers`).
+    pub fn number_of_subscribers<R: Wait>(&self, rt: &R) -> usize {
+        self.shared.state.lock(rt).number_of_subscribers()
+    }
+
+    /// Whether a live subscription has this name (`SubmissionPublisher.isSubscribed`).
+    pub fn is_subscribed<R: Wait>(&self, rt: &R, name: Name) -> bool {
+        self.shared.state.lock(rt).is_subscribed(name)
+    }
+
+    /// Subscribes a subscriber that was told nothing (`SubmissionPublisher.subscribe`).
+    ///
+    /// Refused, with the subscriber back: 5 where a growth is refused; 3 where a live subscription has the name, whose subscriber is told of
+    /// it; 4 where as many are live as may be; 13 where as many subscriptions or tickets were made as may be; and 5 where a later
+    /// growth is refused.
+    pub fn subscribe<R: Wait>(
+        &self,
+        rt: &R,
+        alloc: Global,
+        name: Name,
+        subscriber: B,
+    ) -> Result<Subscription<L, D, B>, (Refusal, B)>
+        requires { B.told subscriber ≡ [] }
+    {
+        let Ok(mut caller) = Caller::new(alloc, &self.shared, &self.pool) else {
+            return Err((Refusal::NoMemory, subscriber));
+        };
+        let mut due = Vec::new(alloc);
+        let subscribed = self
+            .shared
+            .state
+            .lock(rt)
+            .subscribe(alloc, name, subscriber, &mut due);
+        caller.start_all(rt, &mut due);
+        let entry = subscribed?;
+        caller.start(rt, entry);
+        Ok(Subscription::new(caller, entry))
+    }
+
+    /// One more source of publications, which knows of the close where the note does.
+    ///
+    /// Refused 5 where a growth is refused, and 4 once as many were made as may be.
+    pub fn submitter<R: Wait>(
+        &self,
+        rt: &R,
+        alloc: Global,
+        note: &mut Note,
+    ) -> Result<Submitter<L, D, B>, Refusal>
+        ensures known { IfOk result (λ submitter. submitter.known ≡ note.old.known) }
+        ensures nothing { IfOk result (λ submitter. (submitter.published ≡ 0) × (submitter.dropping ≡ 0)) }
+        ensures same { note.new ≡ note.old }
+        ensures refusals { IfErr result (λ refusal. (refusal ≡ Refusal.NoMemory) ⊎ (refusal ≡ Refusal.TooMany)) }
+    {
+        let caller = Caller::new(alloc, &self.shared, &self.pool)?;
+        let own = self.shared.state.lock(rt).next_source()?;
+        Ok(Submitter::new(alloc, caller, own, note.known))
+    }
+
+    /// Closes the publisher (`SubmissionPublisher.close`): its subscribers get what was published before, and then complete. Only the first close
+    /// does anything; the note knows then which that was.
+    ///
+    /// Refused 5 where a growth is refused; nothing has changed then.
+    pub fn close<R: Wait>(&self, rt: &R, alloc: Global, note: &mut Note) -> Result<(), Refusal>
+        ensures knows { OnOk result (IsSome note.new.known) }
+        ensures same { IfSome note.old.known (λ ending. note.new.known ≡ Some ending) }
+        ensures err { OnErr result (note.new ≡ note.old) }
+        ensures refusals { IfErr result (λ refusal. refusal ≡ Refusal.NoMemory) }
+    {
+        self.end(rt, alloc, note, Ending::Normal)
+    }
+
+    /// The same with an error (`SubmissionPublisher.closeExceptionally`), which overtakes what was published before.
+    pub fn close_exceptionally<R: Wait>(
+        &self,
+        rt: &R,
+        alloc: Global,
+        note: &mut Note,
+        code: u32,
+    ) -> Result<(), Refusal>
+        ensures knows { OnOk result (IsSome note.new.known) }
+        ensures same { IfSome note.old.known (λ ending. note.new.known ≡ Some ending) }
+        ensures err { OnErr result (note.new ≡ note.old) }
+        ensures refusals { IfErr result (λ refusal. refusal ≡ Refusal.NoMemory) }
+    {
+        self.end(rt, alloc, note, Ending::Failed(code))
+    }
+
+    /// Closes the publisher so.
+    fn end<R: Wait>(
+        &self,
+        rt: &R,
+        alloc: Global,
+        note: &mut Note,
+        ending: Ending,
+    ) -> Result<(), Refusal>
+        ensures knows { OnOk result (IsSome note.new.known) }
+        ensures same { IfSome note.old.known (λ ending. note.new.known ≡ Some ending) }
+        ensures err { OnErr result (note.new ≡ note.old) }
+        ensures refusals { IfErr result (λ refusal. refusal ≡ Refusal.NoMemory) }
+    {
+        let mut caller = Caller::new(alloc, &self.shared, &self.pool)?;
+        let mut due = Vec::new(alloc);
+        let mut state = self.shared.state.lock(rt);
+        let closed = state.close(ending, &mut due)?;
+        self.shared.tell(state);
+        caller.start_all(rt, &mut due);
+        note.learn(closed);
+        Ok(())
+    }
+
+    /// Ends the workers, and drops the turns that are left.
+    pub(crate) fn stop<R: Wait>(&self, rt: &R) {
+        self.pool.shut(rt);
+        let mut state = self.shared.state.lock(rt);
+        for _ in rt.forever() {
+            if !state.has_loops() {
+                break;
+            }
+            state = self.shared.wait(rt, state);
+        }
+        drop(state);
+        for _ in rt.forever() {
+            if self.pool.run_one(rt).is_none() {
+                return;
+            }
+        }
+    }
+}
+
+/// The loop of a worker has ended.
+fn end_loop<L: Ledger, D: Ledger, B: Listener, R: Wait>(rt: &R, shared: &Shared<L, D, B>) {
+    let mut state = shared.state.lock(rt);
+    state.end_loop();
+    shared.tell(state);
+}

@@ -1,0 +1,108 @@
+//! What stands behind a publisher's lock: its calls are made in one hold of the lock each.
+mod acting;
+mod finishing;
+mod lanes;
+mod publishing;
+mod shares;
+mod subscribing;
+mod turning;
+mod waiting;
+
+ghost use Rattle.std.specs.Prelude.{◌≡◌, ◌⊎◌, ◌<◌, ◌↔◌, zero, Err, IfErr, IfOk};
+ghost use Rattle.flow_rules.specs.declared.refusal.Refusal.TheVariants as Refusal;
+
+use close_count::Count;
+use feed_core::Desk;
+use flow_rules::{Listener, Refusal, capacity};
+pub use publishing::Own;
+use publisher_hub::Hub;
+use std::alloc::Global;
+use std::marker::Model;
+use std::sync::ledger::{Blank, Book, Ledger, Share};
+
+/// The parts of each ledger: one for each of 256 submitters, and one that stays behind the lock.
+pub const PARTS: u64 = 257;
+
+/// What stands behind a publisher's lock.
+#[derive(Drop)]
+pub struct State<L: Ledger, D: Ledger, B: Listener> {
+    hub: Hub<Desk<B>>,
+    /// How many items were published, and how many offers found a buffer full: the sums of all shares.
+    published: Book<L>,
+    dropping: Book<D>,
+    /// The shares that no submitter has.
+    rest: Share<L>,
+    rest_of_drops: Share<D>,
+    /// How many submitters and subscriptions were made.
+    sources: u32,
+    entries: u32,
+    /// How many loops of workers have not ended, and how many threads wait for what others do. Neither is ever so many that it
+    /// saturates.
+    loops: u32,
+    waiting: u32,
+    /// Whether the last ticket of the count was spent.
+    drained: bool,
+}
+
+impl<L: Ledger, D: Ledger, B: Listener> Model for State<L, D, B> {
+    ghost use Rattle.feed_core.specs.Feed.{end_of};
+    ghost use Rattle.publisher_hub.specs.Hub.{hub_of};
+    ghost use Rattle.publisher.specs.State.{PublisherState, IsState};
+
+    ghost Value = { PublisherState };
+
+    ghost view = { λ s. record { hub = s.hub; drained = s.drained } };
+
+    ghost invariant = { λ s. IsState (hub_of end_of s.hub) (record {
+        published = s.published.total;
+        dropping = s.dropping.total;
+        parts = s.rest.parts;
+        amount = s.rest.amount;
+        drop_parts = s.rest_of_drops.parts;
+        drop_amount = s.rest_of_drops.amount;
+        sources = s.sources;
+        entries = s.entries;
+    }) };
+}
+
+impl<L: Ledger, D: Ledger, B: Listener> State<L, D, B> {
+    /// What stands behind the lock of a new publisher, whose buffers have the capacity that is enforced where this one is asked for.
+    ///
+    /// Refused 1 where that is 0, and 5 where a growth is refused.
+    pub fn new(
+        alloc: Global,
+        asked: usize,
+        publications: Blank,
+        drops: Blank,
+    ) -> Result<State<L, D, B>, Refusal>
+        requires publications { (publications.name ≡ L.name) × ((publications.parts ≡ L.parts) × (L.parts ≡ PARTS)) }
+        requires drops { (drops.name ≡ D.name) × ((drops.parts ≡ D.parts) × (D.parts ≡ PARTS)) }
+        ensures zero { (result ≡ Err Refusal.BadCapacity) ↔ (asked ≡ 0) }
+        ensures refusals { IfErr result (λ refusal. (refusal ≡ Refusal.BadCapacity) ⊎ (refusal ≡ Refusal.NoMemory)) }
+    {
+        let _ = capacity(asked)?;
+        let mut hub = Hub::new(alloc, asked)?;
+        hub.set_opening(Count::new(alloc)?);
+        let (published, rest) = publications.open::<L>();
+        let (dropping, rest_of_drops) = drops.open::<D>();
+        Ok(State {
+            hub,
+            published,
+            dropping,
+            rest,
+            rest_of_drops,
+            sources: 0,
+            entries: 0,
+            loops: 0,
+            waiting: 0,
+            drained: false,
+        })
+    }
+
+    /// The capacity of each buffer.
+    pub fn capacity(&self) -> usize
+        ensures { result ≡ self.now.hub.capacity }
+    {
+        self.hub.capacity()
+    }
+}

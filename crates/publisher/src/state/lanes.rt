@@ -1,0 +1,98 @@
+//! What is left of the subscriptions of a publisher.
+ghost use Rattle.std.specs.Prelude.{◌≡◌, ◌<◌, ◌≤◌, [], length, None, IfSome, slice_set, true, vec_capacity};
+ghost use Rattle.feed_core.specs.Feed.{end_of};
+ghost use Rattle.publisher_hub.specs.Hub.{hub_of};
+ghost use Rattle.publisher_hub.specs.Sound.{IsSound};
+ghost use Rattle.publisher_hub.specs.Lending.{feed_at};
+ghost use Rattle.publisher_hub.specs.Taking.{TakesOutAt};
+ghost use Rattle.publisher.specs.Lanes.{AreMarked, Gathers, TakesIf, TakesLane};
+
+use crate::outcome::NamedLane;
+use crate::subscription::Subscription;
+use feed_core::Desk;
+use flow_rules::{Listener, Name};
+use publisher_hub::Hub;
+use std::sync::ledger::Ledger;
+
+/// Marks the subscriptions that were handed in.
+pub(super) fn mark_all<L: Ledger + Send, D: Ledger + Send, B: Listener + Send>(
+    handed: &mut [bool],
+    subscriptions: &[Subscription<L, D, B>],
+)
+    ensures { AreMarked subscriptions.now handed.old handed.new }
+{
+    for subscription in subscriptions {
+        mark(handed, subscription.entry() as usize);
+    }
+}
+
+/// Sets the mark of this place, where there is one.
+fn mark(handed: &mut [bool], place: usize)
+    ensures { handed.new ≡ slice_set handed.old place true }
+{
+    if place < handed.len() {
+        handed[place] = true;
+    }
+}
+
+/// Takes the subscriptions that were handed in out, in order. The answer is the name of the first one that was not handed in, or was taken
+/// out before.
+pub(super) fn take_lanes<B: Listener>(
+    hub: &mut Hub<Desk<B>>,
+    handed: &[bool],
+    lanes: &mut Vec<NamedLane<B>>,
+) -> Option<Name>
+    requires sound { IsSound (hub_of end_of hub.old) }
+    requires all { length handed.now ≡ length hub.old.entries.items }
+    requires empty { lanes.old.items ≡ [] }
+    requires room { length handed.now ≤ vec_capacity lanes.old }
+    ensures gathers { Gathers B.told hub.old hub.new handed.now (length handed.now) lanes.new.items result }
+{
+    let mut lost = None;
+    for entry in 0..handed.len() {
+        match take_lane(hub, entry as u32, handed[entry]) {
+            Ok(left) => lanes.push_reserved(left),
+            Err(name) => lost = lost.or(Some(name)),
+        }
+    }
+    lost
+}
+
+/// Takes out the subscription of this number, if it was handed in. The name comes back if it wasn't, or was taken out before.
+fn take_lane<B: Listener>(
+    hub: &mut Hub<Desk<B>>,
+    entry: u32,
+    handed: bool,
+) -> Result<NamedLane<B>, Name>
+    requires sound { IsSound (hub_of end_of hub.old) }
+    requires there { entry < length hub.old.entries.items }
+    ensures takes { TakesLane B.told entry handed result hub.old hub.new }
+    ensures sound { IsSound (hub_of end_of hub.new) }
+{
+    let name = hub.name_of(entry).unwrap();
+    let since = hub.since(entry).unwrap();
+    let dropped = hub.dropped(entry).unwrap();
+    match take_if(hub, entry, handed) {
+        Some(desk) => Ok(NamedLane {
+            name,
+            entry,
+            since,
+            dropped,
+            lane: desk.into_lane(),
+        }),
+        None => Err(name),
+    }
+}
+
+/// Takes out the producer's end of the subscription of this number, if that was handed in.
+fn take_if<B: Listener>(hub: &mut Hub<Desk<B>>, entry: u32, handed: bool) -> Option<Desk<B>>
+    requires sound { IsSound (hub_of end_of hub.old) }
+    ensures takes { TakesIf entry handed result hub.old hub.new }
+    ensures sound { IsSound (hub_of end_of hub.new) }
+{
+    if handed {
+        hub.take_feed(entry)
+    } else {
+        None
+    }
+}

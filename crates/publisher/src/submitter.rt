@@ -1,0 +1,168 @@
+//! One source of publications.
+ghost use Rattle.std.specs.Prelude.{◌≡◌, ◌+◌, ◌<◌, ◌≤◌, is_some, None, Err, IfErr, IfOk, IfSome, OnErr, OnOk, length};
+ghost use Rattle.flow_rules.specs.declared.refusal.Refusal.TheVariants as Refusal;
+ghost use Rattle.flow_rules.specs.declared.text.TheConstants.Text.{LONGEST};
+ghost use Rattle.publisher.specs.Handles.{RefusesPublication, told_by};
+ghost use Rattle.publisher.specs.Publishing.{drop_of};
+
+use crate::caller::Caller;
+use crate::note::Note;
+use crate::state::Own;
+use crossbeam_utils::Backoff;
+use flow_rules::{DropHandler, Ending, Listener, Refusal, Text};
+use publisher_hub::{Unpublished, Work};
+use std::alloc::Global;
+use std::marker::Model;
+use std::sync::Wait;
+use std::sync::ledger::Ledger;
+
+/// One source of a publisher's items, with what it was told of the close. [`finish`](crate::finish) takes it back.
+#[derive(Drop)]
+pub struct Submitter<L: Ledger + Send, D: Ledger + Send, B: Listener + Send> {
+    caller: Caller<L, D, B>,
+    /// Its number, and its shares of the ledgers.
+    own: Own<L, D>,
+    note: Note,
+    /// The turns that a publication has started. Between two calls there are none.
+    due: Vec<Work<()>>,
+}
+
+impl<L: Ledger + Send, D: Ledger + Send, B: Listener + Send> Model for Submitter<L, D, B> {
+    ghost use Rattle.publisher.specs.Handles.{SubmitterState};
+
+    ghost Value = { SubmitterState };
+
+    ghost view = { λ s. record { source = s.own.source; known = s.note.known; published = s.own.publications.amount; dropping = s.own.drops.amount } };
+}
+
+impl<L: Ledger + Send, D: Ledger + Send, B: Listener + Send> Submitter<L, D, B> {
+    /// That of a source, which knows of this ending.
+    pub(crate) fn new(
+        alloc: Global,
+        caller: Caller<L, D, B>,
+        own: Own<L, D>,
+        known: Option<Ending>,
+    ) -> Submitter<L, D, B>
+        ensures { result ≡ record { source = own.source; known = known; published = own.publications.amount; dropping = own.drops.amount } }
+    {
+        Submitter {
+            caller,
+            own,
+            note: Note { known },
+            due: Vec::new(alloc),
+        }
+    }
+
+    /// Publishes a text to all live subscriptions at once, and waits as long as one of them has no room
+    /// (`SubmissionPublisher.submit`). The answer is the greatest lag, in items.
+    ///
+    /// Refused 2 where it knows of the close; 6 where the text has more than [`Text::LONGEST`] bytes; 5 where a growth is refused; 2
+    /// where the publisher is closed, and from then on it knows; and 13 once as many publications were made as may be.
+    pub fn submit<R: Wait>(&mut self, rt: &R, alloc: Global, text: &[u8]) -> Result<u64, Refusal>
+        ensures known { IfSome self.old.known (λ ending. (result ≡ Err (Refusal.Closed ending)) × (self.new ≡ self.old)) }
+        ensures long { self.old.known ≡ None → LONGEST < length text.now → result ≡ Err Refusal.LineTooLong }
+        ensures ok { OnOk result (self.new ≡ record self.old { published = self.old.published + 1 }) }
+        ensures err { IfErr result (λ refusal. self.new ≡ told_by refusal self.old) }
+        ensures refusals { IfErr result (λ refusal. RefusesPublication refusal self.new.known) }
+    {
+        let text = self.admit(alloc, text)?;
+        match self.publish(rt, text) {
+            Ok(lag) => Ok(lag),
+            Err(refusal) => Err(self.hear(refusal)),
+        }
+    }
+
+    /// Gives a text to all live subscriptions that have room, and drops it at the others (`SubmissionPublisher.offer`). Where a
+    /// buffer is full the handler is asked, and where that answers true the text is offered once more. The answer is the greatest lag, in
+    /// items, or minus the number of drops.
+    ///
+    /// It is refused as [`submit`](Submitter::submit) is.
+    pub fn offer<R: Wait>(
+        &mut self,
+        rt: &R,
+        alloc: Global,
+        text: &[u8],
+        handler: Option<&mut Box<dyn DropHandler>>,
+    ) -> Result<i64, Refusal>
+        ensures known { IfSome self.old.known (λ ending. (result ≡ Err (Refusal.Closed ending)) × (self.new ≡ self.old)) }
+        ensures long { self.old.known ≡ None → LONGEST < length text.now → result ≡ Err Refusal.LineTooLong }
+        ensures ok { IfOk result (λ answer. self.new ≡ record self.old { published = self.old.published + 1; dropping = self.old.dropping + drop_of answer }) }
+        ensures err { IfErr result (λ refusal. self.new ≡ told_by refusal self.old) }
+        ensures refusals { IfErr result (λ refusal. RefusesPublication refusal self.new.known) }
+    {
+        let text = self.admit(alloc, text)?;
+        let Submitter {
+            caller, own, due, ..
+        } = self;
+        match caller.offer(rt, own, text, handler, due) {
+            Ok(answer) => Ok(answer),
+            Err(refusal) => Err(self.hear(refusal)),
+        }
+    }
+
+    /// The text of a publication, where it need not be refused before the lock.
+    fn admit(&self, alloc: Global, text: &[u8]) -> Result<Text, Refusal>
+        ensures unknown { OnOk result (self.now.known ≡ None) }
+        ensures fits { OnOk result (length text.now ≤ LONGEST) }
+        ensures text { IfOk result (λ it. it ≡ text.now) }
+        ensures known { IfSome self.now.known (λ ending. result ≡ Err (Refusal.Closed ending)) }
+        ensures long { self.now.known ≡ None → LONGEST < length text.now → result ≡ Err Refusal.LineTooLong }
+        ensures err { IfErr result (λ refusal. self.now ≡ told_by refusal self.now) }
+        ensures refusals { IfErr result (λ refusal. RefusesPublication refusal self.now.known) }
+    {
+        if let Some(ending) = self.note.known {
+            return Err(Refusal::Closed(ending));
+        }
+        if text.len() > Text::LONGEST {
+            return Err(Refusal::LineTooLong);
+        }
+        Ok(Text::new(alloc, text)?)
+    }
+
+    /// Publishes a text, and waits as long as there is no room.
+    fn publish<R: Wait>(&mut self, rt: &R, text: Text) -> Result<u64, Refusal>
+        ensures ok { OnOk result (self.new ≡ record self.old { published = self.old.published + 1 }) }
+        ensures err { OnErr result (self.new ≡ self.old) }
+    {
+        let Submitter {
+            caller, own, due, ..
+        } = self;
+        let mut text = text;
+        let mut looks = 0;
+        let backoff = Backoff::new();
+        for _ in rt.forever() {
+            match caller.publish(rt, own, text, due) {
+                Ok(lag) => return Ok(lag),
+                Err(Unpublished::Refused(refusal)) => return Err(refusal),
+                Err(Unpublished::NoRoom(back)) => text = back,
+            }
+            looks = caller.pause(rt, looks, &backoff);
+        }
+        unreachable!()
+    }
+
+    /// It learns what a refusal tells of the close.
+    fn hear(&mut self, refusal: Refusal) -> Refusal
+        ensures value { result ≡ refusal }
+        ensures told { self.new ≡ told_by refusal self.old }
+    {
+        self.note.hear(&refusal);
+        refusal
+    }
+
+    /// What it owns, and whether it knows that the publisher is closed.
+    pub(crate) fn give_up(self) -> (Own<L, D>, bool)
+        ensures source { result.0.source ≡ self.source }
+        ensures published { result.0.publications.amount ≡ self.published }
+        ensures dropping { result.0.drops.amount ≡ self.dropping }
+        ensures knows { result.1 ≡ is_some self.known }
+    {
+        let Submitter {
+            own,
+            note,
+            caller: _,
+            due: _,
+        } = self;
+        (own, note.known.is_some())
+    }
+}
