@@ -21,9 +21,10 @@ latest g c =
     subst (λ (state : SessionState). IsLatest c.args.name state.subscriptions (Some c.in-Some.entry)) (sym c.self.view_is)
     (subst (IsLatest c.args.name c.args.self.now.subscriptions) c.in-Some.is c.latest.ensures)
 
-pub act_at-is_started-requires-clause-there : goal.act_at-is_started-requires-clause-there
-act_at-is_started-requires-clause-there g c =
-    λ κs lives. latest_there c.self.inside.hub c.args.name c.in-Some.entry c.self.invariant.2.publisher (latest g (goal.at.act_at-is_started-requires-clause-there g c).In-Some)
+pub act_at-is_started-requires : goal.act_at-is_started-requires
+act_at-is_started-requires g c = record {
+  there = latest_there c.self.inside.hub c.args.name c.in-Some.entry c.self.invariant.2.publisher (latest g (goal.at.act_at-is_started-requires g c).In-Some);
+}
 
 -- what is left once it was done
 done : (g : Over) (c : After-act_at-is_started g)

@@ -16,9 +16,10 @@ pub unwrap-name-requires : goal.unwrap-name-requires
 unwrap-name-requires g c =
     ap is_some c.name_of.ensures ∙ first_named c.self.inside c.self.invariant.2 c.unwrap-entry.result c.pop.new.self (first g (goal.at.unwrap-name-requires g c).After-unwrap-entry)
 
-pub turn_at-outlook-requires-clause-owed : goal.turn_at-outlook-requires-clause-owed
-turn_at-outlook-requires-clause-owed g c =
-    λ κs lives. first_turn c.self.inside c.self.invariant.2 c.unwrap-entry.result c.pop.new.self (first g (goal.at.turn_at-outlook-requires-clause-owed g c).After-unwrap-entry)
+pub turn_at-outlook-requires : goal.turn_at-outlook-requires
+turn_at-outlook-requires g c = record {
+  owed = first_turn c.self.inside c.self.invariant.2 c.unwrap-entry.result c.pop.new.self (first g (goal.at.turn_at-outlook-requires g c).After-unwrap-entry);
+}
 
 pub push_if-requires : goal.push_if-requires
 push_if-requires g c = record {
