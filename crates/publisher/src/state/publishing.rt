@@ -4,6 +4,7 @@ ghost use Rattle.feed_core.specs.Feed.{DoesCall, end_of};
 ghost use Rattle.flow_rules.specs.declared.refusal.Refusal.TheVariants as Refusal;
 ghost use Rattle.publisher_hub.specs.Publishing.{OffersItem, Publishes, RefusesItem, RefusesOffer};
 ghost use Rattle.publisher_hub.specs.declared.hub.TheConstants.{SOURCES};
+ghost use Rattle.publisher.specs.Handles.{IsHubReason, IsHubRefusal};
 ghost use Rattle.publisher.specs.Publishing.{drop_of};
 
 use super::State;
@@ -56,6 +57,7 @@ impl<L: Ledger, D: Ledger, B: Listener> State<L, D, B> {
     ) -> Result<u64, Unpublished>
         ensures ok { IfOk result (λ lag. Publishes end_of DoesCall own.old.source text self.old.hub self.new.hub due.old.items due.new.items lag) }
         ensures err { IfErr result (λ why. RefusesItem end_of DoesCall text self.old.hub self.new.hub why) }
+        ensures reasons { IfErr result (λ why. IsHubReason why) }
         ensures one_more { OnOk result (own.new.publications.amount ≡ own.old.publications.amount + 1) }
         ensures none { OnErr result (own.new.publications.amount ≡ own.old.publications.amount) }
         ensures source { own.new.source ≡ own.old.source }
@@ -78,6 +80,7 @@ impl<L: Ledger, D: Ledger, B: Listener> State<L, D, B> {
     ) -> Result<i64, Refusal>
         ensures ok { IfOk result (λ answer. OffersItem end_of DoesCall own.old.source text (is_none handler.entry) self.old.hub self.new.hub due.old.items due.new.items answer) }
         ensures err { IfErr result (λ refusal. RefusesOffer end_of DoesCall self.old.hub self.new.hub refusal) }
+        ensures reasons { IfErr result (λ refusal. IsHubRefusal refusal) }
         ensures one_more { OnOk result (own.new.publications.amount ≡ own.old.publications.amount + 1) }
         ensures none { OnErr result (own.new.publications.amount ≡ own.old.publications.amount) }
         ensures dropped { IfOk result (λ answer. own.new.drops.amount ≡ own.old.drops.amount + drop_of answer) }
