@@ -7,6 +7,5 @@ pub mod LeftLanes
 pub mod LentStates
 pub mod Marking
 pub mod Outcomes
-pub mod Refused
 pub mod TogetherSums
 pub mod TurnedStates

@@ -3,7 +3,7 @@ ghost use Rattle.std.specs.Prelude.{◌≡◌, ◌+◌, ◌<◌, ◌⊎◌, IfEr
 ghost use Rattle.feed_core.specs.Feed.{DoesCall, end_of};
 ghost use Rattle.flow_rules.specs.declared.refusal.Refusal.TheVariants as Refusal;
 ghost use Rattle.publisher_hub.specs.Publishing.{OffersItem, Publishes, RefusesItem, RefusesOffer};
-ghost use Rattle.publisher_hub.specs.declared.hub.TheConstants.{SOURCES};
+ghost use Rattle.publisher.specs.declared.state.TheConstants.{SOURCES};
 ghost use Rattle.publisher.specs.Handles.{IsHubReason, IsHubRefusal};
 ghost use Rattle.publisher.specs.Publishing.{drop_of};
 
