@@ -7,5 +7,6 @@ pub mod LeftLanes
 pub mod LentStates
 pub mod Marking
 pub mod Outcomes
+pub mod Refused
 pub mod TogetherSums
 pub mod TurnedStates

@@ -1,5 +1,5 @@
 //! Publishing, and closing.
-ghost use Rattle.std.specs.Prelude.{◌≡◌, ◌+◌, ◌<◌, ◌⊎◌, IfErr, IfOk, OnErr, OnOk, is_none, length, IsSome};
+ghost use Rattle.std.specs.Prelude.{◌≡◌, ◌+◌, ◌<◌, IfErr, IfOk, IsSome, None, OnErr, OnOk, Some, false, is_none};
 ghost use Rattle.feed_core.specs.Feed.{DoesCall, end_of};
 ghost use Rattle.flow_rules.specs.declared.refusal.Refusal.TheVariants as Refusal;
 ghost use Rattle.publisher_hub.specs.Publishing.{OffersItem, Publishes, RefusesItem, RefusesOffer};
@@ -99,8 +99,19 @@ impl<L: Ledger, D: Ledger, B: Listener> State<L, D, B> {
         Ok(answer)
     }
 
-    /// Closes the publisher so, if it isn't. The answer is how it is closed.
+    /// How the publisher is closed, if it is.
+    pub fn ending(&self) -> Option<Ending>
+        ensures { result ≡ self.now.hub.ending }
+    {
+        self.hub.ending()
+    }
+
+    /// Closes the publisher so, if it isn't, and spends the opening ticket then. The answer is how it is closed.
     pub fn close(&mut self, ending: Ending, due: &mut Vec<Work<()>>) -> Result<Ending, Refusal>
+        ensures closed { IfOk result (λ how. self.new.hub.ending ≡ Some how) }
+        ensures first { self.old.hub.ending ≡ None → IfOk result (λ how. how ≡ ending) }
+        ensures later { IsSome self.old.hub.ending → self.new ≡ self.old }
+        ensures err { OnErr result (self.new.drained ≡ self.old.drained) }
         ensures refusals { IfErr result (λ refusal. refusal ≡ Refusal.NoMemory) }
     {
         let is_last = spend_opening(self.hub.end(ending, due)?);
@@ -122,7 +133,9 @@ fn count_drop<D: Ledger>(dropping: &mut Book<D>, drops: &mut Share<D>, answer: i
 }
 
 /// Spends the opening ticket, if there is one. The answer is whether it was the last of its count.
-fn spend_opening(opening: Option<Opening>) -> bool {
+fn spend_opening(opening: Option<Opening>) -> bool
+    ensures { opening ≡ None → result ≡ false }
+{
     match opening {
         Some(opening) => opening.try_complete(),
         None => false,
