@@ -2,7 +2,7 @@
 use Rattle.std.proofs.Common.{◌≡◌, ◌⊎◌, inl, inr, ℕ, zero, suc, ◌+◌, ◌<◌, ◌≤◌, ◌||◌, ◌&&◌, is_none, Bool, true, false, Option, None, Some, Result, Ok, Err, List, [], ◌∷◌, length, replicate, refl, sym, ap, subst, ◌∙◌, arith, rules}
 use Rattle.std.specs.Prelude.{IsSome, slice_get, sum_by}
 use Rattle.std.specs.Option.{option_or}
-use Rattle.std.proofs.lemmas.Option.{slice_get_within}
+use Rattle.std.proofs.lemmas.Option.{same_Some, slice_get_within}
 use Rattle.flow_rules.specs.declared.refusal.Refusal.{Refusal}
 use Rattle.flow_rules.specs.declared.refusal.Refusal.TheVariants as Refusal
 use Rattle.feed_core.specs.Prelude.{How, Signal}
@@ -15,9 +15,11 @@ use Rattle.publisher_hub.proofs.Places.{there}
 use Rattle.publisher.specs.Handles.{SubmitterState, SubscriptionState}
 use Rattle.publisher.specs.Lanes.{AreFound, AreLeft, AreMarked, Gathers, IsHandedIn, IsLeftOf}
 use Rattle.publisher.specs.Outcome.{AnyKnows, AreDone, AreHandedIn, Finishes, IsMissing, IsOutcome, IsWhole, Judges, NamesUndone, is_undone, outcome_of}
+use Rattle.publisher.specs.State.{IsState, Sums}
 use Rattle.publisher.specs.Together.{AreTogether, Audits}
 use Rattle.publisher.specs.declared.outcome.NamedLane.{NamedLane}
 use Rattle.publisher.specs.declared.outcome.Outcome.{Outcome}
+use Rattle.publisher.proofs.KeptStates.{as_many, state_stays, stays_by}
 use Rattle.publisher.proofs.Outcomes.{few_drops, is_outcome}
 
 no_true : (n k : ℕ) → slice_get (replicate n false) k ≡ Some true → ⊥
@@ -25,8 +27,8 @@ no_true zero k at = cc
 no_true (suc n) zero at = cc
 no_true (suc n) (suc k) at = no_true n k at
 
-module _ {B : Type 0} (told : B → List Signal) (subscriptions : List SubscriptionState) (old new : Hub DeskState) (n : ℕ) (handed : List Bool) (outcome : Outcome B) (lost : Option (List ℕ))
-    (sound : IsSound (hub_of end_of old)) (marked : AreMarked subscriptions (replicate n false) handed) (gathers : Gathers told old new handed (length handed) outcome.lanes.items lost) where
+module _ {B : Type 0} (told : B → List Signal) (subscriptions : List SubscriptionState) (old new : Hub DeskState) (n : ℕ) (handed : List Bool) (outcome : Outcome B) (lost : Option (List ℕ)) (gone : Bool)
+    (sound : IsSound (hub_of end_of old)) (marked : AreMarked subscriptions (replicate n false) handed) (gathers : Gathers told old new handed (length handed) outcome.lanes.items lost gone) where
   left_at : (i : ℕ) (left : NamedLane B) → slice_get outcome.lanes.items i ≡ Some left → (desk : DeskState) × IsLeftOf told old handed (length handed) left desk
   left_at i left at =
       let desk = there gathers.left.desks i (subst (λ m. i < m) (sym gathers.left.as_many) (slice_get_within outcome.lanes.items i left at)) in
@@ -49,16 +51,20 @@ module _ {B : Type 0} (told : B → List Signal) (subscriptions : List Subscript
 
   module _ (submitters : List SubmitterState) (published dropping parts drop_parts : ℕ) (sources : List Bool) (knows : Bool) (missing : Option (List ℕ))
       (are : AreTogether submitters [] published dropping parts drop_parts sources knows) (audits : Audits sources published dropping new.next new.dropping missing) where
-    pub is_missing : (name : List ℕ) → option_or lost missing ≡ Some name → IsMissing submitters outcome.lanes.items
-    is_missing name is = by lost missing is gathers.found audits where
-      by : (l m : Option (List ℕ)) → option_or l m ≡ Some name → AreFound old handed (length handed) outcome.lanes.items l → Audits sources published dropping new.next new.dropping m → IsMissing submitters outcome.lanes.items
-      by (Some first) m e found audit = inl (found.number, found.missing)
-      by None (Some first) e found audit = inr (audit.0, are.away audit.0 audit.1 (λ i s at same. cc))
+    pub is_missing : (name : List ℕ) → gone ≡ false → option_or lost missing ≡ Some name → IsMissing name submitters subscriptions outcome.lanes.items
+    is_missing name here is = by lost missing is gathers.found audits where
+      by : (l m : Option (List ℕ)) → option_or l m ≡ Some name → AreFound handed (length handed) outcome.lanes.items l gone → Audits sources published dropping new.next new.dropping m
+          → IsMissing name submitters subscriptions outcome.lanes.items
+      by (Some first) m e found audit = inl (found.number, (found.first, marked.unmarked found.number (found.why here)))
+      by None (Some first) e found audit = inr (audit.0, (
+        subst (λ n. audit.0 < n) are.long (slice_get_within sources audit.0 false audit.1.1),
+        (sym (same_Some first name e) ∙ audit.1.0, (are.away audit.0 audit.1.1 (λ i s at same. cc), found.numbered)),
+      ))
       by None None e found audit = cc
 
     pub is_whole : option_or lost missing ≡ None → outcome.published ≡ new.next → IsWhole submitters outcome
     is_whole is now = by lost missing is gathers.found audits where
-      by : (l m : Option (List ℕ)) → option_or l m ≡ None → AreFound old handed (length handed) outcome.lanes.items l → Audits sources published dropping new.next new.dropping m → IsWhole submitters outcome
+      by : (l m : Option (List ℕ)) → option_or l m ≡ None → AreFound handed (length handed) outcome.lanes.items l gone → Audits sources published dropping new.next new.dropping m → IsWhole submitters outcome
       by (Some first) m e found audit = cc
       by None (Some first) e found audit = cc
       by None None e found audit = record {
@@ -70,7 +76,7 @@ module _ {B : Type 0} (told : B → List Signal) (subscriptions : List Subscript
             let sum = are.dropping_are in let all = audit.1 in let same = same_dropping in omega arith;
       }
 
-module _ {B : Type 0} (submitters : List SubmitterState) (outcome : Outcome B) (closed : Bool) where
+module _ {B : Type 0} (submitters : List SubmitterState) (subscriptions : List SubscriptionState) (outcome : Outcome B) (closed : Bool) where
   rests : (left : NamedLane B) → is_undone closed left ≡ false → left.lane.running ≡ false
   rests left done = by left.lane.running done where
     by : (running : Bool) → (running || (closed && is_none left.lane.ending)) ≡ false → running ≡ false
@@ -101,7 +107,7 @@ module _ {B : Type 0} (submitters : List SubmitterState) (outcome : Outcome B) (
   judged_same (Err (Refusal.BadCommand, same)) judges = absurd judges
   judged_same (Err (Refusal.Exhausted, same)) judges = absurd judges
 
-  pub finishes : (result : Result (Outcome B) (Refusal × Outcome B)) → Judges outcome closed result → IsWhole submitters outcome → (AnyKnows submitters → closed ≡ true) → Finishes submitters result
+  pub finishes : (result : Result (Outcome B) (Refusal × Outcome B)) → Judges outcome closed result → IsWhole submitters outcome → (AnyKnows submitters → closed ≡ true) → Finishes submitters subscriptions result
   finishes (Ok same) judges whole knows =
       let done : AreDone submitters outcome.lanes.items = record {
         rests = λ i left at. rests left (judges.1 i left at);
@@ -137,6 +143,12 @@ closed_by submitters published dropping parts drop_parts sources knows also are 
   by (inl known) = either knows known
   by (inr one) = let no = one.2.0 in cc
 
-pub all_found : {B : Type 0} (old : Hub DeskState) (handed : List Bool) (most : ℕ) (lanes : List (NamedLane B)) (lost missing : Option (List ℕ)) → option_or lost missing ≡ None → AreFound old handed most lanes lost → length lanes ≡ most
-all_found old handed most lanes None missing is found = found.many
-all_found old handed most lanes (Some name) missing is found = cc
+pub all_found : {B : Type 0} (handed : List Bool) (most : ℕ) (lanes : List (NamedLane B)) (lost missing : Option (List ℕ)) (gone : Bool) → option_or lost missing ≡ None → AreFound handed most lanes lost gone → length lanes ≡ most
+all_found handed most lanes None missing gone is found = found.many
+all_found handed most lanes (Some name) missing gone is found = cc
+
+-- what stands behind the lock stays where lanes are taken out
+pub state_gathered : {B : Type 0} (told : B → List Signal) (old new : Hub DeskState) {handed : List Bool} {most : ℕ} {lanes : List (NamedLane B)} {lost : Option (List ℕ)} {gone : Bool} (sums : Sums)
+    → IsState (hub_of end_of old) sums → Gathers told old new handed most lanes lost gone → IsState (hub_of end_of new) sums
+state_gathered told old new sums is gathers =
+    state_stays (hub_of end_of old) (hub_of end_of new) sums is gathers.sound (stays_by (hub_of end_of old) (hub_of end_of new) gathers.rest (as_many old.entries.items new.entries.items gathers.as_long))

@@ -1,5 +1,5 @@
 -- How what is left of the subscriptions of a Hub is taken out, one after the other.
-use Rattle.std.proofs.Common.{◌≡◌, ◌⊎◌, inl, inr, ℕ, zero, suc, ◌+◌, ◌<◌, ◌≤◌, Bool, true, false, Option, None, Some, option_map, Ok, Err, List, [], ◌∷◌, ◌++◌, length, map, refl, sym, ap, subst, ◌∙◌, arith, rules}
+use Rattle.std.proofs.Common.{◌≡◌, ◌⊎◌, inl, inr, ℕ, zero, suc, ◌+◌, ◌<◌, ◌≤◌, ◌||◌, Bool, true, false, Option, None, Some, option_map, Ok, Err, List, [], ◌∷◌, ◌++◌, length, map, refl, sym, ap, subst, ◌∙◌, arith, rules}
 use Rattle.std.specs.Prelude.{slice_get, slice_set}
 use Rattle.std.specs.Option.{option_and_then}
 use Rattle.std.proofs.lemmas.List.{length-append, length-set}
@@ -22,14 +22,28 @@ use Rattle.publisher_hub.proofs.Places.{there}
 use Rattle.publisher.specs.Lanes.{AreAllLeft, AreFound, AreLeft, Gathers, IsLeft, IsLeftOf, IsLost, TakesIf, TakesLane, TakesNone, TakesOne}
 use Rattle.publisher.specs.declared.outcome.NamedLane.{NamedLane}
 
+left_false : (a b : Bool) → (a || b) ≡ false → a ≡ false
+left_false true b e = cc
+left_false false b e = refl
+
+right_false : (a b : Bool) → (a || b) ≡ false → b ≡ false
+right_false true b e = cc
+right_false false b e = e
+
+-- what stands in a list stands there still where one more was added
+get_still : {X : Type 0} (xs : List X) (x : X) (k : ℕ) (y : X) → slice_get xs k ≡ Some y → slice_get (xs ++ x ∷ []) k ≡ Some y
+get_still [] x k y at = cc
+get_still (first ∷ xs) x zero y at = at
+get_still (first ∷ xs) x (suc k) y at = get_still xs x k y at
+
 -- how far the taking out has come
-pub record Going {B : Type 0} (told : B → List Signal) (old new : Hub DeskState) (handed : List Bool) (most : ℕ) (lanes : List (NamedLane B)) (lost : Option (List ℕ)) : Type 0 where
-  pub gathers : Gathers told old new handed most lanes lost
+pub record Going {B : Type 0} (told : B → List Signal) (old new : Hub DeskState) (handed : List Bool) (most : ℕ) (lanes : List (NamedLane B)) (lost : Option (List ℕ)) (gone : Bool) : Type 0 where
+  pub gathers : Gathers told old new handed most lanes lost gone
   pub ahead : (k : ℕ) → most ≤ k → slice_get new.entries.items k ≡ slice_get old.entries.items k
   pub few : length lanes ≤ most
 
 module _ {B : Type 0} (told : B → List Signal) (old : Hub DeskState) (handed : List Bool) where
-  pub going_none : (lanes : List (NamedLane B)) → lanes ≡ [] → IsSound (hub_of end_of old) → Going told old old handed 0 lanes None
+  pub going_none : (lanes : List (NamedLane B)) → lanes ≡ [] → IsSound (hub_of end_of old) → Going told old old handed 0 lanes None false
   going_none [] none sound = record {
     gathers = record {
       left = record { desks = []; as_many = refl; each = λ i left desk at on. cc; rising = λ i j left other at on less. cc };
@@ -81,22 +95,25 @@ module _ {B : Type 0} (told : B → List Signal) (old : Hub DeskState) (handed :
       rises i j it other less (inr last) (inl on) = let within = slice_get_within lanes j other on in let end = last.0 in absurd (omega arith)
       rises i j it other less (inr last) (inr also) = let end = last.0 in let other_end = also.0 in absurd (omega arith)
 
-    found_more : (lost : Option (List ℕ)) → AreFound old handed most lanes lost → AreFound old handed (most + 1) (lanes ++ left ∷ []) lost
-    found_more None found = record {
+    found_more : (lost : Option (List ℕ)) (gone : Bool) → AreFound handed most lanes lost gone → AreFound handed (most + 1) (lanes ++ left ∷ []) lost gone
+    found_more None gone found = record {
       many = length-append lanes (left ∷ []) ∙ ap (λ n. n + 1) found.many;
       numbered = λ i it at. by i it (get_grown lanes left i it at);
     } where
       by : (i : ℕ) (it : NamedLane B) → (slice_get lanes i ≡ Some it) ⊎ ((i ≡ length lanes) × (left ≡ it)) → it.entry ≡ i
       by i it (inl at) = found.numbered i it at
       by i it (inr last) = sym (ap (λ (l : NamedLane B). l.entry) last.1) ∙ number ∙ sym found.many ∙ sym last.0
-    found_more (Some name) found = record {
+    found_more (Some name) gone found = record {
       number = found.number;
       below = let less = found.below in omega arith;
+      first = record {
+        before = λ k less. let lane = found.first.before k less in (lane.0, (get_still lanes left k lane.0 lane.1.0, lane.1.1));
+        none = λ i it at. by i it (get_grown lanes left i it at);
+      };
       why = found.why;
-      missing = λ i it at. by i it (get_grown lanes left i it at);
     } where
       by : (i : ℕ) (it : NamedLane B) → (slice_get lanes i ≡ Some it) ⊎ ((i ≡ length lanes) × (left ≡ it)) → it.entry ≡ found.number → ⊥
-      by i it (inl at) same = found.missing i it at same
+      by i it (inl at) same = found.first.none i it at same
       by i it (inr last) same = let less = found.below in let one = ap (λ (l : NamedLane B). l.entry) last.1 in absurd (omega arith)
 
   -- what is ahead of the next stays
@@ -104,15 +121,12 @@ module _ {B : Type 0} (told : B → List Signal) (old : Hub DeskState) (handed :
       → ((k : ℕ) → most ≤ k → slice_get new.entries.items k ≡ slice_get old.entries.items k) → (k : ℕ) → most + 1 ≤ k → slice_get later.entries.items k ≡ slice_get old.entries.items k
   ahead_set new later most entry set ahead k le = ap (λ es. slice_get es k) set ∙ get_elsewhere new.entries.items most k entry (λ same. absurd (omega arith)) ∙ ahead k (omega arith)
 
-  same_feed : (new : Hub DeskState) (most : ℕ) → slice_get new.entries.items most ≡ slice_get old.entries.items most → feed_at new most ≡ feed_at old most
-  same_feed new most same = ap (option_and_then (λ (entry : Entry DeskState). entry.feed)) same
-
-  module _ (new later : Hub DeskState) (most : ℕ) (lanes : List (NamedLane B)) (lost : Option (List ℕ)) (mark : Bool) (going : Going told old new handed most lanes lost) (sound : IsSound (hub_of end_of later))
+  module _ (new later : Hub DeskState) (most : ℕ) (lanes : List (NamedLane B)) (lost : Option (List ℕ)) (gone mark : Bool) (going : Going told old new handed most lanes lost gone) (sound : IsSound (hub_of end_of later))
       (marked : slice_get handed most ≡ Some mark) where
     rest_later : hub_of end_of later ≡ record (hub_of end_of new) { entries = (hub_of end_of later).entries } → hub_of end_of later ≡ record (hub_of end_of old) { entries = (hub_of end_of later).entries }
     rest_later rest = rest ∙ ap (λ (h : HubState). record h { entries = (hub_of end_of later).entries }) going.gathers.rest
 
-    pub going_took : (left : NamedLane B) → TakesLane told most mark (Ok left) new later → Going told old later handed (most + 1) (lanes ++ left ∷ []) lost
+    pub going_took : (left : NamedLane B) → TakesLane told most mark (Ok left) new later → Going told old later handed (most + 1) (lanes ++ left ∷ []) lost gone
     going_took left takes =
         let one = takes.takes.1 in
         let is : IsLeftOf told old handed (most + 1) left one.desk = record {
@@ -126,7 +140,7 @@ module _ {B : Type 0} (told : B → List Signal) (old : Hub DeskState) (handed :
         record {
           gathers = record {
             left = one_more most lanes left one.desk going.gathers.left is one.number_is;
-            found = found_more most lanes left one.desk going.gathers.left is one.number_is lost going.gathers.found;
+            found = found_more most lanes left one.desk going.gathers.left is one.number_is lost gone going.gathers.found;
             rest = rest_later takes.rest;
             as_long = ap length one.entries ∙ length-set new.entries.items most (entry_without_feed new.next one.entry) ∙ going.gathers.as_long;
             sound = sound;
@@ -135,19 +149,19 @@ module _ {B : Type 0} (told : B → List Signal) (old : Hub DeskState) (handed :
           few = let few = going.few in let many = length-append lanes (left ∷ []) in omega arith;
         }
 
-    lost_here : (name : List ℕ) → TakesNone most mark new later → IsLost old handed (most + 1) lanes
-    lost_here name none = record {
+    lost_here : AreAllLeft most lanes → IsLost handed (most + 1) lanes (gone || mark)
+    lost_here all = record {
       number = most;
       below = omega arith;
-      why = by none.why;
-      missing = λ i left at same. let less = below most lanes i left going.gathers.left at in absurd (omega arith);
-    } where
-      by : (mark ≡ false) ⊎ (feed_at new most ≡ None) → (slice_get handed most ≡ Some false) ⊎ (feed_at old most ≡ None)
-      by (inl no_mark) = inl (marked ∙ ap Some no_mark)
-      by (inr gone) = inr (sym (same_feed new most (going.ahead most (omega arith))) ∙ gone)
+      first = record {
+        before = λ k less. let lane = there lanes k (let many = all.many in omega arith) in (lane.0, (lane.1, all.numbered k lane.0 lane.1));
+        none = λ i left at same. let less = below most lanes i left going.gathers.left at in absurd (omega arith);
+      };
+      why = λ here. marked ∙ ap Some (right_false gone mark here);
+    }
 
     pub going_lost : (name : List ℕ) (lost_then : Option (List ℕ)) → (lost ≡ None → lost_then ≡ Some name) → ((first : List ℕ) → lost ≡ Some first → lost_then ≡ Some first) → TakesLane told most mark (Err name) new later
-        → Going told old later handed (most + 1) lanes lost_then
+        → Going told old later handed (most + 1) lanes lost_then (gone || mark)
     going_lost name lost_then none some takes = record {
       gathers = record {
         left = still_left most lanes going.gathers.left;
@@ -159,13 +173,13 @@ module _ {B : Type 0} (told : B → List Signal) (old : Hub DeskState) (handed :
       ahead = λ k le. ap (λ es. slice_get es k) takes.takes.entries ∙ going.ahead k (omega arith);
       few = let few = going.few in omega arith;
     } where
-      found : (was : Option (List ℕ)) → lost ≡ was → AreFound old handed most lanes was → AreFound old handed (most + 1) lanes lost_then
-      found None e are = subst (λ l. AreFound old handed (most + 1) lanes l) (sym (none e)) (lost_here name takes.takes)
-      found (Some first) e are = subst (λ l. AreFound old handed (most + 1) lanes l) (sym (some first e)) (record {
+      found : (was : Option (List ℕ)) → lost ≡ was → AreFound handed most lanes was gone → AreFound handed (most + 1) lanes lost_then (gone || mark)
+      found None e are = subst (λ l. AreFound handed (most + 1) lanes l (gone || mark)) (sym (none e)) (lost_here are)
+      found (Some first) e are = subst (λ l. AreFound handed (most + 1) lanes l (gone || mark)) (sym (some first e)) (record {
         number = are.number;
         below = let less = are.below in omega arith;
-        why = are.why;
-        missing = are.missing;
+        first = are.first;
+        why = λ here. are.why (left_false gone mark here);
       })
 
 -- what a Hub answers of a subscription that stands there

@@ -1,60 +1,28 @@
--- Why publications are refused, and what a submitter learns then.
-use Rattle.std.proofs.Common.{◌≡◌, ℕ, Option, None, Some, List, refl, rules}
-use Rattle.flow_rules.specs.declared.ending.Ending.{Ending}
+-- Why no ticket is made for a subscription.
+use Rattle.std.proofs.Common.{Option, Result, Ok, Err}
+use Rattle.std.specs.Prelude.{IfErr}
+use Rattle.close_count.specs.declared.opening.Opening.{Opening}
+use Rattle.close_count.specs.declared.ticket.Ticket.{Ticket}
 use Rattle.flow_rules.specs.declared.refusal.Refusal.{Refusal}
 use Rattle.flow_rules.specs.declared.refusal.Refusal.TheVariants as Refusal
-use Rattle.feed_core.specs.Desk.{DeskState}
-use Rattle.feed_core.specs.Feed.{end_of, DoesCall}
-use Rattle.publisher_hub.specs.Publishing.{IsRefused, WhyNotOffered, WhyRefused}
-use Rattle.publisher_hub.specs.Hub.{Progress}
-use Rattle.publisher_hub.specs.declared.hub.Hub.{Hub}
-use Rattle.publisher_hub.specs.declared.hub.publishing.Unpublished.{Unpublished}
-use Rattle.publisher_hub.specs.declared.hub.publishing.Unpublished.TheVariants.{NoRoom, Refused}
-use Rattle.publisher.specs.Handles.{IsHubReason, IsHubRefusal, RefusesPublication, SubmitterState, told_by}
+use Rattle.publisher_hub.specs.OpeningTicket.{RefusesTicket}
+use Rattle.publisher.specs.Handles.{RefusesSubscribing}
 
-pub not_offered : (old new : Hub DeskState) (refusal : Refusal) → WhyNotOffered end_of DoesCall old new refusal → IsHubRefusal refusal
-not_offered old new Refusal.NoMemory why = record {}
-not_offered old new (Refusal.Closed ending) why = record {}
-not_offered old new Refusal.Exhausted why = record {}
-not_offered old new Refusal.BadCapacity why = why.0
-not_offered old new Refusal.Duplicate why = why.0
-not_offered old new Refusal.TooMany why = why.0
-not_offered old new Refusal.LineTooLong why = why.0
-not_offered old new Refusal.BadWorkers why = why.0
-not_offered old new (Refusal.StillHeld name) why = why.0
-not_offered old new (Refusal.Unsettled names) why = why.0
-not_offered old new Refusal.Unknown why = why.0
-not_offered old new Refusal.WouldWait why = why.0
-not_offered old new Refusal.BadCommand why = why.0
+no_ticket : (refusal : Refusal) (opening : Option Opening) → RefusesTicket refusal opening → RefusesSubscribing refusal
+no_ticket Refusal.Exhausted opening why = record {}
+no_ticket Refusal.NoMemory opening why = record {}
+no_ticket Refusal.Duplicate opening why = record {}
+no_ticket Refusal.TooMany opening why = record {}
+no_ticket Refusal.BadCapacity opening why = why
+no_ticket (Refusal.Closed ending) opening why = why
+no_ticket Refusal.LineTooLong opening why = why
+no_ticket Refusal.BadWorkers opening why = why
+no_ticket (Refusal.StillHeld other) opening why = why
+no_ticket (Refusal.Unsettled names) opening why = why
+no_ticket Refusal.Unknown opening why = why
+no_ticket Refusal.WouldWait opening why = why
+no_ticket Refusal.BadCommand opening why = why
 
-pub not_published : (text : List ℕ) (old new : Hub DeskState) (unpublished : Unpublished) → WhyRefused end_of DoesCall text old new unpublished → IsHubReason unpublished
-not_published text old new (NoRoom back) why = record {}
-not_published text old new (Refused Refusal.NoMemory) why = record {}
-not_published text old new (Refused (Refusal.Closed ending)) why = record {}
-not_published text old new (Refused Refusal.Exhausted) why = record {}
-not_published text old new (Refused Refusal.BadCapacity) why = why.0
-not_published text old new (Refused Refusal.Duplicate) why = why.0
-not_published text old new (Refused Refusal.TooMany) why = why.0
-not_published text old new (Refused Refusal.LineTooLong) why = why.0
-not_published text old new (Refused Refusal.BadWorkers) why = why.0
-not_published text old new (Refused (Refusal.StillHeld name)) why = why.0
-not_published text old new (Refused (Refusal.Unsettled names)) why = why.0
-not_published text old new (Refused Refusal.Unknown) why = why.0
-not_published text old new (Refused Refusal.WouldWait) why = why.0
-not_published text old new (Refused Refusal.BadCommand) why = why.0
-
--- one that knew nothing knows of the ending then
-pub heard : (refusal : Refusal) (submitter : SubmitterState) → submitter.known ≡ None → IsHubRefusal refusal → RefusesPublication refusal (told_by refusal submitter).known
-heard (Refusal.Closed ending) submitter none is = rw none refl
-heard Refusal.NoMemory submitter none is = record {}
-heard Refusal.Exhausted submitter none is = record {}
-heard Refusal.BadCapacity submitter none is = absurd is
-heard Refusal.Duplicate submitter none is = absurd is
-heard Refusal.TooMany submitter none is = absurd is
-heard Refusal.LineTooLong submitter none is = absurd is
-heard Refusal.BadWorkers submitter none is = absurd is
-heard (Refusal.StillHeld name) submitter none is = absurd is
-heard (Refusal.Unsettled names) submitter none is = absurd is
-heard Refusal.Unknown submitter none is = absurd is
-heard Refusal.WouldWait submitter none is = absurd is
-heard Refusal.BadCommand submitter none is = absurd is
+pub ticket_refused : (result : Result (Option Ticket) Refusal) (opening : Option Opening) → IfErr result (λ refusal. RefusesTicket refusal opening) → IfErr result (λ refusal. RefusesSubscribing refusal)
+ticket_refused (Ok ticket) opening why = record {}
+ticket_refused (Err refusal) opening why = no_ticket refusal opening why

@@ -2,7 +2,7 @@
 use Rattle.std.specs.Prelude.{◌≡◌, ⊤, ℕ, Option, Some, List}
 use Rattle.flow_rules.specs.declared.ending.Ending.{Ending}
 use Rattle.flow_rules.specs.declared.refusal.Refusal.{Refusal}
-use Rattle.flow_rules.specs.declared.refusal.Refusal.TheVariants.{Closed, NoMemory, LineTooLong, Exhausted}
+use Rattle.flow_rules.specs.declared.refusal.Refusal.TheVariants.{Closed, Duplicate, Exhausted, LineTooLong, NoMemory, TooMany}
 use Rattle.publisher_hub.specs.declared.hub.publishing.Unpublished.{Unpublished}
 use Rattle.publisher_hub.specs.declared.hub.publishing.Unpublished.TheVariants.{NoRoom, Refused}
 use Rattle.publisher.specs.Note.{known_by}
@@ -29,6 +29,14 @@ RefusesPublication NoMemory known = ⊤
 RefusesPublication LineTooLong known = ⊤
 RefusesPublication Exhausted known = ⊤
 RefusesPublication _ known = ⊥
+
+-- one of the refusals of a subscribing
+abbrev pub RefusesSubscribing : Refusal → Type 0
+RefusesSubscribing Duplicate = ⊤
+RefusesSubscribing TooMany = ⊤
+RefusesSubscribing NoMemory = ⊤
+RefusesSubscribing Exhausted = ⊤
+RefusesSubscribing _ = ⊥
 
 -- why the Hub refuses a publication
 abbrev pub IsHubRefusal : Refusal → Type 0

@@ -78,26 +78,31 @@ pub record AreLeft {B : Type 0} (told : B → List Signal) (hub : Hub DeskState)
   pub each : (i : ℕ) (left : NamedLane B) (desk : DeskState) → slice_get lanes i ≡ Some left → slice_get desks i ≡ Some desk → IsLeftOf told hub handed most left desk
   pub rising : (i j : ℕ) (left other : NamedLane B) → slice_get lanes i ≡ Some left → slice_get lanes j ≡ Some other → i < j → left.entry < other.entry
 
--- one of a smaller number than this was not handed in, or was taken out before
-pub record IsLost {B : Type 0} (hub : Hub DeskState) (handed : List Bool) (most : ℕ) (lanes : List (NamedLane B)) : Type 0 where
+-- the subscription of this number is the first that has no lane
+pub record IsFirstGap {B : Type 0} (number : ℕ) (lanes : List (NamedLane B)) : Type 0 where
+  pub before : (k : ℕ) → k < number → (left : NamedLane B) × ((slice_get lanes k ≡ Some left) × (left.entry ≡ k))
+  pub none : (i : ℕ) (left : NamedLane B) → slice_get lanes i ≡ Some left → left.entry ≡ number → ⊥
+
+-- the first that has no lane, of those with a smaller number than this: it was not handed in, where no buffer was gone before
+pub record IsLost {B : Type 0} (handed : List Bool) (most : ℕ) (lanes : List (NamedLane B)) (gone : Bool) : Type 0 where
   pub number : ℕ
   pub below : number < most
-  pub why : (slice_get handed number ≡ Some false) ⊎ (feed_at hub number ≡ None)
-  pub missing : (i : ℕ) (left : NamedLane B) → slice_get lanes i ≡ Some left → left.entry ≡ number → ⊥
+  pub first : IsFirstGap number lanes
+  pub why : gone ≡ false → slice_get handed number ≡ Some false
 
 -- each of a smaller number than this is there, at its place
 pub record AreAllLeft {B : Type 0} (most : ℕ) (lanes : List (NamedLane B)) : Type 0 where
   pub many : length lanes ≡ most
   pub numbered : (i : ℕ) (left : NamedLane B) → slice_get lanes i ≡ Some left → left.entry ≡ i
 
-abbrev pub AreFound : {B : Type 0} → Hub DeskState → List Bool → ℕ → List (NamedLane B) → Option (List ℕ) → Type 0
-AreFound hub handed most lanes None = AreAllLeft most lanes
-AreFound hub handed most lanes (Some name) = IsLost hub handed most lanes
+abbrev pub AreFound : {B : Type 0} → List Bool → ℕ → List (NamedLane B) → Option (List ℕ) → Bool → Type 0
+AreFound handed most lanes None gone = AreAllLeft most lanes
+AreFound handed most lanes (Some name) gone = IsLost handed most lanes gone
 
 -- the subscriptions of a Hub with a number below this that were handed in were taken out, in order
-pub record Gathers {B : Type 0} (told : B → List Signal) (old new : Hub DeskState) (handed : List Bool) (most : ℕ) (lanes : List (NamedLane B)) (lost : Option (List ℕ)) : Type 0 where
+pub record Gathers {B : Type 0} (told : B → List Signal) (old new : Hub DeskState) (handed : List Bool) (most : ℕ) (lanes : List (NamedLane B)) (lost : Option (List ℕ)) (gone : Bool) : Type 0 where
   pub left : AreLeft told old handed most lanes
-  pub found : AreFound old handed most lanes lost
+  pub found : AreFound handed most lanes lost gone
   pub rest : hub_of end_of new ≡ record (hub_of end_of old) { entries = (hub_of end_of new).entries }
   pub as_long : length new.entries.items ≡ length old.entries.items
   pub sound : IsSound (hub_of end_of new)

@@ -1,14 +1,15 @@
 -- What a publisher leaves: what its subscribers were told, and of what (`SubmissionPublisher` and `Flow`, Java SE 17; Reactive Streams 1.0).
-use Rattle.std.specs.Prelude.{◌≡◌, ◌⊎◌, ⊤, ℕ, ◌+◌, ◌<◌, ◌≤◌, ◌||◌, ◌&&◌, Bool, true, false, is_none, is_some, if◌then◌else◌, Option, None, Some, IsSome, Result, Ok, Err, List, [], ◌∷◌, ◌++◌, length, slice_get, sum_by}
+use Rattle.std.specs.Prelude.{◌≡◌, ◌⊎◌, ⊤, ℕ, ◌+◌, ◌<◌, ◌≤◌, ◌||◌, ◌&&◌, Bool, true, false, is_none, is_some, if◌then◌else◌, Option, None, Some, IsSome, Result, Ok, Err, List, [], ◌∷◌, ◌++◌, length, slice_get, sum_by, codes, decimal}
 use Rattle.flow_rules.specs.declared.refusal.Refusal.{Refusal}
 use Rattle.flow_rules.specs.declared.refusal.Refusal.TheVariants as Refusal
 use Rattle.feed_core.specs.Prelude.{Item, Signal, How}
 use Rattle.feed_core.specs.Lane.{LaneState, IsFlow, IsSettled}
 use Rattle.publisher_hub.specs.Sound.{IsOrdered}
 use Rattle.publisher.specs.Handles.{SubmitterState, SubscriptionState}
-use Rattle.publisher.specs.Lanes.{IsHandedIn}
+use Rattle.publisher.specs.Lanes.{IsFirstGap, IsHandedIn}
 use Rattle.publisher.specs.declared.outcome.NamedLane.{NamedLane}
 use Rattle.publisher.specs.declared.outcome.Outcome.{Outcome}
+use Rattle.publisher.specs.declared.state.TheConstants.{SOURCES}
 
 -- it took part in all that was published since it was subscribed: it goes on, or was completed
 abbrev pub TookPart : Option How → Type 0
@@ -63,9 +64,13 @@ pub record AreHandedIn {B : Type 0} (subscriptions : List SubscriptionState) (la
   pub rising : (i j : ℕ) (left other : NamedLane B) → slice_get lanes i ≡ Some left → slice_get lanes j ≡ Some other → i < j → left.entry < other.entry
   pub each : (i : ℕ) (left : NamedLane B) → slice_get lanes i ≡ Some left → IsHandedIn subscriptions left.entry
 
+-- each lane stands at the place of its number
+abbrev pub AreNumbered : {B : Type 0} → List (NamedLane B) → Type 0
+AreNumbered {B} lanes = (i : ℕ) (left : NamedLane B) → slice_get lanes i ≡ Some left → left.entry ≡ i
+
 -- all is there: each subscription that was made, and all submitters, whose shares sum up to what was published
 pub record IsWhole {B : Type 0} (submitters : List SubmitterState) (outcome : Outcome B) : Type 0 where
-  pub numbered : (i : ℕ) (left : NamedLane B) → slice_get outcome.lanes.items i ≡ Some left → left.entry ≡ i
+  pub numbered : AreNumbered outcome.lanes.items
   pub published : outcome.published ≡ sum_by (λ (s : SubmitterState). s.published) submitters
   pub dropped : (i : ℕ) (left : NamedLane B) → slice_get outcome.lanes.items i ≡ Some left → left.dropped ≤ sum_by (λ (s : SubmitterState). s.dropping) submitters
 
@@ -91,21 +96,29 @@ pub record NamesUndone {B : Type 0} (names : List (List ℕ)) (lanes : List (Nam
 abbrev pub IsAway : ℕ → List SubmitterState → Type 0
 IsAway source submitters = (i : ℕ) (s : SubmitterState) → slice_get submitters i ≡ Some s → s.source ≡ source → ⊥
 
--- no lane has this number
-abbrev pub HasNoLane : {B : Type 0} → ℕ → List (NamedLane B) → Type 0
-HasNoLane {B} number lanes = (i : ℕ) (left : NamedLane B) → slice_get lanes i ≡ Some left → left.entry ≡ number → ⊥
+-- the name of the submitter of this number, as `source-3`
+abbrev pub source_name : ℕ → List ℕ
+source_name source = codes "source-" ++ decimal source
+
+-- the first subscription that has no lane was not handed in
+abbrev pub IsLaneAway : {B : Type 0} → List SubscriptionState → List (NamedLane B) → Type 0
+IsLaneAway subscriptions lanes = (number : ℕ) × (IsFirstGap number lanes × (IsHandedIn subscriptions number → ⊥))
+
+-- the submitter with this name was not handed in, and no lane is missing
+abbrev pub IsSourceAway : {B : Type 0} → List ℕ → List SubmitterState → List (NamedLane B) → Type 0
+IsSourceAway name submitters lanes = (source : ℕ) × ((source < SOURCES) × ((name ≡ source_name source) × (IsAway source submitters × AreNumbered lanes)))
 
 -- a subscription or a submitter is missing
-abbrev pub IsMissing : {B : Type 0} → List SubmitterState → List (NamedLane B) → Type 0
-IsMissing submitters lanes = ((number : ℕ) × HasNoLane number lanes) ⊎ ((source : ℕ) × IsAway source submitters)
+abbrev pub IsMissing : {B : Type 0} → List ℕ → List SubmitterState → List SubscriptionState → List (NamedLane B) → Type 0
+IsMissing name submitters subscriptions lanes = IsLaneAway subscriptions lanes ⊎ IsSourceAway name submitters lanes
 
 -- the answers of `finish`, in the order of its refusals
-abbrev pub Finishes : {B : Type 0} → List SubmitterState → Result (Outcome B) (Refusal × Outcome B) → Type 0
-Finishes submitters (Ok outcome) = IsWhole submitters outcome × AreDone submitters outcome.lanes.items
-Finishes submitters (Err (Refusal.NoMemory, outcome)) = outcome.lanes.items ≡ []
-Finishes submitters (Err (Refusal.StillHeld name, outcome)) = IsMissing submitters outcome.lanes.items
-Finishes submitters (Err (Refusal.Unsettled names, outcome)) = IsWhole submitters outcome × NamesUndone names.items outcome.lanes.items
-Finishes submitters (Err (_, outcome)) = ⊥
+abbrev pub Finishes : {B : Type 0} → List SubmitterState → List SubscriptionState → Result (Outcome B) (Refusal × Outcome B) → Type 0
+Finishes submitters subscriptions (Ok outcome) = IsWhole submitters outcome × AreDone submitters outcome.lanes.items
+Finishes submitters subscriptions (Err (Refusal.NoMemory, outcome)) = outcome.lanes.items ≡ []
+Finishes submitters subscriptions (Err (Refusal.StillHeld name, outcome)) = IsMissing name submitters subscriptions outcome.lanes.items
+Finishes submitters subscriptions (Err (Refusal.Unsettled names, outcome)) = IsWhole submitters outcome × NamesUndone names.items outcome.lanes.items
+Finishes submitters subscriptions (Err (_, outcome)) = ⊥
 
 -- whether what is left runs, or has not ended where the publisher is closed
 abbrev pub is_undone : {B : Type 0} → Bool → NamedLane B → Bool

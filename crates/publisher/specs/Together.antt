@@ -1,7 +1,8 @@
 -- What the submitters that were handed in have together.
 use Rattle.std.specs.Prelude.{◌≡◌, ◌⊎◌, ℕ, zero, suc, ◌+◌, ◌<◌, ◌≤◌, Bool, true, false, Option, None, Some, IsSome, List, [], ◌∷◌, length, slice_get, sum_by}
 use Rattle.publisher.specs.Handles.{SubmitterState}
-use Rattle.publisher.specs.Outcome.{AnyKnows, IsAway}
+use Rattle.publisher.specs.Outcome.{AnyKnows, IsAway, source_name}
+use Rattle.publisher.specs.declared.state.TheConstants.{SOURCES}
 
 -- how many marks are set
 abbrev pub marks : List Bool → ℕ
@@ -16,7 +17,7 @@ pub record AreTogether (submitters rest : List SubmitterState) (published droppi
   pub dropping_are : dropping + sum_by (λ (s : SubmitterState). s.dropping) rest ≡ sum_by (λ (s : SubmitterState). s.dropping) submitters
   pub parts_are : parts + length rest ≡ length submitters
   pub drop_parts_are : drop_parts + length rest ≡ length submitters
-  pub long : length sources ≡ 256
+  pub long : length sources ≡ SOURCES
   pub few : marks sources + length rest ≤ length submitters
   pub away : (source : ℕ) → slice_get sources source ≡ Some false → IsAway source rest → IsAway source submitters
   pub knows_is : AnyKnows submitters → (knows ≡ true) ⊎ AnyKnows rest
@@ -24,9 +25,9 @@ pub record AreTogether (submitters rest : List SubmitterState) (published droppi
 -- the first of so many sources that is missing, if one is
 abbrev pub FindsMissing : List Bool → ℕ → Option ℕ → Type 0
 FindsMissing sources many None = (source : ℕ) → source < many → slice_get sources source ≡ Some true
-FindsMissing sources many (Some source) = slice_get sources source ≡ Some false
+FindsMissing sources many (Some source) = (source < many) × (slice_get sources source ≡ Some false)
 
 -- the shares of the submitters were compared with the totals: all is there, or one is missing
 abbrev pub Audits : List Bool → ℕ → ℕ → ℕ → ℕ → Option (List ℕ) → Type 0
 Audits sources published dropping next dropped None = (published ≡ next) × (dropping ≡ dropped)
-Audits sources published dropping next dropped (Some name) = (source : ℕ) × (slice_get sources source ≡ Some false)
+Audits sources published dropping next dropped (Some name) = (source : ℕ) × ((name ≡ source_name source) × (slice_get sources source ≡ Some false))

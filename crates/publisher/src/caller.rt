@@ -1,5 +1,6 @@
 //! How a thread has turns run, and publishes.
 ghost use Rattle.std.specs.Prelude.{◌≡◌, ◌+◌, [], IfErr, IfOk, OnErr, OnOk};
+ghost use Rattle.publisher.specs.Handles.{IsHubReason, IsHubRefusal};
 ghost use Rattle.publisher.specs.Publishing.{drop_of};
 
 use crate::shared::{Shared, Turn, Worker};
@@ -67,6 +68,7 @@ impl<L: Ledger + Send, D: Ledger + Send, B: Listener + Send> Caller<L, D, B> {
         text: Text,
         due: &mut Vec<Work<()>>,
     ) -> Result<u64, Unpublished>
+        ensures reasons { IfErr result (λ why. IsHubReason why) }
         ensures one_more { OnOk result (own.new.publications.amount ≡ own.old.publications.amount + 1) }
         ensures none { OnErr result (own.new.publications.amount ≡ own.old.publications.amount) }
         ensures source { own.new.source ≡ own.old.source }
@@ -86,6 +88,7 @@ impl<L: Ledger + Send, D: Ledger + Send, B: Listener + Send> Caller<L, D, B> {
         handler: Option<&mut Box<dyn DropHandler>>,
         due: &mut Vec<Work<()>>,
     ) -> Result<i64, Refusal>
+        ensures reasons { IfErr result (λ refusal. IsHubRefusal refusal) }
         ensures one_more { OnOk result (own.new.publications.amount ≡ own.old.publications.amount + 1) }
         ensures none { OnErr result (own.new.publications.amount ≡ own.old.publications.amount) }
         ensures dropped { IfOk result (λ answer. own.new.drops.amount ≡ own.old.drops.amount + drop_of answer) }

@@ -1,9 +1,10 @@
 //! The publisher.
-ghost use Rattle.std.specs.Prelude.{◌≡◌, ◌↔◌, ◌⊎◌, ◌<◌, [], zero, Err, IfErr, IfOk, IfSome, IsSome, OnErr, OnOk, Some};
+ghost use Rattle.std.specs.Prelude.{◌≡◌, ◌↔◌, ◌⊎◌, ◌<◌, [], zero, is_some, Err, IfErr, IfOk, IfSome, IsSome, OnErr, OnOk, Some};
 ghost use Rattle.std.specs.Arc.{arc_value};
 ghost use Rattle.flow_rules.specs.declared.refusal.Refusal.TheVariants as Refusal;
 ghost use Rattle.async_pool.specs.Crew.{IsWorkerCount};
 ghost use Rattle.async_pool.specs.Pool.{pool_workers};
+ghost use Rattle.publisher.specs.Handles.{RefusesSubscribing};
 ghost use Rattle.publisher.specs.declared.state.TheConstants.{PARTS};
 
 use crate::caller::Caller;
@@ -121,6 +122,25 @@ impl<L: Ledger + Send, D: Ledger + Send, B: Listener + Send> Publisher<L, D, B> 
         self.shared.capacity
     }
 
+    /// Whether the publisher is closed (`SubmissionPublisher.isClosed`). A note that knows answers without the lock.
+    pub fn is_closed<R: Wait>(&self, rt: &R, note: &mut Note) -> bool
+        ensures tells { result ≡ is_some note.new.known }
+        ensures same { IfSome note.old.known (λ ending. note.new.known ≡ Some ending) }
+    {
+        self.closed_with(rt, note).is_some()
+    }
+
+    /// How the publisher is closed, if it is (`SubmissionPublisher.getClosedException`). A note that knows answers without the lock.
+    pub fn closed_with<R: Wait>(&self, rt: &R, note: &mut Note) -> Option<Ending>
+        ensures tells { result ≡ note.new.known }
+        ensures same { IfSome note.old.known (λ ending. note.new.known ≡ Some ending) }
+    {
+        if note.known.is_none() {
+            note.known = self.shared.state.lock(rt).ending();
+        }
+        note.known
+    }
+
     /// How many items wait for that live subscription for which most do, and 0 where there is none
     /// (`SubmissionPublisher.estimateMaximumLag`).
     pub fn estimate_maximum_lag<R: Wait>(&self, rt: &R) -> u64 {
@@ -150,6 +170,8 @@ impl<L: Ledger + Send, D: Ledger + Send, B: Listener + Send> Publisher<L, D, B> 
         subscriber: B,
     ) -> Result<Subscription<L, D, B>, (Refusal, B)>
         requires { B.told subscriber ≡ [] }
+        ensures refusals { IfErr result (λ refused. RefusesSubscribing refused.0) }
+        ensures back { IfErr result (λ refused. refused.1 ≡ subscriber) }
     {
         let Ok(mut caller) = Caller::new(alloc, &self.shared, &self.pool) else {
             return Err((Refusal::NoMemory, subscriber));

@@ -2,6 +2,7 @@
 mod acting;
 mod finishing;
 mod lanes;
+mod naming;
 mod publishing;
 mod shares;
 mod subscribing;
@@ -19,6 +20,9 @@ use publisher_hub::Hub;
 use std::alloc::Global;
 use std::marker::Model;
 use std::sync::ledger::{Blank, Book, Ledger, Share};
+
+/// The most submitters of a publisher.
+pub(crate) const SOURCES: usize = 256;
 
 /// The parts of each ledger: one for each of 256 submitters, and one that stays behind the lock.
 pub const PARTS: u64 = 257;

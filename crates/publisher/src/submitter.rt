@@ -2,7 +2,7 @@
 ghost use Rattle.std.specs.Prelude.{◌≡◌, ◌+◌, ◌<◌, ◌≤◌, is_some, None, Err, IfErr, IfOk, IfSome, OnErr, OnOk, length};
 ghost use Rattle.flow_rules.specs.declared.refusal.Refusal.TheVariants as Refusal;
 ghost use Rattle.flow_rules.specs.declared.text.TheConstants.Text.{LONGEST};
-ghost use Rattle.publisher.specs.Handles.{RefusesPublication, told_by};
+ghost use Rattle.publisher.specs.Handles.{IsHubRefusal, RefusesPublication, told_by};
 ghost use Rattle.publisher.specs.Publishing.{drop_of};
 
 use crate::caller::Caller;
@@ -123,6 +123,7 @@ impl<L: Ledger + Send, D: Ledger + Send, B: Listener + Send> Submitter<L, D, B> 
     fn publish<R: Wait>(&mut self, rt: &R, text: Text) -> Result<u64, Refusal>
         ensures ok { OnOk result (self.new ≡ record self.old { published = self.old.published + 1 }) }
         ensures err { OnErr result (self.new ≡ self.old) }
+        ensures reasons { IfErr result (λ refusal. IsHubRefusal refusal) }
     {
         let Submitter {
             caller, own, due, ..

@@ -31,7 +31,7 @@ pub fn finish<L: Ledger + Send, D: Ledger + Send, B: Listener + Send, R: Wait>(
 
     // Of which subscriptions, and when it is refused.
     ensures handed { AreHandedIn subscriptions.items (outcome_of result).lanes.items }
-    ensures finishes { Finishes submitters.items result }
+    ensures finishes { Finishes submitters.items subscriptions.items result }
 {
     publisher.stop(rt);
     publisher

@@ -4,7 +4,7 @@ ghost use Rattle.publisher.specs.declared.state.TheConstants.{PARTS};
 ghost use Rattle.publisher.specs.Outcome.{AreHandedIn, Finishes, IsOutcome, Judges, is_undone, outcome_of};
 
 use super::State;
-use super::lanes::{mark_all, take_lanes};
+use super::lanes::{Lost, mark_all, take_lanes};
 use crate::outcome::{NamedLane, Outcome};
 use crate::submitter::Submitter;
 use crate::subscription::Subscription;
@@ -31,7 +31,7 @@ impl<L: Ledger + Send, D: Ledger + Send, B: Listener + Send> State<L, D, B> {
         requires { (L.parts ≡ PARTS) × (D.parts ≡ PARTS) }
         ensures outcome { IsOutcome B.told (outcome_of result) }
         ensures handed { AreHandedIn subscriptions.now (outcome_of result).lanes.items }
-        ensures finishes { Finishes submitters.items result }
+        ensures finishes { Finishes submitters.items subscriptions.now result }
     {
         let Ok(room) = new_room(alloc, self.entries as usize) else {
             return Err((Refusal::NoMemory, self.outcome(Vec::new(alloc))));
@@ -42,7 +42,11 @@ impl<L: Ledger + Send, D: Ledger + Send, B: Listener + Send> State<L, D, B> {
             unsettled,
         } = room;
         mark_all(&mut handed, subscriptions);
-        let lost = take_lanes(&mut self.hub, &handed, &mut lanes);
+        let Lost { first: lost, gone } = take_lanes(&mut self.hub, &handed, &mut lanes);
+        // Only another call of this takes buffers out, and a publisher is consumed by one.
+        if gone {
+            return Err((Refusal::NoMemory, self.outcome(Vec::new(alloc))));
+        }
         let together = self.put_together(submitters);
         let is_closed = together.knows | self.hub.ending().is_some();
         let missing = self.audit(together);

@@ -35,27 +35,38 @@ fn mark(handed: &mut [bool], place: usize)
     }
 }
 
-/// Takes the subscriptions that were handed in out, in order. The answer is the name of the first one that was not handed in, or was taken
-/// out before.
+/// What was not taken out.
+pub(super) struct Lost {
+    /// The name of the first subscription of which nothing was.
+    pub first: Option<Name>,
+    /// Whether one that was handed in was taken out before.
+    pub gone: bool,
+}
+
+/// Takes the subscriptions that were handed in out, in order.
 pub(super) fn take_lanes<B: Listener>(
     hub: &mut Hub<Desk<B>>,
     handed: &[bool],
     lanes: &mut Vec<NamedLane<B>>,
-) -> Option<Name>
+) -> Lost
     requires sound { IsSound (hub_of end_of hub.old) }
     requires all { length handed.now ≡ length hub.old.entries.items }
     requires empty { lanes.old.items ≡ [] }
     requires room { length handed.now ≤ vec_capacity lanes.old }
-    ensures gathers { Gathers B.told hub.old hub.new handed.now (length handed.now) lanes.new.items result }
+    ensures gathers { Gathers B.told hub.old hub.new handed.now (length handed.now) lanes.new.items result.first result.gone }
 {
-    let mut lost = None;
+    let mut first = None;
+    let mut gone = false;
     for entry in 0..handed.len() {
         match take_lane(hub, entry as u32, handed[entry]) {
             Ok(left) => lanes.push_reserved(left),
-            Err(name) => lost = lost.or(Some(name)),
+            Err(name) => {
+                first = first.or(Some(name));
+                gone |= handed[entry];
+            }
         }
     }
-    lost
+    Lost { first, gone }
 }
 
 /// Takes out the subscription of this number, if it was handed in. The name comes back if it wasn't, or was taken out before.

@@ -1,9 +1,10 @@
 //! Publishing, and closing.
-ghost use Rattle.std.specs.Prelude.{◌≡◌, ◌+◌, ◌<◌, ◌⊎◌, IfErr, IfOk, OnErr, OnOk, is_none, length, IsSome};
+ghost use Rattle.std.specs.Prelude.{◌≡◌, ◌+◌, ◌<◌, IfErr, IfOk, IsSome, None, OnErr, OnOk, Some, false, is_none};
 ghost use Rattle.feed_core.specs.Feed.{DoesCall, end_of};
 ghost use Rattle.flow_rules.specs.declared.refusal.Refusal.TheVariants as Refusal;
 ghost use Rattle.publisher_hub.specs.Publishing.{OffersItem, Publishes, RefusesItem, RefusesOffer};
-ghost use Rattle.publisher_hub.specs.declared.hub.TheConstants.{SOURCES};
+ghost use Rattle.publisher.specs.declared.state.TheConstants.{SOURCES};
+ghost use Rattle.publisher.specs.Handles.{IsHubReason, IsHubRefusal};
 ghost use Rattle.publisher.specs.Publishing.{drop_of};
 
 use super::State;
@@ -56,6 +57,7 @@ impl<L: Ledger, D: Ledger, B: Listener> State<L, D, B> {
     ) -> Result<u64, Unpublished>
         ensures ok { IfOk result (λ lag. Publishes end_of DoesCall own.old.source text self.old.hub self.new.hub due.old.items due.new.items lag) }
         ensures err { IfErr result (λ why. RefusesItem end_of DoesCall text self.old.hub self.new.hub why) }
+        ensures reasons { IfErr result (λ why. IsHubReason why) }
         ensures one_more { OnOk result (own.new.publications.amount ≡ own.old.publications.amount + 1) }
         ensures none { OnErr result (own.new.publications.amount ≡ own.old.publications.amount) }
         ensures source { own.new.source ≡ own.old.source }
@@ -78,6 +80,7 @@ impl<L: Ledger, D: Ledger, B: Listener> State<L, D, B> {
     ) -> Result<i64, Refusal>
         ensures ok { IfOk result (λ answer. OffersItem end_of DoesCall own.old.source text (is_none handler.entry) self.old.hub self.new.hub due.old.items due.new.items answer) }
         ensures err { IfErr result (λ refusal. RefusesOffer end_of DoesCall self.old.hub self.new.hub refusal) }
+        ensures reasons { IfErr result (λ refusal. IsHubRefusal refusal) }
         ensures one_more { OnOk result (own.new.publications.amount ≡ own.old.publications.amount + 1) }
         ensures none { OnErr result (own.new.publications.amount ≡ own.old.publications.amount) }
         ensures dropped { IfOk result (λ answer. own.new.drops.amount ≡ own.old.drops.amount + drop_of answer) }
@@ -96,8 +99,19 @@ impl<L: Ledger, D: Ledger, B: Listener> State<L, D, B> {
         Ok(answer)
     }
 
-    /// Closes the publisher so, if it isn't. The answer is how it is closed.
+    /// How the publisher is closed, if it is.
+    pub fn ending(&self) -> Option<Ending>
+        ensures { result ≡ self.now.hub.ending }
+    {
+        self.hub.ending()
+    }
+
+    /// Closes the publisher so, if it isn't, and spends the opening ticket then. The answer is how it is closed.
     pub fn close(&mut self, ending: Ending, due: &mut Vec<Work<()>>) -> Result<Ending, Refusal>
+        ensures closed { IfOk result (λ how. self.new.hub.ending ≡ Some how) }
+        ensures first { self.old.hub.ending ≡ None → IfOk result (λ how. how ≡ ending) }
+        ensures later { IsSome self.old.hub.ending → self.new ≡ self.old }
+        ensures err { OnErr result (self.new.drained ≡ self.old.drained) }
         ensures refusals { IfErr result (λ refusal. refusal ≡ Refusal.NoMemory) }
     {
         let is_last = spend_opening(self.hub.end(ending, due)?);
@@ -119,7 +133,9 @@ fn count_drop<D: Ledger>(dropping: &mut Book<D>, drops: &mut Share<D>, answer: i
 }
 
 /// Spends the opening ticket, if there is one. The answer is whether it was the last of its count.
-fn spend_opening(opening: Option<Opening>) -> bool {
+fn spend_opening(opening: Option<Opening>) -> bool
+    ensures { opening ≡ None → result ≡ false }
+{
     match opening {
         Some(opening) => opening.try_complete(),
         None => false,

@@ -1,17 +1,14 @@
 //! What the submitters of a publisher have published together.
 ghost use Rattle.std.specs.Prelude.{◌≡◌, ◌+◌, ◌<◌, ◌≤◌, ◌||◌, [], false, is_some, None, Some, length, slice_set, true};
-ghost use Rattle.publisher.specs.declared.state.TheConstants.{PARTS};
-ghost use Rattle.flow_rules.specs.Name.{is_name, is_name_byte};
+ghost use Rattle.publisher.specs.declared.state.TheConstants.{PARTS, SOURCES};
 ghost use Rattle.publisher.specs.Together.{AreTogether, Audits, FindsMissing, marks};
 
+use super::naming::source_name;
 use super::publishing::Own;
-use super::{PARTS, State};
+use super::{PARTS, SOURCES, State};
 use crate::submitter::Submitter;
 use flow_rules::{Listener, Name};
 use std::sync::ledger::{Book, Ledger, Share};
-
-/// The most submitters of a publisher.
-const SOURCES: usize = 256;
 
 /// What submitters have together.
 #[derive(Drop)]
@@ -120,45 +117,4 @@ fn first_missing(sources: &[bool; SOURCES], many: u32) -> Option<u32>
         }
     }
     None
-}
-
-/// The name of a source, as `source-3`.
-fn source_name(source: u32) -> Name {
-    let ones = digit(source % 10);
-    let tens = digit(source / 10 % 10);
-    let hundreds = digit(source / 100 % 10);
-    if source < 10 {
-        return name_of(&[b's', b'o', b'u', b'r', b'c', b'e', b'-', ones]);
-    }
-    if source < 100 {
-        return name_of(&[b's', b'o', b'u', b'r', b'c', b'e', b'-', tens, ones]);
-    }
-    name_of(&[
-        b's', b'o', b'u', b'r', b'c', b'e', b'-', hundreds, tens, ones,
-    ])
-}
-
-/// The name with these bytes, which may stand in one.
-fn name_of(bytes: &[u8]) -> Name
-    requires { is_name bytes.now ≡ true }
-{
-    Name::new(bytes).unwrap()
-}
-
-/// A digit.
-fn digit(number: u32) -> u8
-    ensures { is_name_byte result ≡ true }
-{
-    match number {
-        0 => b'0',
-        1 => b'1',
-        2 => b'2',
-        3 => b'3',
-        4 => b'4',
-        5 => b'5',
-        6 => b'6',
-        7 => b'7',
-        8 => b'8',
-        _ => b'9',
-    }
 }

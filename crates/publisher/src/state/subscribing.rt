@@ -1,8 +1,9 @@
 //! Subscribing, and what is asked of all subscriptions.
-ghost use Rattle.std.specs.Prelude.{◌≡◌, [], List, OnOk};
+ghost use Rattle.std.specs.Prelude.{◌≡◌, [], IfErr, List, OnOk};
 ghost use Rattle.feed_core.specs.Feed.{end_of};
 ghost use Rattle.publisher_hub.specs.Adding.{IsFresh};
 ghost use Rattle.publisher_hub.specs.Subscribing.{CanAdmit};
+ghost use Rattle.publisher.specs.Handles.{RefusesSubscribing};
 
 use super::State;
 use super::turning::spend;
@@ -23,6 +24,8 @@ impl<L: Ledger, D: Ledger, B: Listener> State<L, D, B> {
         due: &mut Vec<Work<()>>,
     ) -> Result<u32, (Refusal, B)>
         requires { B.told subscriber ≡ [] }
+        ensures refusals { IfErr result (λ refused. RefusesSubscribing refused.0) }
+        ensures back { IfErr result (λ refused. refused.1 ≡ subscriber) }
     {
         let ticket = match self.prepare(name, due) {
             Ok(ticket) => ticket,
@@ -40,6 +43,7 @@ impl<L: Ledger, D: Ledger, B: Listener> State<L, D, B> {
     /// Whether a subscriber of this name may subscribe now, and a ticket for it.
     fn prepare(&mut self, name: Name, due: &mut Vec<Work<()>>) -> Result<Option<Ticket>, Refusal>
         ensures can { OnOk result (CanAdmit end_of name self.new.hub due.new) }
+        ensures refusals { IfErr result (λ refusal. RefusesSubscribing refusal) }
     {
         self.hub.may_subscribe(name, due)?;
         self.hub.add_ticket()

@@ -1,7 +1,10 @@
-use Rattle.std.proofs.Common.{◌≡◌, ◌≤◌, subst, arith}
+use Rattle.std.proofs.Common.{◌≡◌, ◌≤◌, ◌<◌, subst, arith}
 use Rattle.publisher.specs.Together.{FindsMissing}
 use Rattle.publisher.proofs.TogetherSums.{marks_all}
 use Rattle.publisher.proofs.state.State.audit.Goals as goal
+
+pub source_name-requires : goal.source_name-requires
+source_name-requires g c = let less = c.in-Some.ensures.0 in let few = c.self.invariant.sound.sources in let same = c.self.invariant.sources_are in omega arith
 
 pub compare-requires-clause-whole : goal.compare-requires-clause-whole
 compare-requires-clause-whole g c =

@@ -6,8 +6,7 @@ use Rattle.publisher.specs.Lanes.{AreMarked, Gathers}
 use Rattle.publisher.specs.Outcome.{AreHandedIn, IsOutcome}
 use Rattle.publisher.specs.State.{PublisherState}
 use Rattle.publisher.specs.Together.{Audits}
-use Rattle.publisher.proofs.Finishing.{all_found, closed_by, finishes, handed_in, handed_none, is_missing, is_outcome_of, is_whole, judged_same}
-use Rattle.publisher.proofs.KeptStates.{as_many, state_stays, stays_by}
+use Rattle.publisher.proofs.Finishing.{all_found, closed_by, finishes, handed_in, handed_none, is_missing, is_outcome_of, is_whole, judged_same, state_gathered}
 use Rattle.publisher.proofs.LeftLanes.{going_none}
 use Rattle.publisher.proofs.Outcomes.{is_outcome}
 use Rattle.publisher.proofs.state.State.finish.Goals as goal
@@ -22,11 +21,20 @@ pub returns-in_default-clause-handed : goal.returns-in_default-clause-handed
 returns-in_default-clause-handed g c = handed_none c.args.subscriptions.now c.outcome.result.lanes.items (ap (λ v. v.items) c.outcome.ensures.lanes ∙ c.new.ensures.items)
 
 pub invariant_of-self : goal.invariant_of-self
-invariant_of-self g c =
+invariant_of-self g c = state_gathered g.B.Listener.told c.self.inside.hub c.take_lanes-lost.new.hub _ c.self.invariant c.take_lanes-lost.ensures.gathers
+
+pub returns-then-gone-clause-outcome : goal.returns-then-gone-clause-outcome
+returns-then-gone-clause-outcome g c =
+    let empty = ap (λ v. v.items) c.outcome-then-gone.ensures.lanes ∙ c.new-then-gone.ensures.items in
     let gathers = c.take_lanes-lost.ensures.gathers in
-    let old = c.self.inside.hub in
-    let new = c.take_lanes-lost.new.hub in
-    state_stays (hub_of end_of old) (hub_of end_of new) _ c.self.invariant gathers.sound (stays_by (hub_of end_of old) (hub_of end_of new) gathers.rest (as_many old.entries.items new.entries.items gathers.as_long))
+    let hub = c.take_lanes-lost.new.hub in
+    is_outcome g.B.Listener.told hub [] 0 gathers.sound c.outcome-then-gone.result (going_none g.B.Listener.told hub [] c.outcome-then-gone.result.lanes.items empty gathers.sound).gathers.left c.outcome-then-gone.ensures.published
+
+pub returns-then-gone-clause-handed : goal.returns-then-gone-clause-handed
+returns-then-gone-clause-handed g c = handed_none c.args.subscriptions.now c.outcome-then-gone.result.lanes.items (ap (λ v. v.items) c.outcome-then-gone.ensures.lanes ∙ c.new-then-gone.ensures.items)
+
+pub invariant_of-self-2 : goal.invariant_of-self-2
+invariant_of-self-2 g c = state_gathered g.B.Listener.told c.self.inside.hub c.take_lanes-lost.new.hub _ c.self.invariant c.take_lanes-lost.ensures.gathers
 
 pub returns-in-Some-clause-outcome : goal.returns-in-Some-clause-outcome
 returns-in-Some-clause-outcome g c =
@@ -35,9 +43,9 @@ returns-in-Some-clause-outcome g c =
     let whole_list = with_items_is c.in-Ok.room.handed c.mark_all.new.handed (c.mark_all.ensures.as_long ∙ c.deref_mut.ensures.len) in
     let marked = subst (λ was. AreMarked c.args.subscriptions.now was c.deref.result.now) (c.deref_mut.ensures.value ∙ c.in-Ok.ensures.handed)
         (subst (λ now. AreMarked c.args.subscriptions.now c.deref_mut.result.now now) (sym (c.deref.ensures.value ∙ whole_list)) c.mark_all.ensures) in
-    let gathers = subst (λ ls. Gathers g.B.Listener.told c.self.inside.hub c.take_lanes-lost.new.hub c.deref.result.now (length c.deref.result.now) ls c.take_lanes-lost.result) (sym lanes) c.take_lanes-lost.ensures.gathers in
+    let gathers = subst (λ ls. Gathers g.B.Listener.told c.self.inside.hub c.take_lanes-lost.new.hub c.deref.result.now (length c.deref.result.now) ls c.take_lanes-lost.result.first c.take_lanes-lost.result.gone) (sym lanes) c.take_lanes-lost.ensures.gathers in
     let published = c.outcome-outcome.ensures.published ∙ ap (λ (s : PublisherState). s.hub.next) (c.audit-missing.ensures.same ∙ c.put_together-together.ensures.same) in
-    is_outcome_of g.B.Listener.told c.args.subscriptions.now c.self.inside.hub c.take_lanes-lost.new.hub n c.deref.result.now c.outcome-outcome.result c.take_lanes-lost.result c.self.invariant.sound marked gathers published
+    is_outcome_of g.B.Listener.told c.args.subscriptions.now c.self.inside.hub c.take_lanes-lost.new.hub n c.deref.result.now c.outcome-outcome.result c.take_lanes-lost.result.first c.take_lanes-lost.result.gone c.self.invariant.sound marked gathers published
 
 pub returns-in-Some-clause-handed : goal.returns-in-Some-clause-handed
 returns-in-Some-clause-handed g c =
@@ -46,8 +54,8 @@ returns-in-Some-clause-handed g c =
     let whole_list = with_items_is c.in-Ok.room.handed c.mark_all.new.handed (c.mark_all.ensures.as_long ∙ c.deref_mut.ensures.len) in
     let marked = subst (λ was. AreMarked c.args.subscriptions.now was c.deref.result.now) (c.deref_mut.ensures.value ∙ c.in-Ok.ensures.handed)
         (subst (λ now. AreMarked c.args.subscriptions.now c.deref_mut.result.now now) (sym (c.deref.ensures.value ∙ whole_list)) c.mark_all.ensures) in
-    let gathers = subst (λ ls. Gathers g.B.Listener.told c.self.inside.hub c.take_lanes-lost.new.hub c.deref.result.now (length c.deref.result.now) ls c.take_lanes-lost.result) (sym lanes) c.take_lanes-lost.ensures.gathers in
-    handed_in g.B.Listener.told c.args.subscriptions.now c.self.inside.hub c.take_lanes-lost.new.hub n c.deref.result.now c.outcome-outcome.result c.take_lanes-lost.result c.self.invariant.sound marked gathers
+    let gathers = subst (λ ls. Gathers g.B.Listener.told c.self.inside.hub c.take_lanes-lost.new.hub c.deref.result.now (length c.deref.result.now) ls c.take_lanes-lost.result.first c.take_lanes-lost.result.gone) (sym lanes) c.take_lanes-lost.ensures.gathers in
+    handed_in g.B.Listener.told c.args.subscriptions.now c.self.inside.hub c.take_lanes-lost.new.hub n c.deref.result.now c.outcome-outcome.result c.take_lanes-lost.result.first c.take_lanes-lost.result.gone c.self.invariant.sound marked gathers
 
 pub returns-in-Some-clause-finishes : goal.returns-in-Some-clause-finishes
 returns-in-Some-clause-finishes g c =
@@ -56,10 +64,10 @@ returns-in-Some-clause-finishes g c =
     let whole_list = with_items_is c.in-Ok.room.handed c.mark_all.new.handed (c.mark_all.ensures.as_long ∙ c.deref_mut.ensures.len) in
     let marked = subst (λ was. AreMarked c.args.subscriptions.now was c.deref.result.now) (c.deref_mut.ensures.value ∙ c.in-Ok.ensures.handed)
         (subst (λ now. AreMarked c.args.subscriptions.now c.deref_mut.result.now now) (sym (c.deref.ensures.value ∙ whole_list)) c.mark_all.ensures) in
-    let gathers = subst (λ ls. Gathers g.B.Listener.told c.self.inside.hub c.take_lanes-lost.new.hub c.deref.result.now (length c.deref.result.now) ls c.take_lanes-lost.result) (sym lanes) c.take_lanes-lost.ensures.gathers in
+    let gathers = subst (λ ls. Gathers g.B.Listener.told c.self.inside.hub c.take_lanes-lost.new.hub c.deref.result.now (length c.deref.result.now) ls c.take_lanes-lost.result.first c.take_lanes-lost.result.gone) (sym lanes) c.take_lanes-lost.ensures.gathers in
     let t = c.put_together-together.result in
     let audits = subst (λ (s : PublisherState). Audits t.sources t.publications.amount t.drops.amount s.hub.next s.hub.dropping c.audit-missing.result) c.put_together-together.ensures.same c.audit-missing.ensures.audits in
-    is_missing g.B.Listener.told c.args.subscriptions.now c.self.inside.hub c.take_lanes-lost.new.hub n c.deref.result.now c.outcome-outcome.result c.take_lanes-lost.result c.self.invariant.sound marked gathers c.args.submitters.items t.publications.amount t.drops.amount t.publications.parts t.drops.parts t.sources t.knows c.audit-missing.result c.put_together-together.ensures.together audits c.in-Some.name (sym c.or.ensures ∙ c.in-Some.is)
+    is_missing g.B.Listener.told c.args.subscriptions.now c.self.inside.hub c.take_lanes-lost.new.hub n c.deref.result.now c.outcome-outcome.result c.take_lanes-lost.result.first c.take_lanes-lost.result.gone c.self.invariant.sound marked gathers c.args.submitters.items t.publications.amount t.drops.amount t.publications.parts t.drops.parts t.sources t.knows c.audit-missing.result c.put_together-together.ensures.together audits c.in-Some.name c.if-gone.false (sym c.or.ensures ∙ c.in-Some.is)
 
 pub judge-requires-clause-room : goal.judge-requires-clause-room
 judge-requires-clause-room g c =
@@ -68,8 +76,8 @@ judge-requires-clause-room g c =
     let whole_list = with_items_is c.in-Ok.room.handed c.mark_all.new.handed (c.mark_all.ensures.as_long ∙ c.deref_mut.ensures.len) in
     let marked = subst (λ was. AreMarked c.args.subscriptions.now was c.deref.result.now) (c.deref_mut.ensures.value ∙ c.in-Ok.ensures.handed)
         (subst (λ now. AreMarked c.args.subscriptions.now c.deref_mut.result.now now) (sym (c.deref.ensures.value ∙ whole_list)) c.mark_all.ensures) in
-    let gathers = subst (λ ls. Gathers g.B.Listener.told c.self.inside.hub c.take_lanes-lost.new.hub c.deref.result.now (length c.deref.result.now) ls c.take_lanes-lost.result) (sym lanes) c.take_lanes-lost.ensures.gathers in
-    let many = all_found c.self.inside.hub c.deref.result.now (length c.deref.result.now) c.outcome-outcome.result.lanes.items c.take_lanes-lost.result c.audit-missing.result (sym c.or.ensures ∙ c.in-None.is) gathers.found in
+    let gathers = subst (λ ls. Gathers g.B.Listener.told c.self.inside.hub c.take_lanes-lost.new.hub c.deref.result.now (length c.deref.result.now) ls c.take_lanes-lost.result.first c.take_lanes-lost.result.gone) (sym lanes) c.take_lanes-lost.ensures.gathers in
+    let many = all_found c.deref.result.now (length c.deref.result.now) c.outcome-outcome.result.lanes.items c.take_lanes-lost.result.first c.audit-missing.result c.take_lanes-lost.result.gone (sym c.or.ensures ∙ c.in-None.is) gathers.found in
     let long = marked.as_long ∙ length-replicate n _ in
     let room = c.in-Ok.ensures.unsettled.1 in
     omega arith
@@ -81,9 +89,9 @@ returns-clause-outcome g c =
     let whole_list = with_items_is c.in-Ok.room.handed c.mark_all.new.handed (c.mark_all.ensures.as_long ∙ c.deref_mut.ensures.len) in
     let marked = subst (λ was. AreMarked c.args.subscriptions.now was c.deref.result.now) (c.deref_mut.ensures.value ∙ c.in-Ok.ensures.handed)
         (subst (λ now. AreMarked c.args.subscriptions.now c.deref_mut.result.now now) (sym (c.deref.ensures.value ∙ whole_list)) c.mark_all.ensures) in
-    let gathers = subst (λ ls. Gathers g.B.Listener.told c.self.inside.hub c.take_lanes-lost.new.hub c.deref.result.now (length c.deref.result.now) ls c.take_lanes-lost.result) (sym lanes) c.take_lanes-lost.ensures.gathers in
+    let gathers = subst (λ ls. Gathers g.B.Listener.told c.self.inside.hub c.take_lanes-lost.new.hub c.deref.result.now (length c.deref.result.now) ls c.take_lanes-lost.result.first c.take_lanes-lost.result.gone) (sym lanes) c.take_lanes-lost.ensures.gathers in
     let published = c.outcome-outcome.ensures.published ∙ ap (λ (s : PublisherState). s.hub.next) (c.audit-missing.ensures.same ∙ c.put_together-together.ensures.same) in
-    subst (λ o. IsOutcome g.B.Listener.told o) (sym (judged_same c.args.submitters.items c.outcome-outcome.result _ c.judge.result c.judge.ensures)) (is_outcome_of g.B.Listener.told c.args.subscriptions.now c.self.inside.hub c.take_lanes-lost.new.hub n c.deref.result.now c.outcome-outcome.result c.take_lanes-lost.result c.self.invariant.sound marked gathers published)
+    subst (λ o. IsOutcome g.B.Listener.told o) (sym (judged_same c.args.submitters.items c.args.subscriptions.now c.outcome-outcome.result _ c.judge.result c.judge.ensures)) (is_outcome_of g.B.Listener.told c.args.subscriptions.now c.self.inside.hub c.take_lanes-lost.new.hub n c.deref.result.now c.outcome-outcome.result c.take_lanes-lost.result.first c.take_lanes-lost.result.gone c.self.invariant.sound marked gathers published)
 
 pub returns-clause-handed : goal.returns-clause-handed
 returns-clause-handed g c =
@@ -92,8 +100,8 @@ returns-clause-handed g c =
     let whole_list = with_items_is c.in-Ok.room.handed c.mark_all.new.handed (c.mark_all.ensures.as_long ∙ c.deref_mut.ensures.len) in
     let marked = subst (λ was. AreMarked c.args.subscriptions.now was c.deref.result.now) (c.deref_mut.ensures.value ∙ c.in-Ok.ensures.handed)
         (subst (λ now. AreMarked c.args.subscriptions.now c.deref_mut.result.now now) (sym (c.deref.ensures.value ∙ whole_list)) c.mark_all.ensures) in
-    let gathers = subst (λ ls. Gathers g.B.Listener.told c.self.inside.hub c.take_lanes-lost.new.hub c.deref.result.now (length c.deref.result.now) ls c.take_lanes-lost.result) (sym lanes) c.take_lanes-lost.ensures.gathers in
-    subst (λ o. AreHandedIn c.args.subscriptions.now o.lanes.items) (sym (judged_same c.args.submitters.items c.outcome-outcome.result _ c.judge.result c.judge.ensures)) (handed_in g.B.Listener.told c.args.subscriptions.now c.self.inside.hub c.take_lanes-lost.new.hub n c.deref.result.now c.outcome-outcome.result c.take_lanes-lost.result c.self.invariant.sound marked gathers)
+    let gathers = subst (λ ls. Gathers g.B.Listener.told c.self.inside.hub c.take_lanes-lost.new.hub c.deref.result.now (length c.deref.result.now) ls c.take_lanes-lost.result.first c.take_lanes-lost.result.gone) (sym lanes) c.take_lanes-lost.ensures.gathers in
+    subst (λ o. AreHandedIn c.args.subscriptions.now o.lanes.items) (sym (judged_same c.args.submitters.items c.args.subscriptions.now c.outcome-outcome.result _ c.judge.result c.judge.ensures)) (handed_in g.B.Listener.told c.args.subscriptions.now c.self.inside.hub c.take_lanes-lost.new.hub n c.deref.result.now c.outcome-outcome.result c.take_lanes-lost.result.first c.take_lanes-lost.result.gone c.self.invariant.sound marked gathers)
 
 pub returns-clause-finishes : goal.returns-clause-finishes
 returns-clause-finishes g c =
@@ -102,9 +110,9 @@ returns-clause-finishes g c =
     let whole_list = with_items_is c.in-Ok.room.handed c.mark_all.new.handed (c.mark_all.ensures.as_long ∙ c.deref_mut.ensures.len) in
     let marked = subst (λ was. AreMarked c.args.subscriptions.now was c.deref.result.now) (c.deref_mut.ensures.value ∙ c.in-Ok.ensures.handed)
         (subst (λ now. AreMarked c.args.subscriptions.now c.deref_mut.result.now now) (sym (c.deref.ensures.value ∙ whole_list)) c.mark_all.ensures) in
-    let gathers = subst (λ ls. Gathers g.B.Listener.told c.self.inside.hub c.take_lanes-lost.new.hub c.deref.result.now (length c.deref.result.now) ls c.take_lanes-lost.result) (sym lanes) c.take_lanes-lost.ensures.gathers in
+    let gathers = subst (λ ls. Gathers g.B.Listener.told c.self.inside.hub c.take_lanes-lost.new.hub c.deref.result.now (length c.deref.result.now) ls c.take_lanes-lost.result.first c.take_lanes-lost.result.gone) (sym lanes) c.take_lanes-lost.ensures.gathers in
     let t = c.put_together-together.result in
     let audits = subst (λ (s : PublisherState). Audits t.sources t.publications.amount t.drops.amount s.hub.next s.hub.dropping c.audit-missing.result) c.put_together-together.ensures.same c.audit-missing.ensures.audits in
     let published = c.outcome-outcome.ensures.published ∙ ap (λ (s : PublisherState). s.hub.next) (c.audit-missing.ensures.same ∙ c.put_together-together.ensures.same) in
-    finishes c.args.submitters.items c.outcome-outcome.result _ c.judge.result c.judge.ensures (is_whole g.B.Listener.told c.args.subscriptions.now c.self.inside.hub c.take_lanes-lost.new.hub n c.deref.result.now c.outcome-outcome.result c.take_lanes-lost.result c.self.invariant.sound marked gathers c.args.submitters.items t.publications.amount t.drops.amount t.publications.parts t.drops.parts t.sources t.knows c.audit-missing.result c.put_together-together.ensures.together audits (sym c.or.ensures ∙ c.in-None.is) published)
+    finishes c.args.submitters.items c.args.subscriptions.now c.outcome-outcome.result _ c.judge.result c.judge.ensures (is_whole g.B.Listener.told c.args.subscriptions.now c.self.inside.hub c.take_lanes-lost.new.hub n c.deref.result.now c.outcome-outcome.result c.take_lanes-lost.result.first c.take_lanes-lost.result.gone c.self.invariant.sound marked gathers c.args.submitters.items t.publications.amount t.drops.amount t.publications.parts t.drops.parts t.sources t.knows c.audit-missing.result c.put_together-together.ensures.together audits (sym c.or.ensures ∙ c.in-None.is) published)
         (closed_by c.args.submitters.items t.publications.amount t.drops.amount t.publications.parts t.drops.parts t.sources t.knows _ c.put_together-together.ensures.together)

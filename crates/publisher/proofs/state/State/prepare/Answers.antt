@@ -3,6 +3,7 @@ use Rattle.feed_core.specs.Feed.{end_of}
 use Rattle.publisher_hub.specs.Hub.{hub_of}
 use Rattle.publisher.proofs.GrownStates.{on_ok_all, opened_after, state_ticketed}
 use Rattle.publisher.proofs.KeptStates.{state_stays, stays_refused, stays_seen}
+use Rattle.publisher.proofs.Refused.{ticket_refused}
 use Rattle.publisher.proofs.state.State.prepare.Goals as goal
 
 pub invariant_of-self : goal.invariant_of-self
@@ -20,4 +21,4 @@ invariant_of-self-2 g c =
     state_ticketed c.may_subscribe.new.self c.add_ticket.new.self _ is c.add_ticket.ensures.sound c.add_ticket.ensures.rest (λ none. opened_after c.add_ticket.result c.may_subscribe.new.self c.add_ticket.new.self (c.add_ticket.ensures.ok none) c.add_ticket.ensures.unchanged (is.opened none))
 
 pub returns : goal.returns
-returns g c = record { can = on_ok_all c.add_ticket.result (c.add_ticket.ensures.keeps c.args.name c.may_subscribe.new.due c.in_ok-may_subscribe.ensures.can) }
+returns g c = record { can = on_ok_all c.add_ticket.result (c.add_ticket.ensures.keeps c.args.name c.may_subscribe.new.due c.in_ok-may_subscribe.ensures.can); refusals = ticket_refused c.add_ticket.result c.may_subscribe.new.self.opening c.add_ticket.ensures.err }

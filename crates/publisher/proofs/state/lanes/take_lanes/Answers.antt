@@ -24,13 +24,13 @@ loop-entry-preserved g c =
     let marked = slice_get-get_or c.args.handed.now c.loop-entry.entry _ less in
     elim c.match-take_lane.branch [
       | in-Ok w ↦ (
-          rw (w.lanes-is, w.lost-is, w.push_reserved.ensures.items) (going_took g.B.Listener.told c.args.hub.now c.args.handed.now c.loop-entry.hub c.take_lane.new.hub c.loop-entry.entry c.loop-entry.lanes.items c.loop-entry.lost _ going c.take_lane.ensures.sound marked w.in-Ok.left w.in-Ok.ensures.takes),
+          rw (w.lanes-is, w.first-is, w.gone-is, w.push_reserved.ensures.items) (going_took g.B.Listener.told c.args.hub.now c.args.handed.now c.loop-entry.hub c.take_lane.new.hub c.loop-entry.entry c.loop-entry.lanes.items c.loop-entry.first c.loop-entry.gone _ going c.take_lane.ensures.sound marked w.in-Ok.left w.in-Ok.ensures.takes),
           omega arith,
           rw (w.lanes-is, w.push_reserved.ensures.capacity) c.loop-entry.invariant.2,
         )
       | in-Err w ↦ (
-          rw w.lanes-is (going_lost g.B.Listener.told c.args.hub.now c.args.handed.now c.loop-entry.hub c.take_lane.new.hub c.loop-entry.entry c.loop-entry.lanes.items c.loop-entry.lost _ going c.take_lane.ensures.sound marked w.in-Err.name c.match-take_lane.lost
-              (λ none. rw (w.lost-is, w.or-lost.ensures, none) refl) (λ first some. rw (w.lost-is, w.or-lost.ensures, some) refl) w.in-Err.ensures.takes),
+          rw (w.lanes-is, w.gone-is) (going_lost g.B.Listener.told c.args.hub.now c.args.handed.now c.loop-entry.hub c.take_lane.new.hub c.loop-entry.entry c.loop-entry.lanes.items c.loop-entry.first c.loop-entry.gone _ going c.take_lane.ensures.sound marked w.in-Err.name c.match-take_lane.first
+              (λ none. rw (w.first-is, w.or-first.ensures, none) refl) (λ first some. rw (w.first-is, w.or-first.ensures, some) refl) w.in-Err.ensures.takes),
           omega arith,
           rw w.lanes-is c.loop-entry.invariant.2,
         )
@@ -39,4 +39,4 @@ loop-entry-preserved g c =
 pub returns : goal.returns
 returns g c =
     let done : c.loop-entry.entry ≡ length c.args.handed.now = let most = c.loop-entry.invariant.1 in let past = c.loop-entry-test.false in omega arith in
-    record { gathers = subst (λ n. Gathers g.B.Listener.told c.args.hub.now c.loop-entry.hub c.args.handed.now n c.loop-entry.lanes.items c.loop-entry.lost) done c.loop-entry.invariant.0.gathers }
+    record { gathers = subst (λ n. Gathers g.B.Listener.told c.args.hub.now c.loop-entry.hub c.args.handed.now n c.loop-entry.lanes.items c.loop-entry.first c.loop-entry.gone) done c.loop-entry.invariant.0.gathers }
