@@ -7,6 +7,25 @@ use Rattle.publisher_hub.proofs.Looks.{sound_looked_at}
 use Rattle.publisher_hub.proofs.Readying.{all_here, on_ok_ready}
 use Rattle.publisher_hub.proofs.hub.Hub.prepare_live.Goals as goal
 
+pub prepare_all-requires-clause-live : goal.prepare_all-requires-clause-live
+prepare_all-requires-clause-live g c = rw (c.deref.ensures.value, c.deref_mut.ensures.value) c.requires.sound.live
+
+pub prepare_all-requires-clause-here : goal.prepare_all-requires-clause-here
+prepare_all-requires-clause-here g c = rw c.deref_mut.ensures.value (all_here (hub_of g.F.Feed.meaning c.args.self.now) c.requires.sound)
+
+pub returns-clause-ok : goal.returns-clause-ok
+returns-clause-ok g c =
+    let whole = with_items_is c.args.self.now.entries c.prepare_all.new.entries (c.prepare_all.auto.entries ∙ c.deref_mut.ensures.len) in
+    rw (whole, ← c.deref_mut.ensures.value) c.prepare_all.ensures.ok
+
+pub returns-clause-err : goal.returns-clause-err
+returns-clause-err g c =
+    let whole = with_items_is c.args.self.now.entries c.prepare_all.new.entries (c.prepare_all.auto.entries ∙ c.deref_mut.ensures.len) in
+    rw (whole, ← c.deref_mut.ensures.value) c.prepare_all.ensures.err
+
+pub returns-clause-rest : goal.returns-clause-rest
+returns-clause-rest g c = refl
+
 pub returns-clause-looked : goal.returns-clause-looked
 returns-clause-looked g c =
     let whole = with_items_is c.args.self.now.entries c.prepare_all.new.entries (c.prepare_all.auto.entries ∙ c.deref_mut.ensures.len) in
