@@ -17,21 +17,30 @@ impl<F: Feed> Hub<F> {
     pub fn dropped(&self, entry: u32) -> Option<u64>
         ensures { result ≡ option_map (λ (entry : EntryState). entry.dropped) (slice_get (hub_of F.meaning self.now).entries entry) }
     {
-        self.entries.get(entry as usize).map(|it| it.dropped)
+        match self.entries.get(entry as usize) {
+            Some(it) => Some(it.dropped),
+            None => None,
+        }
     }
 
     /// The next serial number when the subscription of this number was made, and `None` where no subscription has this number.
     pub fn since(&self, entry: u32) -> Option<u64>
         ensures { result ≡ option_map (λ (entry : EntryState). entry.since) (slice_get (hub_of F.meaning self.now).entries entry) }
     {
-        self.entries.get(entry as usize).map(|it| it.since)
+        match self.entries.get(entry as usize) {
+            Some(it) => Some(it.since),
+            None => None,
+        }
     }
 
     /// The name that the subscriber of this number subscribed with, and `None` where no subscription has this number.
     pub fn name_of(&self, entry: u32) -> Option<Name>
         ensures { result ≡ option_map (λ (entry : EntryState). entry.name) (slice_get (hub_of F.meaning self.now).entries entry) }
     {
-        self.entries.get(entry as usize).map(|it| it.name)
+        match self.entries.get(entry as usize) {
+            Some(it) => Some(it.name),
+            None => None,
+        }
     }
 
     /// The producer's end of the subscription of this number, and `None` where no subscription has this number or the end was

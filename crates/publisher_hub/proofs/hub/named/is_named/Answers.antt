@@ -1,27 +1,26 @@
 -- Two names are equal where their bytes are.
-use Rattle.std.proofs.Common.{rules, ◌≡◌, ◌<◌, ◌≤◌, Some, length, sym, ap, ◌∙◌, arith}
-use Rattle.std.specs.Prelude.{slice_get}
+use Rattle.std.proofs.Common.{◌≡◌, ◌<◌, ◌≤◌, length, refl, sym, ap, ◌∙◌, arith}
 use Rattle.std.specs.Cmp.Lexicographic.{other_text, same_text}
-use Rattle.std.proofs.lemmas.Option.{slice_get-get_or, slice_get_within}
+use Rattle.std.proofs.lemmas.Option.{slice_get_read, slice_get_within}
 use Rattle.publisher_hub.specs.declared.entry.Entry.{Entry}
 use Rattle.publisher_hub.proofs.PartialRounds.{same_some}
 use Rattle.publisher_hub.proofs.hub.named.is_named.Goals as goal
 
 pub returns-in-Some-clause-yes : goal.returns-in-Some-clause-yes
 returns-in-Some-clause-yes g c is =
-    let within : c.args.number < length c.args.entries.now = search rules in
-    let at : slice_get c.args.entries.now c.args.number ≡ Some c.in-Some.entry.now = slice_get-get_or c.args.entries.now c.args.number c.in-Some.entry.now within ∙ ap Some (sym c.in-Some.ensures.lookup.1) in
+    let lookup = c.in-Some.ensures.lookup in
+    let at = slice_get_read c.args.entries.now _ c.args.number c.in-Some.entry.now refl lookup.3.0 lookup.1 in
     (c.in-Some.entry.now, (at, same_text c.in-Some.entry.now.name c.args.name (sym is ∙ c.eq.ensures)))
 
 pub returns-in-Some-clause-no : goal.returns-in-Some-clause-no
 returns-in-Some-clause-no g c is entry there named =
-    let within : c.args.number < length c.args.entries.now = search rules in
-    let at : slice_get c.args.entries.now c.args.number ≡ Some c.in-Some.entry.now = slice_get-get_or c.args.entries.now c.args.number c.in-Some.entry.now within ∙ ap Some (sym c.in-Some.ensures.lookup.1) in
+    let lookup = c.in-Some.ensures.lookup in
+    let at = slice_get_read c.args.entries.now _ c.args.number c.in-Some.entry.now refl lookup.3.0 lookup.1 in
     let same : c.in-Some.entry.now ≡ entry = same_some (sym at ∙ there) in
     other_text c.in-Some.entry.now.name c.args.name (sym is ∙ c.eq.ensures) (ap (λ (e : Entry g.row.F.Denot). e.name) same ∙ named)
 
 pub returns-in-None-clause-no : goal.returns-in-None-clause-no
 returns-in-None-clause-no g c is entry there named =
-    let past : length c.args.entries.now ≤ c.args.number = search rules in
+    let past : length c.args.entries.now ≤ c.args.number = c.in-None.ensures.lookup.3 in
     let within : c.args.number < length c.args.entries.now = slice_get_within c.args.entries.now c.args.number entry there in
     absurd (omega arith)
