@@ -7,6 +7,7 @@ mod listeners;
 mod names;
 mod numbers;
 mod pool;
+mod publisher;
 mod refusals;
 mod rings;
 mod subscribers;

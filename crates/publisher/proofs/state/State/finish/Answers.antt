@@ -1,15 +1,18 @@
-use Rattle.std.proofs.Common.{◌≡◌, ◌∙◌, [], length, None, sym, ap, subst, arith, refl}
+use Rattle.std.proofs.Common.{◌≡◌, ◌∙◌, ℕ, List, [], length, replicate, Option, None, Some, false, sym, ap, subst, arith}
+use Rattle.std.specs.Option.{option_or}
 use Rattle.std.proofs.lemmas.List.{length-replicate, with_items_is}
 use Rattle.feed_core.specs.Feed.{end_of}
 use Rattle.publisher_hub.specs.Hub.{hub_of}
 use Rattle.publisher.specs.Lanes.{AreMarked, Gathers}
-use Rattle.publisher.specs.Outcome.{AreHandedIn, IsOutcome}
+use Rattle.publisher.specs.Outcome.{AreHandedIn, IsMissing, IsOutcome, IsWhole}
 use Rattle.publisher.specs.State.{PublisherState}
 use Rattle.publisher.specs.Together.{Audits}
 use Rattle.publisher.proofs.Finishing.{all_found, closed_by, finishes, handed_in, handed_none, is_missing, is_outcome_of, is_whole, judged_same, state_gathered}
 use Rattle.publisher.proofs.LeftLanes.{going_none}
 use Rattle.publisher.proofs.Outcomes.{is_outcome}
+use Rattle.publisher.proofs.state.State.finish.Given.{Over}
 use Rattle.publisher.proofs.state.State.finish.Goals as goal
+use Rattle.publisher.proofs.state.State.finish.Goals.{After-outcome-outcome}
 
 pub returns-in_default-clause-outcome : goal.returns-in_default-clause-outcome
 returns-in_default-clause-outcome g c =
@@ -36,83 +39,78 @@ returns-then-gone-clause-handed g c = handed_none c.args.subscriptions.now c.out
 pub invariant_of-self-2 : goal.invariant_of-self-2
 invariant_of-self-2 g c = state_gathered g.B.Listener.told c.self.inside.hub c.take_lanes-lost.new.hub _ c.self.invariant c.take_lanes-lost.ensures.gathers
 
-pub returns-in-Some-clause-outcome : goal.returns-in-Some-clause-outcome
-returns-in-Some-clause-outcome g c =
-    let lanes = ap (λ v. v.items) c.outcome-outcome.ensures.lanes in
-    let n = c.self.inside.entries in
+-- the marks of those that were handed in
+marked : (g : Over) (c : After-outcome-outcome g) → AreMarked c.args.subscriptions.now (replicate c.self.inside.entries false) c.deref.result.now
+marked g c =
     let whole_list = with_items_is c.in-Ok.room.handed c.mark_all.new.handed (c.mark_all.ensures.as_long ∙ c.deref_mut.ensures.len) in
-    let marked = subst (λ was. AreMarked c.args.subscriptions.now was c.deref.result.now) (c.deref_mut.ensures.value ∙ c.in-Ok.ensures.handed)
-        (subst (λ now. AreMarked c.args.subscriptions.now c.deref_mut.result.now now) (sym (c.deref.ensures.value ∙ whole_list)) c.mark_all.ensures) in
-    let gathers = subst (λ ls. Gathers g.B.Listener.told c.self.inside.hub c.take_lanes-lost.new.hub c.deref.result.now (length c.deref.result.now) ls c.take_lanes-lost.result.first c.take_lanes-lost.result.gone) (sym lanes) c.take_lanes-lost.ensures.gathers in
-    let published = c.outcome-outcome.ensures.published ∙ ap (λ (s : PublisherState). s.hub.next) (c.audit-missing.ensures.same ∙ c.put_together-together.ensures.same) in
-    is_outcome_of g.B.Listener.told c.args.subscriptions.now c.self.inside.hub c.take_lanes-lost.new.hub n c.deref.result.now c.outcome-outcome.result c.take_lanes-lost.result.first c.take_lanes-lost.result.gone c.self.invariant.sound marked gathers published
+    subst (λ was. AreMarked c.args.subscriptions.now was c.deref.result.now) (c.deref_mut.ensures.value ∙ c.in-Ok.ensures.handed)
+    (subst (λ now. AreMarked c.args.subscriptions.now c.deref_mut.result.now now) (sym (c.deref.ensures.value ∙ whole_list)) c.mark_all.ensures)
+
+-- how the lanes of the outcome were taken out
+gathered : (g : Over) (c : After-outcome-outcome g)
+    → Gathers g.B.Listener.told c.self.inside.hub c.take_lanes-lost.new.hub c.deref.result.now (length c.deref.result.now) c.outcome-outcome.result.lanes.items c.take_lanes-lost.result.first c.take_lanes-lost.result.gone
+gathered g c = subst (λ lanes. Gathers g.B.Listener.told c.self.inside.hub c.take_lanes-lost.new.hub c.deref.result.now (length c.deref.result.now) lanes c.take_lanes-lost.result.first c.take_lanes-lost.result.gone)
+    (sym (ap (λ v. v.items) c.outcome-outcome.ensures.lanes)) c.take_lanes-lost.ensures.gathers
+
+published : (g : Over) (c : After-outcome-outcome g) → c.outcome-outcome.result.published ≡ c.take_lanes-lost.new.hub.next
+published g c = c.outcome-outcome.ensures.published ∙ ap (λ (s : PublisherState). s.hub.next) (c.audit-missing.ensures.same ∙ c.put_together-together.ensures.same)
+
+outcome_is : (g : Over) (c : After-outcome-outcome g) → IsOutcome g.B.Listener.told c.outcome-outcome.result
+outcome_is g c = is_outcome_of g.B.Listener.told c.args.subscriptions.now c.self.inside.hub c.take_lanes-lost.new.hub c.self.inside.entries c.deref.result.now c.outcome-outcome.result c.take_lanes-lost.result.first c.take_lanes-lost.result.gone c.self.invariant.sound (marked g c) (gathered g c) (published g c)
+
+handed_is : (g : Over) (c : After-outcome-outcome g) → AreHandedIn c.args.subscriptions.now c.outcome-outcome.result.lanes.items
+handed_is g c = handed_in g.B.Listener.told c.args.subscriptions.now c.self.inside.hub c.take_lanes-lost.new.hub c.self.inside.entries c.deref.result.now c.outcome-outcome.result c.take_lanes-lost.result.first c.take_lanes-lost.result.gone c.self.invariant.sound (marked g c) (gathered g c)
+
+-- the shares were compared with the numbers of the Hub
+audited : (g : Over) (c : After-outcome-outcome g)
+    → Audits c.put_together-together.result.sources c.put_together-together.result.publications.amount c.put_together-together.result.drops.amount c.take_lanes-lost.new.hub.next c.take_lanes-lost.new.hub.dropping c.audit-missing.result
+audited g c =
+    let t = c.put_together-together.result in
+    subst (λ (s : PublisherState). Audits t.sources t.publications.amount t.drops.amount s.hub.next s.hub.dropping c.audit-missing.result) c.put_together-together.ensures.same c.audit-missing.ensures.audits
+
+missing_is : (g : Over) (c : After-outcome-outcome g) (name : List ℕ) → c.take_lanes-lost.result.gone ≡ false → option_or c.take_lanes-lost.result.first c.audit-missing.result ≡ Some name
+    → IsMissing name c.args.submitters.items c.args.subscriptions.now c.outcome-outcome.result.lanes.items
+missing_is g c =
+    let t = c.put_together-together.result in
+    is_missing g.B.Listener.told c.args.subscriptions.now c.self.inside.hub c.take_lanes-lost.new.hub c.self.inside.entries c.deref.result.now c.outcome-outcome.result c.take_lanes-lost.result.first c.take_lanes-lost.result.gone c.self.invariant.sound (marked g c) (gathered g c)
+    c.args.submitters.items t.publications.amount t.drops.amount t.publications.parts t.drops.parts t.sources t.knows c.audit-missing.result c.put_together-together.ensures.together (audited g c)
+
+whole_is : (g : Over) (c : After-outcome-outcome g) → option_or c.take_lanes-lost.result.first c.audit-missing.result ≡ None → IsWhole c.args.submitters.items c.outcome-outcome.result
+whole_is g c none =
+    let t = c.put_together-together.result in
+    is_whole g.B.Listener.told c.args.subscriptions.now c.self.inside.hub c.take_lanes-lost.new.hub c.self.inside.entries c.deref.result.now c.outcome-outcome.result c.take_lanes-lost.result.first c.take_lanes-lost.result.gone c.self.invariant.sound (marked g c) (gathered g c)
+    c.args.submitters.items t.publications.amount t.drops.amount t.publications.parts t.drops.parts t.sources t.knows c.audit-missing.result c.put_together-together.ensures.together (audited g c) none (published g c)
+
+pub returns-in-Some-clause-outcome : goal.returns-in-Some-clause-outcome
+returns-in-Some-clause-outcome g c = outcome_is g (goal.at.returns-in-Some-clause-outcome g c).After-outcome-outcome
 
 pub returns-in-Some-clause-handed : goal.returns-in-Some-clause-handed
-returns-in-Some-clause-handed g c =
-    let lanes = ap (λ v. v.items) c.outcome-outcome.ensures.lanes in
-    let n = c.self.inside.entries in
-    let whole_list = with_items_is c.in-Ok.room.handed c.mark_all.new.handed (c.mark_all.ensures.as_long ∙ c.deref_mut.ensures.len) in
-    let marked = subst (λ was. AreMarked c.args.subscriptions.now was c.deref.result.now) (c.deref_mut.ensures.value ∙ c.in-Ok.ensures.handed)
-        (subst (λ now. AreMarked c.args.subscriptions.now c.deref_mut.result.now now) (sym (c.deref.ensures.value ∙ whole_list)) c.mark_all.ensures) in
-    let gathers = subst (λ ls. Gathers g.B.Listener.told c.self.inside.hub c.take_lanes-lost.new.hub c.deref.result.now (length c.deref.result.now) ls c.take_lanes-lost.result.first c.take_lanes-lost.result.gone) (sym lanes) c.take_lanes-lost.ensures.gathers in
-    handed_in g.B.Listener.told c.args.subscriptions.now c.self.inside.hub c.take_lanes-lost.new.hub n c.deref.result.now c.outcome-outcome.result c.take_lanes-lost.result.first c.take_lanes-lost.result.gone c.self.invariant.sound marked gathers
+returns-in-Some-clause-handed g c = handed_is g (goal.at.returns-in-Some-clause-handed g c).After-outcome-outcome
 
 pub returns-in-Some-clause-finishes : goal.returns-in-Some-clause-finishes
-returns-in-Some-clause-finishes g c =
-    let lanes = ap (λ v. v.items) c.outcome-outcome.ensures.lanes in
-    let n = c.self.inside.entries in
-    let whole_list = with_items_is c.in-Ok.room.handed c.mark_all.new.handed (c.mark_all.ensures.as_long ∙ c.deref_mut.ensures.len) in
-    let marked = subst (λ was. AreMarked c.args.subscriptions.now was c.deref.result.now) (c.deref_mut.ensures.value ∙ c.in-Ok.ensures.handed)
-        (subst (λ now. AreMarked c.args.subscriptions.now c.deref_mut.result.now now) (sym (c.deref.ensures.value ∙ whole_list)) c.mark_all.ensures) in
-    let gathers = subst (λ ls. Gathers g.B.Listener.told c.self.inside.hub c.take_lanes-lost.new.hub c.deref.result.now (length c.deref.result.now) ls c.take_lanes-lost.result.first c.take_lanes-lost.result.gone) (sym lanes) c.take_lanes-lost.ensures.gathers in
-    let t = c.put_together-together.result in
-    let audits = subst (λ (s : PublisherState). Audits t.sources t.publications.amount t.drops.amount s.hub.next s.hub.dropping c.audit-missing.result) c.put_together-together.ensures.same c.audit-missing.ensures.audits in
-    is_missing g.B.Listener.told c.args.subscriptions.now c.self.inside.hub c.take_lanes-lost.new.hub n c.deref.result.now c.outcome-outcome.result c.take_lanes-lost.result.first c.take_lanes-lost.result.gone c.self.invariant.sound marked gathers c.args.submitters.items t.publications.amount t.drops.amount t.publications.parts t.drops.parts t.sources t.knows c.audit-missing.result c.put_together-together.ensures.together audits c.in-Some.name c.if-gone.false (sym c.or.ensures ∙ c.in-Some.is)
+returns-in-Some-clause-finishes g c = missing_is g (goal.at.returns-in-Some-clause-finishes g c).After-outcome-outcome c.in-Some.name c.if-gone.false (sym c.or.ensures ∙ c.in-Some.is)
 
 pub judge-requires-clause-room : goal.judge-requires-clause-room
 judge-requires-clause-room g c =
-    let lanes = ap (λ v. v.items) c.outcome-outcome.ensures.lanes in
-    let n = c.self.inside.entries in
-    let whole_list = with_items_is c.in-Ok.room.handed c.mark_all.new.handed (c.mark_all.ensures.as_long ∙ c.deref_mut.ensures.len) in
-    let marked = subst (λ was. AreMarked c.args.subscriptions.now was c.deref.result.now) (c.deref_mut.ensures.value ∙ c.in-Ok.ensures.handed)
-        (subst (λ now. AreMarked c.args.subscriptions.now c.deref_mut.result.now now) (sym (c.deref.ensures.value ∙ whole_list)) c.mark_all.ensures) in
-    let gathers = subst (λ ls. Gathers g.B.Listener.told c.self.inside.hub c.take_lanes-lost.new.hub c.deref.result.now (length c.deref.result.now) ls c.take_lanes-lost.result.first c.take_lanes-lost.result.gone) (sym lanes) c.take_lanes-lost.ensures.gathers in
-    let many = all_found c.deref.result.now (length c.deref.result.now) c.outcome-outcome.result.lanes.items c.take_lanes-lost.result.first c.audit-missing.result c.take_lanes-lost.result.gone (sym c.or.ensures ∙ c.in-None.is) gathers.found in
-    let long = marked.as_long ∙ length-replicate n _ in
+    let left = (goal.at.judge-requires-clause-room g c).After-outcome-outcome in
+    let many = all_found c.deref.result.now (length c.deref.result.now) c.outcome-outcome.result.lanes.items c.take_lanes-lost.result.first c.audit-missing.result c.take_lanes-lost.result.gone (sym c.or.ensures ∙ c.in-None.is) (gathered g left).found in
+    let long = (marked g left).as_long ∙ length-replicate c.self.inside.entries _ in
     let room = c.in-Ok.ensures.unsettled.1 in
     omega arith
 
 pub returns-clause-outcome : goal.returns-clause-outcome
 returns-clause-outcome g c =
-    let lanes = ap (λ v. v.items) c.outcome-outcome.ensures.lanes in
-    let n = c.self.inside.entries in
-    let whole_list = with_items_is c.in-Ok.room.handed c.mark_all.new.handed (c.mark_all.ensures.as_long ∙ c.deref_mut.ensures.len) in
-    let marked = subst (λ was. AreMarked c.args.subscriptions.now was c.deref.result.now) (c.deref_mut.ensures.value ∙ c.in-Ok.ensures.handed)
-        (subst (λ now. AreMarked c.args.subscriptions.now c.deref_mut.result.now now) (sym (c.deref.ensures.value ∙ whole_list)) c.mark_all.ensures) in
-    let gathers = subst (λ ls. Gathers g.B.Listener.told c.self.inside.hub c.take_lanes-lost.new.hub c.deref.result.now (length c.deref.result.now) ls c.take_lanes-lost.result.first c.take_lanes-lost.result.gone) (sym lanes) c.take_lanes-lost.ensures.gathers in
-    let published = c.outcome-outcome.ensures.published ∙ ap (λ (s : PublisherState). s.hub.next) (c.audit-missing.ensures.same ∙ c.put_together-together.ensures.same) in
-    subst (λ o. IsOutcome g.B.Listener.told o) (sym (judged_same c.args.submitters.items c.args.subscriptions.now c.outcome-outcome.result _ c.judge.result c.judge.ensures)) (is_outcome_of g.B.Listener.told c.args.subscriptions.now c.self.inside.hub c.take_lanes-lost.new.hub n c.deref.result.now c.outcome-outcome.result c.take_lanes-lost.result.first c.take_lanes-lost.result.gone c.self.invariant.sound marked gathers published)
+    let same = judged_same c.args.submitters.items c.args.subscriptions.now c.outcome-outcome.result _ c.judge.result c.judge.ensures in
+    subst (λ o. IsOutcome g.B.Listener.told o) (sym same) (outcome_is g (goal.at.returns-clause-outcome g c).After-outcome-outcome)
 
 pub returns-clause-handed : goal.returns-clause-handed
 returns-clause-handed g c =
-    let lanes = ap (λ v. v.items) c.outcome-outcome.ensures.lanes in
-    let n = c.self.inside.entries in
-    let whole_list = with_items_is c.in-Ok.room.handed c.mark_all.new.handed (c.mark_all.ensures.as_long ∙ c.deref_mut.ensures.len) in
-    let marked = subst (λ was. AreMarked c.args.subscriptions.now was c.deref.result.now) (c.deref_mut.ensures.value ∙ c.in-Ok.ensures.handed)
-        (subst (λ now. AreMarked c.args.subscriptions.now c.deref_mut.result.now now) (sym (c.deref.ensures.value ∙ whole_list)) c.mark_all.ensures) in
-    let gathers = subst (λ ls. Gathers g.B.Listener.told c.self.inside.hub c.take_lanes-lost.new.hub c.deref.result.now (length c.deref.result.now) ls c.take_lanes-lost.result.first c.take_lanes-lost.result.gone) (sym lanes) c.take_lanes-lost.ensures.gathers in
-    subst (λ o. AreHandedIn c.args.subscriptions.now o.lanes.items) (sym (judged_same c.args.submitters.items c.args.subscriptions.now c.outcome-outcome.result _ c.judge.result c.judge.ensures)) (handed_in g.B.Listener.told c.args.subscriptions.now c.self.inside.hub c.take_lanes-lost.new.hub n c.deref.result.now c.outcome-outcome.result c.take_lanes-lost.result.first c.take_lanes-lost.result.gone c.self.invariant.sound marked gathers)
+    let same = judged_same c.args.submitters.items c.args.subscriptions.now c.outcome-outcome.result _ c.judge.result c.judge.ensures in
+    subst (λ o. AreHandedIn c.args.subscriptions.now o.lanes.items) (sym same) (handed_is g (goal.at.returns-clause-handed g c).After-outcome-outcome)
 
 pub returns-clause-finishes : goal.returns-clause-finishes
 returns-clause-finishes g c =
-    let lanes = ap (λ v. v.items) c.outcome-outcome.ensures.lanes in
-    let n = c.self.inside.entries in
-    let whole_list = with_items_is c.in-Ok.room.handed c.mark_all.new.handed (c.mark_all.ensures.as_long ∙ c.deref_mut.ensures.len) in
-    let marked = subst (λ was. AreMarked c.args.subscriptions.now was c.deref.result.now) (c.deref_mut.ensures.value ∙ c.in-Ok.ensures.handed)
-        (subst (λ now. AreMarked c.args.subscriptions.now c.deref_mut.result.now now) (sym (c.deref.ensures.value ∙ whole_list)) c.mark_all.ensures) in
-    let gathers = subst (λ ls. Gathers g.B.Listener.told c.self.inside.hub c.take_lanes-lost.new.hub c.deref.result.now (length c.deref.result.now) ls c.take_lanes-lost.result.first c.take_lanes-lost.result.gone) (sym lanes) c.take_lanes-lost.ensures.gathers in
     let t = c.put_together-together.result in
-    let audits = subst (λ (s : PublisherState). Audits t.sources t.publications.amount t.drops.amount s.hub.next s.hub.dropping c.audit-missing.result) c.put_together-together.ensures.same c.audit-missing.ensures.audits in
-    let published = c.outcome-outcome.ensures.published ∙ ap (λ (s : PublisherState). s.hub.next) (c.audit-missing.ensures.same ∙ c.put_together-together.ensures.same) in
-    finishes c.args.submitters.items c.args.subscriptions.now c.outcome-outcome.result _ c.judge.result c.judge.ensures (is_whole g.B.Listener.told c.args.subscriptions.now c.self.inside.hub c.take_lanes-lost.new.hub n c.deref.result.now c.outcome-outcome.result c.take_lanes-lost.result.first c.take_lanes-lost.result.gone c.self.invariant.sound marked gathers c.args.submitters.items t.publications.amount t.drops.amount t.publications.parts t.drops.parts t.sources t.knows c.audit-missing.result c.put_together-together.ensures.together audits (sym c.or.ensures ∙ c.in-None.is) published)
-        (closed_by c.args.submitters.items t.publications.amount t.drops.amount t.publications.parts t.drops.parts t.sources t.knows _ c.put_together-together.ensures.together)
+    finishes c.args.submitters.items c.args.subscriptions.now c.outcome-outcome.result _ c.judge.result c.judge.ensures
+    (whole_is g (goal.at.returns-clause-finishes g c).After-outcome-outcome (sym c.or.ensures ∙ c.in-None.is))
+    (closed_by c.args.submitters.items t.publications.amount t.drops.amount t.publications.parts t.drops.parts t.sources t.knows _ c.put_together-together.ensures.together)
