@@ -1,5 +1,5 @@
 //! One source of publications.
-ghost use Rattle.std.specs.Prelude.{◌≡◌, ◌+◌, ◌<◌, ◌≤◌, is_some, None, Err, IfErr, IfOk, IfSome, OnErr, OnOk, length};
+ghost use Rattle.std.specs.Prelude.{◌≡◌, ◌+◌, ◌<◌, ◌≤◌, ◌↔◌, is_some, None, Err, IfErr, IfOk, IfSome, OnErr, OnOk, length};
 ghost use Rattle.flow_rules.specs.declared.refusal.Refusal.TheVariants as Refusal;
 ghost use Rattle.flow_rules.specs.declared.text.TheConstants.Text.{LONGEST};
 ghost use Rattle.publisher.specs.Handles.{IsHubRefusal, RefusesPublication, told_by};
@@ -60,7 +60,7 @@ impl<L: Ledger + Send, D: Ledger + Send, B: Listener + Send> Submitter<L, D, B> 
     /// where the publisher is closed, and from then on it knows; and 13 once as many publications were made as may be.
     pub fn submit<R: Wait>(&mut self, rt: &R, alloc: Global, text: &[u8]) -> Result<u64, Refusal>
         ensures known { IfSome self.old.known (λ ending. (result ≡ Err (Refusal.Closed ending)) × (self.new ≡ self.old)) }
-        ensures long { self.old.known ≡ None → LONGEST < length text.now → result ≡ Err Refusal.LineTooLong }
+        ensures long { self.old.known ≡ None → (result ≡ Err Refusal.LineTooLong) ↔ (LONGEST < length text.now) }
         ensures ok { OnOk result (self.new ≡ record self.old { published = self.old.published + 1 }) }
         ensures err { IfErr result (λ refusal. self.new ≡ told_by refusal self.old) }
         ensures refusals { IfErr result (λ refusal. RefusesPublication refusal self.new.known) }
@@ -85,7 +85,7 @@ impl<L: Ledger + Send, D: Ledger + Send, B: Listener + Send> Submitter<L, D, B> 
         handler: Option<&mut Box<dyn DropHandler>>,
     ) -> Result<i64, Refusal>
         ensures known { IfSome self.old.known (λ ending. (result ≡ Err (Refusal.Closed ending)) × (self.new ≡ self.old)) }
-        ensures long { self.old.known ≡ None → LONGEST < length text.now → result ≡ Err Refusal.LineTooLong }
+        ensures long { self.old.known ≡ None → (result ≡ Err Refusal.LineTooLong) ↔ (LONGEST < length text.now) }
         ensures ok { IfOk result (λ answer. self.new ≡ record self.old { published = self.old.published + 1; dropping = self.old.dropping + drop_of answer }) }
         ensures err { IfErr result (λ refusal. self.new ≡ told_by refusal self.old) }
         ensures refusals { IfErr result (λ refusal. RefusesPublication refusal self.new.known) }
@@ -106,7 +106,7 @@ impl<L: Ledger + Send, D: Ledger + Send, B: Listener + Send> Submitter<L, D, B> 
         ensures fits { OnOk result (length text.now ≤ LONGEST) }
         ensures text { IfOk result (λ it. it ≡ text.now) }
         ensures known { IfSome self.now.known (λ ending. result ≡ Err (Refusal.Closed ending)) }
-        ensures long { self.now.known ≡ None → LONGEST < length text.now → result ≡ Err Refusal.LineTooLong }
+        ensures long { self.now.known ≡ None → (result ≡ Err Refusal.LineTooLong) ↔ (LONGEST < length text.now) }
         ensures err { IfErr result (λ refusal. self.now ≡ told_by refusal self.now) }
         ensures refusals { IfErr result (λ refusal. RefusesPublication refusal self.now.known) }
     {
