@@ -1,10 +1,9 @@
 -- What the end of a publisher leaves.
-use Rattle.std.proofs.Common.{◌≡◌, ◌⊎◌, inl, inr, ℕ, zero, suc, ◌+◌, ◌<◌, ◌≤◌, ◌||◌, ◌&&◌, is_none, Bool, true, false, Option, None, Some, Result, Ok, Err, List, [], ◌∷◌, length, replicate, refl, sym, ap, subst, ◌∙◌, arith, rules}
-use Rattle.std.specs.Prelude.{IsSome, slice_get, sum_by}
+use Rattle.std.proofs.Common.{◌≡◌, ◌⊎◌, inl, inr, ℕ, zero, suc, ◌<◌, ◌||◌, ◌&&◌, is_none, Bool, true, false, Option, None, Some, Result, Ok, Err, List, [], ◌∷◌, length, replicate, refl, sym, ap, subst, ◌∙◌, arith}
+use Rattle.std.specs.Prelude.{IsSome, slice_get}
 use Rattle.std.specs.Option.{option_or}
 use Rattle.std.proofs.lemmas.Option.{same_Some, slice_get_within}
 use Rattle.flow_rules.specs.declared.refusal.Refusal.{Refusal}
-use Rattle.flow_rules.specs.declared.refusal.Refusal.TheVariants as Refusal
 use Rattle.feed_core.specs.Prelude.{How, Signal}
 use Rattle.feed_core.specs.Desk.{DeskState}
 use Rattle.feed_core.specs.Feed.{end_of}
@@ -13,7 +12,7 @@ use Rattle.publisher_hub.specs.Sound.{IsSound}
 use Rattle.publisher_hub.specs.declared.hub.Hub.{Hub}
 use Rattle.publisher_hub.proofs.Places.{there}
 use Rattle.publisher.specs.Handles.{SubmitterState, SubscriptionState}
-use Rattle.publisher.specs.Lanes.{AreFound, AreLeft, AreMarked, Gathers, IsHandedIn, IsLeftOf}
+use Rattle.publisher.specs.Lanes.{AreFound, AreMarked, Gathers, IsHandedIn, IsLeftOf}
 use Rattle.publisher.specs.Outcome.{AnyKnows, AreDone, AreHandedIn, Finishes, IsMissing, IsOutcome, IsWhole, Judges, NamesUndone, is_undone, outcome_of}
 use Rattle.publisher.specs.State.{IsState, Sums}
 use Rattle.publisher.specs.Together.{AreTogether, Audits}
@@ -56,10 +55,13 @@ module _ {B : Type 0} (told : B → List Signal) (subscriptions : List Subscript
       by : (l m : Option (List ℕ)) → option_or l m ≡ Some name → AreFound handed (length handed) outcome.lanes.items l gone → Audits sources published dropping new.next new.dropping m
           → IsMissing name submitters subscriptions outcome.lanes.items
       by (Some first) m e found audit = inl (found.number, (found.first, marked.unmarked found.number (found.why here)))
-      by None (Some first) e found audit = inr (audit.0, (
-        subst (λ n. audit.0 < n) are.long (slice_get_within sources audit.0 false audit.1.1),
-        (sym (same_Some first name e) ∙ audit.1.0, (are.away audit.0 audit.1.1 (λ i s at same. cc), found.numbered)),
-      ))
+      by None (Some first) e found audit = inr (
+        audit.0,
+        (
+          subst (λ n. audit.0 < n) are.long (slice_get_within sources audit.0 false audit.1.1),
+          (sym (same_Some first name e) ∙ audit.1.0, (are.away audit.0 audit.1.1 (λ i s at same. cc), found.numbered)),
+        ),
+      )
       by None None e found audit = cc
 
     pub is_whole : option_or lost missing ≡ None → outcome.published ≡ new.next → IsWhole submitters outcome
@@ -139,6 +141,7 @@ closed_by submitters published dropping parts drop_parts sources knows also are 
   either : (a : Bool) → a ≡ true → (a || also) ≡ true
   either true e = refl
   either false e = cc
+
   by : (knows ≡ true) ⊎ AnyKnows [] → (knows || also) ≡ true
   by (inl known) = either knows known
   by (inr one) = let no = one.2.0 in cc

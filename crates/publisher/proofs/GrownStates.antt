@@ -1,6 +1,6 @@
 -- What stands behind a publisher's lock after a publication, a close, or one more submitter or subscription.
-use Rattle.std.proofs.Common.{◌≡◌, ◌⊎◌, inl, inr, ℕ, zero, suc, ◌+◌, ◌<◌, Bool, Option, None, Some, Result, Ok, Err, List, [], ◌∷◌, ◌++◌, length, map, refl, sym, ap, subst, ◌∙◌, arith, rules}
-use Rattle.std.specs.Prelude.{IfOk, IsSome, OnErr, OnOk, slice_get}
+use Rattle.std.proofs.Common.{◌≡◌, ℕ, zero, suc, ◌+◌, Option, None, Some, Result, Ok, Err, List, length, map, refl, sym, ap, subst, ◌∙◌, arith}
+use Rattle.std.specs.Prelude.{IfOk, IsSome, OnErr, OnOk}
 use Rattle.std.proofs.lemmas.List.{length-map, length-append}
 use Rattle.close_count.specs.declared.opening.Opening.{Opening}
 use Rattle.close_count.specs.declared.ticket.Ticket.{Ticket}
@@ -9,10 +9,10 @@ use Rattle.flow_rules.specs.declared.item.Item.{Item}
 use Rattle.feed_core.specs.Desk.{DeskState}
 use Rattle.feed_core.specs.Feed.{end_of, DoesCall}
 use Rattle.feed_core.specs.LaneCalls.{IsCapacity}
-use Rattle.publisher_hub.specs.Closing.{IsClosed, IsClosedLooking, progress_closed}
-use Rattle.publisher_hub.specs.Entry.{EntryState, entry_of}
+use Rattle.publisher_hub.specs.Closing.{IsClosed, IsClosedLooking}
+use Rattle.publisher_hub.specs.Entry.{entry_of}
 use Rattle.publisher_hub.specs.Hub.{HubState, Progress, hub_at_start, hub_of}
-use Rattle.publisher_hub.specs.Offering.{Offers, progress_after}
+use Rattle.publisher_hub.specs.Offering.{Offers}
 use Rattle.flow_rules.specs.declared.refusal.Refusal.{Refusal}
 use Rattle.publisher_hub.specs.OpeningTicket.{AddsTicket}
 use Rattle.publisher_hub.specs.Publishing.{dropping_after, offer_answer}
@@ -22,7 +22,7 @@ use Rattle.publisher_hub.specs.declared.hub.Hub.{Hub}
 use Rattle.publisher_hub.specs.declared.work.Work.{Work}
 use Rattle.publisher.specs.Publishing.{drop_of}
 use Rattle.publisher.specs.State.{IsState, PARTS, Sums}
-use Rattle.publisher.proofs.KeptStates.{Stays, as_many, stays_looked, state_stays}
+use Rattle.publisher.proofs.KeptStates.{Stays, stays_looked}
 
 -- a publication: the totals grow as the Hub's numbers do
 pub state_offered : (v w : HubState) (x : Item) (sums : Sums) (published dropping : ℕ) → IsState v sums → IsSound w → Offers x v w

@@ -1,11 +1,11 @@
 -- Which of the lanes that are left are done.
-use Rattle.std.proofs.Common.{◌≡◌, ◌⊎◌, inl, inr, ℕ, zero, suc, ◌+◌, ◌<◌, ◌≤◌, ◌||◌, ◌&&◌, if◌then◌else◌, is_none, Bool, true, false, Option, None, Some, List, [], ◌∷◌, ◌++◌, length, refl, sym, ap, subst, ◌∙◌, arith, rules}
+use Rattle.std.proofs.Common.{◌≡◌, ◌⊎◌, inl, inr, ℕ, zero, suc, ◌+◌, ◌<◌, ◌≤◌, ◌||◌, ◌&&◌, if◌then◌else◌, is_none, Bool, true, false, Option, None, Some, List, [], ◌∷◌, ◌++◌, length, refl, sym, subst, ◌∙◌, arith, rules}
 use Rattle.std.specs.Prelude.{slice_get, ◌==◌}
 use Rattle.std.proofs.lemmas.List.{length-append}
-use Rattle.std.proofs.lemmas.Option.{same_Some, slice_get_within}
+use Rattle.std.proofs.lemmas.Option.{same_Some}
 use Rattle.feed_core.specs.Prelude.{How}
 use Rattle.publisher_hub.proofs.Grown.{get_grown}
-use Rattle.publisher.specs.Outcome.{IsUndone, NamesUndone, is_undone}
+use Rattle.publisher.specs.Outcome.{IsUndone, is_undone}
 use Rattle.publisher.specs.declared.outcome.NamedLane.{NamedLane}
 
 -- the first so many of these lanes were judged, and these names were found
@@ -34,6 +34,7 @@ module _ {B : Type 0} (closed : Bool) (lanes : List (NamedLane B)) where
   judged_more n names left is at = by (is_undone closed left) refl where
     cases_of : (a b : ℕ) → a < b + 1 → (a < b) ⊎ (a ≡ b)
     cases_of a b less = search rules
+
     by : (undone : Bool) → is_undone closed left ≡ undone → IsJudged closed lanes (n + 1) (names ++ (if undone then left.name ∷ [] else []))
     by true e = record {
       few = let few = is.few in let many = length-append names (left.name ∷ []) in omega arith;

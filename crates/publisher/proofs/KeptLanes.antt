@@ -1,12 +1,11 @@
 -- A turn changes neither what a lane accepted nor how it was closed, and takes no item back, whatever its callbacks come back with.
 use Rattle.std.proofs.Common.{◌≡◌, ℕ, zero, suc, ◌≤◌, ◌-◌, ◌&&◌, ℤ, pos, negsuc, Bool, true, false, List, [], ◌∷◌, drop, Option, None, Some, is_none, is_some, Ok, Err, refl, ap, sym, subst, ◌∙◌, arith}
-use Rattle.std.specs.Prelude.{IsSome}
 use Rattle.feed_core.specs.Prelude.{Answer, Item, Signal, Subscribed, Next, How}
 use Rattle.feed_core.specs.declared.turn.outlook.Outlook.{Outlook}
 use Rattle.feed_core.specs.declared.turn.outlook.Outlook.TheVariants.{Again, Resting, Ended}
 use Rattle.feed_core.specs.declared.turn.TheConstants.{ITEMS_IN_A_TURN}
-use Rattle.feed_core.specs.AnsweredTurn.{Reply, After, called, ended_as, finished, first_reply, lane_after_end, lane_taken, lane_told, later_replies, look_of, looked, looks_within, obeyed, and_then, going_on, turn_after, turn_of}
-use Rattle.feed_core.specs.Cause.{stops, closes, with_cause_of}
+use Rattle.feed_core.specs.AnsweredTurn.{Reply, After, called, finished, first_reply, lane_after_end, lane_taken, lane_told, later_replies, look_of, looked, looks_within, obeyed, and_then, going_on, turn_after, turn_of}
+use Rattle.feed_core.specs.Cause.{stops, closes}
 use Rattle.feed_core.specs.Desk.{DeskState, owes}
 use Rattle.feed_core.specs.Feed.{end_of}
 use Rattle.feed_core.specs.Lane.{LaneState}

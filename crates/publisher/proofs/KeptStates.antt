@@ -1,19 +1,17 @@
 -- What stands behind a publisher's lock stays as it should, whatever is asked of its Hub.
-use Rattle.std.proofs.Common.{◌≡◌, ◌⊎◌, inl, inr, ℕ, ◌+◌, Bool, Option, None, Some, List, [], ◌∷◌, ◌++◌, length, map, refl, sym, ap, subst, ◌∙◌, arith, rules}
-use Rattle.std.specs.Prelude.{IsSome, slice_get, slice_set}
-use Rattle.std.proofs.lemmas.List.{length-map, length-append, length-set, map-set}
+use Rattle.std.proofs.Common.{◌≡◌, ◌⊎◌, inl, inr, ℕ, Option, List, length, map, refl, sym, ap, subst, ◌∙◌}
+use Rattle.std.specs.Prelude.{IsSome}
+use Rattle.std.proofs.lemmas.List.{length-map, length-set}
 use Rattle.flow_rules.specs.declared.feed.standing.Standing.{Standing}
 use Rattle.flow_rules.specs.declared.refusal.Refusal.{Refusal}
-use Rattle.flow_rules.specs.declared.refusal.Refusal.TheVariants as Refusal
 use Rattle.feed_core.specs.Desk.{DeskState}
 use Rattle.feed_core.specs.Feed.{end_of, DoesCall}
 use Rattle.feed_core.specs.LaneCalls.{IsCapacity}
-use Rattle.publisher_hub.specs.Entry.{EntryState, entry_of}
+use Rattle.publisher_hub.specs.Entry.{entry_of}
 use Rattle.publisher_hub.specs.Hub.{HubState, Progress, hub_of}
-use Rattle.publisher_hub.specs.Lists.{Each}
-use Rattle.publisher_hub.specs.Looking.{IsKept, IsLookedAt, LooksAtAll}
+use Rattle.publisher_hub.specs.Looking.{IsLookedAt, LooksAtAll}
 use Rattle.publisher_hub.specs.Sound.{IsSound}
-use Rattle.publisher_hub.specs.Subscribing.{IsSeen, IsSeenInPart, Refuses, FindsNoPlace, TellsOne, TellsAt}
+use Rattle.publisher_hub.specs.Subscribing.{IsSeen, IsSeenInPart, Refuses, FindsNoPlace, TellsOne}
 use Rattle.publisher_hub.specs.declared.entry.Entry.{Entry}
 use Rattle.publisher_hub.specs.declared.hub.Hub.{Hub}
 use Rattle.publisher_hub.specs.declared.work.Work.{Work}

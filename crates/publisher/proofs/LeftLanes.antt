@@ -1,9 +1,9 @@
 -- How what is left of the subscriptions of a Hub is taken out, one after the other.
-use Rattle.std.proofs.Common.{◌≡◌, ◌⊎◌, inl, inr, ℕ, zero, suc, ◌+◌, ◌<◌, ◌≤◌, ◌||◌, Bool, true, false, Option, None, Some, option_map, Ok, Err, List, [], ◌∷◌, ◌++◌, length, map, refl, sym, ap, subst, ◌∙◌, arith, rules}
+use Rattle.std.proofs.Common.{◌≡◌, ◌⊎◌, inl, inr, ℕ, zero, suc, ◌+◌, ◌<◌, ◌≤◌, ◌||◌, Bool, true, false, Option, None, Some, option_map, Ok, Err, List, [], ◌∷◌, ◌++◌, length, refl, sym, ap, subst, ◌∙◌, arith}
 use Rattle.std.specs.Prelude.{slice_get, slice_set}
 use Rattle.std.specs.Option.{option_and_then}
 use Rattle.std.proofs.lemmas.List.{length-append, length-set}
-use Rattle.std.proofs.lemmas.Option.{same_Some, slice_get_within, slice_get_past}
+use Rattle.std.proofs.lemmas.Option.{same_Some, slice_get_within}
 use Rattle.feed_core.specs.Prelude.{Signal}
 use Rattle.feed_core.specs.Desk.{DeskState}
 use Rattle.feed_core.specs.Feed.{end_of}
@@ -11,7 +11,6 @@ use Rattle.feed_core.specs.Lane.{IsFlow, IsSettled}
 use Rattle.feed_core.specs.LeftLane.{IsLaneOf}
 use Rattle.publisher_hub.specs.Entry.{EntryState, entry_of}
 use Rattle.publisher_hub.specs.Hub.{HubState, hub_of}
-use Rattle.publisher_hub.specs.Lending.{feed_at}
 use Rattle.publisher_hub.specs.Sound.{IsSound}
 use Rattle.publisher_hub.specs.Taking.{TakesOutAt, entry_without_feed}
 use Rattle.publisher_hub.specs.declared.entry.Entry.{Entry}
@@ -19,7 +18,7 @@ use Rattle.publisher_hub.specs.declared.hub.Hub.{Hub}
 use Rattle.publisher_hub.proofs.Grown.{get_elsewhere, get_grown}
 use Rattle.publisher_hub.proofs.LiveRounds.{get_mapped}
 use Rattle.publisher_hub.proofs.Places.{there}
-use Rattle.publisher.specs.Lanes.{AreAllLeft, AreFound, AreLeft, Gathers, IsLeft, IsLeftOf, IsLost, TakesIf, TakesLane, TakesNone, TakesOne}
+use Rattle.publisher.specs.Lanes.{AreAllLeft, AreFound, AreLeft, Gathers, IsLeftOf, IsLost, TakesIf, TakesLane}
 use Rattle.publisher.specs.declared.outcome.NamedLane.{NamedLane}
 
 left_false : (a b : Bool) → (a || b) ≡ false → a ≡ false
@@ -89,6 +88,7 @@ module _ {B : Type 0} (told : B → List Signal) (old : Hub DeskState) (handed :
       each i it its (inl at) (inr last) = let within = slice_get_within lanes i it at in let same = are.as_many in let end = last.0 in absurd (omega arith)
       each i it its (inr last) (inl on) = let within = slice_get_within are.desks i its on in let same = are.as_many in let end = last.0 in absurd (omega arith)
       each i it its (inr last) (inr also) = subst (λ a. IsLeftOf told old handed (most + 1) a its) last.1 (subst (λ d. IsLeftOf told old handed (most + 1) left d) also.1 is)
+
       rises : (i j : ℕ) (it other : NamedLane B) → i < j → (slice_get lanes i ≡ Some it) ⊎ ((i ≡ length lanes) × (left ≡ it)) → (slice_get lanes j ≡ Some other) ⊎ ((j ≡ length lanes) × (left ≡ other)) → it.entry < other.entry
       rises i j it other less (inl at) (inl on) = are.rising i j it other at on less
       rises i j it other less (inl at) (inr last) = let small = below most lanes i it are at in let same = ap (λ (l : NamedLane B). l.entry) last.1 in omega arith
@@ -202,15 +202,18 @@ module _ {B : Type 0} (told : B → List Signal) (number : ℕ) (old new : Hub D
       let known = reads entry stands in
       record {
         rest = takes.rest;
-        takes = (refl, record {
-          entry = entry;
-          desk = desk;
-          stands = stands;
-          there = after.1.0.0;
-          number_is = number_is;
-          left_is = record { name = known.0; since = known.1; dropped = known.2; lane = lane; flow = flow; settled = settled };
-          entries = after.1.1 ∙ ap (slice_set old.entries.items number) after.1.0.1;
-        });
+        takes = (
+          refl,
+          record {
+            entry = entry;
+            desk = desk;
+            stands = stands;
+            there = after.1.0.0;
+            number_is = number_is;
+            left_is = record { name = known.0; since = known.1; dropped = known.2; lane = lane; flow = flow; settled = settled };
+            entries = after.1.1 ∙ ap (slice_set old.entries.items number) after.1.0.1;
+          },
+        );
       }
 
   pub taken_some : (handed : Bool) (desk : DeskState) (left : NamedLane B) → number < length old.entries.items → TakesIf number handed (Some desk) old new → left.entry ≡ number

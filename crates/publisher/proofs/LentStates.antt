@@ -1,13 +1,12 @@
 -- What stands behind a publisher's lock while the buffer of one subscription is lent, as to a request, a cancel or a turn.
-use Rattle.std.proofs.Common.{◌≡◌, ℕ, ℤ, pos, negsuc, zero, suc, ◌≤◌, Bool, true, false, if◌then◌else◌, Option, None, Some, is_some, List, length, map, refl, sym, ap, subst, ◌∙◌, arith, rules}
+use Rattle.std.proofs.Common.{◌≡◌, ℕ, ℤ, pos, negsuc, zero, suc, Bool, true, false, if◌then◌else◌, Option, None, Some, refl, sym, ap, subst, ◌∙◌, arith, rules}
 use Rattle.std.specs.Prelude.{IsSome, slice_get}
-use Rattle.std.proofs.lemmas.List.{length-map, length-set}
+use Rattle.std.proofs.lemmas.List.{length-set}
 use Rattle.feed_core.specs.Desk.{DeskState, Owes, Rests, desk_after_cancel, desk_after_request, desk_after_signal}
 use Rattle.feed_core.specs.Feed.{end_of}
 use Rattle.feed_core.specs.LaneCalls.{lane_with_request}
-use Rattle.publisher_hub.specs.Hub.{HubState, hub_of}
+use Rattle.publisher_hub.specs.Hub.{hub_of}
 use Rattle.publisher_hub.specs.Lending.{MayBecome, feed_at, with_feed}
-use Rattle.publisher_hub.specs.Sound.{IsSound}
 use Rattle.publisher_hub.specs.declared.entry.Entry.{Entry}
 use Rattle.publisher_hub.specs.declared.hub.Hub.{Hub}
 use Rattle.publisher_hub.proofs.Lending.{sound_with_feed}
@@ -71,6 +70,7 @@ acts_there entry act started old desk at owes = record {
 } where
   some_injective : (x y : DeskState) → Some x ≡ Some y → x ≡ y
   some_injective x y e = search rules
+
   by : (other : DeskState) → desk ≡ other → (record old { hub = lent old.hub entry (act desk) } ≡ record old { hub = lent old.hub entry (act other) }) × (IsSome started → Owes (act other))
   by other same = (ap (λ d. record old { hub = lent old.hub entry (act d) }) same, λ some. subst (λ d. Owes (act d)) same (owes some))
 

@@ -1,5 +1,5 @@
 -- How the subscriptions that were handed in are marked.
-use Rattle.std.proofs.Common.{◌≡◌, ◌⊎◌, inl, inr, ℕ, zero, suc, ◌+◌, ◌<◌, ◌≤◌, Bool, true, false, Option, None, Some, List, length, refl, sym, ap, subst, ◌∙◌, arith, rules}
+use Rattle.std.proofs.Common.{◌≡◌, ◌⊎◌, inl, inr, ℕ, ◌+◌, ◌<◌, ◌≤◌, Bool, true, false, Some, List, length, refl, sym, ap, subst, ◌∙◌, arith, rules}
 use Rattle.std.specs.Prelude.{slice_get, slice_set}
 use Rattle.std.proofs.lemmas.List.{length-set}
 use Rattle.std.proofs.lemmas.Option.{same_Some, slice_get_within}
@@ -32,6 +32,7 @@ module _ (subscriptions : List SubscriptionState) (old : List Bool) where
     marked : (number : ℕ) → (s.entry ≡ number) ⊎ (s.entry ≡ number → ⊥) → slice_get (slice_set new s.entry true) number ≡ Some true → (slice_get old number ≡ Some true) ⊎ IsHandedIn subscriptions number
     marked number (inl same) set = inr (n, s, (at, same))
     marked number (inr other) set = is.marked number (sym (get_elsewhere new s.entry number true other) ∙ set)
+
     unmarked : (number : ℕ) → (s.entry ≡ number) ⊎ (s.entry ≡ number → ⊥) → slice_get (slice_set new s.entry true) number ≡ Some false → (i : ℕ) (it : SubscriptionState) → (i < n) ⊎ (i ≡ n) → slice_get subscriptions i ≡ Some it
         → it.entry ≡ number → ⊥
     unmarked number (inl same) set i it less on is_it =

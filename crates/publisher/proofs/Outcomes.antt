@@ -1,24 +1,21 @@
 -- What is left of the subscriptions of a sound Hub keeps the rules of Flow, and agrees.
-use Rattle.std.proofs.Common.{◌≡◌, ◌⊎◌, inl, inr, ℕ, zero, suc, ◌+◌, ◌<◌, ◌≤◌, ◌||◌, Bool, true, false, if◌then◌else◌, is_some, Option, None, Some, option_map, List, [], ◌∷◌, ◌++◌, length, map, refl, sym, ap, subst, ◌∙◌, arith, rules}
+use Rattle.std.proofs.Common.{◌≡◌, ℕ, ◌<◌, ◌≤◌, ◌||◌, Bool, true, false, is_some, Option, None, Some, option_map, List, ◌∷◌, map, refl, sym, ap, subst, ◌∙◌, arith}
 use Rattle.std.specs.Prelude.{IsSome, slice_get, Contains}
 use Rattle.std.proofs.lemmas.List.{length-map}
-use Rattle.std.proofs.lemmas.Option.{same_Some, slice_get_within}
-use Rattle.flow_rules.specs.Feed.{End}
-use Rattle.flow_rules.specs.declared.ending.Ending.{Ending}
+use Rattle.std.proofs.lemmas.Option.{slice_get_within}
 use Rattle.feed_core.specs.Prelude.{Item, Signal, Subscribed, Next, Complete, How}
 use Rattle.feed_core.specs.Desk.{DeskState}
 use Rattle.feed_core.specs.Feed.{end_of}
 use Rattle.feed_core.specs.Lane.{LaneState, IsSettled, IsSettledAs}
 use Rattle.feed_core.proofs.TurnLoop.{last_contained}
-use Rattle.publisher_hub.specs.Entry.{EntryState, entry_of, until_of}
-use Rattle.publisher_hub.specs.Hub.{HubState, hub_of}
+use Rattle.publisher_hub.specs.Entry.{entry_of, until_of}
+use Rattle.publisher_hub.specs.Hub.{hub_of}
 use Rattle.publisher_hub.specs.Sound.{IsAccepted, IsCounted, IsSound}
-use Rattle.publisher_hub.specs.declared.entry.Entry.{Entry}
 use Rattle.publisher_hub.specs.declared.hub.Hub.{Hub}
 use Rattle.publisher_hub.proofs.LiveRounds.{get_before_map, get_mapped}
 use Rattle.publisher_hub.proofs.Places.{there}
 use Rattle.publisher.specs.Lanes.{AreLeft, IsLeftOf}
-use Rattle.publisher.specs.Outcome.{AreAgreed, IsLane, IsOutcome, TookPart}
+use Rattle.publisher.specs.Outcome.{IsLane, IsOutcome, TookPart}
 use Rattle.publisher.specs.declared.outcome.NamedLane.{NamedLane}
 use Rattle.publisher.specs.declared.outcome.Outcome.{Outcome}
 

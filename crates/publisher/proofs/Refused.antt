@@ -4,7 +4,6 @@ use Rattle.std.specs.Prelude.{IfErr}
 use Rattle.close_count.specs.declared.opening.Opening.{Opening}
 use Rattle.close_count.specs.declared.ticket.Ticket.{Ticket}
 use Rattle.flow_rules.specs.declared.refusal.Refusal.{Refusal}
-use Rattle.flow_rules.specs.declared.refusal.Refusal.TheVariants as Refusal
 use Rattle.publisher_hub.specs.OpeningTicket.{RefusesTicket}
 use Rattle.publisher.specs.Handles.{RefusesSubscribing}
 

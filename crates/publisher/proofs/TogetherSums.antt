@@ -1,9 +1,9 @@
 -- What submitters have together, one after the other.
-use Rattle.std.proofs.Common.{◌≡◌, ◌⊎◌, inl, inr, ℕ, zero, suc, ◌+◌, ◌<◌, ◌≤◌, ◌||◌, Bool, true, false, is_some, Option, None, Some, List, [], ◌∷◌, ◌++◌, length, replicate, slice_set, refl, sym, ap, subst, ◌∙◌, arith, rules}
-use Rattle.std.specs.Prelude.{IsSome, slice_get, sum_by}
-use Rattle.std.proofs.lemmas.List.{length-append, length-set, length-replicate}
+use Rattle.std.proofs.Common.{◌≡◌, ◌⊎◌, inl, inr, ℕ, zero, suc, ◌+◌, ◌<◌, ◌≤◌, ◌||◌, Bool, true, false, is_some, None, Some, List, [], ◌∷◌, ◌++◌, length, slice_set, refl, sym, ap, subst, ◌∙◌, arith, rules}
+use Rattle.std.specs.Prelude.{IsSome, slice_get}
+use Rattle.std.proofs.lemmas.List.{length-append, length-set}
 use Rattle.std.proofs.lemmas.List.Sums.{sum_by-append}
-use Rattle.std.proofs.lemmas.Option.{same_Some, slice_get_within}
+use Rattle.std.proofs.lemmas.Option.{slice_get_within}
 use Rattle.publisher_hub.proofs.Grown.{get_elsewhere, get_grown, get_there}
 use Rattle.publisher.specs.Handles.{SubmitterState}
 use Rattle.publisher.specs.Outcome.{AnyKnows, IsAway}
@@ -48,11 +48,13 @@ module _ (submitters rest : List SubmitterState) (s : SubmitterState) (published
   away_more source unmarked away = by (cases_of s.source source) where
     cases_of : (a b : ℕ) → (a ≡ b) ⊎ (a ≡ b → ⊥)
     cases_of a b = search rules
+
     all_away : (s.source ≡ source → ⊥) → IsAway source (rest ++ s ∷ [])
     all_away other i it at same = these (get_grown rest s i it at) where
       these : (slice_get rest i ≡ Some it) ⊎ ((i ≡ length rest) × (s ≡ it)) → ⊥
       these (inl on) = away i it on same
       these (inr last) = other (ap (λ (u : SubmitterState). u.source) last.1 ∙ same)
+
     by : (s.source ≡ source) ⊎ (s.source ≡ source → ⊥) → IsAway source submitters
     by (inl same) =
         let within : source < length sources = subst (λ n. source < n) (length-set sources s.source true) (slice_get_within (slice_set sources s.source true) source false unmarked) in
@@ -65,6 +67,7 @@ module _ (submitters rest : List SubmitterState) (s : SubmitterState) (published
     last : (i : ℕ) (it : SubmitterState) → IsSome it.known → (slice_get rest i ≡ Some it) ⊎ ((i ≡ length rest) × (s ≡ it)) → ((knows || is_some s.known) ≡ true) ⊎ AnyKnows rest
     last i it some (inl on) = inr (i, it, (on, some))
     last i it some (inr at) = inl (or_right knows (is_some s.known) (subst (λ (u : SubmitterState). is_some u.known ≡ true) (sym at.1) some))
+
     by : (knows ≡ true) ⊎ AnyKnows (rest ++ s ∷ []) → ((knows || is_some s.known) ≡ true) ⊎ AnyKnows rest
     by (inl known) = inl (or_left knows (is_some s.known) known)
     by (inr one) = last one.0 one.1 one.2.1 (get_grown rest s one.0 one.1 one.2.0)

@@ -1,5 +1,5 @@
 -- What the owner of a subscription does to it, and what one turn does.
-use Rattle.std.specs.Prelude.{◌≡◌, ℕ, Bool, true, false, Option, None, Some, IsSome, slice_get}
+use Rattle.std.specs.Prelude.{◌≡◌, ℕ, Option, None, Some, IsSome, slice_get}
 use Rattle.feed_core.specs.Desk.{DeskState, Owes}
 use Rattle.publisher_hub.specs.Lending.{feed_at, with_feed}
 use Rattle.publisher.specs.State.{PublisherState}

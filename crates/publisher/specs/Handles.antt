@@ -1,5 +1,5 @@
 -- What the owners of submitters and subscriptions see of them.
-use Rattle.std.specs.Prelude.{◌≡◌, ⊤, ℕ, Option, Some, List}
+use Rattle.std.specs.Prelude.{◌≡◌, ⊤, ℕ, Option, Some}
 use Rattle.flow_rules.specs.declared.ending.Ending.{Ending}
 use Rattle.flow_rules.specs.declared.refusal.Refusal.{Refusal}
 use Rattle.flow_rules.specs.declared.refusal.Refusal.TheVariants.{Closed, Duplicate, Exhausted, LineTooLong, NoMemory, TooMany}

@@ -1,5 +1,5 @@
 -- How what is left of the subscriptions is taken out of a Hub.
-use Rattle.std.specs.Prelude.{◌≡◌, ◌⊎◌, ◌↔◌, ℕ, ◌<◌, Bool, true, false, Option, None, Some, Result, Ok, Err, List, length, slice_get, slice_set}
+use Rattle.std.specs.Prelude.{◌≡◌, ◌⊎◌, ℕ, ◌<◌, Bool, true, false, Option, None, Some, Result, Ok, Err, List, length, slice_get, slice_set}
 use Rattle.feed_core.specs.Prelude.{Signal}
 use Rattle.feed_core.specs.Desk.{DeskState}
 use Rattle.feed_core.specs.Feed.{end_of}

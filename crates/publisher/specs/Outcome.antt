@@ -1,7 +1,6 @@
 -- What a publisher leaves: what its subscribers were told, and of what (`SubmissionPublisher` and `Flow`, Java SE 17; Reactive Streams 1.0).
-use Rattle.std.specs.Prelude.{◌≡◌, ◌⊎◌, ⊤, ℕ, ◌+◌, ◌<◌, ◌≤◌, ◌||◌, ◌&&◌, Bool, true, false, is_none, is_some, if◌then◌else◌, Option, None, Some, IsSome, Result, Ok, Err, List, [], ◌∷◌, ◌++◌, length, slice_get, sum_by, codes, decimal}
+use Rattle.std.specs.Prelude.{◌≡◌, ◌⊎◌, ⊤, ℕ, ◌+◌, ◌<◌, ◌≤◌, ◌||◌, ◌&&◌, Bool, true, false, is_none, Option, None, Some, IsSome, Result, Ok, Err, List, [], ◌++◌, length, slice_get, sum_by, codes, decimal}
 use Rattle.flow_rules.specs.declared.refusal.Refusal.{Refusal}
-use Rattle.flow_rules.specs.declared.refusal.Refusal.TheVariants as Refusal
 use Rattle.feed_core.specs.Prelude.{Item, Signal, How}
 use Rattle.feed_core.specs.Lane.{LaneState, IsFlow, IsSettled}
 use Rattle.publisher_hub.specs.Sound.{IsOrdered}

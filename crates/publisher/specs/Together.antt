@@ -1,5 +1,5 @@
 -- What the submitters that were handed in have together.
-use Rattle.std.specs.Prelude.{◌≡◌, ◌⊎◌, ℕ, zero, suc, ◌+◌, ◌<◌, ◌≤◌, Bool, true, false, Option, None, Some, IsSome, List, [], ◌∷◌, length, slice_get, sum_by}
+use Rattle.std.specs.Prelude.{◌≡◌, ◌⊎◌, ℕ, suc, ◌+◌, ◌<◌, ◌≤◌, Bool, true, false, Option, None, Some, List, [], ◌∷◌, length, slice_get, sum_by}
 use Rattle.publisher.specs.Handles.{SubmitterState}
 use Rattle.publisher.specs.Outcome.{AnyKnows, IsAway, source_name}
 use Rattle.publisher.specs.declared.state.TheConstants.{SOURCES}

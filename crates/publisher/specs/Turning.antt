@@ -1,14 +1,13 @@
 -- What one turn of a subscription does behind a publisher's lock.
 use Rattle.std.specs.Prelude.{◌≡◌, ℕ, Bool, true, false, Option, None, Some, List, slice_get}
 use Rattle.close_count.specs.declared.ticket.Ticket.{Ticket}
-use Rattle.feed_core.specs.Prelude.{Signal, How}
+use Rattle.feed_core.specs.Prelude.{Signal}
 use Rattle.feed_core.specs.declared.turn.outlook.Outlook.{Outlook}
 use Rattle.feed_core.specs.declared.turn.outlook.Outlook.TheVariants.{Again, Ended}
 use Rattle.feed_core.specs.AnsweredTurn.{Reply}
-use Rattle.feed_core.specs.Desk.{DeskState, Owes, owes}
+use Rattle.feed_core.specs.Desk.{DeskState, owes}
 use Rattle.feed_core.specs.Feed.{DoesCall, end_of}
 use Rattle.feed_core.specs.Steps.{TurnsAs}
-use Rattle.feed_core.specs.Turn.{is_again}
 use Rattle.publisher_hub.specs.Lending.{feed_at, with_feed}
 use Rattle.publisher_hub.specs.Tickets.{AsksForTicketAt}
 use Rattle.publisher.specs.State.{PublisherState}

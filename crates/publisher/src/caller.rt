@@ -4,9 +4,9 @@ ghost use Rattle.publisher.specs.Handles.{IsHubReason, IsHubRefusal};
 ghost use Rattle.publisher.specs.Publishing.{drop_of};
 
 use crate::shared::{Shared, Turn, Worker};
+use crate::state::Own;
 use async_pool::{Job, Pool};
 use crossbeam_utils::Backoff;
-use crate::state::Own;
 use flow_rules::{DropHandler, Listener, NoMemory, Refusal, Text};
 use publisher_hub::{Unpublished, Work};
 use std::alloc::Global;
@@ -95,7 +95,12 @@ impl<L: Ledger + Send, D: Ledger + Send, B: Listener + Send> Caller<L, D, B> {
         ensures none_dropped { OnErr result (own.new.drops.amount ≡ own.old.drops.amount) }
         ensures source { own.new.source ≡ own.old.source }
     {
-        let answer = self.worker.shared.state.lock(rt).offer(own, text, handler, due);
+        let answer = self
+            .worker
+            .shared
+            .state
+            .lock(rt)
+            .offer(own, text, handler, due);
         self.start_all(rt, due);
         answer
     }

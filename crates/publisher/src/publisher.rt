@@ -28,7 +28,11 @@ pub struct Publisher<L: Ledger + Send, D: Ledger + Send, B: Listener + Send> {
     pool: Arc<Pool<Turn<L, D, B>>>,
 }
 
-impl<L: Ledger + Send + Sync + 'static, D: Ledger + Send + Sync + 'static, B: Listener + Send + 'static> Publisher<L, D, B> {
+impl<
+    L: Ledger + Send + Sync + 'static,
+    D: Ledger + Send + Sync + 'static,
+    B: Listener + Send + 'static,
+> Publisher<L, D, B> {
     /// A publisher without subscriptions, whose buffers have the capacity that is enforced where this one is asked for, and whose
     /// turns so many workers run, each a thread of its own. The two blanks are those of its ledgers.
     ///
@@ -63,7 +67,11 @@ impl<L: Ledger + Send + Sync + 'static, D: Ledger + Send + Sync + 'static, B: Li
     }
 
     /// A publisher whose workers were not started.
-    fn with(alloc: Global, state: State<L, D, B>, workers: usize) -> Result<Publisher<L, D, B>, NoMemory>
+    fn with(
+        alloc: Global,
+        state: State<L, D, B>,
+        workers: usize,
+    ) -> Result<Publisher<L, D, B>, NoMemory>
         requires { IsWorkerCount workers }
         ensures { IfOk result (λ publisher. pool_workers (arc_value publisher.pool) ≡ workers) }
     {

@@ -15,8 +15,8 @@ ghost use Rattle.flow_rules.specs.declared.refusal.Refusal.TheVariants as Refusa
 use close_count::Count;
 use feed_core::Desk;
 use flow_rules::{Listener, Refusal, capacity};
-pub use publishing::Own;
 use publisher_hub::Hub;
+pub use publishing::Own;
 use std::alloc::Global;
 use std::marker::Model;
 use std::sync::ledger::{Blank, Book, Ledger, Share};
@@ -58,14 +58,14 @@ impl<L: Ledger, D: Ledger, B: Listener> Model for State<L, D, B> {
     ghost view = { λ s. record { hub = s.hub; drained = s.drained } };
 
     ghost invariant = { λ s. IsState (hub_of end_of s.hub) (record {
-        published = s.published.total;
-        dropping = s.dropping.total;
-        parts = s.rest.parts;
-        amount = s.rest.amount;
-        drop_parts = s.rest_of_drops.parts;
-        drop_amount = s.rest_of_drops.amount;
-        sources = s.sources;
-        entries = s.entries;
+      published = s.published.total;
+      dropping = s.dropping.total;
+      parts = s.rest.parts;
+      amount = s.rest.amount;
+      drop_parts = s.rest_of_drops.parts;
+      drop_amount = s.rest_of_drops.amount;
+      sources = s.sources;
+      entries = s.entries;
     }) };
 }
 

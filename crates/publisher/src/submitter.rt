@@ -92,7 +92,10 @@ impl<L: Ledger + Send, D: Ledger + Send, B: Listener + Send> Submitter<L, D, B> 
     {
         let text = self.admit(alloc, text)?;
         let Submitter {
-            caller, own, due, ..
+            caller,
+            own,
+            due,
+            ..
         } = self;
         match caller.offer(rt, own, text, handler, due) {
             Ok(answer) => Ok(answer),
@@ -126,7 +129,10 @@ impl<L: Ledger + Send, D: Ledger + Send, B: Listener + Send> Submitter<L, D, B> 
         ensures reasons { IfErr result (λ refusal. IsHubRefusal refusal) }
     {
         let Submitter {
-            caller, own, due, ..
+            caller,
+            own,
+            due,
+            ..
         } = self;
         let mut text = text;
         let mut looks = 0;

@@ -42,7 +42,13 @@ impl<L: Ledger + Send, D: Ledger + Send, B: Listener + Send> Subscription<L, D, 
     pub fn request<R: Wait>(&mut self, rt: &R, n: i64) -> Result<(), NoMemory>
         ensures { self.new ≡ self.old }
     {
-        let started = self.caller.worker.shared.state.lock(rt).request(self.entry, n);
+        let started = self
+            .caller
+            .worker
+            .shared
+            .state
+            .lock(rt)
+            .request(self.entry, n);
         self.start(rt, started);
         Ok(())
     }

@@ -101,9 +101,5 @@ fn take_if<B: Listener>(hub: &mut Hub<Desk<B>>, entry: u32, handed: bool) -> Opt
     ensures takes { TakesIf entry handed result hub.old hub.new }
     ensures sound { IsSound (hub_of end_of hub.new) }
 {
-    if handed {
-        hub.take_feed(entry)
-    } else {
-        None
-    }
+    if handed { hub.take_feed(entry) } else { None }
 }

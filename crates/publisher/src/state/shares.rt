@@ -45,10 +45,7 @@ impl<L: Ledger, D: Ledger> Together<L, D> {
 
 impl<L: Ledger + Send, D: Ledger + Send, B: Listener + Send> State<L, D, B> {
     /// Puts together what these submitters have.
-    pub(super) fn put_together(
-        &mut self,
-        mut submitters: Vec<Submitter<L, D, B>>,
-    ) -> Together<L, D>
+    pub(super) fn put_together(&mut self, mut submitters: Vec<Submitter<L, D, B>>) -> Together<L, D>
         ensures together { AreTogether submitters.items [] result.publications.amount result.drops.amount result.publications.parts result.drops.parts result.sources result.knows }
         ensures same { self.new ≡ self.old }
     {

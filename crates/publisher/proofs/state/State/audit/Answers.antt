@@ -1,4 +1,4 @@
-use Rattle.std.proofs.Common.{◌≡◌, ◌≤◌, ◌<◌, subst, arith}
+use Rattle.std.proofs.Common.{subst, arith}
 use Rattle.publisher.specs.Together.{FindsMissing}
 use Rattle.publisher.proofs.TogetherSums.{marks_all}
 use Rattle.publisher.proofs.state.State.audit.Goals as goal

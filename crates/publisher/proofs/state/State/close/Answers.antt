@@ -1,4 +1,3 @@
-use Rattle.std.proofs.Common.{◌≡◌}
 use Rattle.feed_core.specs.Feed.{end_of}
 use Rattle.publisher_hub.specs.Hub.{hub_of}
 use Rattle.publisher.proofs.GrownStates.{state_ended}

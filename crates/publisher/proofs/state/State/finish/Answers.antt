@@ -1,8 +1,6 @@
-use Rattle.std.proofs.Common.{◌≡◌, ◌∙◌, ℕ, List, [], length, replicate, Option, None, Some, false, sym, ap, subst, arith}
+use Rattle.std.proofs.Common.{◌≡◌, ◌∙◌, ℕ, List, [], length, replicate, None, Some, false, sym, ap, subst, arith}
 use Rattle.std.specs.Option.{option_or}
 use Rattle.std.proofs.lemmas.List.{length-replicate, with_items_is}
-use Rattle.feed_core.specs.Feed.{end_of}
-use Rattle.publisher_hub.specs.Hub.{hub_of}
 use Rattle.publisher.specs.Lanes.{AreMarked, Gathers}
 use Rattle.publisher.specs.Outcome.{AreHandedIn, IsMissing, IsOutcome, IsWhole}
 use Rattle.publisher.specs.State.{PublisherState}

@@ -1,6 +1,4 @@
 use Rattle.publisher.proofs.KeptStates.{state_all_looked}
-use Rattle.publisher.proofs.LeftLanes.{going_none}
-use Rattle.publisher.proofs.Outcomes.{is_outcome}
 use Rattle.publisher.proofs.state.State.may_publish.Goals as goal
 
 pub invariant_of-self : goal.invariant_of-self

@@ -1,4 +1,4 @@
-use Rattle.std.proofs.Common.{◌≡◌, ap}
+use Rattle.std.proofs.Common.{ap}
 use Rattle.feed_core.specs.Feed.{end_of}
 use Rattle.publisher_hub.specs.Hub.{hub_of}
 use Rattle.publisher.proofs.GrownStates.{state_with_source}

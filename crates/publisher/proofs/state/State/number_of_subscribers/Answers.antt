@@ -1,4 +1,3 @@
-use Rattle.feed_core.specs.Feed.{end_of}
 use Rattle.publisher.proofs.KeptStates.{state_all_looked}
 use Rattle.publisher.proofs.state.State.number_of_subscribers.Goals as goal
 

@@ -24,5 +24,5 @@ invariant_of-self-2 g c =
     let fits = c.offer.type_inv in
     let same : to_z w64 (of_z w64 c.in_ok-answer.answer) ≡ c.in_ok-answer.answer = search rules in
     let counted = c.count_drop.ensures.total ∙ ap (λ a. c.self.inside.dropping.total + drop_of a) same ∙ ap (λ a. c.self.inside.dropping.total + drop_of a) offered.answers
-        ∙ ap (λ d. d + drop_of (offer_answer n lag)) c.self.invariant.dropping_is ∙ sym (drop_is n lag c.self.inside.hub.dropping) ∙ sym offered.counted in
+    ∙ ap (λ d. d + drop_of (offer_answer n lag)) c.self.invariant.dropping_is ∙ sym (drop_is n lag c.self.inside.hub.dropping) ∙ sym offered.counted in
     state_offered (hub_of end_of c.self.inside.hub) (hub_of end_of c.offer.new.self) offered.item _ c.add.new.self.total c.count_drop.new.dropping.total c.self.invariant c.offer.ensures.sound offered.offers c.add.ensures.total counted

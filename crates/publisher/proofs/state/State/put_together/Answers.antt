@@ -1,4 +1,4 @@
-use Rattle.std.proofs.Common.{◌≡◌, ◌++◌, ◌∷◌, [], List, subst}
+use Rattle.std.proofs.Common.{List, subst}
 use Rattle.publisher.specs.Handles.{SubmitterState}
 use Rattle.publisher.specs.Together.{AreTogether}
 use Rattle.publisher.proofs.TogetherSums.{together_more}

@@ -1,4 +1,4 @@
-use Rattle.std.proofs.Common.{◌≡◌, length}
+use Rattle.std.proofs.Common.{length}
 use Rattle.publisher.specs.Together.{AreTogether}
 use Rattle.publisher.proofs.state.State.put_together.Given as goal
 

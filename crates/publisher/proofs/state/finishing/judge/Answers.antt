@@ -1,4 +1,4 @@
-use Rattle.std.proofs.Common.{◌≡◌, ◌∙◌, ◌<◌, Some, length, slice_index_or, true, false, sym, ap, subst, arith, refl, rules}
+use Rattle.std.proofs.Common.{◌≡◌, ◌∙◌, ◌<◌, Some, length, slice_index_or, sym, ap, arith, refl}
 use Rattle.std.specs.Prelude.{slice_get, vec_len}
 use Rattle.std.proofs.lemmas.Option.{slice_get-get_or, slice_get_within}
 use Rattle.publisher.proofs.Judged.{empty_is, judged_more, judged_none, some_is}
@@ -19,8 +19,7 @@ pub loop-left-preserved : goal.loop-left-preserved
 loop-left-preserved g c =
     let less : c.loop-left.left-index < length c.args.outcome.lanes.items = let test = c.loop-left-test.true in let len = ap length c.deref-left-items.ensures.value in omega arith in
     let item = c.left-item.is ∙ ap (λ xs. slice_index_or xs c.loop-left.left-index c.left-item.result) c.deref-left-items.ensures.value in
-    let at : slice_get c.args.outcome.lanes.items c.loop-left.left-index ≡ Some c.left-item.result = slice_get-get_or c.args.outcome.lanes.items c.loop-left.left-index c.left-item.result less ∙ ap Some (sym item) in
-    (
+    let at : slice_get c.args.outcome.lanes.items c.loop-left.left-index ≡ Some c.left-item.result = slice_get-get_or c.args.outcome.lanes.items c.loop-left.left-index c.left-item.result less ∙ ap Some (sym item) in (
       rw (c.push_if.ensures.items, c.is_unsettled.ensures) (judged_more c.args.is_closed c.args.outcome.lanes.items c.loop-left.left-index c.loop-left.unsettled.items c.left-item.result c.loop-left.invariant.0 at),
       rw c.push_if.ensures.capacity c.loop-left.invariant.1,
     )

@@ -1,4 +1,4 @@
-use Rattle.std.proofs.Common.{◌≡◌, refl}
+use Rattle.std.proofs.Common.{refl}
 use Rattle.publisher_hub.specs.Entry.{EntryState}
 use Rattle.publisher.proofs.LeftLanes.{read_of, taken_none, taken_some}
 use Rattle.publisher.proofs.state.lanes.take_lane.Goals as goal

@@ -1,7 +1,7 @@
-use Rattle.std.proofs.Common.{◌≡◌, ◌<◌, false, length, arith, refl, sym, subst}
+use Rattle.std.proofs.Common.{◌≡◌, length, arith, refl, subst}
 use Rattle.std.proofs.lemmas.Option.{slice_get-get_or}
 use Rattle.publisher.specs.Lanes.{Gathers}
-use Rattle.publisher.proofs.LeftLanes.{Going, going_lost, going_none, going_took}
+use Rattle.publisher.proofs.LeftLanes.{going_lost, going_none, going_took}
 use Rattle.publisher.proofs.state.lanes.take_lanes.Goals as goal
 use Rattle.publisher.proofs.state.lanes.take_lanes.Goals.{in-Ok, in-Err}
 
@@ -24,16 +24,16 @@ loop-entry-preserved g c =
     let marked = slice_get-get_or c.args.handed.now c.loop-entry.entry _ less in
     elim c.match-take_lane.branch [
       | in-Ok w ↦ (
-          rw (w.lanes-is, w.first-is, w.gone-is, w.push_reserved.ensures.items) (going_took g.B.Listener.told c.args.hub.now c.args.handed.now c.loop-entry.hub c.take_lane.new.hub c.loop-entry.entry c.loop-entry.lanes.items c.loop-entry.first c.loop-entry.gone _ going c.take_lane.ensures.sound marked w.in-Ok.left w.in-Ok.ensures.takes),
-          omega arith,
-          rw (w.lanes-is, w.push_reserved.ensures.capacity) c.loop-entry.invariant.2,
-        )
+        rw (w.lanes-is, w.first-is, w.gone-is, w.push_reserved.ensures.items) (going_took g.B.Listener.told c.args.hub.now c.args.handed.now c.loop-entry.hub c.take_lane.new.hub c.loop-entry.entry c.loop-entry.lanes.items c.loop-entry.first c.loop-entry.gone _ going c.take_lane.ensures.sound marked w.in-Ok.left w.in-Ok.ensures.takes),
+        omega arith,
+        rw (w.lanes-is, w.push_reserved.ensures.capacity) c.loop-entry.invariant.2,
+      )
       | in-Err w ↦ (
-          rw (w.lanes-is, w.gone-is) (going_lost g.B.Listener.told c.args.hub.now c.args.handed.now c.loop-entry.hub c.take_lane.new.hub c.loop-entry.entry c.loop-entry.lanes.items c.loop-entry.first c.loop-entry.gone _ going c.take_lane.ensures.sound marked w.in-Err.name c.match-take_lane.first
-              (λ none. rw (w.first-is, w.or-first.ensures, none) refl) (λ first some. rw (w.first-is, w.or-first.ensures, some) refl) w.in-Err.ensures.takes),
-          omega arith,
-          rw w.lanes-is c.loop-entry.invariant.2,
-        )
+        rw (w.lanes-is, w.gone-is) (going_lost g.B.Listener.told c.args.hub.now c.args.handed.now c.loop-entry.hub c.take_lane.new.hub c.loop-entry.entry c.loop-entry.lanes.items c.loop-entry.first c.loop-entry.gone _ going c.take_lane.ensures.sound marked w.in-Err.name c.match-take_lane.first
+            (λ none. rw (w.first-is, w.or-first.ensures, none) refl) (λ first some. rw (w.first-is, w.or-first.ensures, some) refl) w.in-Err.ensures.takes),
+        omega arith,
+        rw w.lanes-is c.loop-entry.invariant.2,
+      )
     ]
 
 pub returns : goal.returns
