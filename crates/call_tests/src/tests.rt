@@ -7,7 +7,7 @@ mod listeners;
 mod names;
 mod numbers;
 mod pool;
-mod publisher;
+mod publishers;
 mod refusals;
 mod rings;
 mod subscribers;
