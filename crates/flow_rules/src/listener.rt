@@ -10,6 +10,9 @@ use crate::subscriber::Subscriber;
 /// added nothing. A struct meets it with a field [`Told`](crate::Told), which takes no memory.
 ///
 /// A [`Subscriber`] keeps the list and shows it. [`Shown`] makes a listener of any.
+///
+/// A listener need not be `Send`, since one thread may play all turns of a script. A publisher that threads share asks for
+/// `Listener + Send`, at each of its calls and types.
 pub trait Listener: Drop {
     ghost use Rattle.std.specs.Prelude.{List, Bool};
     ghost use Rattle.flow_rules.specs.Callback.{Tells, StaysSteady};

@@ -4,7 +4,9 @@ mod left;
 mod site;
 
 use day::Day;
-use day::Step::{Cancel, Close, Closing, Fail as FailWith, Looks, Offer, Source, Submit, Subscribe};
+use day::Step::{
+    Cancel, Close, Closing, Fail as FailWith, Looks, Offer, Source, Submit, Subscribe,
+};
 use publisher::PARTS;
 use site::report;
 use std::marker::Brand;
@@ -57,7 +59,13 @@ const DAYS: [Day; 12] = [
     },
     // One from a note that knows, too. Who subscribes now completes at once.
     Day {
-        steps: &[Close, Source, Submit(0, 4097), Subscribe("a", 0), Offer(0, 1)],
+        steps: &[
+            Close,
+            Source,
+            Submit(0, 4097),
+            Subscribe("a", 0),
+            Offer(0, 1),
+        ],
         subscription_kept: None,
         submitter_kept: None,
         report: "ok; Closed(Normal); sub a; Closed(Normal); done, published 0, drained; a Some(Completed) 0 + 0: s c",
@@ -132,7 +140,10 @@ fn each_day_leaves_what_it_should(rt: HostRuntime) -> Result<(), Fail> {
                 workers,
                 day,
             )?;
-            assert!(rt; told.as_str() == day.report, "at {number} with {workers}: {told}");
+            assert!(rt;
+                told.as_str() == day.report,
+                "at {number} with {workers}: {told}"
+            );
         }
     }
     Ok(())

@@ -25,7 +25,10 @@ fn add_lane(
     left: &NamedLane<Shown<Collector>>,
 ) -> Result<(), Fail> {
     let lane = &left.lane;
-    let numbers = format!(in alloc; "; {} {:?} {} + {}:", left.name, lane.ending, lane.accepted, left.dropped)?;
+    let numbers = format!(in alloc;
+        "; {} {:?} {} + {}:",
+        left.name, lane.ending, lane.accepted, left.dropped
+    )?;
     line.push_str(&numbers)?;
     if let Some(Shown(subscriber)) = &lane.subscriber {
         for signal in subscriber.told() {
@@ -40,7 +43,12 @@ fn add_signal(alloc: Global, line: &mut String, signal: &Signal) -> Result<(), A
     match signal {
         Signal::Subscribed => line.push_str(" s"),
         Signal::Next(item) => {
-            let item = format!(in alloc; " {}.{}.{}", item.source, item.seq, item.text.as_bytes().len())?;
+            let item = format!(in alloc;
+                " {}.{}.{}",
+                item.source,
+                item.seq,
+                item.text.as_bytes().len()
+            )?;
             line.push_str(&item)
         }
         Signal::Complete => line.push_str(" c"),

@@ -40,8 +40,14 @@ pub fn report<
     requires publications { (publications.name ≡ L.name) × ((publications.parts ≡ L.parts) × (L.parts ≡ PARTS)) }
     requires drops { (drops.name ≡ D.name) × ((drops.parts ≡ D.parts) × (D.parts ≡ PARTS)) }
 {
-    let publisher: Publisher<L, D, Told> =
-        Publisher::new(rt, alloc, publications, drops, workers, 1)?;
+    let publisher: Publisher<L, D, Told> = Publisher::new(
+        rt,
+        alloc,
+        publications,
+        drops,
+        workers,
+        1,
+    )?;
     let mut site = Site {
         alloc,
         publisher,
@@ -73,9 +79,9 @@ impl<L: Ledger + Send + Sync + 'static, D: Ledger + Send + Sync + 'static> Site<
                 closed_line(self.alloc, closed)
             }
             Step::Fail(code) => {
-                let closed =
-                    self.publisher
-                        .close_exceptionally(rt, self.alloc, &mut self.note, code);
+                let closed = self
+                    .publisher
+                    .close_exceptionally(rt, self.alloc, &mut self.note, code);
                 closed_line(self.alloc, closed)
             }
             Step::Closing => self.closing(rt),
@@ -151,7 +157,9 @@ impl<L: Ledger + Send + Sync + 'static, D: Ledger + Send + Sync + 'static> Site<
         let (one, other) = (name_of("a")?, name_of("z")?);
         let is_one = self.publisher.is_subscribed(rt, one);
         let is_other = self.publisher.is_subscribed(rt, other);
-        Ok(format!(in self.alloc; "lag {lag} of {many}, capacity {capacity}, a {is_one}, z {is_other}; ")?)
+        Ok(format!(in self.alloc;
+            "lag {lag} of {many}, capacity {capacity}, a {is_one}, z {is_other}; "
+        )?)
     }
 
     // What is left, where a subscription or a submitter is kept.
