@@ -1,5 +1,5 @@
 -- What the end of a publisher leaves.
-use Rattle.std.proofs.Common.{◌≡◌, ◌⊎◌, inl, inr, ℕ, zero, suc, ◌<◌, ◌||◌, ◌&&◌, is_none, Bool, true, false, Option, None, Some, Result, Ok, Err, List, [], ◌∷◌, length, replicate, refl, sym, ap, subst, ◌∙◌, arith}
+use Rattle.std.proofs.Common.{◌≡◌, ◌⊎◌, inl, inr, ℕ, zero, suc, ◌<◌, ◌||◌, ◌&&◌, not, is_none, Bool, true, false, Option, None, Some, Result, Ok, Err, List, [], ◌∷◌, length, replicate, refl, sym, ap, subst, ◌∙◌, arith}
 use Rattle.std.specs.Prelude.{IsSome, slice_get}
 use Rattle.std.specs.Option.{option_or}
 use Rattle.std.proofs.lemmas.Option.{same_Some, slice_get_within}
@@ -21,13 +21,19 @@ use Rattle.publisher.specs.declared.outcome.Outcome.{Outcome}
 use Rattle.publisher.proofs.KeptStates.{as_many, state_stays, stays_by}
 use Rattle.publisher.proofs.Outcomes.{few_drops, is_outcome}
 
+-- where nothing is gone and each has a place
+pub is_there : (gone all : Bool) → (gone || not all) ≡ false → (gone ≡ false) × (all ≡ true)
+is_there true all is = cc
+is_there false true is = (refl, refl)
+is_there false false is = cc
+
 no_true : (n k : ℕ) → slice_get (replicate n false) k ≡ Some true → ⊥
 no_true zero k at = cc
 no_true (suc n) zero at = cc
 no_true (suc n) (suc k) at = no_true n k at
 
-module _ {B : Type 0} (told : B → List Signal) (subscriptions : List SubscriptionState) (old new : Hub DeskState) (n : ℕ) (handed : List Bool) (outcome : Outcome B) (lost : Option (List ℕ)) (gone : Bool)
-    (sound : IsSound (hub_of end_of old)) (marked : AreMarked subscriptions (replicate n false) handed) (gathers : Gathers told old new handed (length handed) outcome.lanes.items lost gone) where
+module _ {B : Type 0} (told : B → List Signal) (subscriptions : List SubscriptionState) (old new : Hub DeskState) (n : ℕ) (handed : List Bool) (outcome : Outcome B) (lost : Option (List ℕ)) (gone all : Bool)
+    (sound : IsSound (hub_of end_of old)) (marked : AreMarked subscriptions (replicate n false) handed all) (gathers : Gathers told old new handed (length handed) outcome.lanes.items lost gone) where
   left_at : (i : ℕ) (left : NamedLane B) → slice_get outcome.lanes.items i ≡ Some left → (desk : DeskState) × IsLeftOf told old handed (length handed) left desk
   left_at i left at =
       let desk = there gathers.left.desks i (subst (λ m. i < m) (sym gathers.left.as_many) (slice_get_within outcome.lanes.items i left at)) in
@@ -64,13 +70,14 @@ module _ {B : Type 0} (told : B → List Signal) (subscriptions : List Subscript
       )
       by None None e found audit = cc
 
-    pub is_whole : option_or lost missing ≡ None → outcome.published ≡ new.next → IsWhole submitters outcome
-    is_whole is now = by lost missing is gathers.found audits where
-      by : (l m : Option (List ℕ)) → option_or l m ≡ None → AreFound handed (length handed) outcome.lanes.items l gone → Audits sources published dropping new.next new.dropping m → IsWhole submitters outcome
+    pub is_whole : all ≡ true → option_or lost missing ≡ None → outcome.published ≡ new.next → IsWhole submitters subscriptions outcome
+    is_whole placed is now = by lost missing is gathers.found audits where
+      by : (l m : Option (List ℕ)) → option_or l m ≡ None → AreFound handed (length handed) outcome.lanes.items l gone → Audits sources published dropping new.next new.dropping m → IsWhole submitters subscriptions outcome
       by (Some first) m e found audit = cc
       by None (Some first) e found audit = cc
       by None None e found audit = record {
         numbered = found.numbered;
+        none_left_out = λ number is_in. subst (λ most. number < most) (sym found.many) (marked.placed placed number is_in);
         published = let sum = are.published_are in let all = audit.0 in omega arith;
         dropped = λ i left at.
             let is = left_at i left at in
@@ -109,14 +116,14 @@ module _ {B : Type 0} (submitters : List SubmitterState) (subscriptions : List S
   judged_same (Err (Refusal.BadCommand, same)) judges = absurd judges
   judged_same (Err (Refusal.Exhausted, same)) judges = absurd judges
 
-  pub finishes : (result : Result (Outcome B) (Refusal × Outcome B)) → Judges outcome closed result → IsWhole submitters outcome → (AnyKnows submitters → closed ≡ true) → Finishes submitters subscriptions result
+  pub finishes : (result : Result (Outcome B) (Refusal × Outcome B)) → Judges outcome closed result → IsWhole submitters subscriptions outcome → (AnyKnows submitters → closed ≡ true) → Finishes submitters subscriptions result
   finishes (Ok same) judges whole knows =
       let done : AreDone submitters outcome.lanes.items = record {
         rests = λ i left at. rests left (judges.1 i left at);
         ended = λ any i left at. ends left (knows any) (judges.1 i left at);
       } in
-      subst (λ (o : Outcome B). IsWhole submitters o × AreDone submitters o.lanes.items) (sym judges.0) (whole, done)
-  finishes (Err (Refusal.Unsettled names, same)) judges whole knows = subst (λ (o : Outcome B). IsWhole submitters o × NamesUndone names.items o.lanes.items) (sym judges.0) (whole, judges.1)
+      subst (λ (o : Outcome B). IsWhole submitters subscriptions o × AreDone submitters o.lanes.items) (sym judges.0) (whole, done)
+  finishes (Err (Refusal.Unsettled names, same)) judges whole knows = subst (λ (o : Outcome B). IsWhole submitters subscriptions o × NamesUndone names.items o.lanes.items) (sym judges.0) (whole, judges.1)
   finishes (Err (Refusal.BadCapacity, same)) judges whole knows = absurd judges
   finishes (Err (Refusal.Closed ending, same)) judges whole knows = absurd judges
   finishes (Err (Refusal.Duplicate, same)) judges whole knows = absurd judges

@@ -18,11 +18,12 @@ use Rattle.publisher.specs.declared.outcome.NamedLane.{NamedLane}
 abbrev pub IsHandedIn : List SubscriptionState → ℕ → Type 0
 IsHandedIn subscriptions number = (i : ℕ) × (s : SubscriptionState) × ((slice_get subscriptions i ≡ Some s) × (s.entry ≡ number))
 
--- the numbers of the subscriptions that were handed in are marked, beside those that were marked before
-pub record AreMarked (subscriptions : List SubscriptionState) (old new : List Bool) : Type 0 where
+-- the numbers of the subscriptions that were handed in are marked, beside those that were marked before; and whether each of them has a place
+pub record AreMarked (subscriptions : List SubscriptionState) (old new : List Bool) (all : Bool) : Type 0 where
   pub as_long : length new ≡ length old
   pub marked : (number : ℕ) → slice_get new number ≡ Some true → (slice_get old number ≡ Some true) ⊎ IsHandedIn subscriptions number
   pub unmarked : (number : ℕ) → slice_get new number ≡ Some false → IsHandedIn subscriptions number → ⊥
+  pub placed : all ≡ true → (number : ℕ) → IsHandedIn subscriptions number → number < length new
 
 -- what is left of the subscription of this number, which this is stored of and whose buffer is this
 pub record IsLeft {B : Type 0} (told : B → List Signal) (entry : Entry DeskState) (desk : DeskState) (left : NamedLane B) : Type 0 where

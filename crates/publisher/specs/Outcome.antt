@@ -68,8 +68,9 @@ abbrev pub AreNumbered : {B : Type 0} → List (NamedLane B) → Type 0
 AreNumbered {B} lanes = (i : ℕ) (left : NamedLane B) → slice_get lanes i ≡ Some left → left.entry ≡ i
 
 -- all is there: each subscription that was made, and all submitters, whose shares sum up to what was published
-pub record IsWhole {B : Type 0} (submitters : List SubmitterState) (outcome : Outcome B) : Type 0 where
+pub record IsWhole {B : Type 0} (submitters : List SubmitterState) (subscriptions : List SubscriptionState) (outcome : Outcome B) : Type 0 where
   pub numbered : AreNumbered outcome.lanes.items
+  pub none_left_out : (number : ℕ) → IsHandedIn subscriptions number → number < length outcome.lanes.items
   pub published : outcome.published ≡ sum_by (λ (s : SubmitterState). s.published) submitters
   pub dropped : (i : ℕ) (left : NamedLane B) → slice_get outcome.lanes.items i ≡ Some left → left.dropped ≤ sum_by (λ (s : SubmitterState). s.dropping) submitters
 
@@ -113,10 +114,10 @@ IsMissing name submitters subscriptions lanes = IsLaneAway subscriptions lanes �
 
 -- the answers of `finish`, in the order of its refusals
 abbrev pub Finishes : {B : Type 0} → List SubmitterState → List SubscriptionState → Result (Outcome B) (Refusal × Outcome B) → Type 0
-Finishes submitters subscriptions (Ok outcome) = IsWhole submitters outcome × AreDone submitters outcome.lanes.items
+Finishes submitters subscriptions (Ok outcome) = IsWhole submitters subscriptions outcome × AreDone submitters outcome.lanes.items
 Finishes submitters subscriptions (Err (Refusal.NoMemory, outcome)) = outcome.lanes.items ≡ []
 Finishes submitters subscriptions (Err (Refusal.StillHeld name, outcome)) = IsMissing name submitters subscriptions outcome.lanes.items
-Finishes submitters subscriptions (Err (Refusal.Unsettled names, outcome)) = IsWhole submitters outcome × NamesUndone names.items outcome.lanes.items
+Finishes submitters subscriptions (Err (Refusal.Unsettled names, outcome)) = IsWhole submitters subscriptions outcome × NamesUndone names.items outcome.lanes.items
 Finishes submitters subscriptions (Err (_, outcome)) = ⊥
 
 -- whether what is left runs, or has not ended where the publisher is closed

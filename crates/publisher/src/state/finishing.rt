@@ -41,10 +41,10 @@ impl<L: Ledger + Send, D: Ledger + Send, B: Listener + Send> State<L, D, B> {
             mut lanes,
             unsettled,
         } = room;
-        mark_all(&mut handed, subscriptions);
+        let all = mark_all(&mut handed, subscriptions);
         let Lost { first: lost, gone } = take_lanes(&mut self.hub, &handed, &mut lanes);
-        // Only another call of this takes buffers out, and a publisher is consumed by one.
-        if gone {
+        // Each subscription of this publisher has its place; only another call of this takes buffers out, and a publisher is consumed by one.
+        if gone | !all {
             return Err((Refusal::NoMemory, self.outcome(Vec::new(alloc))));
         }
         let together = self.put_together(submitters);

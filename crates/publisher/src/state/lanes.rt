@@ -14,25 +14,30 @@ use flow_rules::{Listener, Name};
 use publisher_hub::Hub;
 use std::sync::ledger::Ledger;
 
-/// Marks the subscriptions that were handed in.
+/// Marks the subscriptions that were handed in. The answer is whether each has a place.
 pub(super) fn mark_all<L: Ledger + Send, D: Ledger + Send, B: Listener + Send>(
     handed: &mut [bool],
     subscriptions: &[Subscription<L, D, B>],
-)
-    ensures { AreMarked subscriptions.now handed.old handed.new }
+) -> bool
+    ensures { AreMarked subscriptions.now handed.old handed.new result }
 {
+    let mut all = true;
     for subscription in subscriptions {
-        mark(handed, subscription.entry() as usize);
+        all &= mark(handed, subscription.entry() as usize);
     }
+    all
 }
 
-/// Sets the mark of this place, where there is one.
-fn mark(handed: &mut [bool], place: usize)
-    ensures { handed.new ≡ slice_set handed.old place true }
+/// Sets the mark of this place. The answer is whether there is one.
+fn mark(handed: &mut [bool], place: usize) -> bool
+    ensures set { handed.new ≡ slice_set handed.old place true }
+    ensures there { result ≡ true → place < length handed.old }
 {
-    if place < handed.len() {
+    let is_there = place < handed.len();
+    if is_there {
         handed[place] = true;
     }
+    is_there
 }
 
 /// What was not taken out.

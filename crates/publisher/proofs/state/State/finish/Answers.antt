@@ -1,11 +1,11 @@
-use Rattle.std.proofs.Common.{◌≡◌, ◌∙◌, ℕ, List, [], length, replicate, None, Some, false, sym, ap, subst, arith}
+use Rattle.std.proofs.Common.{◌≡◌, ◌∙◌, ℕ, List, [], length, replicate, None, Some, true, false, sym, ap, subst, arith}
 use Rattle.std.specs.Option.{option_or}
 use Rattle.std.proofs.lemmas.List.{length-replicate, with_items_is}
 use Rattle.publisher.specs.Lanes.{AreMarked, Gathers}
 use Rattle.publisher.specs.Outcome.{AreHandedIn, IsMissing, IsOutcome, IsWhole}
 use Rattle.publisher.specs.State.{PublisherState}
 use Rattle.publisher.specs.Together.{Audits}
-use Rattle.publisher.proofs.Finishing.{all_found, closed_by, finishes, handed_in, handed_none, is_missing, is_outcome_of, is_whole, judged_same, state_gathered}
+use Rattle.publisher.proofs.Finishing.{all_found, closed_by, finishes, handed_in, handed_none, is_missing, is_outcome_of, is_there, is_whole, judged_same, state_gathered}
 use Rattle.publisher.proofs.LeftLanes.{going_none}
 use Rattle.publisher.proofs.Outcomes.{is_outcome}
 use Rattle.publisher.proofs.state.State.finish.Given.{Over}
@@ -24,25 +24,25 @@ returns-in_default-clause-handed g c = handed_none c.args.subscriptions.now c.ou
 pub invariant_of-self : goal.invariant_of-self
 invariant_of-self g c = state_gathered g.B.Listener.told c.self.inside.hub c.take_lanes-lost.new.hub _ c.self.invariant c.take_lanes-lost.ensures.gathers
 
-pub returns-then-gone-clause-outcome : goal.returns-then-gone-clause-outcome
-returns-then-gone-clause-outcome g c =
-    let empty = ap (λ v. v.items) c.outcome-then-gone.ensures.lanes ∙ c.new-then-gone.ensures.items in
+pub returns-then-gone-all-clause-outcome : goal.returns-then-gone-all-clause-outcome
+returns-then-gone-all-clause-outcome g c =
+    let empty = ap (λ v. v.items) c.outcome-then-gone-all.ensures.lanes ∙ c.new-then-gone-all.ensures.items in
     let gathers = c.take_lanes-lost.ensures.gathers in
     let hub = c.take_lanes-lost.new.hub in
-    is_outcome g.B.Listener.told hub [] 0 gathers.sound c.outcome-then-gone.result (going_none g.B.Listener.told hub [] c.outcome-then-gone.result.lanes.items empty gathers.sound).gathers.left c.outcome-then-gone.ensures.published
+    is_outcome g.B.Listener.told hub [] 0 gathers.sound c.outcome-then-gone-all.result (going_none g.B.Listener.told hub [] c.outcome-then-gone-all.result.lanes.items empty gathers.sound).gathers.left c.outcome-then-gone-all.ensures.published
 
-pub returns-then-gone-clause-handed : goal.returns-then-gone-clause-handed
-returns-then-gone-clause-handed g c = handed_none c.args.subscriptions.now c.outcome-then-gone.result.lanes.items (ap (λ v. v.items) c.outcome-then-gone.ensures.lanes ∙ c.new-then-gone.ensures.items)
+pub returns-then-gone-all-clause-handed : goal.returns-then-gone-all-clause-handed
+returns-then-gone-all-clause-handed g c = handed_none c.args.subscriptions.now c.outcome-then-gone-all.result.lanes.items (ap (λ v. v.items) c.outcome-then-gone-all.ensures.lanes ∙ c.new-then-gone-all.ensures.items)
 
 pub invariant_of-self-2 : goal.invariant_of-self-2
 invariant_of-self-2 g c = state_gathered g.B.Listener.told c.self.inside.hub c.take_lanes-lost.new.hub _ c.self.invariant c.take_lanes-lost.ensures.gathers
 
 -- the marks of those that were handed in
-marked : (g : Over) (c : After-outcome-outcome g) → AreMarked c.args.subscriptions.now (replicate c.self.inside.entries false) c.deref.result.now
+marked : (g : Over) (c : After-outcome-outcome g) → AreMarked c.args.subscriptions.now (replicate c.self.inside.entries false) c.deref.result.now c.mark_all-all.result
 marked g c =
-    let whole_list = with_items_is c.in-Ok.room.handed c.mark_all.new.handed (c.mark_all.ensures.as_long ∙ c.deref_mut.ensures.len) in
-    subst (λ was. AreMarked c.args.subscriptions.now was c.deref.result.now) (c.deref_mut.ensures.value ∙ c.in-Ok.ensures.handed)
-    (subst (λ now. AreMarked c.args.subscriptions.now c.deref_mut.result.now now) (sym (c.deref.ensures.value ∙ whole_list)) c.mark_all.ensures)
+    let whole_list = with_items_is c.in-Ok.room.handed c.mark_all-all.new.handed (c.mark_all-all.ensures.as_long ∙ c.deref_mut.ensures.len) in
+    subst (λ was. AreMarked c.args.subscriptions.now was c.deref.result.now c.mark_all-all.result) (c.deref_mut.ensures.value ∙ c.in-Ok.ensures.handed)
+    (subst (λ now. AreMarked c.args.subscriptions.now c.deref_mut.result.now now c.mark_all-all.result) (sym (c.deref.ensures.value ∙ whole_list)) c.mark_all-all.ensures)
 
 -- how the lanes of the outcome were taken out
 gathered : (g : Over) (c : After-outcome-outcome g)
@@ -54,10 +54,14 @@ published : (g : Over) (c : After-outcome-outcome g) → c.outcome-outcome.resul
 published g c = c.outcome-outcome.ensures.published ∙ ap (λ (s : PublisherState). s.hub.next) (c.audit-missing.ensures.same ∙ c.put_together-together.ensures.same)
 
 outcome_is : (g : Over) (c : After-outcome-outcome g) → IsOutcome g.B.Listener.told c.outcome-outcome.result
-outcome_is g c = is_outcome_of g.B.Listener.told c.args.subscriptions.now c.self.inside.hub c.take_lanes-lost.new.hub c.self.inside.entries c.deref.result.now c.outcome-outcome.result c.take_lanes-lost.result.first c.take_lanes-lost.result.gone c.self.invariant.sound (marked g c) (gathered g c) (published g c)
+outcome_is g c = is_outcome_of g.B.Listener.told c.args.subscriptions.now c.self.inside.hub c.take_lanes-lost.new.hub c.self.inside.entries c.deref.result.now c.outcome-outcome.result c.take_lanes-lost.result.first c.take_lanes-lost.result.gone c.mark_all-all.result c.self.invariant.sound (marked g c) (gathered g c) (published g c)
 
 handed_is : (g : Over) (c : After-outcome-outcome g) → AreHandedIn c.args.subscriptions.now c.outcome-outcome.result.lanes.items
-handed_is g c = handed_in g.B.Listener.told c.args.subscriptions.now c.self.inside.hub c.take_lanes-lost.new.hub c.self.inside.entries c.deref.result.now c.outcome-outcome.result c.take_lanes-lost.result.first c.take_lanes-lost.result.gone c.self.invariant.sound (marked g c) (gathered g c)
+handed_is g c = handed_in g.B.Listener.told c.args.subscriptions.now c.self.inside.hub c.take_lanes-lost.new.hub c.self.inside.entries c.deref.result.now c.outcome-outcome.result c.take_lanes-lost.result.first c.take_lanes-lost.result.gone c.mark_all-all.result c.self.invariant.sound (marked g c) (gathered g c)
+
+-- nothing is gone, and each that was handed in has its place
+there : (g : Over) (c : After-outcome-outcome g) → (c.take_lanes-lost.result.gone ≡ false) × (c.mark_all-all.result ≡ true)
+there g c = is_there c.take_lanes-lost.result.gone c.mark_all-all.result c.if-gone-all.false
 
 -- the shares were compared with the numbers of the Hub
 audited : (g : Over) (c : After-outcome-outcome g)
@@ -70,14 +74,14 @@ missing_is : (g : Over) (c : After-outcome-outcome g) (name : List ℕ) → c.ta
     → IsMissing name c.args.submitters.items c.args.subscriptions.now c.outcome-outcome.result.lanes.items
 missing_is g c =
     let t = c.put_together-together.result in
-    is_missing g.B.Listener.told c.args.subscriptions.now c.self.inside.hub c.take_lanes-lost.new.hub c.self.inside.entries c.deref.result.now c.outcome-outcome.result c.take_lanes-lost.result.first c.take_lanes-lost.result.gone c.self.invariant.sound (marked g c) (gathered g c)
+    is_missing g.B.Listener.told c.args.subscriptions.now c.self.inside.hub c.take_lanes-lost.new.hub c.self.inside.entries c.deref.result.now c.outcome-outcome.result c.take_lanes-lost.result.first c.take_lanes-lost.result.gone c.mark_all-all.result c.self.invariant.sound (marked g c) (gathered g c)
     c.args.submitters.items t.publications.amount t.drops.amount t.publications.parts t.drops.parts t.sources t.knows c.audit-missing.result c.put_together-together.ensures.together (audited g c)
 
-whole_is : (g : Over) (c : After-outcome-outcome g) → option_or c.take_lanes-lost.result.first c.audit-missing.result ≡ None → IsWhole c.args.submitters.items c.outcome-outcome.result
-whole_is g c none =
+whole_is : (g : Over) (c : After-outcome-outcome g) → c.mark_all-all.result ≡ true → option_or c.take_lanes-lost.result.first c.audit-missing.result ≡ None → IsWhole c.args.submitters.items c.args.subscriptions.now c.outcome-outcome.result
+whole_is g c placed none =
     let t = c.put_together-together.result in
-    is_whole g.B.Listener.told c.args.subscriptions.now c.self.inside.hub c.take_lanes-lost.new.hub c.self.inside.entries c.deref.result.now c.outcome-outcome.result c.take_lanes-lost.result.first c.take_lanes-lost.result.gone c.self.invariant.sound (marked g c) (gathered g c)
-    c.args.submitters.items t.publications.amount t.drops.amount t.publications.parts t.drops.parts t.sources t.knows c.audit-missing.result c.put_together-together.ensures.together (audited g c) none (published g c)
+    is_whole g.B.Listener.told c.args.subscriptions.now c.self.inside.hub c.take_lanes-lost.new.hub c.self.inside.entries c.deref.result.now c.outcome-outcome.result c.take_lanes-lost.result.first c.take_lanes-lost.result.gone c.mark_all-all.result c.self.invariant.sound (marked g c) (gathered g c)
+    c.args.submitters.items t.publications.amount t.drops.amount t.publications.parts t.drops.parts t.sources t.knows c.audit-missing.result c.put_together-together.ensures.together (audited g c) placed none (published g c)
 
 pub returns-in-Some-clause-outcome : goal.returns-in-Some-clause-outcome
 returns-in-Some-clause-outcome g c = outcome_is g (goal.at.returns-in-Some-clause-outcome g c).After-outcome-outcome
@@ -86,7 +90,9 @@ pub returns-in-Some-clause-handed : goal.returns-in-Some-clause-handed
 returns-in-Some-clause-handed g c = handed_is g (goal.at.returns-in-Some-clause-handed g c).After-outcome-outcome
 
 pub returns-in-Some-clause-finishes : goal.returns-in-Some-clause-finishes
-returns-in-Some-clause-finishes g c = missing_is g (goal.at.returns-in-Some-clause-finishes g c).After-outcome-outcome c.in-Some.name c.if-gone.false (sym c.or.ensures ∙ c.in-Some.is)
+returns-in-Some-clause-finishes g c =
+    let left = (goal.at.returns-in-Some-clause-finishes g c).After-outcome-outcome in
+    missing_is g left c.in-Some.name (there g left).0 (sym c.or.ensures ∙ c.in-Some.is)
 
 pub judge-requires-clause-room : goal.judge-requires-clause-room
 judge-requires-clause-room g c =
@@ -108,7 +114,8 @@ returns-clause-handed g c =
 
 pub returns-clause-finishes : goal.returns-clause-finishes
 returns-clause-finishes g c =
+    let left = (goal.at.returns-clause-finishes g c).After-outcome-outcome in
     let t = c.put_together-together.result in
     finishes c.args.submitters.items c.args.subscriptions.now c.outcome-outcome.result _ c.judge.result c.judge.ensures
-    (whole_is g (goal.at.returns-clause-finishes g c).After-outcome-outcome (sym c.or.ensures ∙ c.in-None.is))
+    (whole_is g left (there g left).1 (sym c.or.ensures ∙ c.in-None.is))
     (closed_by c.args.submitters.items t.publications.amount t.drops.amount t.publications.parts t.drops.parts t.sources t.knows _ c.put_together-together.ensures.together)

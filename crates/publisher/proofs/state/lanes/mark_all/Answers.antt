@@ -9,8 +9,8 @@ loop-subscription-init g c = marking_none c.args.subscriptions.now c.args.handed
 pub loop-subscription-preserved : goal.loop-subscription-preserved
 loop-subscription-preserved g c =
     let less = c.loop-subscription-test.true in
-    rw (c.mark.ensures, c.entry.ensures) (marking_more c.args.subscriptions.now c.args.handed.now c.loop-subscription.subscription-index c.loop-subscription.handed c.subscription-item.result c.loop-subscription.invariant
-    (slice_get-get_or c.args.subscriptions.now c.loop-subscription.subscription-index c.subscription-item.result less ∙ ap Some (search rules)))
+    rw (c.mark-all.ensures.set, c.entry.ensures) (marking_more c.args.subscriptions.now c.args.handed.now c.loop-subscription.subscription-index c.loop-subscription.handed c.loop-subscription.all c.mark-all.result c.subscription-item.result c.loop-subscription.invariant
+    (slice_get-get_or c.args.subscriptions.now c.loop-subscription.subscription-index c.subscription-item.result less ∙ ap Some (search rules)) (search rules))
 
 pub returns : goal.returns
-returns g c = let past = c.loop-subscription-test.false in marking_all c.args.subscriptions.now c.args.handed.now c.loop-subscription.subscription-index c.loop-subscription.handed (omega arith) c.loop-subscription.invariant
+returns g c = let past = c.loop-subscription-test.false in marking_all c.args.subscriptions.now c.args.handed.now c.loop-subscription.subscription-index c.loop-subscription.handed c.loop-subscription.all (omega arith) c.loop-subscription.invariant
