@@ -11,11 +11,8 @@
 set -eu
 cd "$(dirname "$0")/.."
 . tests/program.sh
-program=${PROGRAM:-crates/lines_demo/out/lines_demo}
-need lines_demo "$program"
+begin lines_demo
 runs=${1:-5}
-work=$(mktemp -d)
-trap 'rm -rf "$work"' EXIT
 
 # make MIB: a script of at most so many bytes. 64 texts of 24 bytes are offered, requested and told, again and again.
 make() {

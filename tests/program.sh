@@ -29,3 +29,12 @@ need() {
         exit 1
     fi
 }
+
+# begin CRATE: what a test of a native program begins with. $program is that of the crate, or the one that PROGRAM names, and $work
+# is a temporary folder, which goes with the test.
+begin() {
+    program=${PROGRAM:-crates/$1/out/$1}
+    need "$1" "$program"
+    work=$(mktemp -d)
+    trap 'rm -rf "$work"' EXIT
+}

@@ -5,10 +5,7 @@
 set -eu
 cd "$(dirname "$0")/../.."
 . tests/program.sh
-program=${PROGRAM:-crates/lines_demo/out/lines_demo}
-need lines_demo "$program"
-work=$(mktemp -d)
-trap 'rm -rf "$work"' EXIT
+begin lines_demo
 gcc -shared -fPIC -O1 -Wall -Werror -o "$work/refuse.so" tests/refused_memory/refuse.c
 python3 tests/refused_memory/judge.py "$program" "$work/refuse.so" tests/refused_memory/*.script
 python3 tests/refused_memory/judge.py "$program" "$work/refuse.so" --forget tests/refused_memory/one_subscriber.script tests/refused_memory/many_subscribers.script tests/refused_memory/endings.script

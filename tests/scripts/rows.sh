@@ -4,10 +4,7 @@
 set -eu
 cd "$(dirname "$0")/../.."
 . tests/program.sh
-program=${PROGRAM:-crates/lines_demo/out/lines_demo}
-need lines_demo "$program"
-work=$(mktemp -d)
-trap 'rm -rf "$work"' EXIT
+begin lines_demo
 failures=0
 
 # fault WHAT

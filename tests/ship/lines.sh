@@ -8,10 +8,7 @@
 set -eu
 cd "$(dirname "$0")/../.."
 . tests/program.sh
-program=${PROGRAM:-crates/ship_example/out/ship_example}
-need ship_example "$program"
-work=$(mktemp -d)
-trap 'rm -rf "$work"' EXIT
+begin ship_example
 gcc -O1 -Wall -Wextra -Werror -o "$work/peak" tests/ship/peak.c
 failures=0
 

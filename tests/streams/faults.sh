@@ -6,10 +6,7 @@
 set -eu
 cd "$(dirname "$0")/../.."
 . tests/program.sh
-program=${PROGRAM:-crates/lines_demo/out/lines_demo}
-need lines_demo "$program"
-work=$(mktemp -d)
-trap 'rm -rf "$work"' EXIT
+begin lines_demo
 gcc -shared -fPIC -O1 -Wall -Wextra -Werror -o "$work/streams.so" tests/streams/streams.c
 printf 'sub a 1\noffer x\nrun\n' >"$work/script"
 printf 'sub a\noffer 1\na subscribed\na next x\nidle\n' >"$work/want"
