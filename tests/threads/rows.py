@@ -5,12 +5,16 @@ usage: rows.py PROGRAM
 A run has 20 seconds; one that has not ended then has failed.
 """
 
+import os
 import subprocess
 import sys
 
 SECONDS = 20
 OPTIONS = ["--workers", "1", "--cap", "4"]
 LONGEST = b"x" * 4096
+HERE = os.path.dirname(os.path.realpath(__file__))
+with open(f"{HERE}/../../examples/lines.txt", "rb") as it:
+    EXAMPLE = it.read()
 
 
 class Rows:
@@ -18,7 +22,7 @@ class Rows:
         self.program, self.count, self.faults = program, 0, []
 
     def run(self, words, given, stdout=subprocess.PIPE):
-        """The status, the output and standard error of a run; GIVEN are the bytes of standard input, or an open file."""
+        """The status, the output and standard error of a run; GIVEN are the bytes of standard input, or a file that is open."""
         how = {"stdout": stdout, "stderr": subprocess.PIPE, "timeout": SECONDS}
         how["input" if isinstance(given, bytes) else "stdin"] = given
         try:
@@ -66,7 +70,7 @@ def worked(rows):
         rows.row(f"three sources of 200 lines, {workers} workers", options(workers, 16) + ["a:600", "b:600"], given, output)
     unordered = b"a 1 q\na 2 p\na 2 r\na complete 3\ndrained 1\n"
     for workers in (1, 2):
-        rows.row(f"two sources, {workers} workers", options(workers, 1) + ["a:3"], b"2 p\n1 q\n2 r\n", unordered)
+        rows.row(f"the example, {workers} workers", options(workers, 1) + ["a:3"], EXAMPLE, unordered)
         rows.row(f"no line, {workers} workers", options(workers, 1) + ["a:3"], b"", b"a complete 0\ndrained 1\n")
     seven = b"7 v\n7 w\n7 x\n7 y\n7 z\n"
     rows.row("two of five items", OPTIONS + ["a:2"], seven, b"a 7 v\na 7 w\na open 2\ndrained 0\n", 3)
@@ -140,7 +144,8 @@ def lines(rows):
 
 def command_lines(rows):
     """The forms of a command line, and the order of its checks, all before the input is read."""
-    nothing = open("/")
+    # A folder, which can't be read.
+    nothing = os.open("/", os.O_RDONLY)
     for name, words, refusal in (
         ("a word of workers", options("x", 4) + ["a:1"], b"12 command"),
         ("20 digits of workers", options("0" * 19 + "1", 4) + ["a:1"], b"12 command"),
