@@ -6,7 +6,7 @@ use Rattle.publisher_hub.specs.declared.hub.Hub.{Hub}
 use Rattle.publisher_hub.specs.declared.work.Work.{Work}
 use Rattle.lines_demo.specs.Prelude.{DeskState}
 use Rattle.lines_demo.specs.Script.Acting.{ActsOn}
-use Rattle.lines_demo.specs.Script.Command.{is_word}
+use Rattle.lines_demo.specs.Word.{is_word}
 use Rattle.lines_demo.specs.Script.Obeying.{act_result, desk_after_act, subscriptions_after_act}
 use Rattle.lines_demo.specs.Script.Playing.{IsLatest, Replies}
 use Rattle.lines_demo.specs.Script.Session.{IsScriptHub, IsSession, state_of, subscription_of}

@@ -20,7 +20,7 @@ use Rattle.publisher_hub.proofs.Grown.{get_elsewhere, get_there}
 use Rattle.publisher_hub.proofs.LiveRounds.{get_mapped}
 use Rattle.publisher_hub.proofs.PartialRounds.{same_some}
 use Rattle.lines_demo.specs.Prelude.{DeskState, owes}
-use Rattle.lines_demo.specs.Script.Command.{is_word}
+use Rattle.lines_demo.specs.Word.{is_word}
 use Rattle.lines_demo.specs.Script.Kept.{IsReached}
 use Rattle.lines_demo.specs.Script.Session.{AreScriptEntries, IsScriptEntry, IsScriptHub, numbers_of, state_of, subscription_of}
 use Rattle.lines_demo.specs.Script.State.{SubscriptionState}

@@ -7,7 +7,7 @@ use Rattle.feed_core.specs.Desk.{desk_after_signal, desk_after_duplicate}
 use Rattle.feed_core.specs.LaneCalls.{lane_with_item, lane_with_closing}
 use Rattle.feed_core.proofs.SoundDesks.{owes_live}
 use Rattle.lines_demo.specs.Prelude.{Item, Ending, Refusal, LONGEST_TEXT, DeskState, LaneState, owes, is_gone, lag_of}
-use Rattle.lines_demo.specs.Script.Command.{is_word}
+use Rattle.lines_demo.specs.Word.{is_word}
 use Rattle.lines_demo.specs.Script.State.{SubscriptionState, SessionState, CommandResult, unchanged_result, result_unless_no_memory}
 use Rattle.lines_demo.specs.Script.Waking.{is_live, owes_turn, with_subscriptions}
 use Rattle.lines_demo.specs.Script.Subscribing.{MOST_LIVE, new_subscription, is_live_as, is_subscribed, subscription_after_duplicate, subscribing_refusal, subscribing_unless, duplicate_result, sub_result}

@@ -2,6 +2,7 @@ pub mod ActingSessions
 pub mod Acts
 pub mod Admissions
 pub mod AnsweredSessions
+pub mod CheckedInputs
 pub mod Digits
 pub mod Duplicates
 pub mod EachMaps
@@ -10,6 +11,8 @@ pub mod HubCloses
 pub mod HubLooks
 pub mod HubOffers
 pub mod HubSubmits
+pub mod InputLines
+pub mod InputSources
 pub mod Inside
 pub mod KeptCommands
 pub mod KeptScripts
@@ -25,6 +28,7 @@ pub mod OfferedEntries
 pub mod OfferedLists
 pub mod OneName
 pub mod Places
+pub mod PlannedSubscribers
 pub mod Reading
 pub mod RepliedTexts
 pub mod Replying

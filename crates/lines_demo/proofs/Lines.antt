@@ -119,7 +119,7 @@ lines_first byte [] = cut_last byte (is_line_feed byte)
 lines_first byte (next ∷ others) = cut_next byte next others (is_line_feed byte) (lines_first next others)
 
 -- bytes that are there are their first line, and the lines of what follows it
-lines_split : (before line rest : List ℕ) → 0 < length before → line ≡ before_first is_line_feed before → rest ≡ after_first is_line_feed before → lines_of before ≡ line ∷ lines_of rest
+pub lines_split : (before line rest : List ℕ) → 0 < length before → line ≡ before_first is_line_feed before → rest ≡ after_first is_line_feed before → lines_of before ≡ line ∷ lines_of rest
 lines_split [] line rest some is left = absurd (omega arith)
 lines_split (byte ∷ others) line rest some is left =
     lines_first byte others ∙ sym (ap (λ l. l ∷ lines_of rest) is ∙ ap (λ r. before_first is_line_feed (byte ∷ others) ∷ lines_of r) left)

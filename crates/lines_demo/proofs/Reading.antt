@@ -6,12 +6,13 @@ use Rattle.std.proofs.lemmas.List.{append-nil, length-take, take_all}
 use Rattle.std.proofs.KnownBytes.{Appends-nil}
 use Rattle.lines_demo.specs.declared.script.fault.ScriptFault.{ScriptFault}
 use Rattle.lines_demo.specs.declared.script.fault.ScriptFault.TheVariants.{Read, Write, Memory}
+use Rattle.lines_demo.specs.declared.reader.InputFault.{InputFault}
 use Rattle.lines_demo.specs.declared.writing.OutputFault.{OutputFault}
-use Rattle.lines_demo.specs.Script.Fault.{script_fault}
+use Rattle.lines_demo.specs.Script.Fault.{reading_fault, script_fault}
 use Rattle.lines_demo.specs.Script.RunScript.{PlaysScript, IsScriptOf, IsAsMuch}
 use Rattle.lines_demo.specs.Script.State.{SessionState, LineResult}
 use Rattle.lines_demo.specs.Script.Playing.{Answers}
-use Rattle.lines_demo.specs.declared.script.run.TheConstants.{LONGEST_SCRIPT}
+use Rattle.lines_demo.specs.declared.reader.TheConstants.{LONGEST_INPUT}
 use Rattle.lines_demo.specs.Script.Answering.{script_output, script_result}
 
 -- the result of a script of which all lines were played, or the writing failed
@@ -25,6 +26,11 @@ IsPlayed (Err Memory) done = ⊤
 pub fault_played : (fault : OutputFault) → IsPlayed (Err (script_fault fault)) false
 fault_played OutputFault.Write = tt
 fault_played OutputFault.Memory = tt
+
+-- a fault of reading is none of writing
+pub reading_writes_nothing : (fault : InputFault) → reading_fault fault ≡ Write → ⊥
+reading_writes_nothing InputFault.Read = λ e. cc
+reading_writes_nothing InputFault.Memory = λ e. cc
 
 -- a read that stopped short of its limit has taken all
 pub all_read : (known : Option (List ℕ)) (limit : ℕ) (items : List ℕ) → IfSome (option_map (take limit) known) (λ xs. items ≡ xs) → length items < limit → IfSome known (λ all. all ≡ items)
@@ -58,7 +64,7 @@ reading_stopped fault stock known a no_write = record {
 
 -- all lines were played, or the writing failed within them
 pub script_played : (result : Result (Unit {0}) ScriptFault) (done : Bool) (stock : ℕ) (bytes : List ℕ) (state : SessionState) (known a b : Option (List ℕ)) → IsPlayed result done
-    → IfSome known (λ all. all ≡ bytes) → length bytes ≤ LONGEST_SCRIPT → Answers done (λ refusals. script_result stock refusals bytes) a b state → PlaysScript result stock known a b
+    → IfSome known (λ all. all ≡ bytes) → length bytes ≤ LONGEST_INPUT → Answers done (λ refusals. script_result stock refusals bytes) a b state → PlaysScript result stock known a b
 script_played result done stock bytes state known a b played given short answers = record {
   bytes = bytes;
   refusals = answers.used;

@@ -1,21 +1,34 @@
-//! The command line: `lines_demo script` plays a script on a publisher and its subscriptions. It reads commands from standard input, one a
-//! line, and answers each on standard output.
+//! The command line. `lines_demo script` plays a script on a publisher and its subscriptions: it reads commands from standard input, one a
+//! line, and answers each on standard output. `lines_demo threads` publishes the lines of standard input from threads, and reports on
+//! standard output what each subscriber was told.
 #![tactic(auto)]
 
 use clap::error::ErrorKind;
 use clap::{Arg, ArgAction, ArgMatches, Command};
+use flow_rules::Refusal;
 use script::{Keeping, ScriptFault, play_standard_input};
 use std::alloc::{AllocError, Global};
+use std::fmt::Display;
 use std::process::ExitCode;
 use std::rt::Env;
+use std::sync::Wait;
+use std::thread::Threads;
 use std::{env, io};
+use threads::{CAPACITY, LinesFault, SUBSCRIBERS, WORKERS, run_standard_input};
 
 mod line;
 mod number;
+mod reader;
 mod script;
+mod text_bytes;
+mod threads;
+mod word;
 mod writing;
 
-/// The exit status of a wrong command line.
+/// The exit status of a fault.
+const FAULT: u8 = 1;
+
+/// The exit status of a wrong command line or input.
 const WRONG_USE: u8 = 2;
 
 /// What `--version` prints after the name.
@@ -25,6 +38,21 @@ const VERSION: &str = "0.1.0";
 const SCRIPT: &str = "script";
 
 const FORGET: &str = "forget";
+
+/// The subcommand that publishes lines from threads.
+const THREADS: &str = "threads";
+
+/// What `--help` says of runs on threads.
+const LINES: &str = "A line of standard input is `SOURCE TEXT`, SOURCE a number up to 4,294,967,295. All of it is read first. Then each source publishes
+its texts in order from a thread of its own, and where all have ended the publisher is closed. The report has, for each
+subscriber in order and each source in ascending order, a line `NAME SOURCE TEXT` for each item that it was told, in order; then
+  NAME complete K   it was told all K items, and completed
+  NAME open K       it was told as many as it requested, and has not ended
+  NAME memory K     a callback was refused memory after K items
+and at last `drained 1` where every subscription has ended, else `drained 0`. The status is 0 where every subscriber completed, and
+else 3. What is refused is answered `lines_demo: refused N WORD` on standard error, with status 2: the input, too, where a
+subscriber requests fewer items than there are lines, and its buffer can't hold the others. There are 16 sources at most, and 64
+subscribers; a text has 4,096 bytes at most, a name 32, and the input 16,777,216.";
 
 /// What `--help` says of scripts.
 const SCRIPTS: &str = "Commands of a script, one a line, and their answers:
@@ -48,37 +76,75 @@ All of standard input is read before the first command is obeyed. A script has 1
 `request` may be negative, down to -9,223,372,036,854,775,808.";
 
 fn main(rt: HostRuntime) -> ExitCode {
-    match run(&rt) {
+    match run(rt) {
         Ok(status) => status,
-        Err(fault) => {
-            let _ = eprintln!(rt; "lines_demo: {fault}");
-            ExitCode::FAILURE
-        }
+        Err(fault) => fail(&rt, fault, FAULT),
     }
 }
 
 /// Does what the command line asks for.
-fn run<R: Input + Print + Eprint + Env + AllocGlobal>(rt: &R) -> Result<ExitCode, ScriptFault> {
-    let Some(words) = command_words(rt)? else {
+fn run<R: Input + Print + Eprint + Env + AllocGlobal + Threads + Wait + Copy + Send + Sync + 'static>(
+    rt: R,
+) -> Result<ExitCode, ScriptFault> {
+    let Some(words) = command_words(&rt)? else {
         let _ = eprintln!(rt; "lines_demo: an argument is not UTF-8");
         return Ok(ExitCode::from(WRONG_USE));
     };
     let command = command_line(rt.alloc()).map_err(|_| ScriptFault::Memory)?;
     let error = match command.try_get_matches_from(words.as_slice()) {
-        Ok(matches) => {
-            play_standard_input(rt, keeping(&matches))?;
-            return Ok(ExitCode::SUCCESS);
-        }
+        Ok(matches) => return Ok(obey(rt, &matches)),
         Err(error) => error,
     };
     if error.kind() == ErrorKind::OutOfMemory {
         return Err(ScriptFault::Memory);
     }
-    error.print(rt).map_err(|_| ScriptFault::Write)?;
+    error.print(&rt).map_err(|_| ScriptFault::Write)?;
     if error.use_stderr() {
         Ok(ExitCode::from(WRONG_USE))
     } else {
         Ok(ExitCode::SUCCESS)
+    }
+}
+
+/// Does what a right command line asks for.
+fn obey<R: Input + Print + Eprint + AllocGlobal + Threads + Wait + Copy + Send + Sync + 'static>(
+    rt: R,
+    matches: &ArgMatches<'_>,
+) -> ExitCode {
+    match matches.subcommand_matches(THREADS) {
+        Some(threads) => match run_standard_input(rt, threads) {
+            Ok(status) => ExitCode::from(status),
+            Err(fault) => {
+                let status = status_of(&fault);
+                fail(&rt, fault, status)
+            }
+        },
+        None => match play_standard_input(&rt, keeping(matches)) {
+            Ok(()) => ExitCode::SUCCESS,
+            Err(fault) => fail(&rt, fault, FAULT),
+        },
+    }
+}
+
+/// Says why the program stops.
+fn fail<R: Eprint, D: Display + Drop>(rt: &R, fault: D, status: u8) -> ExitCode {
+    let _ = eprintln!(rt; "lines_demo: {fault}");
+    ExitCode::from(status)
+}
+
+/// The exit status of a run that stopped: that of a wrong command line where what was asked for is refused.
+fn status_of(fault: &LinesFault) -> u8 {
+    match fault {
+        LinesFault::Refused(
+            Refusal::BadCapacity
+            | Refusal::Duplicate
+            | Refusal::TooMany
+            | Refusal::LineTooLong
+            | Refusal::BadWorkers
+            | Refusal::WouldWait
+            | Refusal::BadCommand,
+        ) => WRONG_USE,
+        _ => FAULT,
     }
 }
 
@@ -106,18 +172,50 @@ fn command_words<R: Env + AllocGlobal>(rt: &R) -> Result<Option<Vec<String>>, Sc
 
 /// The command line: one subcommand.
 fn command_line<'a>(alloc: Global) -> Result<Command<'a>, AllocError> {
-    let forget = Arg::new(alloc, FORGET)
-        .long(FORGET)
-        .action(ArgAction::SetTrue)
-        .help("The subscribers keep nothing of what they are told, and take no memory for it");
-    let script = Command::new(alloc, SCRIPT)
-        .about("Plays the script on standard input")
-        .arg(forget)?
-        .after_help(SCRIPTS);
     Command::new(alloc, "lines_demo")
         .about("Publishes lines to subscribers")
         .version(VERSION)
         .after_help(SCRIPTS)
         .subcommand_required(true)
-        .subcommand(script)
+        .subcommand(script_line(alloc)?)?
+        .subcommand(threads_line(alloc)?)
+}
+
+/// The command line of a script.
+fn script_line<'a>(alloc: Global) -> Result<Command<'a>, AllocError> {
+    let forget = Arg::new(alloc, FORGET)
+        .long(FORGET)
+        .action(ArgAction::SetTrue)
+        .help("The subscribers keep nothing of what they are told, and take no memory for it");
+    Command::new(alloc, SCRIPT)
+        .about("Plays the script on standard input")
+        .after_help(SCRIPTS)
+        .arg(forget)
+}
+
+/// The command line of a run on threads.
+fn threads_line<'a>(alloc: Global) -> Result<Command<'a>, AllocError> {
+    let workers = Arg::new(alloc, WORKERS)
+        .long("workers")
+        .value_name("W")
+        .required(true)
+        .action(ArgAction::Set)
+        .help("How many threads run the subscribers' callbacks, 1 to 8");
+    let capacity = Arg::new(alloc, CAPACITY)
+        .long("cap")
+        .value_name("N")
+        .required(true)
+        .action(ArgAction::Set)
+        .help("The capacity of each subscriber's buffer, rounded up to a power of two, at most 65536");
+    let subscribers = Arg::new(alloc, SUBSCRIBERS)
+        .value_name("NAME:D")
+        .required(true)
+        .num_args(1..)
+        .help("A subscriber of this name, which requests D items");
+    Command::new(alloc, THREADS)
+        .about("Publishes the lines on standard input, each source's from a thread of its own")
+        .after_help(LINES)
+        .arg(workers)?
+        .arg(capacity)?
+        .arg(subscribers)
 }

@@ -45,7 +45,7 @@ pub fn parse_signed(bytes: &[u8]) -> Option<i64>
 
 /// The number that 1 to 19 digits spell.
 #[tactic(auto, unfolding(crate::specs::Number::spelled_digits))]
-fn parse_digits(bytes: &[u8]) -> Option<u64>
+pub fn parse_digits(bytes: &[u8]) -> Option<u64>
     ensures { result ≡ spelled_digits bytes.now }
 {
     if is_number(bytes) {

@@ -7,7 +7,6 @@ mod reply;
 mod run;
 mod session;
 mod standard_input;
-mod text_bytes;
 mod turn_lines;
 mod woken;
 

@@ -1,42 +1,15 @@
--- The commands of a script. Words are separated by exactly one space.
-use Rattle.std.specs.Prelude.{ℕ, ◌≤◌, ⊤, ◌==◌, Bool, if◌then◌else◌, Option, Some, None, option_map, List, [], ◌∷◌, codes}
-use Rattle.std.specs.List.{before_first, after_first}
-use Rattle.std.specs.Cmp.Lexicographic.{pointwise}
-use Rattle.flow_rules.specs.Name.{is_name}
+-- The commands of a script.
+use Rattle.std.specs.Prelude.{ℕ, ◌≤◌, ⊤, if◌then◌else◌, Option, Some, None, option_map, List, codes}
 use Rattle.lines_demo.specs.Prelude.{UNBOUNDED}
 use Rattle.lines_demo.specs.Number.{spelled_number, spelled_code, spelled_signed}
+use Rattle.lines_demo.specs.Word.{is_word, first_word, after_space, spelled_name, spelled_text}
 use Rattle.lines_demo.specs.declared.script.command.Command.{Command}
 use Rattle.lines_demo.specs.declared.script.command.Command.TheVariants.{Cap, Sub, Offer, Retry, Submit, Request, Cancel, Close, Fail, Run}
-
--- a space
-abbrev pub is_space : ℕ → Bool
-is_space byte = byte == 32
-
--- whether the bytes are this word
-abbrev pub is_word : List ℕ → List ℕ → Bool
-is_word bytes word = pointwise ◌==◌ bytes word
-
--- what stands before the first space, or all
-abbrev pub first_word : List ℕ → List ℕ
-first_word bytes = before_first is_space bytes
-
--- what stands after the first space, or nothing
-abbrev pub after_space : List ℕ → List ℕ
-after_space bytes = after_first is_space bytes
-
--- a name, if the bytes are one
-abbrev pub spelled_name : List ℕ → Option (List ℕ)
-spelled_name bytes = if is_name bytes then Some bytes else None
 
 -- a command of a name and a number, if both are there
 abbrev pub with_name : {N : Type 0} → (List ℕ → N → Command) → Option (List ℕ) → Option N → Option Command
 with_name command None number = None
 with_name command (Some name) number = option_map (command name) number
-
--- a text of at least one byte
-abbrev pub spelled_text : List ℕ → Option (List ℕ)
-spelled_text [] = None
-spelled_text (byte ∷ text) = Some (byte ∷ text)
 
 -- the command that a word and what follows it spell, if it begins with a name
 unfoldable pub named_command_of : List ℕ → List ℕ → Option Command

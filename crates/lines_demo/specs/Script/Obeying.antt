@@ -2,7 +2,7 @@
 use Rattle.std.specs.Prelude.{ℕ, ◌==◌, Bool, true, if◌then◌else◌, Some, is_some, List, [], ◌∷◌, map}
 use Rattle.std.specs.List.{list_any}
 use Rattle.lines_demo.specs.Prelude.{Ending, Refusal, capacity_of, DeskState, desk_after_end, desk_after_request, desk_after_cancel}
-use Rattle.lines_demo.specs.Script.Command.{is_word}
+use Rattle.lines_demo.specs.Word.{is_word}
 use Rattle.lines_demo.specs.Script.State.{SubscriptionState, SessionState, CommandResult, unchanged_result, refused_result, result_unless_no_memory}
 use Rattle.lines_demo.specs.Script.Waking.{is_live, with_subscriptions}
 use Rattle.lines_demo.specs.Script.Subscribing.{sub_result}

@@ -7,7 +7,7 @@ use Rattle.feed_core.specs.Turn.{MeetsPlainTurn}
 use Rattle.lines_demo.specs.Prelude.{Signal, Refusal, Outlook, LONGEST_TEXT}
 use Rattle.lines_demo.specs.Writing.{Writes}
 use Rattle.lines_demo.specs.Script.State.{SubscriptionState, SessionState, CommandResult, LineResult}
-use Rattle.lines_demo.specs.Script.Command.{is_word}
+use Rattle.lines_demo.specs.Word.{is_word}
 use Rattle.lines_demo.specs.Script.Publishing.{publication_refusal, next_item, offer_answer, state_after_publication}
 use Rattle.lines_demo.specs.Script.Turns.{signal_lines, untold_end_line}
 use Rattle.lines_demo.specs.Script.Running.{state_after_turn}

@@ -5,7 +5,7 @@ use Rattle.std.specs.Io.KnownBytes.{Appends}
 use Rattle.lines_demo.specs.Script.Answering.{script_output}
 use Rattle.lines_demo.specs.declared.script.fault.ScriptFault.{ScriptFault}
 use Rattle.lines_demo.specs.declared.script.fault.ScriptFault.TheVariants.{Read, Write, Memory}
-use Rattle.lines_demo.specs.declared.script.run.TheConstants.{LONGEST_SCRIPT}
+use Rattle.lines_demo.specs.declared.reader.TheConstants.{LONGEST_INPUT}
 
 -- the bytes that the script was played on: all that the reader had, unless the reading stopped, and then nothing was written
 abbrev pub IsScriptOf : Result (Unit {0}) ScriptFault → List ℕ → List ℕ → List ℕ → Type 0
@@ -34,6 +34,6 @@ pub record PlaysScript (result : Result (Unit {0}) ScriptFault) (stock : ℕ) (k
   pub refusals : List Bool
   pub written : List ℕ
   pub given : IfSome known (λ all. IsScriptOf result all bytes written)
-  pub bounded : length bytes ≤ LONGEST_SCRIPT
+  pub bounded : length bytes ≤ LONGEST_INPUT
   pub appended : Appends old new written
   pub as_much : IsAsMuch result written (script_output stock refusals bytes)

@@ -4,7 +4,7 @@ use Rattle.std.specs.List.{list_any}
 use Rattle.feed_core.specs.Desk.{desk_after_duplicate}
 use Rattle.feed_core.specs.LaneCalls.{empty_lane}
 use Rattle.lines_demo.specs.Prelude.{Ending, Refusal, DeskState, desk_after_end, desk_after_demand}
-use Rattle.lines_demo.specs.Script.Command.{is_word}
+use Rattle.lines_demo.specs.Word.{is_word}
 use Rattle.lines_demo.specs.Script.State.{SubscriptionState, SessionState, CommandResult, refused_result, result_unless_no_memory}
 use Rattle.lines_demo.specs.Script.Waking.{is_live, with_subscriptions}
 use Rattle.lines_demo.specs.declared.script.reply.Reply.TheVariants.{Name, Refused}

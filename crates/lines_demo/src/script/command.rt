@@ -1,10 +1,7 @@
 //! The commands of a script, and how a line spells one.
-ghost use Rattle.std.specs.Prelude.{◌≡◌};
-ghost use Rattle.lines_demo.specs.Script.Command.{first_word, after_space, spelled_text};
-
-use super::text_bytes::TextBytes;
-use crate::line::split_at_byte;
 use crate::number::{parse_code, parse_number, parse_signed};
+use crate::text_bytes::TextBytes;
+use crate::word::{parse_text, split_word};
 use flow_rules::Name;
 
 /// A command of a script.
@@ -86,24 +83,5 @@ impl<'a> Command<'a> {
             return Some(Command::Cancel(Name::new(rest)?));
         }
         None
-    }
-}
-
-/// The first word and what follows the space after it.
-fn split_word(bytes: &[u8]) -> (&[u8], &[u8])
-    ensures word { result.0.now ≡ first_word bytes.now }
-    ensures rest { result.1.now ≡ after_space bytes.now }
-{
-    split_at_byte(bytes, b' ')
-}
-
-/// The text, if it has at least one byte.
-fn parse_text(bytes: &[u8]) -> Option<TextBytes<'_>>
-    ensures { result ≡ spelled_text bytes.entry.now }
-{
-    if bytes.is_empty() {
-        None
-    } else {
-        Some(TextBytes::new(bytes))
     }
 }

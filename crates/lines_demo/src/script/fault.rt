@@ -1,4 +1,5 @@
 //! Why a script stops before its end.
+use crate::reader::InputFault;
 use crate::writing::OutputFault;
 use thiserror::Error;
 
@@ -26,6 +27,20 @@ impl From<OutputFault> for ScriptFault {
         match fault {
             OutputFault::Write => ScriptFault::Write,
             OutputFault::Memory => ScriptFault::Memory,
+        }
+    }
+}
+
+impl From<InputFault> for ScriptFault {
+    ghost use Rattle.std.specs.Prelude.{◌≡◌};
+    ghost use Rattle.lines_demo.specs.Script.Fault.{reading_fault};
+
+    ghost from_gives = { λ fault result. result ≡ reading_fault fault };
+
+    fn from(fault: InputFault) -> ScriptFault {
+        match fault {
+            InputFault::Read => ScriptFault::Read,
+            InputFault::Memory => ScriptFault::Memory,
         }
     }
 }

@@ -1,15 +1,14 @@
 //! The script of a reader, played whole.
-ghost use Rattle.std.specs.Prelude.{◌≡◌, ◌≤◌, ◌<◌, [], true, All, length, IfOk, IfErr, IfSome};
+ghost use Rattle.std.specs.Prelude.{◌≡◌, ◌<◌, [], true, All, length, IfSome};
+ghost use Rattle.lines_demo.specs.declared.reader.TheConstants.{LONGEST_INPUT};
 ghost use Rattle.lines_demo.specs.Script.RunScript.{PlaysScript, StopsReading};
 
 use super::fault::ScriptFault;
 use super::player::Player;
+use crate::reader::read_whole;
 use flow_rules::{Listener, Subscriber};
 use std::alloc::Global;
-use std::io::{ErrorKind, Read, Write};
-
-/// The most bytes of a script.
-pub const LONGEST_SCRIPT: usize = 16_777_216;
+use std::io::{Read, Write};
 
 /// Plays the script that the reader gives, and writes the answers. What is written is a function of the bytes that were read, of the
 /// number of subscribers in the stock, and of the points at which memory was refused. The whole script is read before its first
@@ -26,7 +25,7 @@ pub fn run_script<R: Read, W: Write>(
     requires untold { All (λ b. told b ≡ []) stock.items }
     requires steady { All (λ b. is_steady b ≡ true) stock.items }
     ensures plays { PlaysScript result (length stock.items) (R.remaining reader.old) (W.contents writer.old) (W.contents writer.new) }
-    ensures too_long { IfSome (R.remaining reader.old) (λ known. LONGEST_SCRIPT < length known → StopsReading result) }
+    ensures too_long { IfSome (R.remaining reader.old) (λ known. LONGEST_INPUT < length known → StopsReading result) }
 {
     play_script(alloc, reader, writer, stock)
 }
@@ -41,37 +40,12 @@ pub fn play_script<R: Read, W: Write, B: Listener>(
     requires untold { All (λ b. B.told b ≡ []) stock.items }
     requires steady { All (λ b. B.is_steady b ≡ true) stock.items }
     ensures plays { PlaysScript result (length stock.items) (R.remaining reader.old) (W.contents writer.old) (W.contents writer.new) }
-    ensures too_long { IfSome (R.remaining reader.old) (λ known. LONGEST_SCRIPT < length known → StopsReading result) }
+    ensures too_long { IfSome (R.remaining reader.old) (λ known. LONGEST_INPUT < length known → StopsReading result) }
 {
-    let bytes = read_script(alloc, reader)?;
+    let bytes = read_whole(alloc, reader)?;
     let Ok(mut player) = Player::new(alloc, stock) else {
         return Err(ScriptFault::Memory);
     };
     player.play_lines(bytes.as_slice(), writer)?;
     Ok(())
-}
-
-/// Reads the whole script.
-fn read_script<R: Read>(alloc: Global, reader: &mut R) -> Result<Vec<u8>, ScriptFault>
-    ensures known { IfOk result (λ bytes. IfSome (R.remaining reader.old) (λ known. known ≡ bytes.items)) }
-    ensures bounded { IfOk result (λ bytes. length bytes.items ≤ LONGEST_SCRIPT) }
-    ensures no_write { IfErr result (λ fault. fault ≡ ScriptFault.Write → ⊥) }
-{
-    let mut bytes = Vec::new(alloc);
-    match reader
-        .take(LONGEST_SCRIPT as u64 + 1)
-        .read_to_end(&mut bytes)
-    {
-        Ok(_) => {}
-        Err(error) => {
-            return Err(match error.kind() {
-                ErrorKind::OutOfMemory => ScriptFault::Memory,
-                _ => ScriptFault::Read,
-            });
-        }
-    }
-    if bytes.len() > LONGEST_SCRIPT {
-        return Err(ScriptFault::Read);
-    }
-    Ok(bytes)
 }

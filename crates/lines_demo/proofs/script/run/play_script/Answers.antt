@@ -1,13 +1,13 @@
 use Rattle.std.proofs.Common.{refl, true, false, Ok, Err}
 use Rattle.std.proofs.lemmas.Result.{err_from_is_err_and}
-use Rattle.lines_demo.specs.Script.Fault.{script_fault}
-use Rattle.lines_demo.proofs.Reading.{reading_stopped, script_played, fault_played}
+use Rattle.lines_demo.specs.Script.Fault.{reading_fault, script_fault}
+use Rattle.lines_demo.proofs.Reading.{reading_stopped, reading_writes_nothing, script_played, fault_played}
 use Rattle.lines_demo.proofs.script.run.play_script.Goals as goal
 
 pub returns-in_err-bytes-clause-plays : goal.returns-in_err-bytes-clause-plays
 returns-in_err-bytes-clause-plays g c =
     let failed = err_from_is_err_and c.from_residual.result c.from_residual.ensures.1 in
-    rw (failed.1, failed.2) (reading_stopped _ _ _ _ c.in_err-bytes.ensures.no_write)
+    rw (failed.1, failed.2) (reading_stopped (reading_fault c.in_err-bytes.field-0.0) _ _ _ (reading_writes_nothing c.in_err-bytes.field-0.0))
 
 pub returns-in_default-clause-plays : goal.returns-in_default-clause-plays
 returns-in_default-clause-plays g c = reading_stopped _ _ _ _ (λ e. cc)

@@ -1,6 +1,6 @@
 use Rattle.std.proofs.Common.{◌<◌, length, rules}
 use Rattle.lines_demo.proofs.Reading.{all_read}
-use Rattle.lines_demo.proofs.script.run.read_script.Goals as goal
+use Rattle.lines_demo.proofs.reader.read_whole.Goals as goal
 
 pub returns-clause-known : goal.returns-clause-known
 returns-clause-known g c =

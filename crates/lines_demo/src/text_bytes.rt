@@ -1,7 +1,7 @@
-//! The text of a command, before it is published.
+//! The text of a publication, before it is published.
 use std::marker::Model;
 
-/// The bytes of one text as they stand in a script.
+/// The bytes of one text as they stand in the input.
 #[derive(Debug, Drop)]
 pub struct TextBytes<'a> {
     bytes: &'a [u8],

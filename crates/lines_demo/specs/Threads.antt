@@ -1,0 +1,4 @@
+-- The program `threads`: what its command line asks for, and what it publishes.
+pub mod Input
+pub mod Plan
+pub mod Run

@@ -1,0 +1,13 @@
+//! Threads: each source of lines publishes them from a thread of its own, and the subscribers are told by worker threads.
+mod fault;
+mod input;
+mod plan;
+mod report;
+mod run;
+mod sending;
+mod standard_input;
+
+pub use fault::LinesFault;
+pub use plan::{CAPACITY, SUBSCRIBERS, WORKERS};
+pub use run::run_lines;
+pub use standard_input::run_standard_input;

@@ -1,0 +1,105 @@
+//! The report of a run: what each subscriber was told, and how its subscription ended.
+use crate::writing::{OutputFault, write_line, write_whole};
+use flow_rules::{How, Name, Shown, Signal, Subscriber, Text};
+use publisher::{NamedLane, Outcome};
+use std::alloc::{AllocError, Global};
+use std::io::Write;
+
+/// Enough for any line of a report: a name, a source and a text, with what stands between them.
+const LONGEST_LINE: usize = Name::LONGEST + Text::LONGEST + 13;
+
+/// Writes the report. The answer is whether every subscriber completed.
+pub fn write_report<S: Subscriber, W: Write>(
+    alloc: Global,
+    writer: &mut W,
+    sources: &[u32],
+    outcome: &Outcome<Shown<S>>,
+) -> Result<bool, OutputFault> {
+    let Ok(mut line) = Vec::with_capacity(alloc, LONGEST_LINE) else {
+        return Err(OutputFault::Memory);
+    };
+    let mut all_complete = true;
+    for left in outcome.lanes.as_slice() {
+        write_lane(writer, &mut line, sources, left)?;
+        all_complete &= is_complete(left);
+    }
+    let drained = u8::from(outcome.drained);
+    write_line(writer, &mut line, format_args!("drained {drained}"))?;
+    Ok(all_complete)
+}
+
+/// Writes what one subscriber was told, source by source, and how its subscription ended.
+fn write_lane<S: Subscriber, W: Write>(
+    writer: &mut W,
+    line: &mut Vec<u8>,
+    sources: &[u32],
+    left: &NamedLane<Shown<S>>,
+) -> Result<(), OutputFault> {
+    let told = told_of(left);
+    for place in 0..sources.len() {
+        write_items(writer, line, &left.name, sources[place], place, told)?;
+    }
+    let word = word_of(left.lane.ending);
+    let name = &left.name;
+    let items = count_items(told);
+    write_line(writer, line, format_args!("{name} {word} {items}"))
+}
+
+/// Writes the items of the submitter of this number, which published the lines of a source.
+fn write_items<W: Write>(
+    writer: &mut W,
+    line: &mut Vec<u8>,
+    name: &Name,
+    source: u32,
+    submitter: usize,
+    told: &[Signal],
+) -> Result<(), OutputFault> {
+    for signal in told {
+        if let Signal::Next(item) = signal {
+            if item.source as usize == submitter {
+                if make_line(line, name, source, item.text.as_bytes()).is_err() {
+                    return Err(OutputFault::Memory);
+                }
+                write_whole(writer, line.as_slice())?;
+            }
+        }
+    }
+    Ok(())
+}
+
+/// Puts the line of an item into the buffer.
+fn make_line(line: &mut Vec<u8>, name: &Name, source: u32, text: &[u8]) -> Result<(), AllocError> {
+    line.clear();
+    if write!(line, "{name} {source} ").is_err() {
+        return Err(AllocError);
+    }
+    line.extend_from_slice(text)?;
+    line.push(b'\n')?;
+    Ok(())
+}
+
+/// What a subscriber was told.
+fn told_of<S: Subscriber>(left: &NamedLane<Shown<S>>) -> &[Signal] {
+    match &left.lane.subscriber {
+        Some(subscriber) => subscriber.0.told(),
+        None => &[],
+    }
+}
+
+/// How many items are among the signals.
+fn count_items(told: &[Signal]) -> usize {
+    told.iter().filter(|signal| matches!(signal, Signal::Next(_))).count()
+}
+
+/// How a subscription ended, as a report says it.
+fn word_of(ending: Option<How>) -> &'static str {
+    match ending {
+        Some(How::Completed) => "complete",
+        Some(How::OutOfMemory) => "memory",
+        _ => "open",
+    }
+}
+
+fn is_complete<B>(left: &NamedLane<B>) -> bool {
+    matches!(left.lane.ending, Some(How::Completed))
+}

@@ -1,0 +1,194 @@
+//! A run: a publisher, its subscribers, and the sources of its lines.
+ghost use Rattle.std.specs.Prelude.{◌≡◌, [], All, IfOk};
+ghost use Rattle.publisher.specs.Outcome.{IsOutcome, outcome_of};
+ghost use Rattle.publisher.specs.declared.state.TheConstants.{PARTS};
+
+use super::fault::LinesFault;
+use super::input::Input;
+use super::plan::{NamedDemand, Plan};
+use super::report::write_report;
+use super::sending::send_lines;
+use crate::reader::read_whole;
+use flow_rules::{Refusal, Shown, Subscriber};
+use publisher::{Outcome, PARTS, Publisher, Submitter, Subscription, finish};
+use std::alloc::Global;
+use std::io::{Read, Write};
+use std::sync::Wait;
+use std::marker::Brand;
+use std::sync::ledger::{Blank, Ledger};
+use std::thread::Threads;
+
+/// The status where every subscriber completed.
+const COMPLETE: u8 = 0;
+
+/// The status where some subscriber did not.
+const INCOMPLETE: u8 = 3;
+
+/// Publishes the lines that the reader gives by a plan, and writes the report of what the subscribers were told. There is one subscriber for
+/// each name of the plan, in its order, and each was told nothing. The answer is the exit status: 0 where every subscriber completed, and
+/// else 3.
+pub fn run_lines<R: Threads + Wait + Copy + Send + Sync + 'static, I: Read, W: Write>(
+    rt: R,
+    alloc: Global,
+    plan: &Plan,
+    reader: &mut I,
+    writer: &mut W,
+    subscribers: Vec<Box<dyn Subscriber>>,
+) -> Result<u8, LinesFault>
+    requires { All (λ b. told b ≡ []) subscribers.items }
+{
+    let bytes = read_whole(alloc, reader)?;
+    let input = Input::read(alloc, plan, bytes.as_slice())?;
+    report_lines::<Brand, Brand, Box<dyn Subscriber>, R, W>(
+        rt,
+        alloc,
+        plan,
+        &input,
+        writer,
+        subscribers,
+        Blank::new(PARTS),
+        Blank::new(PARTS),
+    )
+}
+
+/// Publishes an input by a plan, and writes the report.
+fn report_lines<
+    L: Ledger + Send + Sync + 'static,
+    D: Ledger + Send + Sync + 'static,
+    S: Subscriber + 'static,
+    R: Threads + Wait + Copy + Send + Sync + 'static,
+    W: Write,
+>(
+    rt: R,
+    alloc: Global,
+    plan: &Plan,
+    input: &Input<'_>,
+    writer: &mut W,
+    subscribers: Vec<S>,
+    publications: Blank,
+    drops: Blank,
+) -> Result<u8, LinesFault>
+    requires publications { (publications.name ≡ L.name) × ((publications.parts ≡ L.parts) × (L.parts ≡ PARTS)) }
+    requires drops { (drops.name ≡ D.name) × ((drops.parts ≡ D.parts) × (D.parts ≡ PARTS)) }
+    requires untold { All (λ s. S.told s ≡ []) subscribers.items }
+{
+    let outcome = publish_lines::<L, D, S, R>(rt, alloc, plan, input, subscribers, publications, drops)?;
+    if write_report(alloc, writer, input.sources(), &outcome)? {
+        Ok(COMPLETE)
+    } else {
+        Ok(INCOMPLETE)
+    }
+}
+
+/// Publishes an input by a plan, and gives what the publisher leaves.
+fn publish_lines<
+    L: Ledger + Send + Sync + 'static,
+    D: Ledger + Send + Sync + 'static,
+    S: Subscriber + 'static,
+    R: Threads + Wait + Copy + Send + Sync + 'static,
+>(
+    rt: R,
+    alloc: Global,
+    plan: &Plan,
+    input: &Input<'_>,
+    subscribers: Vec<S>,
+    publications: Blank,
+    drops: Blank,
+) -> Result<Outcome<Shown<S>>, Refusal>
+    requires publications { (publications.name ≡ L.name) × ((publications.parts ≡ L.parts) × (L.parts ≡ PARTS)) }
+    requires drops { (drops.name ≡ D.name) × ((drops.parts ≡ D.parts) × (D.parts ≡ PARTS)) }
+    requires untold { All (λ s. S.told s ≡ []) subscribers.items }
+    ensures { IfOk result (λ outcome. IsOutcome (λ shown. S.told shown.0) outcome) }
+{
+    let publisher: Publisher<L, D, Shown<S>> =
+        Publisher::new(rt, alloc, publications, drops, plan.workers(), plan.capacity())?;
+    let mut subscriptions = Vec::new(alloc);
+    let subscribed = subscribe_all(&rt, alloc, &publisher, plan.subscribers(), subscribers, &mut subscriptions);
+    let published = match subscribed {
+        Ok(()) => publish_and_close(&rt, alloc, &publisher, input),
+        Err(refusal) => Err(refusal),
+    };
+    let (submitters, refused) = match published {
+        Ok(submitters) => (submitters, None),
+        Err(refusal) => (Vec::new(alloc), Some(refusal)),
+    };
+    // The workers end in any case.
+    let finished = finish(&rt, alloc, publisher, submitters, subscriptions);
+    match refused {
+        Some(refusal) => Err(refusal),
+        None => outcome_of(finished),
+    }
+}
+
+/// What a publisher leaves, also where some subscription has not ended.
+fn outcome_of<B: Drop>(finished: Result<Outcome<B>, (Refusal, Outcome<B>)>) -> Result<Outcome<B>, Refusal>
+    ensures { IfOk result (λ outcome. outcome ≡ outcome_of finished) }
+{
+    match finished {
+        Ok(outcome) => Ok(outcome),
+        Err((refusal, outcome)) => {
+            if matches!(refusal, Refusal::Unsettled(_)) {
+                Ok(outcome)
+            } else {
+                Err(refusal)
+            }
+        }
+    }
+}
+
+/// Subscribes all subscribers, in order.
+fn subscribe_all<
+    L: Ledger + Send + Sync + 'static,
+    D: Ledger + Send + Sync + 'static,
+    S: Subscriber + 'static,
+    R: Wait,
+>(
+    rt: &R,
+    alloc: Global,
+    publisher: &Publisher<L, D, Shown<S>>,
+    named: &[NamedDemand],
+    subscribers: Vec<S>,
+    subscriptions: &mut Vec<Subscription<L, D, Shown<S>>>,
+) -> Result<(), Refusal>
+    requires { All (λ s. S.told s ≡ []) subscribers.items }
+{
+    let mut named = named.iter();
+    for subscriber in subscribers {
+        if let Some(first) = named.next() {
+            match publisher.subscribe(rt, alloc, first.name, Shown(subscriber)) {
+                Ok(subscription) => {
+                    if subscriptions.push(subscription).is_err() {
+                        return Err(Refusal::NoMemory);
+                    }
+                }
+                Err((refusal, _)) => return Err(refusal),
+            }
+        }
+    }
+    Ok(())
+}
+
+/// Publishes all lines and closes the publisher. The submitters come back.
+fn publish_and_close<
+    L: Ledger + Send + Sync + 'static,
+    D: Ledger + Send + Sync + 'static,
+    S: Subscriber + 'static,
+    R: Threads + Wait + Sync,
+>(
+    rt: &R,
+    alloc: Global,
+    publisher: &Publisher<L, D, Shown<S>>,
+    input: &Input<'_>,
+) -> Result<Vec<Submitter<L, D, Shown<S>>>, Refusal> {
+    let mut note = Publisher::<L, D, Shown<S>>::note();
+    let mut submitters = Vec::new(alloc);
+    for _ in input.sources() {
+        let submitter = publisher.submitter(rt, alloc, &mut note)?;
+        if submitters.push(submitter).is_err() {
+            return Err(Refusal::NoMemory);
+        }
+    }
+    let submitters = send_lines(rt, alloc, input, submitters)?;
+    publisher.close(rt, alloc, &mut note)?;
+    Ok(submitters)
+}

@@ -1,0 +1,75 @@
+//! A run on the lines of standard input.
+ghost use Rattle.std.specs.Prelude.{◌≡◌, [], All, IfOk};
+
+use super::fault::LinesFault;
+use super::plan::Plan;
+use super::run::run_lines;
+use clap::ArgMatches;
+use flow_rules::{Collector, Refusal, Subscriber};
+use std::alloc::Global;
+use std::io;
+use std::io::{BufWriter, Read, Write};
+use std::sync::Wait;
+use std::thread::Threads;
+
+/// Publishes the lines on standard input as the command line asks, and reports on standard output. The answer is the exit status.
+pub fn run_standard_input<R: Input + Print + AllocGlobal + Threads + Wait + Copy + Send + Sync + 'static>(
+    rt: R,
+    matches: &ArgMatches<'_>,
+) -> Result<u8, LinesFault> {
+    let alloc = rt.alloc();
+    let plan = Plan::read(alloc, matches)?;
+    let mut reader = rt.reader();
+    let Ok(mut writer) = BufWriter::new(alloc, io::writer(&rt)) else {
+        return Err(LinesFault::Refused(Refusal::NoMemory));
+    };
+    let status = run_on_collectors(rt, alloc, &plan, &mut reader, &mut writer);
+    let flushed = writer.flush();
+    let status = status?;
+    match flushed {
+        Ok(()) => Ok(status),
+        Err(_) => Err(LinesFault::Write),
+    }
+}
+
+/// Publishes lines to subscribers that request what a plan says, and keep all that they are told.
+fn run_on_collectors<R: Threads + Wait + Copy + Send + Sync + 'static, I: Read, W: Write>(
+    rt: R,
+    alloc: Global,
+    plan: &Plan,
+    reader: &mut I,
+    writer: &mut W,
+) -> Result<u8, LinesFault> {
+    let mut subscribers: Vec<Box<dyn Subscriber>> = Vec::new(alloc);
+    for subscriber in plan.subscribers() {
+        let Ok(collector) = Box::new(alloc, collector_of(alloc, subscriber.demand)) else {
+            return Err(LinesFault::Refused(Refusal::NoMemory));
+        };
+        if subscribers.push(collector).is_err() {
+            return Err(LinesFault::Refused(Refusal::NoMemory));
+        }
+    }
+    run_lines(rt, alloc, plan, reader, writer, untold(alloc, subscribers)?)
+}
+
+/// A subscriber that requests so many items.
+fn collector_of(alloc: Global, demand: u64) -> Collector {
+    match i64::try_from(demand) {
+        Ok(0) => Collector::new(alloc),
+        Ok(demand) => Collector::asking(alloc, demand),
+        Err(_) => Collector::asking(alloc, i64::MAX),
+    }
+}
+
+/// Those of the subscribers that were told nothing, as a run needs them.
+fn untold<B: Subscriber>(alloc: Global, subscribers: Vec<B>) -> Result<Vec<B>, Refusal>
+    ensures { IfOk result (λ left. All (λ b. B.told b ≡ []) left.items) }
+{
+    let mut left = Vec::new(alloc);
+    for subscriber in subscribers {
+        if subscriber.told().is_empty() && left.push(subscriber).is_err() {
+            return Err(Refusal::NoMemory);
+        }
+    }
+    Ok(left)
+}

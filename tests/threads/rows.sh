@@ -1,0 +1,9 @@
+#!/bin/sh
+# Runs `lines_demo threads` on rows of command lines and inputs, and compares the output, standard error and the status.
+# It needs the native program, which `rt ci` and `./play --build` leave in crates/lines_demo/out, and Python 3.
+set -eu
+cd "$(dirname "$0")/../.."
+. tests/program.sh
+program=${PROGRAM:-crates/lines_demo/out/lines_demo}
+need lines_demo "$program"
+python3 tests/threads/rows.py "$program"
