@@ -9,11 +9,8 @@
 set -eu
 cd "$(dirname "$0")/.."
 . tests/program.sh
-program=${PROGRAM:-crates/lines_demo/out/lines_demo}
-need lines_demo "$program"
+begin lines_demo
 runs=${1:-5}
-work=$(mktemp -d)
-trap 'rm -rf "$work"' EXIT
 gcc -O2 -Wall -Werror -o "$work/copy_lines" bench/copy_lines.c
 awk 'BEGIN { for (k = 0; k < 50000; k++) for (s = 0; s < 4; s++) printf "%d the line %d of source %d\n", s, k, s }' >"$work/in"
 lines=200000

@@ -5,9 +5,6 @@
 set -eu
 cd "$(dirname "$0")/../.."
 . tests/program.sh
-program=${PROGRAM:-crates/lines_demo/out/lines_demo}
-need lines_demo "$program"
-work=$(mktemp -d)
-trap 'rm -rf "$work"' EXIT
+begin lines_demo
 gcc -shared -fPIC -O1 -Wall -Werror -o "$work/refuse.so" tests/refused_memory/refuse.c
 python3 tests/refused_memory/threads.py "$program" "$work/refuse.so"

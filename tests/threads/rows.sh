@@ -4,6 +4,5 @@
 set -eu
 cd "$(dirname "$0")/../.."
 . tests/program.sh
-program=${PROGRAM:-crates/lines_demo/out/lines_demo}
-need lines_demo "$program"
+begin lines_demo
 python3 tests/threads/rows.py "$program"
