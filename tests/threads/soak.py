@@ -1,11 +1,11 @@
 """Runs `lines_demo threads` with many sources, subscribers and lines, and checks each line of the reports.
 
-usage: soak.py PROGRAM
+usage: soak.py PROGRAM [--whole]
 
-A run of 16 sources of 10,000 lines to 64 subscribers tells ten million items, so only some of the pairs of a capacity and a number
-of workers have one; all pairs have a run of a tenth as many lines to 16 subscribers. In each of the small runs some subscribers ask for
-too few items, and are left open: what they are told is a beginning of each source's lines. A run has a time limit, and one that has
-not ended then has failed.
+A run of 16 sources of 10,000 lines to 64 subscribers tells ten million items. With --whole each pair of a capacity of 1, 4 or 256 and
+1 to 8 workers has one, which takes some ten minutes; else two pairs have one. All pairs have a run of a tenth as many lines to 16
+subscribers. In each of the small runs some subscribers ask for too few items, and are left open: what they are told is a beginning of
+each source's lines. A run has a time limit, and one that has not ended then has failed.
 """
 
 import itertools
@@ -16,7 +16,7 @@ SOURCES = 16
 CAPACITIES = (1, 4, 256)
 WORKERS = (1, 2, 3, 4, 5, 6, 7, 8)
 LARGE = ((4, 2), (256, 4))
-SMALL_SECONDS, LARGE_SECONDS = 30, 60
+SMALL_SECONDS, LARGE_SECONDS = 60, 240
 
 
 def texts(each):
@@ -90,18 +90,20 @@ def soak(program, capacity, workers, each, demands, seconds):
     return why and f"capacity {capacity}, {workers} workers, {each} lines: {why}"
 
 
-def main(program):
-    faults = []
-    for capacity, workers in itertools.product(CAPACITIES, WORKERS):
+def main(program, option=None):
+    if option not in (None, "--whole"):
+        sys.exit(__doc__)
+    pairs, faults = [*itertools.product(CAPACITIES, WORKERS)], []
+    large = pairs if option else LARGE
+    for capacity, workers in pairs:
         demands = {f"a{k}": 16000 for k in range(14)}
         # The buffer holds what an open one does not ask for.
         demands.update({"open": 16000 - capacity, "last": 16000 if capacity == 1 else 16000 - capacity // 2})
         faults.append(soak(program, capacity, workers, 1000, demands, SMALL_SECONDS))
-    for capacity, workers in LARGE:
+    for capacity, workers in large:
         faults.append(soak(program, capacity, workers, 10000, {f"a{k}": 2**40 for k in range(64)}, LARGE_SECONDS))
     faults = [it for it in faults if it]
-    runs = len(CAPACITIES) * len(WORKERS) + len(LARGE)
-    print("\n".join(faults or [f"{runs} runs: each subscriber was told what it should be"]))
+    print("\n".join(faults or [f"{len(pairs) + len(large)} runs: each subscriber was told what it should be"]))
     return 1 if faults else 0
 
 

@@ -10,7 +10,7 @@ use crate::line::{split_line, strip_return};
 use crate::number::parse_code;
 use crate::text_bytes::TextBytes;
 use crate::word::{parse_text, split_word};
-use flow_rules::{NoMemory, Refusal, Text, capacity};
+use flow_rules::{NoMemory, Refusal, Text};
 use std::alloc::Global;
 use std::marker::Model;
 
@@ -20,7 +20,9 @@ pub const MOST_SOURCES: usize = 16;
 /// One text, and the source that publishes it.
 #[derive(Drop)]
 pub struct Publication<'a> {
+    /// The number of the source.
     pub source: u32,
+    /// The text, of 1 to 4,096 bytes where it was read.
     pub text: TextBytes<'a>,
 }
 

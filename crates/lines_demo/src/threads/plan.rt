@@ -12,17 +12,21 @@ use publisher_hub::MOST_LIVE;
 use std::alloc::Global;
 use std::marker::Model;
 
-/// The options of the command line, and its list of subscribers, by their ids.
+/// The id of the option for the number of workers.
 pub const WORKERS: &str = "workers";
 
+/// The id of the option for the capacity of each buffer.
 pub const CAPACITY: &str = "cap";
 
+/// The id of the words `NAME:D`.
 pub const SUBSCRIBERS: &str = "subscribers";
 
 /// A subscriber of the command line: its name, and how many items it requests.
 #[derive(Clone, Copy)]
 pub struct NamedDemand {
+    /// The name that it subscribes with.
     pub name: Name,
+    /// How many items it requests, up to 2^63-1.
     pub demand: u64,
 }
 
@@ -54,7 +58,10 @@ impl Plan {
     ghost use Rattle.lines_demo.specs.Threads.Plan.{IsOrLacksMemory, checked_plan, plan_of, plan_of_matches};
     ghost use Rattle.lines_demo.specs.Threads.Input.{would_block};
 
-    /// The plan that a command line of `threads` spells. It is refused as its values are, and 12 where one is missing.
+    /// The plan that a command line of `threads` spells: its options [`WORKERS`] and [`CAPACITY`], and its words [`SUBSCRIBERS`].
+    ///
+    /// Refused 12 where one of them is missing or has another form; then 7 for any number of workers but 1 to 8; 1 where the capacity is 0;
+    /// 3 where a name stands twice; and 4 where there are more than 64 subscribers. 5 where a growth is refused.
     pub fn read(alloc: Global, matches: &ArgMatches<'_>) -> Result<Plan, Refusal>
         ensures { IsOrLacksMemory result (plan_of_matches matches.now) }
     {
@@ -71,9 +78,6 @@ impl Plan {
     }
 
     /// The plan that the values of `--workers` and `--cap` and the words `NAME:D` spell.
-    ///
-    /// Refused 12 where one of them has another form; then 7 for any number of workers but 1 to 8; 1 where the capacity is 0; 3 where a name
-    /// stands twice; and 4 where there are more than 64 subscribers. 5 where a growth is refused.
     #[tactic(auto, unfolding(crate::specs::Threads::Plan::plan_of))]
     fn of_words(
         alloc: Global,
@@ -120,7 +124,7 @@ impl Plan {
         })
     }
 
-    /// How many workers there are.
+    /// How many workers there are, 1 to 8.
     pub fn workers(&self) -> usize
         ensures value { result ≡ self.now.workers }
         ensures allowed { IsWorkerCount result }
@@ -128,7 +132,7 @@ impl Plan {
         self.workers
     }
 
-    /// The capacity that is asked for.
+    /// The capacity that is asked for, 1 or more.
     pub fn capacity(&self) -> usize
         ensures value { result ≡ self.now.capacity }
         ensures positive { 1 ≤ result }
@@ -185,7 +189,7 @@ fn parse_subscriber(word: &[u8]) -> Option<NamedDemand>
     })
 }
 
-/// Whether a name stands twice.
+/// Whether a name stands twice. Each is compared with all that follow; a command line has room for some hundred thousand.
 fn stands_twice(subscribers: &[NamedDemand]) -> bool
     ensures { result ≡ has_twice subscribers.now }
 {
