@@ -7,6 +7,7 @@ mod hub;
 mod listeners;
 mod names;
 mod numbers;
+mod play;
 mod pool;
 mod publishers;
 mod refusals;

@@ -1,45 +1,138 @@
-//! Subscriptions over a lock-free table: what their parties answer before a turn, and what is left.
-use crate::letters::item_with;
-use feed_cell::{Cell, close};
-use flow_rules::{Collector, Ending, Feed, Put, Shown, capacity};
+//! Subscriptions over a lock-free table: what their parties answer in one thread, what a close leaves, and what threads do.
+ghost use Rattle.std.specs.Prelude.{◌≡◌, []};
+
+mod board;
+mod closes;
+mod in_order;
+mod parties;
+mod putting;
+mod relay;
+
+use super::desks::has_told;
+use crate::Row;
+use feed_cell::close;
+use feed_core::{Lane, Outlook};
+use flow_rules::{Collector, How, Listener, NoMemory, Shown};
+use parties::Parties;
+use std::alloc::Global;
+use std::process::Abort;
 use std::test::Fail;
 
+// How many items were accepted, given and requested, how it ended, and whether a turn is owed.
+pub(super) type Left = (u64, u64, u64, Option<How>, bool);
+
+pub(super) fn numbers<B: Listener>(lane: &Lane<B>) -> Left {
+    (
+        lane.accepted,
+        lane.given,
+        lane.asked,
+        lane.ending,
+        lane.running,
+    )
+}
+
+// Makes the calls of a subscription for whose buffer this capacity is asked, compares each with its row, drops the task that is
+// left, and closes it for good.
+pub(super) fn left_of<B: Listener>(
+    rt: &impl Abort,
+    alloc: Global,
+    listener: B,
+    asked: usize,
+    rows: &[Row<'_>],
+) -> Result<Lane<B>, Fail>
+    requires { B.told listener ≡ [] }
+{
+    let mut parties = Parties::new(alloc, asked, listener)?;
+    let wrong = parties.first_wrong(alloc, rows)?;
+    assert!(rt; wrong.is_none(), "row {wrong:?} of its parties");
+    drop(parties.task);
+    match close(parties.putting.producer, parties.handle) {
+        Ok(lane) => Ok(lane),
+        Err(_) => Err(Fail::new("it is still shared")),
+    }
+}
+
+// A whole life. Its subscriber requests one item when it is subscribed, and so it does in the lives below.
+const ONE_PLACE: [Row<'static>; 9] = [
+    Row::Accepted(b'x', 1, false),
+    Row::Full(b'y'),
+    Row::Turn(b"sx", Outlook::Resting),
+    Row::Accepted(b'z', 1, true),
+    Row::Request(1, false),
+    Row::Turn(b"z", Outlook::Resting),
+    Row::Close(true),
+    Row::Turn(b"c", Outlook::Ended(How::Completed)),
+    Row::Gone(b'w'),
+];
+
+const GREETED: Row<'static> = Row::Turn(b"s", Outlook::Resting);
+
+// A life: the calls, at a capacity of 1; what the subscriber was told, if it is there; and what is left.
+type Life = (&'static [Row<'static>], Option<&'static [u8]>, Left);
+
+const LIVES: [Life; 7] = [
+    (&ONE_PLACE, Some(b"sxzc"), (2, 2, 2, Some(How::Completed), false)),
+    // At rest nothing runs, whether or not something waits.
+    (&[GREETED], Some(b"s"), (0, 0, 1, None, false)),
+    (
+        &[
+            Row::Accepted(b'v', 1, false),
+            Row::Turn(b"sv", Outlook::Resting),
+            Row::Accepted(b'w', 1, true),
+            Row::Close(false),
+            Row::Turn(b"", Outlook::Resting),
+        ],
+        Some(b"sv"),
+        (2, 1, 1, None, false),
+    ),
+    // A task that is dropped takes the subscriber with it: before its first turn, after an item, and after a cause to end.
+    (&[], None, (0, 0, 0, None, true)),
+    (
+        &[
+            Row::Accepted(b'v', 1, false),
+            Row::Turn(b"sv", Outlook::Resting),
+            Row::Accepted(b'w', 1, true),
+            Row::Close(false),
+        ],
+        None,
+        (2, 1, 0, None, true),
+    ),
+    (&[GREETED, Row::Cancel(true)], None, (0, 0, 0, None, true)),
+    // What is called after the end changes nothing.
+    (
+        &[
+            GREETED,
+            Row::Cancel(true),
+            Row::Turn(b"", Outlook::Ended(How::Cancelled)),
+            Row::Request(5, false),
+            Row::Gone(b'v'),
+            Row::Duplicate(false),
+        ],
+        Some(b"s"),
+        (0, 0, 1, Some(How::Cancelled), false),
+    ),
+];
+
 #[test]
-fn a_cell_of_one_place(rt: HostRuntime) -> Result<(), Fail> {
+fn each_life_leaves_what_it_should(rt: HostRuntime) -> Result<(), Fail> {
     let alloc = rt.alloc();
-    let x = item_with(alloc, b"x")?;
-    let y = item_with(alloc, b"y")?;
-    let made = Cell::new(alloc, capacity(1)?, Shown(Collector::new(alloc)));
-    let (mut producer, mut handle, task) = match made {
-        Ok(parties) => parties,
-        Err((refused, _)) => return Err(refused.into()),
-    };
-    producer.ready()?;
-    assert!(rt;
-        matches!(
-            producer.put(x),
-            Put::Accepted {
-                lag: 1,
-                start: None
-            }
-        )
-    );
-    producer.ready()?;
-    assert!(rt; matches!(producer.put(y), Put::Full(_)));
-    let standing = producer.standing();
-    assert!(rt; !standing.ended && standing.held == 1);
-    handle.ready()?;
-    assert!(rt; handle.request(1).is_none());
-    handle.ready()?;
-    assert!(rt; handle.cancel().is_none());
-    producer.ready()?;
-    assert!(rt; producer.end(Ending::Normal).is_none());
-    drop(task);
-    let left = match close(producer, handle) {
-        Ok(left) => left,
-        Err(_) => return Err(flow_rules::NoMemory.into()),
-    };
-    assert!(rt; left.running && left.subscriber.is_none() && left.ending.is_none());
-    assert!(rt; left.accepted == 1 && left.given == 0 && left.asked == 1);
+    for (number, (rows, told, left)) in LIVES.iter().enumerate() {
+        let lane = left_of(&rt, alloc, Shown(Collector::asking(alloc, 1)), 1, rows)?;
+        assert!(rt; numbers(&lane) == *left, "at {number}");
+        assert!(rt; is_told(alloc, &lane, *told)?, "at {number}");
+    }
     Ok(())
+}
+
+// Whether the subscriber that is left was told what these letters write, or there is none.
+fn is_told(
+    alloc: Global,
+    lane: &Lane<Shown<Collector>>,
+    told: Option<&[u8]>,
+) -> Result<bool, NoMemory> {
+    match (&lane.subscriber, told) {
+        (Some(shown), Some(told)) => has_told(alloc, &shown.0, told),
+        (None, None) => Ok(true),
+        _ => Ok(false),
+    }
 }
