@@ -1,5 +1,5 @@
 -- A turn so far, from its greeting on, and how it is over.
-use Rattle.std.proofs.Common.{◌≡◌, ℕ, ◌+◌, ◌≤◌, ◌<◌, ◌⊎◌, true, false, List, [], ◌∷◌, ◌++◌, map, length, refl, ap, sym, ◌∙◌, subst, inl, inr, arith, append-nil, length-append, append_assoc}
+use Rattle.std.proofs.Common.{◌≡◌, ℕ, suc, ◌+◌, ◌≤◌, ◌<◌, ◌⊎◌, true, false, List, [], ◌∷◌, ◌++◌, map, length, refl, ap, sym, ◌∙◌, subst, inl, inr, arith, append-nil, length-append, append_assoc}
 use Rattle.std.proofs.lemmas.List.{length-map, map-append}
 use Rattle.feed_core.specs.Prelude.{How, Item, Next, Signal, Subscribed, items_of}
 use Rattle.feed_core.specs.Seen.{SeenState}
@@ -79,7 +79,7 @@ module _ {B : Type 0} (told : B → List Signal) where
   -- a task may look in the middle of a turn
   pub may_look_next : (stage : Stage) (count : ℕ) (before me : SeatOf B) (seen : List Signal) → IsMidTurn told stage count before me seen → MayLookNext told stage me
   may_look_next Stage.Fresh count before me seen mid = mid
-  may_look_next Stage.Home count before me seen mid = mid.2.0
+  may_look_next Stage.Home count before me seen mid = mid.2
   may_look_next Stage.Going count before me seen mid = mid.0
 
   -- it has looked: what its subscriber was told before is known now
@@ -121,7 +121,7 @@ module _ {B : Type 0} (told : B → List Signal) where
     -- there is room for one more signal
     pub room_so_far : count < 64 → length seen.signals < 66
     room_so_far short =
-        let whole : length (t.start ++ seen.signals) ≡ 1 + length (map Next (t.base ++ t.took)) = ap length t.text in
+        let whole : length (t.start ++ seen.signals) ≡ suc (length (map Next (t.base ++ t.took))) = ap length t.text in
         let apart = length-append t.start seen.signals in
         let nexts = length-map (t.base ++ t.took) Next in
         let items = length-append t.base t.took in
