@@ -66,3 +66,4 @@ pub use cell::handle::Handle;
 pub use cell::making::Cell;
 pub use cell::producer::Producer;
 pub use cell::task::Task;
+pub use cell::turning::Turn;
