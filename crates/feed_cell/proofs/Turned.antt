@@ -10,7 +10,8 @@ use Rattle.feed_core.specs.Turn.{EndsIn}
 use Rattle.feed_core.proofs.SignalLists.{IsTerminal, complete_last, contains_none, error_last, items_of_nexts, terminal_last}
 use Rattle.feed_core.proofs.TurnLoop.{last_contained}
 use Rattle.feed_cell.specs.Cell.{greeted, IsToldBy}
-use Rattle.feed_cell.specs.Turned.{IsTextOf, AreGivenOf, IsBefore, TurnsAs}
+use Rattle.feed_cell.specs.Turned.{IsTextOf, AreGivenOf, IsBefore, AreGranted, TurnsAs}
+use Rattle.feed_cell.specs.declared.cell.Grant.{Grant}
 use Rattle.feed_cell.specs.declared.cell.View.{View}
 
 -- the terminal signal of an outlook, if it has one
@@ -134,11 +135,17 @@ pub given_by : (outlook : Outlook) (base took given : List Item) → AreGivenOf 
 given_by outlook base took given (inl e) = inl (append_cancel_left base given took e)
 given_by outlook base took given (inr h) = inr (h.0, (h.1.0, append_cancel_left base took (given ++ h.1.0 ∷ []) (h.1.1 ∙ append_assoc base given (h.1.0 ∷ []))))
 
+-- more items that were taken after these
+pub granted_more : (given : ℕ) (first second : List Grant) → AreGranted given first → AreGranted (given + length first) second → AreGranted given (first ++ second)
+granted_more given [] second a b = subst (λ (n : ℕ). AreGranted n second) (omega arith) b
+granted_more given (x ∷ first) second a b = (a.0, a.1, granted_more (given + 1) first second a.2 (subst (λ (n : ℕ). AreGranted n second) (omega arith) b))
+
 -- the whole of a turn
 abbrev pub whole_turn : (old : View) (known seen start : List Signal) (base took : List Item) (outlook : Outlook)
     → (old.away ≡ true → (start ≡ known) × (base ≡ old.taken)) → IsBefore base start → length took ≤ 64
+    → (grants : List Grant) → length grants ≡ length took → AreGranted (length base) grants
     → IsTextOf outlook (base ++ took) (start ++ seen) → TurnsAs old known seen outlook
-whole_turn old known seen start base took outlook knew before at_most text =
+whole_turn old known seen start base took outlook knew before at_most grants one_each granted text =
     let shape = shaped outlook (base ++ took) (start ++ seen) text in
     let items : items_of (start ++ seen) ≡ base ++ items_of seen = items_of_append start seen ∙ ap (λ l. l ++ items_of seen) (base_items base start before) in
     record {
@@ -148,6 +155,9 @@ whole_turn old known seen start base took outlook knew before at_most text =
       before = before;
       took = took;
       at_most = at_most;
+      grants = grants;
+      one_each = one_each;
+      granted = granted;
       text = text;
       allowed = allowed_by outlook (base ++ took) (start ++ seen) shape;
       given = given_by outlook base took (items_of seen) (subst (λ (l : List Item). AreGivenOf outlook l (base ++ took)) items (items_by outlook (base ++ took) (start ++ seen) shape));

@@ -28,7 +28,7 @@ look_next-word-requires-clause-may g c = may_look_next g.B.Listener.told c.loop.
 looked : (g : Over) (c : After-look_next-word g) → TellsSoFar g.B.Listener.told c.loop.counter c.args.seat.now.me c.look_next-word.new.seat.me c.loop.seen.signals
 looked g c =
     let same = c.look_next-word.ensures.same in
-    looked_on g.B.Listener.told c.loop.stage c.loop.counter c.look_next-word.result c.args.seat.now.me c.loop.seat.me c.look_next-word.new.seat.me c.loop.seen.signals c.loop.invariant.0 c.look_next-word.ensures.looked same.0 same.2
+    looked_on g.B.Listener.told c.loop.stage c.loop.counter c.look_next-word.result c.args.seat.now.me c.loop.seat.me c.look_next-word.new.seat.me c.loop.seen.signals c.loop.invariant.0 c.look_next-word.ensures.looked same.0 c.look_next-word.ensures.grants same.2
 
 pub serve-requires-clause-table : goal.serve-requires-clause-table
 serve-requires-clause-table g c =
