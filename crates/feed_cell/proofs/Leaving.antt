@@ -319,7 +319,7 @@ module _ {B : Type 0} (told : B → List Signal) (cap : ℕ) (s : State (Held B)
         }
 
 -- a number without its mark
-unmark : (b : Bool) (n : ℕ) → n < MARK → marked b n % MARK ≡ n
+pub unmark : (b : Bool) (n : ℕ) → n < MARK → marked b n % MARK ≡ n
 unmark false n small = omega arith
 unmark true n small = omega arith
 

@@ -2,6 +2,7 @@ pub mod Accepting
 pub mod Calling
 pub mod Ending
 pub mod Flagging
+pub mod Granting
 pub mod Handing
 pub mod Leaving
 pub mod Lists

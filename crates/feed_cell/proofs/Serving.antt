@@ -11,7 +11,7 @@ use Rattle.feed_cell.specs.Control.{Flags, causes_of}
 use Rattle.feed_cell.specs.Parties.{IsGoing}
 use Rattle.feed_cell.specs.Paused.{told_out}
 use Rattle.feed_cell.specs.Plays.{SeatOf}
-use Rattle.feed_cell.specs.Running.{Carries, IsEnding, HasTaken, HasMeasured, FindsNone, TakesNext, EndsThere, FinishesThere}
+use Rattle.feed_cell.specs.Running.{Carries, IsEnding, HasTaken, HasMeasured, FindsNone, TakesNext, grant_of, EndsThere, FinishesThere}
 use Rattle.feed_cell.specs.Serving.{MissesRest, RestsNow, Serves, Gives, Finishes, TriesRest, Concludes}
 use Rattle.feed_cell.specs.Types.{Causes, Runner, Nobody, Ready, Looked, Measured, Taken}
 use Rattle.feed_cell.specs.Views.{IsRunner}
@@ -29,6 +29,7 @@ module _ {B : Type 0} (told : B → List Signal) where
     taken = refl;
     text = refl;
     misses = refl;
+    grants = refl;
     sized = refl;
   })
 
@@ -38,6 +39,7 @@ module _ {B : Type 0} (told : B → List Signal) where
     text = ap (told_out told) c.slot ∙ c.text;
     taken = ap (λ (m : SeatOf B). m.0.taken) e;
     misses = ap (λ (m : SeatOf B). m.0.misses) e;
+    grants = ap (λ (m : SeatOf B). m.0.grants) e;
     runs = ap (λ (m : SeatOf B). m.0.runs) e;
     stage = ap (λ (m : SeatOf B). m.0.runner) e;
   }
@@ -59,10 +61,11 @@ module _ {B : Type 0} (told : B → List Signal) where
   -- an item was given
   pub serves_give : (x : Item) (result : Served) (before middle after : SeatOf B) (seen later : SeenState) → Carries told before → TakesNext x before middle → Gives told x result middle after seen later → Serves told result before after seen later
   serves_give x Served.Gave before middle after seen later c t g =
-      let view : after.0 ≡ record before.0 { runner = Taken; taken = before.0.taken ++ x ∷ []; item = [] } = g.tells.view ∙ ap (λ (m : SeatOf B). m.0) t.took in
+      let view : after.0 ≡ record before.0 { runner = Taken; taken = before.0.taken ++ x ∷ []; item = []; grants = before.0.grants ++ grant_of before t.granted ∷ [] } = g.tells.view ∙ ap (λ (m : SeatOf B). m.0) t.took in
       record {
         item = x;
         granted = t.granted;
+        grants = ap (λ (v : View). v.grants) view;
         going = g.going;
         is = subst (λ v. IsRunner v) (sym view) c.is;
         none_out = ap (λ (v : View). v.item) view;
@@ -82,7 +85,7 @@ module _ {B : Type 0} (told : B → List Signal) where
         took = x ∷ [];
         last = e.last;
         few = omega arith;
-        granted = inr t.granted;
+        granted = inr (refl, (t.granted, ap (λ (m : SeatOf B). m.0.grants) g.2 ∙ ap (λ (v : View). v.grants) e.tells.view ∙ ap (λ (m : SeatOf B). m.0.grants) t.took));
         text = subst (λ l. IsToldBy how l (told_out told before.1 ++ e.last)) taken (subst (λ z. IsToldBy how g.0.0.taken z) text (ending_text how g.0 e.ending));
         saw = e.tells.saw;
         taken = ap (λ (m : SeatOf B). m.0.taken) g.2 ∙ taken;
@@ -91,11 +94,11 @@ module _ {B : Type 0} (told : B → List Signal) where
       }
 
   -- an end was told
-  pub serves_finish : (due : How) (result : Served) (before middle after : SeatOf B) (seen later : SeenState) → middle.1 ≡ before.1 → middle.0.taken ≡ before.0.taken → middle.0.misses ≡ before.0.misses → Finishes told due result middle after seen later → Serves told result before after seen later
-  serves_finish due Served.Gave before middle after seen later slots items same f = absurd f
-  serves_finish due Served.Rested before middle after seen later slots items same f = absurd f
-  serves_finish due Served.Missed before middle after seen later slots items same f = absurd f
-  serves_finish due (Served.Ended how) before middle after seen later slots items same f =
+  pub serves_finish : (due : How) (result : Served) (before middle after : SeatOf B) (seen later : SeenState) → middle.1 ≡ before.1 → middle.0.taken ≡ before.0.taken → middle.0.misses ≡ before.0.misses → middle.0.grants ≡ before.0.grants → Finishes told due result middle after seen later → Serves told result before after seen later
+  serves_finish due Served.Gave before middle after seen later slots items same still f = absurd f
+  serves_finish due Served.Rested before middle after seen later slots items same still f = absurd f
+  serves_finish due Served.Missed before middle after seen later slots items same still f = absurd f
+  serves_finish due (Served.Ended how) before middle after seen later slots items same still f =
       let e = f.1 in
       let taken : f.0.0.taken ≡ before.0.taken ++ [] = ap (λ (v : View). v.taken) e.tells.view ∙ items ∙ sym (append-nil before.0.taken) in
       let text : told_out told f.0.1 ≡ told_out told before.1 ++ e.last = e.tells.text ∙ ap (λ l. told_out told l ++ e.last) slots in
@@ -103,7 +106,7 @@ module _ {B : Type 0} (told : B → List Signal) where
         took = [];
         last = e.last;
         few = omega arith;
-        granted = inl refl;
+        granted = inl (refl, ap (λ (m : SeatOf B). m.0.grants) f.2 ∙ ap (λ (v : View). v.grants) e.tells.view ∙ still);
         text = subst (λ l. IsToldBy how l (told_out told before.1 ++ e.last)) taken (subst (λ z. IsToldBy how f.0.0.taken z) text (ending_text how f.0 e.ending));
         saw = e.tells.saw;
         taken = ap (λ (m : SeatOf B). m.0.taken) f.2 ∙ taken;
@@ -118,6 +121,7 @@ module _ {B : Type 0} (told : B → List Signal) where
     text = sym (ap (λ (m : SeatOf B). told_out told m.1) f.found) ∙ t.0.text ∙ ap (λ (m : SeatOf B). greeted m.0.taken) f.found;
     taken = t.0.taken ∙ ap (λ (m : SeatOf B). m.0.taken) f.found;
     misses = t.0.misses ∙ ap (λ (m : SeatOf B). m.0.misses) f.found;
+    grants = t.0.grants ∙ ap (λ (m : SeatOf B). m.0.grants) f.found;
     runs = t.0.runs;
     stage = t.0.stage;
   }, t.1)
@@ -128,6 +132,7 @@ module _ {B : Type 0} (told : B → List Signal) where
     taken = t.0.taken ∙ ap (λ (m : SeatOf B). m.0.taken) f.found;
     text = t.0.text ∙ ap (λ (m : SeatOf B). told_out told m.1) f.found;
     misses = t.0.misses ∙ ap (λ (m : SeatOf B). m.0.misses + 1) f.found;
+    grants = t.0.grants ∙ ap (λ (m : SeatOf B). m.0.grants) f.found;
     sized = t.0.sized ∙ ap (λ (m : SeatOf B). m.0.capacity) f.found;
   }, t.1)
-  serves_none tail (Served.Ended how) before middle after seen later f t = serves_finish t.0 (Served.Ended how) before middle after seen later (ap (λ (m : SeatOf B). m.1) f.found) (ap (λ (m : SeatOf B). m.0.taken) f.found) (ap (λ (m : SeatOf B). m.0.misses) f.found) t.1
+  serves_none tail (Served.Ended how) before middle after seen later f t = serves_finish t.0 (Served.Ended how) before middle after seen later (ap (λ (m : SeatOf B). m.1) f.found) (ap (λ (m : SeatOf B). m.0.taken) f.found) (ap (λ (m : SeatOf B). m.0.misses) f.found) (ap (λ (m : SeatOf B). m.0.grants) f.found) t.1

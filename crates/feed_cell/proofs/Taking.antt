@@ -12,7 +12,7 @@ use Rattle.feed_cell.proofs.Seeing.{lies_at}
 use Rattle.feed_cell.proofs.Stages.{seated}
 use Rattle.feed_cell.specs.Cell.{Lies, Cell, AsProducer, KnowsAway}
 use Rattle.feed_cell.specs.Control.{marked}
-use Rattle.feed_cell.specs.Plays.{SeatOf, IsTake}
+use Rattle.feed_cell.specs.Plays.{SeatOf, IsTake, grants_by}
 use Rattle.feed_cell.specs.Types.{Take, Taken}
 use Rattle.feed_cell.specs.Views.{IsRunner, has_put, has_ask, has_run}
 use Rattle.feed_cell.specs.declared.cell.Held.{Held}
@@ -40,7 +40,7 @@ module _ {B : Type 0} (told : B → List Signal) where
       let below : c.free ≤ length c.taken + cap = c.lists.below in
       let taken : List Item = c.taken ++ c.item in
       let longer : length taken ≡ length c.taken + 1 = length-append c.taken c.item ∙ ap (λ (m : ℕ). length c.taken + m) one_is in
-      let w : View = record v { taken = v.taken ++ v.item; item = []; runner = Taken } in
+      let w : View = record v { taken = v.taken ++ v.item; item = []; grants = v.grants ++ grants_by v.runner; runner = Taken } in
       let knows : KnowsAway taken p.own c.answers w = record { taken_is = ap (λ (l : List Item). l ++ v.item) know.taken_is ∙ ap (λ (l : List Item). c.taken ++ l) item_is; own_is = know.own_is; answers_are = know.answers_are } in (
         w,
         gives,

@@ -4,8 +4,9 @@ use Rattle.std.specs.Int.{bit_at}
 use Rattle.atomic_table.specs.Table.{Me, rest}
 use Rattle.feed_core.specs.Prelude.{Item, Ending, How, Signal, UNBOUNDED, total_after}
 use Rattle.feed_core.specs.Cause.{no_causes}
-use Rattle.feed_cell.specs.Types.{Causes, Cause, Cancel, Argument, State, Closing, Producing, Free, HasRoom, HasPut, Hands, Requesting, Idle, HasAsked, HandsOver, Runner, Nobody, Ready, Looked, Taken, Over}
+use Rattle.feed_cell.specs.Types.{Causes, Cause, Cancel, Argument, State, Closing, Producing, Free, HasRoom, HasPut, Hands, Requesting, Idle, HasAsked, HandsOver, Runner, Nobody, Ready, Looked, Measured, Taken, Over}
 use Rattle.feed_core.specs.World.Table.{seeing, measuring}
+use Rattle.feed_cell.specs.declared.cell.Grant.{Grant}
 use Rattle.feed_cell.specs.declared.cell.Held.{Held}
 use Rattle.feed_cell.specs.declared.cell.Held.TheVariants as Held
 use Rattle.feed_cell.specs.declared.cell.Lodger.{Lodger}
@@ -179,9 +180,14 @@ pub record MeasuresNone {B : Type 0} (before : SeatOf B) (found : ℕ) (after : 
   pub met : length before.0.taken ≤ total_after asked before.0.own
   pub measured : after ≡ (record before.0 { runner = measuring (total_after asked before.0.own) before.0.runner }, before.1)
 
+-- by what a task takes an item that has measured: the causes of its look, and the total of its measure
+abbrev pub grants_by : Runner → List Grant
+grants_by (Measured causes tail asked) = record { causes = causes; asked = asked } ∷ []
+grants_by _ = []
+
 -- the item that was out is taken, and its slot given back
 abbrev pub IsTake : {B : Type 0} → SeatOf B → SeatOf B → Type 0
-IsTake before after = after ≡ (record before.0 { taken = before.0.taken ++ before.0.item; item = []; runner = Taken }, rest before.1)
+IsTake before after = after ≡ (record before.0 { taken = before.0.taken ++ before.0.item; item = []; grants = before.0.grants ++ grants_by before.0.runner; runner = Taken }, rest before.1)
 
 -- the task rests where the word is the one after its look, and its subscriber is at home then; else something is new
 pub record Rests {B : Type 0} (look : ℕ) (before : SeatOf B) (found : ℕ) (after : SeatOf B) : Type 0 where

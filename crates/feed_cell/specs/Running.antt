@@ -7,6 +7,7 @@ use Rattle.feed_core.specs.Prelude.{Answer, How, Item, Signal, UNBOUNDED}
 use Rattle.feed_core.specs.Seen.{SeenState, seen_with}
 use Rattle.feed_core.specs.Steps.{HasTerminal}
 use Rattle.feed_core.specs.World.Table.{MayEnd}
+use Rattle.feed_cell.specs.declared.cell.Grant.{Grant}
 use Rattle.feed_cell.specs.declared.cell.Held.{Held}
 use Rattle.feed_cell.specs.declared.cell.Held.TheVariants as Held
 use Rattle.feed_cell.specs.declared.cell.Lodger.{Lodger}
@@ -171,11 +172,14 @@ module _ {B : Type 0} where
     pub runs_on : stops causes ≡ None
     pub wanted : length before.0.taken < asked
 
+  abbrev pub grant_of : (before : SeatOf B) → IsGranted before → Grant
+  grant_of before granted = record { causes = granted.causes; asked = granted.asked }
+
   -- it took this item, which was put and requested
   pub record TakesNext (item : Item) (before after : SeatOf B) : Type 0 where
     pub granted : IsGranted before
     pub few : length before.0.taken < UNBOUNDED
-    pub took : after ≡ (record before.0 { runner = Taken; taken = before.0.taken ++ item ∷ []; item = [] }, before.1)
+    pub took : after ≡ (record before.0 { runner = Taken; taken = before.0.taken ++ item ∷ []; item = []; grants = before.0.grants ++ grant_of before granted ∷ [] }, before.1)
 
   -- the task has measured, and has no item to give; this end waits for the items, if one does
   pub record HasMeasured (tail : ℕ) (due : Option How) (me : SeatOf B) : Type 0 where

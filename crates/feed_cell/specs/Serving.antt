@@ -8,7 +8,7 @@ use Rattle.feed_cell.specs.Cell.{greeted, IsToldBy}
 use Rattle.feed_cell.specs.Parties.{IsGoing}
 use Rattle.feed_cell.specs.Paused.{told_out}
 use Rattle.feed_cell.specs.Plays.{SeatOf}
-use Rattle.feed_cell.specs.Running.{IsGranted, EndsThere, FinishesThere, GoesOnThere}
+use Rattle.feed_cell.specs.Running.{IsGranted, grant_of, EndsThere, FinishesThere, GoesOnThere}
 use Rattle.feed_cell.specs.Types.{Nobody}
 use Rattle.feed_cell.specs.Views.{IsRunner}
 
@@ -16,11 +16,18 @@ use Rattle.feed_cell.specs.Views.{IsRunner}
 abbrev pub HasLeft : {B : Type 0} → SeatOf B → SeatOf B → Type 0
 HasLeft ending after = after ≡ (record ending.0 { runs = false; away = false }, [])
 
+-- the last item, if one was taken, and by what
+abbrev pub IsLastGrant : {B : Type 0} → SeatOf B → SeatOf B → List Item → Type 0
+IsLastGrant before after took =
+    ((took ≡ []) × (after.0.grants ≡ before.0.grants))
+    ⊎ ((length took ≡ 1) × ((granted : IsGranted before) × (after.0.grants ≡ before.0.grants ++ grant_of before granted ∷ [])))
+
 module _ {B : Type 0} (told : B → List Signal) where
   -- it gave this item, and goes on
   pub record GivesItem (before after : SeatOf B) (seen later : SeenState) : Type 0 where
     pub item : Item
     pub granted : IsGranted before
+    pub grants : after.0.grants ≡ before.0.grants ++ grant_of before granted ∷ []
     pub going : IsGoing told after
     pub is : IsRunner after.0
     pub none_out : after.0.item ≡ []
@@ -38,6 +45,7 @@ module _ {B : Type 0} (told : B → List Signal) where
     pub taken : after.0.taken ≡ before.0.taken
     pub text : told_out told after.1 ≡ told_out told before.1
     pub misses : after.0.misses ≡ before.0.misses + 1
+    pub grants : after.0.grants ≡ before.0.grants
     pub sized : after.0.capacity ≡ before.0.capacity
 
   -- it rests, and was told all that was taken
@@ -45,6 +53,7 @@ module _ {B : Type 0} (told : B → List Signal) where
     pub text : told_out told before.1 ≡ greeted before.0.taken
     pub taken : after.0.taken ≡ before.0.taken
     pub misses : after.0.misses ≡ before.0.misses
+    pub grants : after.0.grants ≡ before.0.grants
     pub runs : after.0.runs ≡ false
     pub stage : after.0.runner ≡ Nobody
 
@@ -53,7 +62,7 @@ module _ {B : Type 0} (told : B → List Signal) where
     pub took : List Item
     pub last : List Signal
     pub few : length took ≤ 1
-    pub granted : (took ≡ []) ⊎ IsGranted before
+    pub granted : IsLastGrant before after took
     pub text : IsToldBy how (before.0.taken ++ took) (told_out told before.1 ++ last)
     pub saw : later ≡ seen_with last seen
     pub taken : after.0.taken ≡ before.0.taken ++ took

@@ -1,5 +1,6 @@
 -- What a turn of a task did (`Flow.Subscriber`, Java SE 17; Reactive Streams 1.0, 1.1, 1.3, 1.5, 1.7 and 1.9).
-use Rattle.std.specs.Prelude.{◌≡◌, ℕ, ◌+◌, ◌≤◌, ◌↔◌, ◌⊎◌, true, false, List, [], ◌∷◌, ◌++◌, length}
+use Rattle.std.specs.Prelude.{◌≡◌, ℕ, ◌+◌, ◌<◌, ◌≤◌, ◌↔◌, ◌⊎◌, true, false, None, List, [], ◌∷◌, ◌++◌, length}
+use Rattle.feed_core.specs.Cause.{stops}
 use Rattle.feed_core.specs.Prelude.{Complete, Error, Fault, How, IsFlowText, Item, Signal, items_of}
 use Rattle.feed_core.specs.declared.turn.TheConstants.{ITEMS_IN_A_TURN, SIGNALS_IN_A_TURN}
 use Rattle.feed_core.specs.declared.turn.outlook.Outlook.{Outlook}
@@ -10,6 +11,7 @@ use Rattle.feed_cell.specs.Parties.{TaskState, IsGoing, IsHome}
 use Rattle.feed_cell.specs.Paused.{told_out}
 use Rattle.feed_cell.specs.Plays.{SeatOf}
 use Rattle.feed_cell.specs.Types.{Nobody}
+use Rattle.feed_cell.specs.declared.cell.Grant.{Grant}
 use Rattle.feed_cell.specs.declared.cell.View.{View}
 use Rattle.feed_cell.specs.declared.cell.task.Stage.{Stage}
 use Rattle.feed_cell.specs.declared.cell.task.Stage.TheVariants as Stage
@@ -30,6 +32,12 @@ AreGivenOf outlook given took = (given ≡ took) ⊎ ((outlook ≡ Ended How.Out
 abbrev pub IsBefore : List Item → List Signal → Type 0
 IsBefore base start = ((start ≡ []) × (base ≡ [])) ⊎ (start ≡ greeted base)
 
+-- each of these items was taken by a look that showed no end at once (no cancel, bad request, second subscribing or error), and by a
+-- measure that showed more items requested than were taken before it
+abbrev pub AreGranted : ℕ → List Grant → Type 0
+AreGranted given [] = Unit {0}
+AreGranted given (grant ∷ more) = (stops grant.causes ≡ None) × (given < grant.asked) × AreGranted (given + 1) more
+
 -- a turn that saw these signals, of a task that knew this, and whose subscriber was known to have been told that
 pub record TurnsAs (old : View) (known seen : List Signal) (outlook : Outlook) : Type 0 where
   -- what its subscriber was told before, and the items that were taken by then; a task that has its subscriber with it knows them
@@ -40,6 +48,10 @@ pub record TurnsAs (old : View) (known seen : List Signal) (outlook : Outlook) :
   -- the items that this turn took, in order
   pub took : List Item
   pub at_most : length took ≤ ITEMS_IN_A_TURN
+  -- by what it took each
+  pub grants : List Grant
+  pub one_each : length grants ≡ length took
+  pub granted : AreGranted (length base) grants
   -- its subscriber was told what this turn saw, after what it was told before
   pub text : IsTextOf outlook (base ++ took) (start ++ seen)
   pub allowed : IsFlowText (start ++ seen)
@@ -53,6 +65,7 @@ pub record TurnsAs (old : View) (known seen : List Signal) (outlook : Outlook) :
 pub record GoesOnAs (old new : View) (known later seen : List Signal) : Type 0 where
   pub turned : TurnsAs old known seen Again
   pub taken : new.taken ≡ turned.base ++ turned.took
+  pub grants : new.grants ≡ old.grants ++ turned.grants
   pub told_is : later ≡ turned.start ++ seen
   pub why : ((length (items_of seen) ≡ ITEMS_IN_A_TURN) × (new.misses ≡ old.misses)) ⊎ (new.misses ≡ old.misses + 1)
 
@@ -60,6 +73,7 @@ pub record GoesOnAs (old new : View) (known later seen : List Signal) : Type 0 w
 pub record StopsAs (old new : View) (known seen : List Signal) (outlook : Outlook) : Type 0 where
   pub turned : TurnsAs old known seen outlook
   pub taken : new.taken ≡ turned.base ++ turned.took
+  pub grants : new.grants ≡ old.grants ++ turned.grants
   pub misses : new.misses ≡ old.misses
   pub runs : new.runs ≡ false
 
@@ -75,12 +89,16 @@ module _ {B : Type 0} (told : B → List Signal) where
     pub text : start ++ seen ≡ greeted (base ++ took)
     pub taken : me.0.taken ≡ base ++ took
     pub told_is : told_out told me.1 ≡ start ++ seen
+    pub grants : List Grant
+    pub one_each : length grants ≡ count
+    pub granted : AreGranted (length base) grants
+    pub grants_are : me.0.grants ≡ before.0.grants ++ grants
     pub misses : me.0.misses ≡ before.0.misses
 
   -- before each look of a turn, by where its task stands
   abbrev pub IsMidTurn : Stage → ℕ → SeatOf B → SeatOf B → List Signal → Type 0
   IsMidTurn Stage.Fresh count before me seen = ⊥
-  IsMidTurn Stage.Home count before me seen = (count ≡ 0) × (seen ≡ []) × IsHome me × (before.0.away ≡ me.0.away) × (me.0.misses ≡ before.0.misses)
+  IsMidTurn Stage.Home count before me seen = (count ≡ 0) × (seen ≡ []) × IsHome me × (before.0.away ≡ me.0.away) × (me.0.misses ≡ before.0.misses) × (me.0.grants ≡ before.0.grants)
   IsMidTurn Stage.Going count before me seen = IsGoing told me × TellsSoFar count before me seen
 
   -- a turn that ran on a seat, by its outlook

@@ -28,6 +28,7 @@ first_view capacity = record {
   away = false;
   taken = [];
   item = [];
+  grants = [];
   own = 0;
   answers = no_causes;
   misses = 0;

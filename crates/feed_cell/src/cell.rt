@@ -87,6 +87,14 @@ pub enum Held<B> {
     Guest(Lodger<B>),
 }
 
+/// By what the task took an item: its own look before it, and its own measure after that. No value of it is made.
+pub struct Grant {
+    /// The causes that the look showed.
+    pub causes: Causes,
+    /// How many items were requested in all, as the measure showed.
+    pub asked: u64,
+}
+
 /// What one party knows. No value of it is made.
 pub struct View {
     /// How many items the buffer has room for.
@@ -131,6 +139,8 @@ pub struct View {
     pub taken: LinkedList<Item>,
     /// The item whose slot it has out, or nothing.
     pub item: LinkedList<Item>,
+    /// By what it took each of the items that it took, in order.
+    pub grants: LinkedList<Grant>,
     /// How many items the answers requested, by what it brought to its last look.
     pub own: u64,
     /// The causes that the answers brought about, by what it brought to its last look.

@@ -7,7 +7,7 @@ ghost use Rattle.feed_core.specs.Prelude.{Item, How, UNBOUNDED};
 ghost use Rattle.feed_core.specs.World.Table.{MaySee, MayMeasure, MayTake, MayRest};
 ghost use Rattle.feed_cell.specs.Control.{MARK};
 ghost use Rattle.feed_cell.specs.Parties.{IsGoing, IsHome};
-ghost use Rattle.feed_cell.specs.Plays.{Sees, Measures, MeasuresNone, QUIET};
+ghost use Rattle.feed_cell.specs.Plays.{Sees, Measures, MeasuresNone, QUIET, grants_by};
 ghost use Rattle.feed_cell.specs.Running.{HasItem, Carries, HasLooked, IsEnding};
 ghost use Rattle.feed_cell.specs.Steps.{HasFourWords};
 ghost use Rattle.feed_cell.specs.Types.{Nobody, Ready, Taken};
@@ -25,7 +25,7 @@ pub(crate) fn look<B: Listener>(table: &CellTable<B>, seat: &mut CellSeat<B>) ->
     requires going { IsGoing B.told seat.old.me }
     ensures table { (seat.new.table_id ≡ seat.old.table_id) × (seat.new.id ≡ seat.old.id) }
     ensures looked { HasLooked B.told result seat.new.me }
-    ensures same { (seat.new.me.1 ≡ seat.old.me.1) × (seat.new.me.0.taken ≡ seat.old.me.0.taken) × (seat.new.me.0.misses ≡ seat.old.me.0.misses) × (seat.new.me.0.capacity ≡ seat.old.me.0.capacity) }
+    ensures same { (seat.new.me.1 ≡ seat.old.me.1) × (seat.new.me.0.taken ≡ seat.old.me.0.taken) × (seat.new.me.0.misses ≡ seat.old.me.0.misses) × (seat.new.me.0.capacity ≡ seat.old.me.0.capacity) × (seat.new.me.0.grants ≡ seat.old.me.0.grants) }
 {
     table.shared.fetch_and::<Look>(seat, CONTROL, QUIET)
 }
@@ -37,7 +37,7 @@ pub(crate) fn look_first<B: Listener>(table: &CellTable<B>, seat: &mut CellSeat<
     requires home { IsHome seat.old.me }
     ensures table { (seat.new.table_id ≡ seat.old.table_id) × (seat.new.id ≡ seat.old.id) }
     ensures looked { HasLooked B.told result seat.new.me }
-    ensures same { (seat.new.me.0.misses ≡ seat.old.me.0.misses) × (seat.new.me.0.capacity ≡ seat.old.me.0.capacity) }
+    ensures same { (seat.new.me.0.misses ≡ seat.old.me.0.misses) × (seat.new.me.0.capacity ≡ seat.old.me.0.capacity) × (seat.new.me.0.grants ≡ seat.old.me.0.grants) }
 {
     table.shared.fetch_and::<LookFirst>(seat, CONTROL, QUIET)
 }
@@ -88,7 +88,7 @@ pub(crate) fn take<B: Listener>(
     requires sized { (seat.old.me.0.capacity ≡ capacity) × (0 < capacity) }
     ensures table { (seat.new.table_id ≡ seat.old.table_id) × (seat.new.id ≡ seat.old.id) }
     ensures item { seat.old.me.0.item ≡ result ∷ [] }
-    ensures taken { seat.new.me ≡ (record seat.old.me.0 { taken = seat.old.me.0.taken ++ result ∷ []; item = []; runner = Taken }, rest seat.old.me.1) }
+    ensures taken { seat.new.me ≡ (record seat.old.me.0 { taken = seat.old.me.0.taken ++ result ∷ []; item = []; grants = seat.old.me.0.grants ++ grants_by seat.old.me.0.runner; runner = Taken }, rest seat.old.me.1) }
 {
     let slot = (given % capacity) as usize;
     let held = table.shared.exchange(seat, slot, Held::Empty);

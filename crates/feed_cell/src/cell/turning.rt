@@ -126,6 +126,7 @@ fn look_next<B: Listener>(table: &CellTable<B>, seat: &mut CellSeat<B>, stage: S
     ensures table { (seat.new.table_id ≡ seat.old.table_id) × (seat.new.id ≡ seat.old.id) }
     ensures looked { HasLooked B.told result seat.new.me }
     ensures same { (seat.new.me.0.misses ≡ seat.old.me.0.misses) × (seat.new.me.0.capacity ≡ seat.old.me.0.capacity) × KeepsGoing stage seat.old.me seat.new.me }
+    ensures grants { seat.new.me.0.grants ≡ seat.old.me.0.grants }
 {
     match stage {
         Stage::Going => look(table, seat),

@@ -8,7 +8,7 @@ use Rattle.feed_cell.proofs.cell.serving.serve.Goals as goal
 
 pub returns-in-Some-clause-serves : goal.returns-in-Some-clause-serves
 returns-in-Some-clause-serves g c = serves_finish g.B.Listener.told c.in-Some.due c.finish.result c.args.seat.now.me c.notes-given.new.seat.me c.finish.new.seat.me c.args.seen.now c.finish.new.seen
-    (ap (λ (m : SeatOf g.row.B.Denot). m.1) c.notes-given.ensures.same) (ap (λ (m : SeatOf g.row.B.Denot). m.0.taken) c.notes-given.ensures.same) (ap (λ (m : SeatOf g.row.B.Denot). m.0.misses) c.notes-given.ensures.same) c.finish.ensures.finishes
+    (ap (λ (m : SeatOf g.row.B.Denot). m.1) c.notes-given.ensures.same) (ap (λ (m : SeatOf g.row.B.Denot). m.0.taken) c.notes-given.ensures.same) (ap (λ (m : SeatOf g.row.B.Denot). m.0.misses) c.notes-given.ensures.same) (ap (λ (m : SeatOf g.row.B.Denot). m.0.grants) c.notes-given.ensures.same) c.finish.ensures.finishes
 
 pub give-requires-clause-taken : goal.give-requires-clause-taken
 give-requires-clause-taken g c = has_taken g.B.Listener.told c.in-Some-next.item c.notes-given.new.seat.me c.next_item-tail.new.seat.me

@@ -6,6 +6,7 @@ use Rattle.feed_cell.specs.Turned.{IsMidTurn, TellsSoFar}
 use Rattle.feed_cell.proofs.MidTurn.{ends_after, full, gave_on, going_on, looked_on, may_look_next, misses_after, rests_after, room_so_far}
 use Rattle.feed_cell.proofs.cell.turning.run.Goals as goal
 use Rattle.feed_cell.proofs.cell.turning.run.Goals.{After-look_next-word}
+use Rattle.feed_cell.proofs.cell.turning.run.Given.{Over}
 
 pub loop-init : goal.loop-init
 loop-init g c =
@@ -24,10 +25,10 @@ pub look_next-word-requires-clause-may : goal.look_next-word-requires-clause-may
 look_next-word-requires-clause-may g c = may_look_next g.B.Listener.told c.loop.stage c.loop.counter c.args.seat.now.me c.loop.seat.me c.loop.seen.signals c.loop.invariant.0
 
 -- the turn so far, after the look
-looked : (g : goal.Over) (c : After-look_next-word g) → TellsSoFar g.B.Listener.told c.loop.counter c.args.seat.now.me c.look_next-word.new.seat.me c.loop.seen.signals
+looked : (g : Over) (c : After-look_next-word g) → TellsSoFar g.B.Listener.told c.loop.counter c.args.seat.now.me c.look_next-word.new.seat.me c.loop.seen.signals
 looked g c =
     let same = c.look_next-word.ensures.same in
-    looked_on g.B.Listener.told c.loop.stage c.loop.counter c.look_next-word.result c.args.seat.now.me c.loop.seat.me c.look_next-word.new.seat.me c.loop.seen.signals c.loop.invariant.0 c.look_next-word.ensures.looked same.0 same.2
+    looked_on g.B.Listener.told c.loop.stage c.loop.counter c.look_next-word.result c.args.seat.now.me c.loop.seat.me c.look_next-word.new.seat.me c.loop.seen.signals c.loop.invariant.0 c.look_next-word.ensures.looked same.0 c.look_next-word.ensures.grants same.2
 
 pub serve-requires-clause-table : goal.serve-requires-clause-table
 serve-requires-clause-table g c =
