@@ -12,7 +12,7 @@ use super::desks::has_told;
 use crate::Row;
 use feed_cell::close;
 use feed_core::{Lane, Outlook};
-use flow_rules::{Collector, How, Listener, NoMemory, Shown};
+use flow_rules::{Collector, How, Listener, NoMemory, Shown, Signal, Subscriber, audit};
 use parties::Parties;
 use std::alloc::Global;
 use std::process::Abort;
@@ -135,4 +135,40 @@ fn is_told(
         (None, None) => Ok(true),
         _ => Ok(false),
     }
+}
+
+// Where memory is refused from outside, either a call says so, or a callback, after which its subscriber is told nothing more.
+#[test]
+fn a_life_is_whole_or_is_refused_memory(rt: HostRuntime) -> Result<(), Fail> {
+    let alloc = rt.alloc();
+    let mut parties = Parties::new(alloc, 1, Shown(Collector::asking(alloc, 1)))?;
+    let wrong = parties.first_wrong(alloc, &ONE_PLACE)?;
+    drop(parties.task);
+    let Ok(lane) = close(parties.putting.producer, parties.handle) else {
+        return Err(Fail::new("it is still shared"));
+    };
+    if wrong.is_none() {
+        assert!(rt; is_told(alloc, &lane, Some(b"sxzc"))?);
+        return Ok(());
+    }
+    assert!(rt; !lane.running && lane.ending == Some(How::OutOfMemory), "row {wrong:?}");
+    let Some(Shown(subscriber)) = &lane.subscriber else {
+        return Err(Fail::new("it has no subscriber"));
+    };
+    let items = items_in(subscriber.told());
+    assert!(rt; audit(subscriber.told()));
+    // Every item that was taken was told, but for the last where its callback was refused.
+    assert!(rt; items == lane.given || items.saturating_add(1) == lane.given);
+    Ok(())
+}
+
+// How many items are told in a list of signals.
+pub(super) fn items_in(told: &[Signal]) -> u64 {
+    let mut items: u64 = 0;
+    for signal in told {
+        if let Signal::Next(_) = signal {
+            items = items.saturating_add(1);
+        }
+    }
+    items
 }

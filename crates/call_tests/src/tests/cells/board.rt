@@ -1,8 +1,8 @@
 //! Where tasks wait for the threads that run them.
 use super::in_order::InOrder;
+use super::items_in;
 use feed_cell::{Task, Turn};
 use feed_core::Seen;
-use flow_rules::Signal;
 use std::sync::atomic::Ordering::SeqCst;
 use std::sync::atomic::{AtomicBool, AtomicU64};
 use std::sync::{Mutex, Wait};
@@ -53,11 +53,7 @@ impl Board {
             return false;
         };
         let turn = task.turn(seen);
-        for signal in seen.as_slice() {
-            if let Signal::Next(_) = signal {
-                self.given.fetch_add(1, SeqCst);
-            }
-        }
+        self.given.fetch_add(items_in(seen.as_slice()), SeqCst);
         match turn {
             Turn::Again(task) => self.post(rt, task),
             Turn::Resting => (),

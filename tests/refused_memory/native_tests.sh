@@ -1,5 +1,5 @@
 #!/bin/sh
-# Runs native tests of counts and pools with the Nth request for memory refused, for N from 1 up to a run
+# Runs native tests of counts, pools and cells with the Nth request for memory refused, for N from 1 up to a run
 # that meets none. Each run has to end by itself, within a minute, either well or with the error that a refusal gives.
 #
 # It fails, too, where a run does not say that its test was run, and where no request of a test was refused, as when the
@@ -80,5 +80,6 @@ for name in alone::a_refusal_is_answered alone::a_full_pool_gives_the_job_back a
     threads::a_job_need_not_be_sync sleepers::a_shut_ends_both_that_sleep; do
     each "$tests" "tests::pool::$name"
 done
+each "$tests" tests::cells::a_life_is_whole_or_is_refused_memory
 echo "$tried tests, $failures failed"
 [ "$tried" -gt 0 ] && [ "$failures" -eq 0 ]
