@@ -1,31 +1,20 @@
 -- What the words and slots of a closed table show is what is left of the subscription.
-use Rattle.std.proofs.Common.{◌≡◌, ℕ, ◌+◌, ◌-◌, ◌%◌, ◌<◌, ◌≤◌, ◌⊎◌, min, Bool, true, false, true≢false, List, [], ◌∷◌, ◌++◌, length, map, take, drop, Option, Some, None, is_some, sym, refl, ap, ◌∙◌, subst, inl, inr, ⊎_elim, append-nil, length-append, take-append-drop, append_assoc, arith}
-use mathlib.Core.List.{IsPrefix}
+use Rattle.std.proofs.Common.{◌≡◌, ℕ, ◌+◌, ◌-◌, ◌%◌, ◌<◌, ◌≤◌, ◌⊎◌, Bool, true, false, List, [], ◌∷◌, length, sym, refl, ap, ◌∙◌, subst, inl, inr, ⊎_elim, arith}
 use mathlib.Core.Option as slot
 use mathlib.Core.Option.{some}
 use lib.ListN.{get_elem?}
 use Rattle.std.specs.Int.{bit_at}
 use Rattle.atomic_table.specs.Table.{State, Final, Seen}
-use Rattle.feed_core.specs.Cause.{stops, closes}
-use Rattle.feed_core.specs.Lane.{LaneState, IsFlow, IsSettled}
-use Rattle.feed_core.specs.Prelude.{Item, Signal, Subscribed, Next, Complete, Error, Fault, Published, IllegalArgument, IllegalState, Ending, How, total_after, items_of}
-use Rattle.feed_core.specs.Sound.{is_begun, signals_of, loss_of, HasCause, IsAtRest, IsSound}
+use Rattle.feed_core.specs.Prelude.{Signal}
 use Rattle.feed_core.specs.declared.lane.Lane.{Lane}
-use Rattle.feed_core.specs.World.Kept.{HasEnded}
 use Rattle.feed_core.specs.World.Table.{is_started, is_over, total_of, MayBegin}
-use Rattle.flow_rules.proofs.Items.{items_of_append}
-use Rattle.feed_core.proofs.SignalLists.{items_of_nexts}
-use Rattle.feed_core.proofs.DeskSteps.{no_cause}
-use Rattle.feed_core.proofs.FlowRules.{flow_kept, settled_some, settled_at_rest}
-use Rattle.feed_core.proofs.Interleavings.Reaching.{reached_kept, reached_lawful}
+use Rattle.feed_core.proofs.Interleavings.Reaching.{reached_kept}
 use Rattle.feed_core.proofs.Interleavings.Signalling.{starts_nobody}
-use Rattle.feed_cell.specs.Cell.{Cell, Lodges, LodgesAt, IsToldAt, IsToldBy, has_seat, may_hold, how_of, greeted}
+use Rattle.feed_cell.specs.Cell.{Cell}
 use Rattle.feed_cell.specs.Control.{MARK, number, marked}
 use Rattle.feed_cell.specs.Left.{OnGuest, lane_with, lane_without, IsLeftOf}
 use Rattle.feed_cell.specs.Parties.{end_of}
-use Rattle.feed_cell.specs.Types.{Runner, Nobody, Coming, Fresh, Ready, Looked, Saw, Measured, Taken, Over, Parts, HasPut, HasAsked, Idle, Free, HasRoom}
 use Rattle.feed_cell.specs.declared.cell.Held.{Held}
-use Rattle.feed_cell.specs.declared.cell.Held.TheVariants as Held
 use Rattle.feed_cell.specs.declared.cell.Lodger.{Lodger}
 use Rattle.feed_cell.specs.declared.cell.View.{View}
 use Rattle.feed_cell.proofs.Leaving.{IsSafe, lodges_safe, left_there, left_away}
@@ -83,12 +72,12 @@ module _ {B : Type 0} (told : B → List Signal) (cap id : ℕ) (v : View) (word
       let head_there : head % MARK ≡ c.world.given = ap (λ m. m % MARK) head_is ∙ unmark (is_over c.world.runner) c.world.given given_small in
       let asked_there : asked % MARK ≡ c.world.asked = ap (λ m. m % MARK) asked_is ∙ unmark c.left c.world.asked asked_small in
       let left_is : left ≡ lane_with g.guest c.world.given c.world.accepted c.world.asked found.0 =
-          found.2 ∙ ap (λ m. lane_with g.guest m tail (asked % MARK) found.0) head_there ∙ ap (λ m. lane_with g.guest c.world.given m (asked % MARK) found.0) tail_is ∙ ap (λ m. lane_with g.guest c.world.given c.world.accepted m found.0) asked_there in
+      found.2 ∙ ap (λ m. lane_with g.guest m tail (asked % MARK) found.0) head_there ∙ ap (λ m. lane_with g.guest c.world.given m (asked % MARK) found.0) tail_is ∙ ap (λ m. lane_with g.guest c.world.given c.world.accepted m found.0) asked_there in
       subst (λ l. IsLeftOf told (end_of capacity v ready) l) (sym left_is)
-          (left_there told cap s c id v last.1.1 puts begins capacity ready safe found.0 (λ rests. ⊎_elim
-          (λ large. inl (marked_by (is_over c.world.runner) c.world.given head given_small head_is large))
-          (λ large. inr (marked_by c.left c.world.asked asked asked_small asked_is large))
-          (found.1 rests)))
+      (left_there told cap s c id v last.1.1 puts begins capacity ready safe found.0 (λ rests. ⊎_elim
+      (λ large. inl (marked_by (is_over c.world.runner) c.world.given head given_small head_is large))
+      (λ large. inr (marked_by c.left c.world.asked asked asked_small asked_is large))
+      (found.1 rests)))
 
   -- where a task was lost with it
   lost_left : is_over c.world.runner ≡ false → is_started c.world.runner ≡ true → IsLeftOf told (end_of capacity v ready) left
@@ -96,8 +85,8 @@ module _ {B : Type 0} (told : B → List Signal) (cap id : ℕ) (v : View) (word
       let head_there : head % MARK ≡ c.world.given = ap (λ m. m % MARK) head_is ∙ unmark (is_over c.world.runner) c.world.given given_small in
       let asked_there : asked % MARK ≡ c.world.asked = ap (λ m. m % MARK) asked_is ∙ unmark c.left c.world.asked asked_small in
       let left_is : left ≡ lane_without c.world.given c.world.accepted c.world.asked =
-          away (unmarked_by (is_over c.world.runner) c.world.given head given_small head_is goes) (bit ∙ ap number started)
-          ∙ ap (λ m. lane_without m tail (asked % MARK)) head_there ∙ ap (λ m. lane_without c.world.given m (asked % MARK)) tail_is ∙ ap (λ m. lane_without c.world.given c.world.accepted m) asked_there in
+      away (unmarked_by (is_over c.world.runner) c.world.given head given_small head_is goes) (bit ∙ ap number started)
+      ∙ ap (λ m. lane_without m tail (asked % MARK)) head_there ∙ ap (λ m. lane_without c.world.given m (asked % MARK)) tail_is ∙ ap (λ m. lane_without c.world.given c.world.accepted m) asked_there in
       subst (λ l. IsLeftOf told (end_of capacity v ready) l) (sym left_is) (left_away told cap s c id v last.1.1 puts begins capacity ready goes)
 
   by : (over started : Bool) → is_over c.world.runner ≡ over → is_started c.world.runner ≡ started → IsLeftOf told (end_of capacity v ready) left

@@ -1,32 +1,23 @@
 -- What is left of a subscription keeps the Flow rules, and is settled where its task is at rest or has ended.
-use Rattle.std.proofs.Common.{◌≡◌, ℕ, ◌+◌, ◌-◌, ◌%◌, ◌<◌, ◌≤◌, ◌⊎◌, min, Bool, true, false, true≢false, List, [], ◌∷◌, ◌++◌, length, map, take, drop, Option, Some, None, is_some, sym, refl, ap, ◌∙◌, subst, inl, inr, ⊎_elim, append-nil, length-append, take-append-drop, append_assoc, arith}
-use mathlib.Core.List.{IsPrefix}
-use mathlib.Core.Option as slot
+use Rattle.std.proofs.Common.{◌≡◌, ℕ, ◌+◌, ◌≤◌, ◌⊎◌, min, Bool, true, false, List, [], ◌∷◌, ◌++◌, length, map, drop, Option, Some, None, is_some, sym, refl, ap, ◌∙◌, subst, inl, inr, ⊎_elim, append-nil, length-append, take-append-drop, append_assoc, arith}
 use mathlib.Core.Option.{some}
 use lib.ListN.{get_elem?}
-use Rattle.std.specs.Int.{bit_at}
-use Rattle.atomic_table.specs.Table.{State, Final, Seen}
-use Rattle.feed_core.specs.Cause.{stops, closes}
-use Rattle.feed_core.specs.Lane.{LaneState, IsFlow, IsSettled}
+use Rattle.atomic_table.specs.Table.{State}
+use Rattle.feed_core.specs.Lane.{LaneState, IsSettled}
 use Rattle.feed_core.specs.Prelude.{Item, Signal, Subscribed, Next, Complete, Error, Fault, Published, IllegalArgument, IllegalState, Ending, How, total_after, items_of}
 use Rattle.feed_core.specs.Sound.{is_begun, signals_of, loss_of, HasCause, IsAtRest, IsSound}
-use Rattle.feed_core.specs.declared.lane.Lane.{Lane}
 use Rattle.feed_core.specs.World.Kept.{HasEnded}
-use Rattle.feed_core.specs.World.Table.{is_started, is_over, total_of, MayBegin}
+use Rattle.feed_core.specs.World.Table.{is_over, total_of, MayBegin}
 use Rattle.flow_rules.proofs.Items.{items_of_append}
 use Rattle.feed_core.proofs.SignalLists.{items_of_nexts}
 use Rattle.feed_core.proofs.DeskSteps.{no_cause}
 use Rattle.feed_core.proofs.FlowRules.{flow_kept, settled_some, settled_at_rest}
 use Rattle.feed_core.proofs.Interleavings.Reaching.{reached_kept, reached_lawful}
-use Rattle.feed_core.proofs.Interleavings.Signalling.{starts_nobody}
 use Rattle.feed_cell.specs.Cell.{Cell, Lodges, LodgesAt, IsToldAt, IsToldBy, has_seat, may_hold, how_of, greeted}
-use Rattle.feed_cell.specs.Control.{MARK, number, marked}
-use Rattle.feed_cell.specs.Left.{OnGuest, lane_with, lane_without, IsLeftOf}
+use Rattle.feed_cell.specs.Left.{lane_with, lane_without, IsLeftOf}
 use Rattle.feed_cell.specs.Parties.{end_of}
 use Rattle.feed_cell.specs.Types.{Runner, Nobody, Coming, Fresh, Ready, Looked, Saw, Measured, Taken, Over, Parts, HasPut, HasAsked, Idle, Free, HasRoom}
 use Rattle.feed_cell.specs.declared.cell.Held.{Held}
-use Rattle.feed_cell.specs.declared.cell.Held.TheVariants as Held
-use Rattle.feed_cell.specs.declared.cell.Lodger.{Lodger}
 use Rattle.feed_cell.specs.declared.cell.View.{View}
 
 -- the items of these signals and others
@@ -96,10 +87,12 @@ caused w (How.Errored fault) lane causes given accepted is e = record {
   of_code (Published other) code e same = e ∙ ap (λ (m : ℕ). Some (Ending.Failed m)) (cc)
   of_code IllegalArgument code e same = cc
   of_code IllegalState code e same = cc
+
   of_argument : (fault : Fault) → HasEnded (How.Errored fault) w → Some (How.Errored fault) ≡ Some (How.Errored IllegalArgument) → w.causes.argument ≡ true
   of_argument (Published other) e same = cc
   of_argument IllegalArgument e same = e
   of_argument IllegalState e same = cc
+
   of_state : (fault : Fault) → HasEnded (How.Errored fault) w → Some (How.Errored fault) ≡ Some (How.Errored IllegalState) → w.causes.state ≡ true
   of_state (Published other) e same = cc
   of_state IllegalArgument e same = cc

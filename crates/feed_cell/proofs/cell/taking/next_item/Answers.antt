@@ -1,5 +1,5 @@
-use Rattle.std.proofs.Common.{◌≡◌, ◌%◌, ◌<◌, ◌≤◌, length, ap, ◌∙◌, arith}
-use Rattle.feed_core.specs.Prelude.{UNBOUNDED, total_after}
+use Rattle.std.proofs.Common.{◌≡◌, ◌%◌, ◌≤◌, ap, ◌∙◌, arith}
+use Rattle.feed_core.specs.Prelude.{UNBOUNDED}
 use Rattle.feed_cell.specs.Control.{MARK}
 use Rattle.feed_cell.proofs.Granting.{takes_next}
 use Rattle.feed_cell.proofs.Marks.{unmark}
