@@ -1,7 +1,6 @@
 -- What a put that is accepted does to the producer's end.
-use Rattle.std.proofs.Common.{◌≡◌, ℕ, ◌+◌, ◌-◌, ◌<◌, ◌≤◌, Bool, true, false, List, [], ◌∷◌, ◌++◌, length, Option, Some, None, is_some, ◌||◌, sym, refl, ap, ◌∙◌, subst, length-append, arith}
+use Rattle.std.proofs.Common.{◌≡◌, ℕ, ◌+◌, ◌-◌, ◌<◌, Bool, true, false, [], ◌∷◌, ◌++◌, length, Option, None, is_some, ◌||◌, sym, refl, ap, ◌∙◌, length-append, arith}
 use Rattle.flow_rules.specs.Feed.{End, LookedIfOpen, TakesItem}
-use Rattle.atomic_table.specs.Table.{rest}
 use Rattle.feed_core.specs.Prelude.{Ending, Item}
 use Rattle.feed_cell.specs.Control.{MARK, marked}
 use Rattle.feed_cell.specs.Parties.{end_of}

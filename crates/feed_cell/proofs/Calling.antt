@@ -1,25 +1,23 @@
 -- What a callback does to a seat that has the subscriber with it.
-use Rattle.std.proofs.Common.{◌≡◌, ℕ, ◌+◌, ◌<◌, ◌⊎◌, true, List, [], ◌∷◌, ◌++◌, length, map, None, Some, sym, refl, ap, ap₂, ◌∙◌, subst, inl, inr, ⊎_elim, append-nil, length-append, arith}
+use Rattle.std.proofs.Common.{◌≡◌, ℕ, ◌+◌, ◌⊎◌, List, [], ◌∷◌, ◌++◌, length, sym, refl, ap, ap₂, ◌∙◌, subst, inl, inr, ⊎_elim, append-nil, length-append}
 use Rattle.std.proofs.lemmas.List.{map-append}
 use Rattle.atomic_table.specs.Table.{rest}
 use Rattle.feed_core.specs.Cause.{with_cause_of}
 use Rattle.feed_core.specs.PlainTurn.{terminal_of}
 use Rattle.feed_core.specs.Prelude.{Answer, How, Item, Signal, Subscribed, Next}
-use Rattle.feed_core.specs.Seen.{SeenState, seen_with}
+use Rattle.feed_core.specs.Seen.{SeenState}
 use Rattle.feed_core.specs.Steps.{HasTerminal}
 use Rattle.feed_core.specs.World.Table.{MayLook, MayEnd, IsAnswered}
 use Rattle.feed_cell.specs.Cell.{greeted, IsToldBy}
-use Rattle.feed_cell.specs.Parties.{IsFresh, IsGoing}
+use Rattle.feed_cell.specs.Parties.{IsFresh}
 use Rattle.feed_cell.specs.Paused.{told_out}
 use Rattle.feed_cell.specs.Plays.{SeatOf}
-use Rattle.feed_cell.specs.Running.{IsGoOn, IsQuietEnd, Carries, IsEnding, GoesOnWith, EndsWith, FinishesWith, TellsThere, GoesOnThere, EndsThere, FinishesThere, HasTaken}
+use Rattle.feed_cell.specs.Running.{IsGoOn, IsQuietEnd, Carries, GoesOnWith, EndsWith, FinishesWith, GoesOnThere, EndsThere, FinishesThere, HasTaken}
 use Rattle.feed_cell.specs.Turning.{own_after, answers_after}
 use Rattle.feed_cell.specs.Types.{Runner, Fresh, Taken}
 use Rattle.feed_cell.specs.Views.{IsRunner}
 use Rattle.feed_cell.specs.declared.cell.Held.{Held}
-use Rattle.feed_cell.specs.declared.cell.Held.TheVariants as Held
 use Rattle.feed_cell.specs.declared.cell.Lodger.{Lodger}
-use Rattle.feed_cell.specs.declared.cell.View.{View}
 
 may_look : (answer : Answer) (r : Runner) → IsGoOn answer → (r ≡ Fresh) ⊎ (r ≡ Taken) → MayLook answer r
 may_look Answer.Go r goes e = inr e

@@ -1,23 +1,21 @@
 -- The task's end of the subscription.
-use Rattle.std.proofs.Common.{◌≡◌, ℕ, ◌+◌, ◌<◌, ◌≤◌, Bool, true, false, ◌||◌, List, [], ◌∷◌, length, set, Some, sym, refl, ap, ◌∙◌, subst, arith}
-use mathlib.Core.Option as slot
+use Rattle.std.proofs.Common.{◌≡◌, ℕ, ◌+◌, true, false, List, [], ◌∷◌, length, set, Some, sym, refl, ap, ◌∙◌, subst, arith}
 use mathlib.Core.Option.{some}
 use Rattle.atomic_table.specs.Table.{gives, Allows}
 use Rattle.feed_core.specs.Cause.{with_cause_of}
 use Rattle.feed_core.specs.Prelude.{How, Item, Signal}
-use Rattle.feed_core.specs.World.Table.{MayEnd, is_over, after}
+use Rattle.feed_core.specs.World.Table.{MayEnd, after}
 use Rattle.feed_core.proofs.Interleavings.Reaching.{reached_more}
 use Rattle.feed_cell.proofs.Places.{lies_guest, changed}
 use Rattle.feed_cell.proofs.Reading.{or_true}
 use Rattle.feed_cell.proofs.Seats.{other, spent}
 use Rattle.feed_cell.proofs.Stages.{seated}
-use Rattle.feed_cell.specs.Cell.{Lies, Cell, AsProducer, IsToldBy}
+use Rattle.feed_cell.specs.Cell.{Lies, Cell, IsToldBy}
 use Rattle.feed_cell.specs.Control.{Flags, MARK, causes_of, marked}
-use Rattle.feed_cell.specs.Plays.{SeatOf, IsEnd}
-use Rattle.feed_cell.specs.Types.{Causes, End, Over}
+use Rattle.feed_cell.specs.Plays.{IsEnd}
+use Rattle.feed_cell.specs.Types.{Causes, End}
 use Rattle.feed_cell.specs.Views.{IsRunner, has_put, has_ask, has_run}
 use Rattle.feed_cell.specs.declared.cell.Held.{Held}
-use Rattle.feed_cell.specs.declared.cell.Held.TheVariants as Held
 use Rattle.feed_cell.specs.declared.cell.Lodger.{Lodger}
 use Rattle.feed_cell.specs.declared.cell.View.{View}
 

@@ -1,5 +1,5 @@
 -- By what the task takes an item: the causes of its look, and the total of its measure.
-use Rattle.std.proofs.Common.{◌≡◌, ℕ, ◌<◌, List, [], ◌∷◌, ◌++◌, length, ap, sym, ◌∙◌, subst}
+use Rattle.std.proofs.Common.{◌≡◌, ℕ, ◌<◌, [], ◌∷◌, ◌++◌, length, ap, sym, ◌∙◌, subst}
 use Rattle.atomic_table.specs.Table.{rest}
 use Rattle.feed_core.specs.Prelude.{Item, UNBOUNDED, total_after}
 use Rattle.feed_core.specs.World.Table.{MaySee, seeing, measuring}

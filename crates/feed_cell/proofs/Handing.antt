@@ -1,18 +1,16 @@
 -- How a started task gets its seat.
-use Rattle.std.proofs.Common.{◌≡◌, ℕ, Bool, true, false, List, [], ◌∷◌, ◌++◌, length, set, bit_and, Option, Some, None, IfSome, IfNone, sym, refl, ap, ◌∙◌, subst, inl, inr}
+use Rattle.std.proofs.Common.{◌≡◌, ℕ, true, false, List, [], ◌∷◌, ◌++◌, length, set, bit_and, Option, Some, None, IfSome, IfNone, sym, refl, ap, ◌∙◌, subst, inl, inr}
 use Rattle.std.specs.Int.{bit_at}
 use Rattle.std.proofs.lemmas.Nat.Bits.{bit_at_lowest}
 use lib.Bits.{and_mask}
-use mathlib.Core.Option.{some}
-use lib.ListN.{get_elem?}
 use Rattle.atomic_table.specs.Table as Table
 use Rattle.atomic_table.specs.Table.{Splits}
-use Rattle.feed_core.specs.Prelude.{Item, Signal}
-use Rattle.feed_core.specs.World.Table.{is_started, is_over, after}
+use Rattle.feed_core.specs.Prelude.{Signal}
+use Rattle.feed_core.specs.World.Table.{is_started, is_over}
 use Rattle.feed_core.specs.World.Runs.{IsReached}
 use Rattle.feed_core.proofs.Interleavings.Reaching.{reached_more, reached_lawful}
 use Rattle.feed_cell.proofs.Seats.{mine, other, added, comes}
-use Rattle.feed_cell.specs.Cell.{Only, Cell, AsProducer, AsHandle, AsRunner, has_seat, may_hold, LodgesAt}
+use Rattle.feed_cell.specs.Cell.{Only, Cell, AsProducer, AsHandle, has_seat, may_hold, LodgesAt}
 use Rattle.feed_cell.specs.Control.{marked}
 use Rattle.feed_cell.specs.Types.{Hand, Producer, Handle, Producing, Free, Hands, Requesting, Idle, HandsOver, Runner, Coming, Ready}
 use Rattle.feed_cell.specs.Views.{IsProducer, IsHandle, has_put, has_ask, has_run, producer_handed, handle_handed, running_handed}
@@ -65,8 +63,8 @@ module _ {B : Type 0} (told : B → List Signal) (cap : ℕ) where
       let hands : p.producer ≡ Hands = sym k.stands ∙ stage in
       let coming : p.runner ≡ Coming = (reached_lawful c.reached).coming.1 (inl hands) in
       hand_kept s c id v (producer_handed v) Free p.handle coming k.sized is.2 (reached_more (Hand Producer) c.reached hands) c.shows.settled
-          (mine has_put c.producer _ _ s.views id v (producer_handed v) c.producers at is.0 (record { sized = k.sized; put = k.put; seen = k.seen; places = k.places; over = λ e. (let never : true ≡ false = sym (k.over e) ∙ ap is_over coming in cc); closed = k.closed; doubled = k.doubled; stands = refl }))
-          (other has_ask c.handle _ _ s.views id (producer_handed v) c.handles is.1 (λ d h. h))
+      (mine has_put c.producer _ _ s.views id v (producer_handed v) c.producers at is.0 (record { sized = k.sized; put = k.put; seen = k.seen; places = k.places; over = λ e. (let never : true ≡ false = sym (k.over e) ∙ ap is_over coming in cc); closed = k.closed; doubled = k.doubled; stands = refl }))
+      (other has_ask c.handle _ _ s.views id (producer_handed v) c.handles is.1 (λ d h. h))
 
   -- by the handle
   pub handle_hands : (id : ℕ) (v : View) → IsHandle v → v.requesting ≡ HandsOver → Splits (Cell told cap) id v (handle_handed v) (running_handed v)
@@ -76,8 +74,8 @@ module _ {B : Type 0} (told : B → List Signal) (cap : ℕ) where
       let hands : p.handle ≡ HandsOver = sym k.stands ∙ stage in
       let coming : p.runner ≡ Coming = (reached_lawful c.reached).coming.1 (inr hands) in
       hand_kept s c id v (handle_handed v) p.producer Idle coming k.sized is.2 (reached_more (Hand Handle) c.reached hands) (λ _. refl)
-          (other has_put c.producer _ _ s.views id (handle_handed v) c.producers is.0 (λ d o. subst (λ (r : Runner). AsProducer cap c.log p.given c.free (is_over r) c.flags.closing c.flags.state p.producer d) coming o))
-          (mine has_ask c.handle _ _ s.views id v (handle_handed v) c.handles at is.1 (record { sized = k.sized; total = k.total; cancels = k.cancels; bad = k.bad; there = k.there; stands = refl }))
+      (other has_put c.producer _ _ s.views id (handle_handed v) c.producers is.0 (λ d o. subst (λ (r : Runner). AsProducer cap c.log p.given c.free (is_over r) c.flags.closing c.flags.state p.producer d) coming o))
+      (mine has_ask c.handle _ _ s.views id v (handle_handed v) c.handles at is.1 (record { sized = k.sized; total = k.total; cancels = k.cancels; bad = k.bad; there = k.there; stands = refl }))
 
 -- what is left of the mark of the task, by the word that was found
 pub low_bit : (word : ℕ) → bit_and word 1 ≡ bit_at word 0

@@ -1,13 +1,15 @@
 pub mod Accepting
 pub mod Calling
+pub mod Closed
 pub mod Ending
 pub mod Flagging
 pub mod Granting
 pub mod Handing
 pub mod Leaving
 pub mod Lists
-pub mod MidTurn
 pub mod Looking
+pub mod Marks
+pub mod MidTurn
 pub mod Moving
 pub mod Opening
 pub mod Places

@@ -1,14 +1,13 @@
 -- The task's looks at control.
-use Rattle.std.proofs.Common.{◌≡◌, ℕ, zero, suc, ℤ, pos, negsuc, ◌+◌, ◌<◌, ◌≤◌, ◌⊎◌, Bool, true, false, ◌||◌, List, [], ◌∷◌, length, slice_index, set, bit_and, None, sym, refl, ap, ap₂, ◌∙◌, subst, inl, inr, arith}
+use Rattle.std.proofs.Common.{◌≡◌, ℕ, zero, suc, pos, negsuc, ◌+◌, ◌<◌, ◌≤◌, true, false, List, [], ◌∷◌, length, slice_index, set, bit_and, sym, refl, ap, ap₂, ◌∙◌, subst, inl, inr, arith}
 use mathlib.Core.Option as slot
 use mathlib.Core.Option.{some, none}
 use lib.ListN.{get_elem?}
 use Rattle.atomic_table.specs.Table.{State, keeps, takes, Allows}
 use Rattle.feed_core.specs.Prelude.{Answer, Item, Signal, UNBOUNDED, total_after}
-use Rattle.feed_core.specs.World.Table.{MayLook, is_over, total_of, after}
+use Rattle.feed_core.specs.World.Table.{MayLook, total_of, after}
 use Rattle.feed_core.specs.World.Runs.{IsReached}
 use Rattle.feed_core.proofs.Interleavings.Reaching.{reached_more, reached_kept}
-use Rattle.feed_cell.proofs.Moving.{knows_too}
 use Rattle.feed_cell.proofs.Places.{lies_guest}
 use Rattle.feed_cell.proofs.Reading.{reads_look, or_true}
 use Rattle.feed_cell.proofs.Seats.{mine, other}
@@ -17,10 +16,9 @@ use Rattle.feed_cell.specs.Cell.{Lies, Cell, AsProducer, AsRunner, LodgesAt, may
 use Rattle.feed_cell.specs.Control.{Flags, Reads, causes_of, marked}
 use Rattle.feed_cell.specs.Plays.{SeatOf, QUIET, after_causes, LooksOut, LooksFirst}
 use Rattle.feed_cell.specs.Turning.{own_after, answers_after}
-use Rattle.feed_cell.specs.Types.{Causes, Look, Runner, Fresh, Ready, Looked, Taken, Parts}
+use Rattle.feed_cell.specs.Types.{Causes, Look, Runner, Ready, Looked, Parts}
 use Rattle.feed_cell.specs.Views.{IsRunner, has_put, has_ask, has_run}
 use Rattle.feed_cell.specs.declared.cell.Held.{Held}
-use Rattle.feed_cell.specs.declared.cell.Held.TheVariants as Held
 use Rattle.feed_cell.specs.declared.cell.Lodger.{Lodger}
 use Rattle.feed_cell.specs.declared.cell.View.{View}
 
@@ -105,7 +103,7 @@ module _ {B : Type 0} (told : B → List Signal) where
       let own_there : own_after answer p.own ≡ g.own = ap (own_after answer) (sym know.own_is) ∙ sym own_is in
       let answers_there : answers_after answer c.answers ≡ g.answers = ap (answers_after answer) (sym know.answers_are) ∙ sym answers_are in
       let reached : IsReached (looked_with g.own (causes_of c.flags g.answers) p) =
-          subst IsReached (effect answer p c.flags c.answers c.shows.causes ∙ ap₂ (λ (a : ℕ) (b : Causes). looked_with a (causes_of c.flags b) p) own_there answers_there) (reached_more (Look answer) c.reached here) in
+      subst IsReached (effect answer p c.flags c.answers c.shows.causes ∙ ap₂ (λ (a : ℕ) (b : Causes). looked_with a (causes_of c.flags b) p) own_there answers_there) (reached_more (Look answer) c.reached here) in
       let found : ℕ = slice_index s.words 3 in
       let found_is : found ≡ c.control = ap (λ ws. slice_index ws 3) c.words in
       let w : View = after_causes v found c.flags g.own g.answers v.taken in (
@@ -130,7 +128,7 @@ module _ {B : Type 0} (told : B → List Signal) where
       let here : MayLook Answer.Go p.runner = inl stage in
       let held = none_held Answer.Go p.runner here in
       let reached : IsReached (looked_with g.own (causes_of c.flags g.answers) p) =
-          subst IsReached (effect Answer.Go p c.flags c.answers c.shows.causes ∙ ap₂ (λ (a : ℕ) (b : Causes). looked_with a (causes_of c.flags b) p) (sym lodge.own_is) (sym lodge.answers_are)) (reached_more (Look Answer.Go) c.reached here) in
+      subst IsReached (effect Answer.Go p c.flags c.answers c.shows.causes ∙ ap₂ (λ (a : ℕ) (b : Causes). looked_with a (causes_of c.flags b) p) (sym lodge.own_is) (sym lodge.answers_are)) (reached_more (Look Answer.Go) c.reached here) in
       let found : ℕ = slice_index s.words 3 in
       let found_is : found ≡ c.control = ap (λ ws. slice_index ws 3) c.words in
       let w : View = after_causes v found c.flags g.own g.answers c.taken in (

@@ -1,5 +1,5 @@
 -- A turn so far, from its greeting on, and how it is over.
-use Rattle.std.proofs.Common.{◌≡◌, ℕ, suc, ◌+◌, ◌≤◌, ◌<◌, ◌⊎◌, true, false, List, [], ◌∷◌, ◌++◌, map, length, refl, ap, sym, ◌∙◌, subst, inl, inr, arith, append-nil, length-append, append_assoc}
+use Rattle.std.proofs.Common.{◌≡◌, ℕ, suc, ◌+◌, ◌<◌, true, false, List, [], ◌∷◌, ◌++◌, map, length, refl, ap, sym, ◌∙◌, subst, inl, inr, arith, append-nil, length-append, append_assoc}
 use Rattle.std.proofs.lemmas.List.{length-map, map-append}
 use Rattle.feed_core.specs.Prelude.{How, Item, Next, Signal, Subscribed, items_of}
 use Rattle.feed_core.specs.Seen.{SeenState}
@@ -15,7 +15,6 @@ use Rattle.feed_cell.specs.Turned.{AreGivenOf, AreGranted, GoesOnAs, IsMidTurn, 
 use Rattle.feed_cell.specs.declared.cell.Grant.{Grant}
 use Rattle.feed_cell.specs.declared.cell.View.{View}
 use Rattle.feed_cell.specs.declared.cell.task.Stage.{Stage}
-use Rattle.feed_cell.specs.declared.cell.task.Stage.TheVariants as Stage
 use Rattle.feed_cell.proofs.Turned.{base_length, granted_more, whole_turn}
 
 module _ {B : Type 0} (told : B → List Signal) where
@@ -25,23 +24,25 @@ module _ {B : Type 0} (told : B → List Signal) where
   stays Stage.Home me seen other nothing paused = (refl, nothing, paused, refl, refl, refl)
   stays Stage.Going me seen other nothing paused =
       let out : told_out told me.1 ≡ greeted me.0.taken = ap (told_out told) paused.slot ∙ paused.text in
-      let same : told_out told me.1 ++ seen ≡ told_out told me.1 = ap (λ s. told_out told me.1 ++ s) nothing ∙ append-nil (told_out told me.1) in
-      (paused, record {
-        start = told_out told me.1;
-        base = me.0.taken;
-        knew = λ e. (refl, refl);
-        opened = inr out;
-        took = [];
-        counted = refl;
-        text = same ∙ out ∙ ap greeted (sym (append-nil me.0.taken));
-        taken = sym (append-nil me.0.taken);
-        told_is = sym same;
-        grants = [];
-        one_each = refl;
-        granted = tt;
-        grants_are = sym (append-nil me.0.grants);
-        misses = refl;
-      })
+      let same : told_out told me.1 ++ seen ≡ told_out told me.1 = ap (λ s. told_out told me.1 ++ s) nothing ∙ append-nil (told_out told me.1) in (
+        paused,
+        record {
+          start = told_out told me.1;
+          base = me.0.taken;
+          knew = λ e. (refl, refl);
+          opened = inr out;
+          took = [];
+          counted = refl;
+          text = same ∙ out ∙ ap greeted (sym (append-nil me.0.taken));
+          taken = sym (append-nil me.0.taken);
+          told_is = sym same;
+          grants = [];
+          one_each = refl;
+          granted = tt;
+          grants_are = sym (append-nil me.0.grants);
+          misses = refl;
+        },
+      )
 
   module _ (before after : SeatOf B) (seen later : SeenState) (nothing : seen.signals ≡ []) (fresh : IsFresh told before) where
     untold : told_out told before.1 ≡ []
@@ -50,23 +51,25 @@ module _ {B : Type 0} (told : B → List Signal) where
     -- it was greeted, and goes on
     pub greeted_on : GoesOnThere told Subscribed before after seen later → IsMidTurn told Stage.Going 0 before after later.signals
     greeted_on goes =
-        let saw : later.signals ≡ Subscribed ∷ [] = ap (λ (s : SeenState). s.signals) goes.tells.saw ∙ ap (λ s. s ++ Subscribed ∷ []) nothing in
-        (goes.going, record {
-          start = [];
-          base = [];
-          knew = λ e. (sym untold, sym fresh.taken);
-          opened = inl (refl, refl);
-          took = [];
-          counted = refl;
-          text = saw;
-          taken = ap (λ (v : View). v.taken) goes.tells.view ∙ fresh.taken;
-          told_is = goes.tells.text ∙ ap (λ s. s ++ Subscribed ∷ []) untold ∙ sym saw;
-          grants = [];
-          one_each = refl;
-          granted = tt;
-          grants_are = ap (λ (v : View). v.grants) goes.tells.view ∙ sym (append-nil before.0.grants);
-          misses = ap (λ (v : View). v.misses) goes.tells.view;
-        })
+        let saw : later.signals ≡ Subscribed ∷ [] = ap (λ (s : SeenState). s.signals) goes.tells.saw ∙ ap (λ s. s ++ Subscribed ∷ []) nothing in (
+          goes.going,
+          record {
+            start = [];
+            base = [];
+            knew = λ e. (sym untold, sym fresh.taken);
+            opened = inl (refl, refl);
+            took = [];
+            counted = refl;
+            text = saw;
+            taken = ap (λ (v : View). v.taken) goes.tells.view ∙ fresh.taken;
+            told_is = goes.tells.text ∙ ap (λ s. s ++ Subscribed ∷ []) untold ∙ sym saw;
+            grants = [];
+            one_each = refl;
+            granted = tt;
+            grants_are = ap (λ (v : View). v.grants) goes.tells.view ∙ sym (append-nil before.0.grants);
+            misses = ap (λ (v : View). v.misses) goes.tells.view;
+          },
+        )
 
     -- that was its end
     pub greeted_end : (how : How) (last : SeatOf B) → EndsThere told Subscribed how before after seen later → last ≡ (record after.0 { runs = false; away = false }, [])
@@ -75,7 +78,7 @@ module _ {B : Type 0} (told : B → List Signal) where
         let taken : after.0.taken ≡ [] = ap (λ (v : View). v.taken) ends.tells.view ∙ fresh.taken in
         let saw : later.signals ≡ ends.last = ap (λ (s : SeenState). s.signals) ends.tells.saw ∙ ap (λ s. s ++ ends.last) nothing in
         let text : told ends.ending.guest.subscriber ≡ later.signals =
-            sym (ap (told_out told) ends.ending.slot) ∙ ends.tells.text ∙ ap (λ s. s ++ ends.last) untold ∙ sym saw
+        sym (ap (told_out told) ends.ending.slot) ∙ ends.tells.text ∙ ap (λ s. s ++ ends.last) untold ∙ sym saw
         in
         record {
           turned = whole_turn before.0 (told_out told before.1) later.signals [] [] [] (Ended how) (λ e. (sym untold, sym fresh.taken)) (inl (refl, refl)) (omega arith) [] refl tt
@@ -163,23 +166,25 @@ module _ {B : Type 0} (told : B → List Signal) where
         let item = gives.item in
         let grant = grant_of mid gives.granted in
         let saw : later.signals ≡ seen.signals ++ Next item ∷ [] = ap (λ (s : SeenState). s.signals) gives.saw in
-        let join : t.start ++ later.signals ≡ (t.start ++ seen.signals) ++ Next item ∷ [] = ap (λ s. t.start ++ s) saw ∙ sym (append_assoc t.start seen.signals (Next item ∷ [])) in
-        (gives.going, record {
-          start = t.start;
-          base = t.base;
-          knew = t.knew;
-          opened = t.opened;
-          took = t.took ++ item ∷ [];
-          counted = length-append t.took (item ∷ []) ∙ ap (λ n. n + 1) t.counted;
-          text = join ∙ ap (λ s. s ++ Next item ∷ []) t.text ∙ ap (λ l. Subscribed ∷ l) (sym (map-append Next (t.base ++ t.took) (item ∷ []))) ∙ ap greeted (append_assoc t.base t.took (item ∷ []));
-          taken = gives.taken ∙ ap (λ l. l ++ item ∷ []) t.taken ∙ append_assoc t.base t.took (item ∷ []);
-          told_is = gives.text ∙ ap (λ s. s ++ Next item ∷ []) t.told_is ∙ sym join;
-          grants = t.grants ++ grant ∷ [];
-          one_each = length-append t.grants (grant ∷ []) ∙ ap (λ n. n + 1) t.one_each;
-          granted = one_more gives.granted;
-          grants_are = gives.grants ∙ ap (λ l. l ++ grant ∷ []) t.grants_are ∙ append_assoc before.0.grants t.grants (grant ∷ []);
-          misses = gives.misses ∙ t.misses;
-        })
+        let join : t.start ++ later.signals ≡ (t.start ++ seen.signals) ++ Next item ∷ [] = ap (λ s. t.start ++ s) saw ∙ sym (append_assoc t.start seen.signals (Next item ∷ [])) in (
+          gives.going,
+          record {
+            start = t.start;
+            base = t.base;
+            knew = t.knew;
+            opened = t.opened;
+            took = t.took ++ item ∷ [];
+            counted = length-append t.took (item ∷ []) ∙ ap (λ n. n + 1) t.counted;
+            text = join ∙ ap (λ s. s ++ Next item ∷ []) t.text ∙ ap (λ l. Subscribed ∷ l) (sym (map-append Next (t.base ++ t.took) (item ∷ []))) ∙ ap greeted (append_assoc t.base t.took (item ∷ []));
+            taken = gives.taken ∙ ap (λ l. l ++ item ∷ []) t.taken ∙ append_assoc t.base t.took (item ∷ []);
+            told_is = gives.text ∙ ap (λ s. s ++ Next item ∷ []) t.told_is ∙ sym join;
+            grants = t.grants ++ grant ∷ [];
+            one_each = length-append t.grants (grant ∷ []) ∙ ap (λ n. n + 1) t.one_each;
+            granted = one_more gives.granted;
+            grants_are = gives.grants ∙ ap (λ l. l ++ grant ∷ []) t.grants_are ∙ append_assoc before.0.grants t.grants (grant ∷ []);
+            misses = gives.misses ∙ t.misses;
+          },
+        )
 
     -- it rests
     pub rests_after : count < 64 → RestsNow told mid after → later ≡ seen → StopsAs before.0 after.0 (told_out told before.1) later.signals Resting × (after.0.runner ≡ Nobody)
@@ -199,13 +204,13 @@ module _ {B : Type 0} (told : B → List Signal) where
     pub misses_after : count < 64 → MissesRest told mid after → later ≡ seen → GoesOnAs before.0 after.0 (told_out told before.1) (told_out told after.1) later.signals
     misses_after short missed same =
         subst (λ (s : SeenState). GoesOnAs before.0 after.0 (told_out told before.1) (told_out told after.1) s.signals) (sym same)
-            (record {
-              turned = whole_turn before.0 (told_out told before.1) seen.signals t.start t.base t.took Again t.knew t.opened (let c = t.counted in omega arith) t.grants (t.one_each ∙ sym t.counted) t.granted t.text;
-              taken = missed.taken ∙ t.taken;
-              grants = missed.grants ∙ t.grants_are;
-              told_is = missed.text ∙ t.told_is;
-              why = inr (missed.misses ∙ ap (λ n. n + 1) t.misses);
-            })
+        (record {
+          turned = whole_turn before.0 (told_out told before.1) seen.signals t.start t.base t.took Again t.knew t.opened (let c = t.counted in omega arith) t.grants (t.one_each ∙ sym t.counted) t.granted t.text;
+          taken = missed.taken ∙ t.taken;
+          grants = missed.grants ∙ t.grants_are;
+          told_is = missed.text ∙ t.told_is;
+          why = inr (missed.misses ∙ ap (λ n. n + 1) t.misses);
+        })
 
     -- all its grants, at its end
     all_granted : (took : List Item) → IsLastGrant mid after took → (grants : List Grant) × (length grants ≡ length (t.took ++ took)) × AreGranted (length t.base) grants × (after.0.grants ≡ before.0.grants ++ grants)
@@ -225,7 +230,7 @@ module _ {B : Type 0} (told : B → List Signal) where
         let saw : later.signals ≡ seen.signals ++ ends.last = ap (λ (s : SeenState). s.signals) ends.saw in
         let items : mid.0.taken ++ ends.took ≡ t.base ++ (t.took ++ ends.took) = ap (λ l. l ++ ends.took) t.taken ∙ append_assoc t.base t.took ends.took in
         let signals : told_out told mid.1 ++ ends.last ≡ t.start ++ later.signals =
-            ap (λ s. s ++ ends.last) t.told_is ∙ append_assoc t.start seen.signals ends.last ∙ ap (λ s. t.start ++ s) (sym saw)
+        ap (λ s. s ++ ends.last) t.told_is ∙ append_assoc t.start seen.signals ends.last ∙ ap (λ s. t.start ++ s) (sym saw)
         in
         let last = all_granted ends.took ends.granted in
         record {
@@ -251,9 +256,9 @@ module _ {B : Type 0} (told : B → List Signal) where
         why = inl (all (items_of seen) t.took turned.given ∙ t.counted, t.misses);
       }
     where
-    all : (given took : List Item) → AreGivenOf Again given took → length given ≡ length took
-    all given took (inl e) = ap length e
-    all given took (inr h) = let clash = h.0 in cc
+      all : (given took : List Item) → AreGivenOf Again given took → length given ≡ length took
+      all given took (inl e) = ap length e
+      all given took (inr h) = let clash = h.0 in cc
 
   -- a greeted task that was given items goes on
   pub going_on : (stage : Stage) (count : ℕ) (before me : SeatOf B) (seen : List Signal) → 0 < count → IsMidTurn told stage count before me seen → IsGoing told me × TellsSoFar told count before me seen

@@ -1,5 +1,5 @@
 -- What a task that has its subscriber with it keeps in every step.
-use Rattle.std.proofs.Common.{◌≡◌, ℕ, ◌+◌, Bool, true, false, List, [], ◌∷◌, length, set, sym, refl, ap, ◌∙◌, subst}
+use Rattle.std.proofs.Common.{◌≡◌, ℕ, ◌+◌, true, false, List, [], ◌∷◌, length, set, sym, ap, ◌∙◌, subst}
 use mathlib.Core.Option as slot
 use mathlib.Core.Option.{some}
 use lib.ListN.{get_elem?}
@@ -9,10 +9,9 @@ use Rattle.feed_core.specs.World.Table.{is_over}
 use Rattle.feed_core.specs.World.Runs.{IsReached}
 use Rattle.feed_cell.proofs.Seats.{mine, other}
 use Rattle.feed_cell.proofs.Stages.{seated}
-use Rattle.feed_cell.specs.Cell.{Lists, Lies, Cell, AsProducer, AsRunner, KnowsAway, has_seat, may_hold, has_looked}
+use Rattle.feed_cell.specs.Cell.{Lists, Lies, Cell, AsProducer, AsRunner, KnowsAway, has_seat, may_hold}
 use Rattle.feed_cell.specs.Control.{marked}
-use Rattle.feed_cell.specs.Plays.{after_look}
-use Rattle.feed_cell.specs.Types.{Causes, Runner, Fresh}
+use Rattle.feed_cell.specs.Types.{Causes, Runner}
 use Rattle.feed_cell.specs.Views.{IsRunner, has_put, has_ask, has_run}
 use Rattle.feed_cell.specs.declared.cell.Held.{Held}
 use Rattle.feed_cell.specs.declared.cell.View.{View}

@@ -1,28 +1,24 @@
 -- How a subscription's table starts, how its maker's seat becomes three, and how the first task takes its subscriber with it.
-use Rattle.std.proofs.Common.{◌≡◌, ℕ, ◌+◌, ◌%◌, ◌<◌, ◌≤◌, Bool, true, false, List, [], ◌∷◌, ◌++◌, length, map, replicate, slice_index, set, Option, None, sym, refl, ap, ◌∙◌, subst, mod-lt, min, length-append, arith}
+use Rattle.std.proofs.Common.{◌≡◌, ℕ, ◌+◌, ◌%◌, ◌<◌, ◌≤◌, true, false, List, [], ◌∷◌, length, map, replicate, slice_index, set, None, sym, refl, ap, ◌∙◌, subst, mod-lt, min, arith}
 use Rattle.std.proofs.lemmas.List.{length-map, length-replicate}
-use mathlib.Core.Option as slot
 use mathlib.Core.Option.{some, none, some-ne-none}
 use lib.ListN.{get_elem?}
-use Rattle.atomic_table.proofs.Lists.{at_map, at_last, at_longer}
+use Rattle.atomic_table.proofs.Lists.{at_map}
 use Rattle.atomic_table.specs.Table.{opening, takes, Allows, Splits}
 use Rattle.feed_core.specs.Cause.{no_causes}
-use Rattle.feed_core.specs.Prelude.{Item, Signal}
+use Rattle.feed_core.specs.Prelude.{Signal}
 use Rattle.feed_core.specs.LaneCalls.{IsCapacity}
 use Rattle.feed_core.specs.World.Runs.{made}
 use Rattle.feed_core.proofs.Interleavings.Reaching.{reached_made}
 use Rattle.feed_cell.proofs.Lists.{at_replicate}
 use Rattle.feed_cell.proofs.Places.{lies_guest}
 use Rattle.feed_cell.proofs.Seats.{alone, mine, other, added, moved}
-use Rattle.feed_cell.specs.Cell.{Lists, Lies, Cell, AsProducer, AsHandle, AsRunner, LodgesAt}
-use Rattle.feed_cell.specs.Control.{Flags, Reads}
+use Rattle.feed_cell.specs.Cell.{Lies, Cell, AsProducer, AsHandle, AsRunner, LodgesAt}
 use Rattle.feed_cell.specs.Parties.{IsFresh}
 use Rattle.feed_cell.specs.Plays.{SeatOf, Enters}
 use Rattle.feed_cell.specs.Types.{Free, Idle, Runner, Fresh}
 use Rattle.feed_cell.specs.Views.{IsRunner, first_view, has_put, has_ask, has_run, without_asking, asking_alone, without_running, running_alone}
 use Rattle.feed_cell.specs.declared.cell.Held.{Held}
-use Rattle.feed_cell.specs.declared.cell.Held.TheVariants as Held
-use Rattle.feed_cell.specs.declared.cell.Lodger.{Lodger}
 use Rattle.feed_cell.specs.declared.cell.View.{View}
 
 module _ {B : Type 0} (told : B → List Signal) where

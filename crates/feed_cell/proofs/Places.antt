@@ -11,7 +11,6 @@ use Rattle.feed_core.specs.Prelude.{Item}
 use Rattle.feed_cell.proofs.Lists.{at_within, at_end}
 use Rattle.feed_cell.specs.Cell.{Lies}
 use Rattle.feed_cell.specs.declared.cell.Held.{Held}
-use Rattle.feed_cell.specs.declared.cell.Held.TheVariants as Held
 
 -- two numbers less than one turn apart have two slots
 pub apart : (p k cap : ℕ) → p < k → k < p + cap → k % cap ≢ p % cap

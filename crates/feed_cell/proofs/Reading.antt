@@ -1,11 +1,11 @@
 -- Marks and causes in the control word: what a signal sets and what the task clears.
-use Rattle.std.proofs.Common.{◌≡◌, ℕ, ◌+◌, ◌*◌, ◌/◌, ◌^◌, ◌<◌, ◌⊎◌, Bool, true, false, ◌||◌, min, max, bit_and, bit_or, Option, Some, None, refl, sym, ap, ap₂, ◌∙◌, ⊎_elim, inl, inr, arith}
+use Rattle.std.proofs.Common.{◌≡◌, ℕ, ◌+◌, ◌*◌, ◌/◌, ◌^◌, ◌<◌, ◌⊎◌, Bool, true, false, ◌||◌, min, max, bit_and, bit_or, Option, Some, None, refl, ap, ap₂, ◌∙◌, inl, inr, arith}
 use Rattle.std.specs.Int.{bit_at}
 use Rattle.std.proofs.lemmas.Nat.Bits.{bit_at_or, bit_at_and}
 use lib.Bits.{or_shr, and_shr, and_mask, or_comm, or_zero_r}
 use Rattle.feed_core.specs.Prelude.{Ending}
-use Rattle.feed_core.specs.World.Table.{ProducerMay, HandleMay, joined, MayBegin}
-use Rattle.feed_cell.specs.Types.{Causes, Cause, Cancel, Argument, State, Closing, Producing, Requesting}
+use Rattle.feed_core.specs.World.Table.{joined}
+use Rattle.feed_cell.specs.Types.{Causes, Cause, Cancel, Argument, State, Closing}
 use Rattle.feed_cell.specs.Control.{Flags, number, is_error, is_complete, code_of, Reads, signal_of, closing_of, both, causes_of}
 
 either_bit : (a b : Bool) → max (number b) (number a) ≡ number (a || b)

@@ -1,14 +1,13 @@
 -- The task's rest.
-use Rattle.std.proofs.Common.{◌≡◌, ◌≢◌, ℕ, ◌+◌, ◌<◌, ◌≤◌, ◌==◌, Bool, true, false, List, [], ◌∷◌, length, slice_index, set, bit_and, None, sym, refl, ap, ◌∙◌, subst, arith}
-use mathlib.Core.Option as slot
+use Rattle.std.proofs.Common.{◌≡◌, ℕ, ◌+◌, ◌<◌, ◌==◌, Bool, true, false, List, [], ◌∷◌, length, slice_index, set, bit_and, None, sym, refl, ap, ◌∙◌, subst, arith}
 use mathlib.Core.Option.{some}
 use lib.ListN.{get_elem?}
 use prog.Atomic.{either}
 use Rattle.std.specs.Int.{bit_at}
 use Rattle.atomic_table.proofs.Lists.{exchanged}
 use Rattle.atomic_table.specs.Table.{State, Act, keeps, gives, Valid, stepped, carried_after, Allows}
-use Rattle.feed_core.specs.Prelude.{Item, Signal}
-use Rattle.feed_core.specs.World.Table.{MayRest, is_over, resting_after, after}
+use Rattle.feed_core.specs.Prelude.{Signal}
+use Rattle.feed_core.specs.World.Table.{MayRest, resting_after}
 use Rattle.feed_core.specs.World.Runs.{IsReached}
 use Rattle.feed_core.proofs.Interleavings.Reaching.{reached_more}
 use Rattle.feed_cell.proofs.Moving.{knows_too, move_kept}
@@ -16,13 +15,12 @@ use Rattle.feed_cell.proofs.Places.{lies_guest, changed}
 use Rattle.feed_cell.proofs.Reading.{reads_rest}
 use Rattle.feed_cell.proofs.Seats.{other, spent}
 use Rattle.feed_cell.proofs.Stages.{seated}
-use Rattle.feed_cell.specs.Cell.{Lies, Cell, AsProducer, AsRunner, greeted, has_looked}
+use Rattle.feed_cell.specs.Cell.{Lies, Cell, AsProducer, greeted, has_looked}
 use Rattle.feed_cell.specs.Control.{Reads, number, marked}
-use Rattle.feed_cell.specs.Plays.{SeatOf, Rests}
-use Rattle.feed_cell.specs.Types.{Rest, Runner, Nobody, Ready}
+use Rattle.feed_cell.specs.Plays.{Rests}
+use Rattle.feed_cell.specs.Types.{Rest, Nobody, Ready}
 use Rattle.feed_cell.specs.Views.{IsRunner, has_put, has_ask, has_run}
 use Rattle.feed_cell.specs.declared.cell.Held.{Held}
-use Rattle.feed_cell.specs.declared.cell.Held.TheVariants as Held
 use Rattle.feed_cell.specs.declared.cell.Lodger.{Lodger}
 use Rattle.feed_cell.specs.declared.cell.View.{View}
 

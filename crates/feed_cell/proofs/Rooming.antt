@@ -1,12 +1,12 @@
 -- The producer's looks at head.
-use Rattle.std.proofs.Common.{◌≡◌, ℕ, ◌+◌, ◌-◌, ◌%◌, ◌<◌, ◌≤◌, ◌⊎◌, Bool, true, false, true≢false, List, ◌∷◌, length, slice_index, set, sym, refl, ap, ◌∙◌, subst, inl, inr, ⊎_elim, nat_lt, arith}
+use Rattle.std.proofs.Common.{◌≡◌, ℕ, ◌+◌, ◌-◌, ◌%◌, ◌<◌, ◌≤◌, ◌⊎◌, Bool, true, false, true≢false, List, length, slice_index, set, sym, refl, ap, ◌∙◌, subst, inl, inr, arith}
 use mathlib.Core.Option as slot
 use mathlib.Core.Option.{some}
 use mathlib.Core.Logic.{dite}
 use native.Mathlib.Decide.{dec_lt}
 use lib.ListN.{get_elem?}
 use Rattle.atomic_table.specs.Table.{State, Act, keeps, takes, Valid, stepped, carried_after, Allows}
-use Rattle.feed_core.specs.Prelude.{Item, Signal, UNBOUNDED, total_after}
+use Rattle.feed_core.specs.Prelude.{Item, Signal, total_after}
 use Rattle.feed_core.specs.World.Table.{MayBegin, is_over, has_room, shown_room, after}
 use Rattle.feed_core.proofs.Interleavings.Putting.{room_found, room_missing, room_of_ended}
 use Rattle.feed_core.proofs.Interleavings.Reaching.{reached_more, reached_kept}
@@ -19,7 +19,6 @@ use Rattle.feed_cell.specs.Plays.{SeatOf, FindsRoom, Stands, after_look}
 use Rattle.feed_cell.specs.Types.{Room, Free, HasRoom, Producing, Parts}
 use Rattle.feed_cell.specs.Views.{IsProducer, has_put, has_ask, has_run}
 use Rattle.feed_cell.specs.declared.cell.Held.{Held}
-use Rattle.feed_cell.specs.declared.cell.Held.TheVariants as Held
 use Rattle.feed_cell.specs.declared.cell.View.{View}
 
 module _ {B : Type 0} (told : B → List Signal) (cap : ℕ) where
@@ -122,11 +121,11 @@ module _ {B : Type 0} (told : B → List Signal) (cap : ℕ) (s : State (Held B)
       let within : length c.taken + length c.item ≤ length c.log = c.lists.within in
       let l = c.lists in
       room_kept told cap s c id v (looked HasRoom 1) (length c.log + 1) (set s.homes (length v.put % v.capacity) slot.none) at is may is.1 is.2
-          (record { sized = l.sized; begins = l.begins; one_out = l.one_out; within = l.within; above = omega arith; below = omega arith })
-          (lies_room cap c.log s.homes (length c.taken) (length c.taken + length c.item) (length v.put % v.capacity) l.sized (omega arith) (omega arith) room slot_is
-          (subst (λ (m : ℕ). Lies cap c.log (length c.taken) (length c.taken + length c.item) m s.homes) free_is c.lies))
-          (λ e. lodges_else told cap c.world.runner c.taken c.world.own c.answers s.homes (set s.homes (length v.put % v.capacity) slot.none) (λ x at. stays_home cap c.log s.homes (length v.put % v.capacity) (length c.log) slot.none x l.sized slot_is at) (c.lodges e))
-          (knows HasRoom 1 (length c.log + 1) shown refl)
+      (record { sized = l.sized; begins = l.begins; one_out = l.one_out; within = l.within; above = omega arith; below = omega arith })
+      (lies_room cap c.log s.homes (length c.taken) (length c.taken + length c.item) (length v.put % v.capacity) l.sized (omega arith) (omega arith) room slot_is
+      (subst (λ (m : ℕ). Lies cap c.log (length c.taken) (length c.taken + length c.item) m s.homes) free_is c.lies))
+      (λ e. lodges_else told cap c.world.runner c.taken c.world.own c.answers s.homes (set s.homes (length v.put % v.capacity) slot.none) (λ x at. stays_home cap c.log s.homes (length v.put % v.capacity) (length c.log) slot.none x l.sized slot_is at) (c.lodges e))
+      (knows HasRoom 1 (length c.log + 1) shown refl)
 
   abbrev Outcome : Type 0
   Outcome = (w : View) × (a : Act (Held B)) × Valid s.homes more a × Cell told cap (stepped s 0 (slice_index s.words 0) id more w a) × FindsRoom (v, more) (slice_index s.words 0) (w, carried_after more a)

@@ -1,25 +1,23 @@
 -- The steps of the task, of seats in the middle of a turn.
-use Rattle.std.proofs.Common.{◌≡◌, ℕ, ◌+◌, ◌%◌, ◌<◌, ◌≤◌, ◌==◌, min, Bool, true, false, List, [], ◌∷◌, ◌++◌, length, bit_and, None, Some, sym, refl, ap, ap₂, ◌∙◌, subst, arith}
+use Rattle.std.proofs.Common.{◌≡◌, ℕ, ◌+◌, ◌%◌, ◌==◌, true, List, [], ◌∷◌, length, bit_and, sym, refl, ap, ap₂, ◌∙◌, subst, arith}
 use prog.Atomic.{either}
 use Rattle.std.specs.Int.{bit_at}
 use Rattle.std.proofs.lemmas.Nat.Bits.{bit_at_and}
 use Rattle.atomic_table.specs.Table.{Allows, rest}
-use Rattle.feed_core.specs.Prelude.{How, Item, Signal}
+use Rattle.feed_core.specs.Prelude.{How, Signal}
 use Rattle.feed_core.specs.World.Table.{MayMeasure, MayTake, MayRest}
 use Rattle.feed_cell.proofs.Ending.{ends}
-use Rattle.feed_cell.proofs.Looking.{looks, looks_first}
+use Rattle.feed_cell.proofs.Looking.{looks}
 use Rattle.feed_cell.proofs.Resting.{rests}
 use Rattle.feed_cell.proofs.Seeing.{measures}
 use Rattle.feed_cell.proofs.Taking.{takes_item}
-use Rattle.feed_cell.specs.Cell.{Cell, greeted}
-use Rattle.feed_cell.specs.Control.{MARK, causes_of}
+use Rattle.feed_cell.specs.Cell.{Cell}
+use Rattle.feed_cell.specs.Control.{MARK}
 use Rattle.feed_cell.specs.Parties.{IsGoing, IsHome}
-use Rattle.feed_cell.specs.Plays.{SeatOf, QUIET, after_causes, own_out, answers_out, LooksOut, LooksFirst, Measures, IsTake, Rests, IsEnd}
+use Rattle.feed_cell.specs.Plays.{SeatOf, QUIET, own_out, answers_out, LooksOut, LooksFirst, Measures, IsTake, Rests, IsEnd}
 use Rattle.feed_cell.specs.Running.{HasItem, Carries, HasLooked, IsEnding}
 use Rattle.feed_cell.specs.Views.{IsRunner}
 use Rattle.feed_cell.specs.declared.cell.Held.{Held}
-use Rattle.feed_cell.specs.declared.cell.Held.TheVariants as Held
-use Rattle.feed_cell.specs.declared.cell.View.{View}
 
 module _ {B : Type 0} (told : B → List Signal) where
   -- a look with the subscriber
@@ -61,7 +59,7 @@ module _ {B : Type 0} (told : B → List Signal) where
       → me ≡ (before.0, (i, Held.Empty) ∷ rest before.1) → i ≡ given % capacity → new ≡ given + 1 → Allows (Cell told cap) n id me 0 (λ _. new) (λ _. IsTake me)
   takes_out cap n id before me capacity given i new is out may h counted sized moved slot_at new_is =
       subst (λ (m : SeatOf B). Allows (Cell told cap) n id m 0 (λ _. new) (λ _. IsTake m)) (sym moved)
-          (takes_item told cap n id before.0 i new h.item (rest before.1) is out may h.one_out (slot_at ∙ ap₂ (λ (a b : ℕ). a % b) (sym counted) (sym sized)) (new_is ∙ ap (λ (m : ℕ). m + 1) (sym counted)))
+      (takes_item told cap n id before.0 i new h.item (rest before.1) is out may h.one_out (slot_at ∙ ap₂ (λ (a b : ℕ). a % b) (sym counted) (sym sized)) (new_is ∙ ap (λ (m : ℕ). m + 1) (sym counted)))
 
   quiet_bit : (word : ℕ) → bit_at (bit_and word QUIET) 1 ≡ 0
   quiet_bit word = let both = bit_at_and word QUIET 1 in let clear : bit_at QUIET 1 ≡ 0 = refl in omega arith

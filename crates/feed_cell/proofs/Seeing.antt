@@ -1,26 +1,23 @@
 -- The task's loads of tail and asked.
-use Rattle.std.proofs.Common.{◌≡◌, ℕ, ◌+◌, ◌%◌, ◌<◌, ◌≤◌, Bool, true, false, List, [], ◌∷◌, ◌++◌, length, take, slice_index, set, sym, refl, ap, ap₂, ◌∙◌, subst, append-nil, add-one, length-take-le, arith}
+use Rattle.std.proofs.Common.{◌≡◌, ℕ, ◌+◌, ◌%◌, ◌≤◌, true, List, [], ◌∷◌, ◌++◌, length, take, slice_index, set, sym, refl, ap, ◌∙◌, subst, append-nil, add-one, length-take-le, arith}
 use mathlib.Core.Option as slot
 use mathlib.Core.Option.{some, none}
 use mathlib.Core.Logic.{dite}
 use native.Mathlib.Decide.{dec_lt}
 use lib.ListN.{get_elem?}
-use Rattle.atomic_table.specs.Table.{State, keeps, takes, gives, Allows}
-use Rattle.feed_core.specs.Prelude.{Item, Signal, UNBOUNDED, total_after}
-use Rattle.feed_core.specs.World.Table.{MaySee, MayMeasure, seeing, measuring, total_of, after}
+use Rattle.atomic_table.specs.Table.{keeps, takes, gives, Allows}
+use Rattle.feed_core.specs.Prelude.{Item, Signal, total_after}
+use Rattle.feed_core.specs.World.Table.{MaySee, MayMeasure, seeing, measuring, total_of}
 use Rattle.feed_core.specs.World.Runs.{IsReached}
 use Rattle.feed_core.proofs.Interleavings.Reaching.{reached_more, reached_kept}
 use Rattle.feed_cell.proofs.Lists.{there, take_one_more, parted}
 use Rattle.feed_cell.proofs.Moving.{knows_too, move_kept}
 use Rattle.feed_cell.proofs.Places.{lies_out, lies_back}
-
-use Rattle.feed_cell.specs.Cell.{Lies, Cell, AsRunner, may_hold, has_looked}
-use Rattle.feed_cell.specs.Control.{marked}
+use Rattle.feed_cell.specs.Cell.{Lies, Cell, may_hold, has_looked}
 use Rattle.feed_cell.specs.Plays.{SeatOf, Sees, Measures, MeasuresNone}
 use Rattle.feed_cell.specs.Types.{See, Measure, Runner, Looked, Saw, Measured}
 use Rattle.feed_cell.specs.Views.{IsRunner}
 use Rattle.feed_cell.specs.declared.cell.Held.{Held}
-use Rattle.feed_cell.specs.declared.cell.Held.TheVariants as Held
 use Rattle.feed_cell.specs.declared.cell.View.{View}
 
 -- the slots, where the numbers of items taken and of items out are known

@@ -1,22 +1,15 @@
 -- What the task does after a look: its steps, put together.
-use Rattle.std.proofs.Common.{◌≡◌, ℕ, ◌+◌, ◌<◌, ◌≤◌, ◌⊎◌, true, false, List, [], ◌∷◌, ◌++◌, length, Option, None, Some, sym, refl, ap, ◌∙◌, subst, inl, inr, ⊎_elim, append-nil, arith}
-use Rattle.feed_core.specs.Cause.{stops, closes}
-use Rattle.feed_core.specs.PlainTurn.{terminal_of}
+use Rattle.std.proofs.Common.{◌≡◌, ℕ, ◌+◌, false, List, [], ◌∷◌, ◌++◌, sym, refl, ap, ◌∙◌, subst, inl, inr, append-nil, arith}
 use Rattle.feed_core.specs.Prelude.{Answer, How, Item, Signal, Next}
 use Rattle.feed_core.specs.Seen.{SeenState}
-use Rattle.feed_core.specs.Steps.{HasTerminal}
-use Rattle.feed_core.specs.World.Table.{MaySee, MayEnd, MayRest, IsStop}
 use Rattle.feed_cell.specs.Cell.{greeted, IsToldBy}
-use Rattle.feed_cell.specs.Control.{Flags, causes_of}
-use Rattle.feed_cell.specs.Parties.{IsGoing}
 use Rattle.feed_cell.specs.Paused.{told_out}
 use Rattle.feed_cell.specs.Plays.{SeatOf}
-use Rattle.feed_cell.specs.Running.{Carries, IsEnding, HasTaken, HasMeasured, FindsNone, TakesNext, grant_of, EndsThere, FinishesThere}
-use Rattle.feed_cell.specs.Serving.{MissesRest, RestsNow, Serves, Gives, Finishes, TriesRest, Concludes}
-use Rattle.feed_cell.specs.Types.{Causes, Runner, Nobody, Ready, Looked, Measured, Taken}
+use Rattle.feed_cell.specs.Running.{Carries, IsEnding, HasTaken, FindsNone, TakesNext, grant_of}
+use Rattle.feed_cell.specs.Serving.{MissesRest, RestsNow, Serves, Gives, Finishes, Concludes}
+use Rattle.feed_cell.specs.Types.{Nobody, Ready, Taken}
 use Rattle.feed_cell.specs.Views.{IsRunner}
 use Rattle.feed_cell.specs.declared.cell.serving.Served.{Served}
-use Rattle.feed_cell.specs.declared.cell.serving.Served.TheVariants as Served
 use Rattle.feed_cell.specs.declared.cell.View.{View}
 
 module _ {B : Type 0} (told : B → List Signal) where
@@ -117,22 +110,28 @@ module _ {B : Type 0} (told : B → List Signal) where
   -- there was no item to give
   pub serves_none : (tail : ℕ) (result : Served) (before middle after : SeatOf B) (seen later : SeenState) → FindsNone tail before middle → Concludes told result middle after seen later → Serves told result before after seen later
   serves_none tail Served.Gave before middle after seen later f t = absurd t
-  serves_none tail Served.Rested before middle after seen later f t = (record {
-    text = sym (ap (λ (m : SeatOf B). told_out told m.1) f.found) ∙ t.0.text ∙ ap (λ (m : SeatOf B). greeted m.0.taken) f.found;
-    taken = t.0.taken ∙ ap (λ (m : SeatOf B). m.0.taken) f.found;
-    misses = t.0.misses ∙ ap (λ (m : SeatOf B). m.0.misses) f.found;
-    grants = t.0.grants ∙ ap (λ (m : SeatOf B). m.0.grants) f.found;
-    runs = t.0.runs;
-    stage = t.0.stage;
-  }, t.1)
-  serves_none tail Served.Missed before middle after seen later f t = (record {
-    going = t.0.going;
-    is = t.0.is;
-    none_out = t.0.none_out;
-    taken = t.0.taken ∙ ap (λ (m : SeatOf B). m.0.taken) f.found;
-    text = t.0.text ∙ ap (λ (m : SeatOf B). told_out told m.1) f.found;
-    misses = t.0.misses ∙ ap (λ (m : SeatOf B). m.0.misses + 1) f.found;
-    grants = t.0.grants ∙ ap (λ (m : SeatOf B). m.0.grants) f.found;
-    sized = t.0.sized ∙ ap (λ (m : SeatOf B). m.0.capacity) f.found;
-  }, t.1)
+  serves_none tail Served.Rested before middle after seen later f t = (
+    record {
+      text = sym (ap (λ (m : SeatOf B). told_out told m.1) f.found) ∙ t.0.text ∙ ap (λ (m : SeatOf B). greeted m.0.taken) f.found;
+      taken = t.0.taken ∙ ap (λ (m : SeatOf B). m.0.taken) f.found;
+      misses = t.0.misses ∙ ap (λ (m : SeatOf B). m.0.misses) f.found;
+      grants = t.0.grants ∙ ap (λ (m : SeatOf B). m.0.grants) f.found;
+      runs = t.0.runs;
+      stage = t.0.stage;
+    },
+    t.1,
+  )
+  serves_none tail Served.Missed before middle after seen later f t = (
+    record {
+      going = t.0.going;
+      is = t.0.is;
+      none_out = t.0.none_out;
+      taken = t.0.taken ∙ ap (λ (m : SeatOf B). m.0.taken) f.found;
+      text = t.0.text ∙ ap (λ (m : SeatOf B). told_out told m.1) f.found;
+      misses = t.0.misses ∙ ap (λ (m : SeatOf B). m.0.misses + 1) f.found;
+      grants = t.0.grants ∙ ap (λ (m : SeatOf B). m.0.grants) f.found;
+      sized = t.0.sized ∙ ap (λ (m : SeatOf B). m.0.capacity) f.found;
+    },
+    t.1,
+  )
   serves_none tail (Served.Ended how) before middle after seen later f t = serves_finish t.0 (Served.Ended how) before middle after seen later (ap (λ (m : SeatOf B). m.1) f.found) (ap (λ (m : SeatOf B). m.0.taken) f.found) (ap (λ (m : SeatOf B). m.0.misses) f.found) (ap (λ (m : SeatOf B). m.0.grants) f.found) t.1

@@ -1,20 +1,18 @@
 -- Signals, of both sides.
-use Rattle.std.proofs.Common.{◌≡◌, ℕ, ◌+◌, ◌*◌, ◌/◌, ◌^◌, ◌⊎◌, Bool, true, false, ◌||◌, List, [], ◌∷◌, length, slice_index, set, bit_or, Option, Some, None, sym, refl, ap, ap₂, ◌∙◌, subst, inl, inr, arith}
-use mathlib.Core.Option.{some}
-use lib.ListN.{get_elem?}
+use Rattle.std.proofs.Common.{◌≡◌, ℕ, ◌+◌, ◌*◌, ◌/◌, ◌^◌, ◌⊎◌, Bool, true, false, List, [], ◌∷◌, slice_index, set, bit_or, Option, Some, None, sym, refl, ap, ◌∙◌, subst, inl, inr, arith}
 use Rattle.std.specs.Int.{bit_at}
 use Rattle.atomic_table.specs.Table.{State, keeps, Allows}
 use Rattle.feed_core.specs.Prelude.{Item, Ending, Signal}
-use Rattle.feed_core.specs.World.Table.{MayBegin, ProducerMay, HandleMay, joined, is_started, is_over, producing_after, requesting_after, started, after}
+use Rattle.feed_core.specs.World.Table.{MayBegin, ProducerMay, HandleMay, joined, is_started, is_over, producing_after, requesting_after, started}
 use Rattle.feed_core.specs.World.Runs.{IsReached}
 use Rattle.feed_core.proofs.Interleavings.Reaching.{reached_more}
 use Rattle.feed_cell.proofs.Reading.{reads_or, adds, mask_error}
 use Rattle.feed_cell.proofs.Seats.{mine, other}
 use Rattle.feed_cell.proofs.Stages.{starts, lodges_started}
-use Rattle.feed_cell.specs.Cell.{Only, Cell, AsProducer, AsHandle, AsRunner}
+use Rattle.feed_cell.specs.Cell.{Only, Cell, AsProducer, AsHandle}
 use Rattle.feed_cell.specs.Control.{Flags, number, Reads, signal_of, both, marked}
 use Rattle.feed_cell.specs.Plays.{SeatOf, sent, ProducerSignals, sent_by_handle, HandleSignals}
-use Rattle.feed_cell.specs.Types.{Cause, Cancel, Argument, State as Doubled, Closing, Signal as Signals, Producer, Handle, Producing, Free, Hands, Requesting, Idle, HandsOver, Parts}
+use Rattle.feed_cell.specs.Types.{Cause, Cancel, Argument, State as Doubled, Closing, Signal as Signals, Producer, Handle, Producing, Requesting, Idle}
 use Rattle.feed_cell.specs.Views.{IsProducer, IsHandle, has_put, has_ask, has_run}
 use Rattle.feed_cell.specs.declared.cell.Held.{Held}
 use Rattle.feed_cell.specs.declared.cell.View.{View}
@@ -200,4 +198,4 @@ module _ {B : Type 0} (told : B → List Signal) where
   signals_error cap n id me mask code is begins unclosed mask_is =
       let same : mask / 2 ^ 32 ≡ code = omega arith in
       signals cap n id me mask (Some (Closing (Ending.Failed (mask / 2 ^ 32)))) is (begins, unclosed)
-          (subst (λ (m : ℕ). Reads m (signal_of (Some (Closing (Ending.Failed (mask / 2 ^ 32)))))) (ap (λ (m : ℕ). m * 4294967296 + 35) same ∙ sym mask_is) (mask_error (mask / 2 ^ 32)))
+      (subst (λ (m : ℕ). Reads m (signal_of (Some (Closing (Ending.Failed (mask / 2 ^ 32)))))) (ap (λ (m : ℕ). m * 4294967296 + 35) same ∙ sym mask_is) (mask_error (mask / 2 ^ 32)))

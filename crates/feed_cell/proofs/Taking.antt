@@ -1,22 +1,20 @@
 -- The task's store of head.
-use Rattle.std.proofs.Common.{◌≡◌, ℕ, ◌+◌, ◌%◌, ◌<◌, ◌≤◌, Bool, true, false, List, [], ◌∷◌, ◌++◌, length, take, set, sym, refl, ap, ◌∙◌, subst, length-append, append-nil, arith}
-use mathlib.Core.Option as slot
+use Rattle.std.proofs.Common.{◌≡◌, ℕ, ◌+◌, ◌%◌, ◌≤◌, true, false, List, [], ◌∷◌, ◌++◌, length, take, set, sym, refl, ap, ◌∙◌, subst, length-append, append-nil, arith}
 use mathlib.Core.Option.{some}
 use Rattle.atomic_table.specs.Table.{gives, Allows}
 use Rattle.feed_core.specs.Prelude.{Item, Signal}
-use Rattle.feed_core.specs.World.Table.{MayTake, is_over, after}
+use Rattle.feed_core.specs.World.Table.{MayTake, after}
 use Rattle.feed_core.proofs.Interleavings.Reaching.{reached_more}
 use Rattle.feed_cell.proofs.Places.{lies_taken}
 use Rattle.feed_cell.proofs.Seats.{mine, other}
 use Rattle.feed_cell.proofs.Seeing.{lies_at}
 use Rattle.feed_cell.proofs.Stages.{seated}
-use Rattle.feed_cell.specs.Cell.{Lies, Cell, AsProducer, KnowsAway}
+use Rattle.feed_cell.specs.Cell.{Lies, Cell, KnowsAway}
 use Rattle.feed_cell.specs.Control.{marked}
-use Rattle.feed_cell.specs.Plays.{SeatOf, IsTake, grants_by}
+use Rattle.feed_cell.specs.Plays.{IsTake, grants_by}
 use Rattle.feed_cell.specs.Types.{Take, Taken}
 use Rattle.feed_cell.specs.Views.{IsRunner, has_put, has_ask, has_run}
 use Rattle.feed_cell.specs.declared.cell.Held.{Held}
-use Rattle.feed_cell.specs.declared.cell.Held.TheVariants as Held
 use Rattle.feed_cell.specs.declared.cell.View.{View}
 
 module _ {B : Type 0} (told : B → List Signal) where

@@ -1,5 +1,5 @@
 -- What a turn did, by what its subscriber was told in all.
-use Rattle.std.proofs.Common.{◌≡◌, ℕ, suc, ◌+◌, ◌≤◌, ◌<◌, ◌↔◌, ◌⊎◌, true, List, [], ◌∷◌, ◌++◌, map, length, Contains, refl, ap, sym, ◌∙◌, subst, inl, inr, arith, append-nil, length-append, append_assoc}
+use Rattle.std.proofs.Common.{◌≡◌, ℕ, suc, ◌+◌, ◌≤◌, ◌⊎◌, true, List, [], ◌∷◌, ◌++◌, map, length, Contains, refl, ap, sym, ◌∙◌, subst, inl, inr, arith, append-nil, length-append, append_assoc}
 use Rattle.std.proofs.lemmas.List.{append_cancel_left, length-map, map-append}
 use Rattle.flow_rules.proofs.Items.{items_of_append}
 use Rattle.feed_core.specs.PlainTurn.{terminal_of}
@@ -9,7 +9,7 @@ use Rattle.feed_core.specs.declared.turn.outlook.Outlook.TheVariants.{Again, Res
 use Rattle.feed_core.specs.Turn.{EndsIn}
 use Rattle.feed_core.proofs.SignalLists.{IsTerminal, complete_last, contains_none, error_last, items_of_nexts, terminal_last}
 use Rattle.feed_core.proofs.TurnLoop.{last_contained}
-use Rattle.feed_cell.specs.Cell.{greeted, IsToldBy}
+use Rattle.feed_cell.specs.Cell.{greeted}
 use Rattle.feed_cell.specs.Turned.{IsTextOf, AreGivenOf, IsBefore, AreGranted, TurnsAs}
 use Rattle.feed_cell.specs.declared.cell.Grant.{Grant}
 use Rattle.feed_cell.specs.declared.cell.View.{View}
@@ -126,9 +126,9 @@ few_by outlook taken text (inr h) =
     let most = given_length outlook h.0 taken h.2 in
     omega arith
   where
-  given_length : (outlook : Outlook) (given took : List Item) → AreGivenOf outlook given took → length given ≤ length took
-  given_length outlook given took (inl e) = let a = ap length e in omega arith
-  given_length outlook given took (inr h) = let a = ap length h.1.1 in let b = length-append given (h.1.0 ∷ []) in omega arith
+    given_length : (outlook : Outlook) (given took : List Item) → AreGivenOf outlook given took → length given ≤ length took
+    given_length outlook given took (inl e) = let a = ap length e in omega arith
+    given_length outlook given took (inr h) = let a = ap length h.1.1 in let b = length-append given (h.1.0 ∷ []) in omega arith
 
 -- without the items before
 pub given_by : (outlook : Outlook) (base took given : List Item) → AreGivenOf outlook (base ++ given) (base ++ took) → AreGivenOf outlook given took
@@ -177,5 +177,5 @@ whole_turn old known seen start base took outlook knew before at_most grants one
       );
     }
   where
-  inside : (s : Signal) → EndsIn seen s → Contains (start ++ seen) s
-  inside s ends = last_contained (start ++ seen) s (start ++ ends.0, ap (λ l. start ++ l) ends.1 ∙ sym (append_assoc start ends.0 (s ∷ [])))
+    inside : (s : Signal) → EndsIn seen s → Contains (start ++ seen) s
+    inside s ends = last_contained (start ++ seen) s (start ++ ends.0, ap (λ l. start ++ l) ends.1 ∙ sym (append_assoc start ends.0 (s ∷ [])))

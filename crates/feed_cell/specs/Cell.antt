@@ -5,11 +5,10 @@ use mathlib.Core.Option.{some}
 use lib.ListN.{get_elem?}
 use Rattle.atomic_table.specs.Table.{State}
 use Rattle.feed_core.specs.Prelude.{Item, Ending, How, Signal, Subscribed, Next, Complete, Error}
-use Rattle.feed_cell.specs.Types.{Causes, Producing, Requesting, Idle, Runner, Nobody, Coming, Fresh, Ready, Looked, Saw, Measured, Taken, Over, Parts}
+use Rattle.feed_cell.specs.Types.{Causes, Producing, Requesting, Idle, Runner, Nobody, Coming, Fresh, Looked, Saw, Measured, Over, Parts}
 use Rattle.feed_core.specs.World.Table.{is_started, is_over}
 use Rattle.feed_core.specs.World.Runs.{IsReached}
 use Rattle.feed_cell.specs.declared.cell.Held.{Held}
-use Rattle.feed_cell.specs.declared.cell.Held.TheVariants as Held
 use Rattle.feed_cell.specs.declared.cell.Lodger.{Lodger}
 use Rattle.feed_cell.specs.declared.cell.View.{View}
 use Rattle.feed_cell.specs.Views.{has_put, has_ask, has_run}

@@ -1,7 +1,6 @@
 -- What a call of the producer's end does beside what its meaning tells.
 use Rattle.std.specs.Prelude.{◌≡◌, false, Option, None, IfSome, IsSome}
 use Rattle.flow_rules.specs.Call.{Call}
-use Rattle.flow_rules.specs.Call as Call
 use Rattle.flow_rules.specs.declared.feed.put.Put.TheVariants.{Accepted, Full, Gone}
 use Rattle.feed_cell.specs.Parties.{ProducerState, TaskState, IsStarted}
 

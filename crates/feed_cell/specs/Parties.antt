@@ -1,19 +1,17 @@
 -- What callers see of the three parties of a subscription.
-use Rattle.std.specs.Prelude.{◌≡◌, ℕ, zero, suc, ℤ, pos, negsuc, ◌+◌, ◌<◌, ◌≤◌, ◌⊎◌, Bool, true, false, ◌||◌, Option, None, Some, List, [], ◌∷◌, length}
+use Rattle.std.specs.Prelude.{◌≡◌, ℕ, zero, suc, ℤ, pos, negsuc, Bool, true, false, ◌||◌, None, List, [], ◌∷◌, length}
 use Rattle.atomic_table.specs.Seated.{TableId}
 use Rattle.flow_rules.specs.Feed.{End}
 use Rattle.feed_core.specs.Cause.{no_causes}
-use Rattle.feed_core.specs.Prelude.{Answer, Item, Signal, UNBOUNDED, total_after}
+use Rattle.feed_core.specs.Prelude.{Answer, Signal, total_after}
 use Rattle.feed_core.specs.World.Table.{MayLook}
 use Rattle.feed_cell.specs.Cell.{greeted}
 use Rattle.feed_cell.specs.declared.cell.Held.{Held}
-use Rattle.feed_cell.specs.declared.cell.Held.TheVariants as Held
 use Rattle.feed_cell.specs.declared.cell.Lodger.{Lodger}
 use Rattle.feed_cell.specs.declared.cell.View.{View}
 use Rattle.feed_cell.specs.Plays.{SeatOf}
 use Rattle.feed_cell.specs.Turning.{own_after, answers_after}
-use Rattle.feed_cell.specs.Types.{Runner, Fresh, Ready}
-use Rattle.feed_cell.specs.Views.{IsRunner}
+use Rattle.feed_cell.specs.Types.{Fresh, Ready}
 
 -- the producer: whose subscription it is, and what its publisher knows of that
 pub record ProducerState : Type 0 where

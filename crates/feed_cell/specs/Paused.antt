@@ -2,9 +2,7 @@
 use Rattle.std.specs.Prelude.{ℕ, List, [], ◌∷◌}
 use Rattle.feed_core.specs.Prelude.{Signal}
 use Rattle.feed_cell.specs.declared.cell.Held.{Held}
-use Rattle.feed_cell.specs.declared.cell.Held.TheVariants as Held
 use Rattle.feed_cell.specs.declared.cell.task.Stage.{Stage}
-use Rattle.feed_cell.specs.declared.cell.task.Stage.TheVariants as Stage
 use Rattle.feed_cell.specs.Parties.{IsFresh, IsHome, IsGoing}
 use Rattle.feed_cell.specs.Plays.{SeatOf}
 

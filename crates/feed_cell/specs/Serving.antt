@@ -1,9 +1,8 @@
 -- What the task does after a look.
-use Rattle.std.specs.Prelude.{◌≡◌, ℕ, ◌+◌, ◌≤◌, ◌⊎◌, false, List, [], ◌∷◌, ◌++◌, length}
-use Rattle.feed_core.specs.Prelude.{How, Item, Signal, Next, UNBOUNDED}
+use Rattle.std.specs.Prelude.{◌≡◌, ◌+◌, ◌≤◌, ◌⊎◌, false, List, [], ◌∷◌, ◌++◌, length}
+use Rattle.feed_core.specs.Prelude.{How, Item, Signal, Next}
 use Rattle.feed_core.specs.Seen.{SeenState, seen_with}
 use Rattle.feed_cell.specs.declared.cell.serving.Served.{Served}
-use Rattle.feed_cell.specs.declared.cell.serving.Served.TheVariants as Served
 use Rattle.feed_cell.specs.Cell.{greeted, IsToldBy}
 use Rattle.feed_cell.specs.Parties.{IsGoing}
 use Rattle.feed_cell.specs.Paused.{told_out}

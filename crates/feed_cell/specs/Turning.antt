@@ -1,5 +1,5 @@
 -- What the task brings to its next look, by what a callback answered.
-use Rattle.std.specs.Prelude.{ℕ, zero, suc, ℤ, pos, negsuc, true}
+use Rattle.std.specs.Prelude.{ℕ, zero, suc, pos, negsuc, true}
 use Rattle.feed_core.specs.Prelude.{Answer, total_after}
 use Rattle.feed_cell.specs.Types.{Causes}
 

@@ -49,10 +49,15 @@ pub(crate) const RUN: u64 = 1;
 
 /// What a signal sets in the control word: the mark of the task, that of something new, and its cause.
 pub(crate) const ITEM: u64 = 3;
+
 pub(crate) const CANCEL: u64 = 7;
+
 pub(crate) const ARGUMENT: u64 = 11;
+
 pub(crate) const STATE: u64 = 19;
+
 pub(crate) const ERROR: u64 = 35;
+
 pub(crate) const COMPLETE: u64 = 67;
 
 /// The code of a closing error stands in the control word from here on.

@@ -86,13 +86,15 @@ fn lane_of<B: Listener>(head: u64, tail: u64, asked: u64, control: u64, last: He
     let requested = asked % MARK;
     let is_home = head >= MARK || control & RUN == 0;
     match last {
-        Held::Guest(Lodger {
-            subscriber,
-            own,
-            how,
-            given: _,
-            answers: _,
-        }) if is_home => Lane {
+        Held::Guest(
+            Lodger {
+                subscriber,
+                own,
+                how,
+                given: _,
+                answers: _,
+            },
+        ) if is_home => Lane {
             subscriber: Some(subscriber),
             accepted: tail,
             given,

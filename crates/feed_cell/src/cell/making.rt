@@ -76,10 +76,7 @@ impl Cell {
 }
 
 /// The table, with all its slots empty, and the seat of its maker.
-fn lay<B: Listener>(
-    alloc: Global,
-    capacity: usize,
-) -> Result<(CellTable<B>, CellSeat<B>), NoMemory>
+fn lay<B: Listener>(alloc: Global, capacity: usize) -> Result<(CellTable<B>, CellSeat<B>), NoMemory>
     requires capacity { IsCapacity capacity }
     ensures { IfOk result (λ made. (made.1.table_id ≡ made.0.shared.table_id) × HasFourWords made.1.table_id × (made.1.me ≡ (first_view capacity, []))) }
 {
@@ -131,12 +128,7 @@ fn share<B: Listener>(
 }
 
 /// Takes the subscriber's slot out with the task, and places the subscriber there.
-fn lodge<B: Listener>(
-    table: &CellTable<B>,
-    seat: &mut CellSeat<B>,
-    capacity: usize,
-    subscriber: B,
-)
+fn lodge<B: Listener>(table: &CellTable<B>, seat: &mut CellSeat<B>, capacity: usize, subscriber: B)
     requires table { (seat.old.table_id ≡ table.now.shared.table_id) × HasFourWords seat.old.table_id }
     requires fresh { IsUnlodged capacity seat.old.me }
     ensures table { (seat.new.table_id ≡ seat.old.table_id) × (seat.new.id ≡ seat.old.id) }

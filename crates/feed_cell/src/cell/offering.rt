@@ -96,7 +96,9 @@ pub(crate) fn signal_complete<B: Listener>(
     ensures sent { seat.new.me ≡ (sent (Some (Closing Ending.Normal)) Free seat.old.me.0, seat.old.me.1) }
     ensures starts { IfSome result (λ task. (task.table_id ≡ seat.old.table_id) × (task.me ≡ (running_handed seat.old.me.0, []))) }
 {
-    let found = table.shared.fetch_or::<SignalComplete>(seat, CONTROL, COMPLETE);
+    let found = table
+        .shared
+        .fetch_or::<SignalComplete>(seat, CONTROL, COMPLETE);
     hand_over(table, seat, found)
 }
 
@@ -113,7 +115,9 @@ pub(crate) fn signal_error<B: Listener>(
     ensures sent { seat.new.me ≡ (sent (Some (Closing (Ending.Failed code))) Free seat.old.me.0, seat.old.me.1) }
     ensures starts { IfSome result (λ task. (task.table_id ≡ seat.old.table_id) × (task.me ≡ (running_handed seat.old.me.0, []))) }
 {
-    let found = table.shared.fetch_or::<SignalError>(seat, CONTROL, u64::from(code) * ERRORS + ERROR);
+    let found = table
+        .shared
+        .fetch_or::<SignalError>(seat, CONTROL, u64::from(code) * ERRORS + ERROR);
     hand_over(table, seat, found)
 }
 

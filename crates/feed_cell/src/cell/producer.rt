@@ -34,7 +34,7 @@ impl<B: Listener> Model for Producer<B> {
     ghost use Rattle.std.specs.Prelude.{◌≡◌, ◌<◌, [], length, is_some, IfSome};
     ghost use Rattle.std.specs.Arc.{arc_value};
     ghost use Rattle.feed_cell.specs.Parties.{ProducerState, end_of};
-        ghost use Rattle.feed_cell.specs.Steps.{HasFourWords, MayOffer};
+    ghost use Rattle.feed_cell.specs.Steps.{HasFourWords, MayOffer};
 
     ghost Value = { ProducerState };
 

@@ -75,7 +75,9 @@ pub(crate) fn signal_argument<B: Listener>(
     ensures sent { seat.new.me ≡ (sent_by_handle (Some Argument) Idle seat.old.me.0, seat.old.me.1) }
     ensures starts { IfSome result (λ task. (task.table_id ≡ seat.old.table_id) × (task.me ≡ (running_handed seat.old.me.0, []))) }
 {
-    let found = table.shared.fetch_or::<SignalArgument>(seat, CONTROL, ARGUMENT);
+    let found = table
+        .shared
+        .fetch_or::<SignalArgument>(seat, CONTROL, ARGUMENT);
     hand_over(table, seat, found)
 }
 

@@ -100,11 +100,7 @@ pub(crate) fn take<B: Listener>(
 }
 
 /// Rests, unless something is new since the look that found this word. Answers whether it rests.
-pub(crate) fn try_rest<B: Listener>(
-    table: &CellTable<B>,
-    seat: &mut CellSeat<B>,
-    word: u64,
-) -> bool
+pub(crate) fn try_rest<B: Listener>(table: &CellTable<B>, seat: &mut CellSeat<B>, word: u64) -> bool
     requires table { (seat.old.table_id ≡ table.now.shared.table_id) × HasFourWords seat.old.table_id }
     requires carries { Carries B.told seat.old.me }
     requires may { MayRest (length seat.old.me.0.taken) seat.old.me.0.runner }
@@ -114,7 +110,10 @@ pub(crate) fn try_rest<B: Listener>(
     ensures missed { result ≡ false → seat.new.me ≡ (record seat.old.me.0 { runner = Ready; misses = seat.old.me.0.misses + 1 }, seat.old.me.1) }
 {
     let look = word & QUIET;
-    table.shared.compare_exchange::<Rest>(seat, CONTROL, look, look & RESTING) == look
+    table
+        .shared
+        .compare_exchange::<Rest>(seat, CONTROL, look, look & RESTING)
+        == look
 }
 
 /// Ends the subscription: stores head with its mark, and gives the subscriber back.

@@ -9,7 +9,6 @@ ghost use Rattle.feed_cell.specs.Running.{Carries, HasLooked, HasTaken, HasMeasu
 ghost use Rattle.feed_cell.specs.Serving.{Serves, Gives, Finishes, TriesRest, Concludes};
 ghost use Rattle.feed_cell.specs.Steps.{HasFourWords};
 
-
 use super::calling::{finish_there, give_there, notes};
 use super::causes::causes_in;
 use super::running::{end, try_rest};

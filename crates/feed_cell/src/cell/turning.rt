@@ -30,7 +30,9 @@ pub enum Turn<B: Listener> {
 impl<B: Listener> Task<B> {
     /// Tells the subscriber what is owed: `onSubscribe` first of all, then items below the demand, 64 at most, then the terminal
     /// signal. What it was told is what `seen` then holds (`Flow.Subscriber`; Reactive Streams 1.0, rules 1.1, 1.3, 1.5, 1.7 and
-    /// 1.9). What a callback answers is done at once; one that is refused memory ends the subscription.
+    /// 1.9). Before each item it looks: that look showed no cancel, bad request, second subscribing or error, and a measure after it
+    /// showed that the item was requested. What a callback answers is done at once; one that is refused memory ends the subscription.
+    /// It goes on only after 64 items, or where something was new when it would have rested.
     pub fn turn(self, seen: &mut Seen) -> Turn<B>
         ensures turned { TurnsInto self seen.new.signals result }
         ensures room { seen.new.room ≡ seen.old.room }

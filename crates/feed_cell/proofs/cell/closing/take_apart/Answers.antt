@@ -1,8 +1,7 @@
-use Rattle.std.proofs.Common.{◌≡◌, ◌-◌, ℕ, length, ap, ◌∙◌, sym}
-use mathlib.Core.Option.{some}
+use Rattle.std.proofs.Common.{◌-◌, ℕ, ap, ◌∙◌, sym}
 use Rattle.std.specs.Mem.Slots.{slots_items, slots_counts}
 use lib.ListN.{get_elem?}
-use Rattle.feed_cell.proofs.Leaving.{left_of}
+use Rattle.feed_cell.proofs.Closed.{left_of}
 use Rattle.feed_cell.proofs.cell.closing.take_apart.Goals as goal
 
 pub returns : goal.returns

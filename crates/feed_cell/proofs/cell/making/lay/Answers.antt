@@ -1,4 +1,4 @@
-use Rattle.std.proofs.Common.{◌≡◌, ◌+◌, ◌∷◌, [], ℕ, List, replicate, sym, subst}
+use Rattle.std.proofs.Common.{◌∷◌, [], List, sym, subst}
 use Rattle.atomic_table.specs.Table.{opening}
 use Rattle.feed_cell.proofs.Opening.{opens}
 use Rattle.feed_cell.specs.Cell.{Cell}

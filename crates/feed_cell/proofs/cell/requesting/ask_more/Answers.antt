@@ -1,5 +1,4 @@
-use Rattle.std.proofs.Common.{◌≡◌, ℕ, rules, sym, ap, ◌∙◌}
-use Rattle.feed_core.specs.Prelude.{total_after}
+use Rattle.std.proofs.Common.{rules}
 use Rattle.feed_cell.proofs.Requesting.{asks_more}
 use Rattle.feed_cell.proofs.cell.requesting.ask_more.Goals as goal
 

@@ -1,8 +1,8 @@
-use Rattle.std.proofs.Common.{◌≡◌, ◌%◌, ◌<◌, ◌≤◌, length, ap, ◌∙◌, arith}
-use Rattle.feed_core.specs.Prelude.{UNBOUNDED, total_after}
+use Rattle.std.proofs.Common.{◌≡◌, ◌%◌, ◌≤◌, ap, ◌∙◌, arith}
+use Rattle.feed_core.specs.Prelude.{UNBOUNDED}
 use Rattle.feed_cell.specs.Control.{MARK}
 use Rattle.feed_cell.proofs.Granting.{takes_next}
-use Rattle.feed_cell.proofs.Leaving.{unmark}
+use Rattle.feed_cell.proofs.Marks.{unmark}
 use Rattle.feed_cell.proofs.cell.taking.next_item.Goals as goal
 
 pub returns-clause-some : goal.returns-clause-some

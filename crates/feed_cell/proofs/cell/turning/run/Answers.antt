@@ -1,8 +1,8 @@
 -- Each look is one step of the turn, and the turn is over after 64 items at most.
-use Rattle.std.proofs.Common.{ℕ, ◌≡◌, ◌<◌, ap, sym, subst, ◌∙◌, arith}
+use Rattle.std.proofs.Common.{ℕ, ◌≡◌, ap, subst, ◌∙◌, arith}
 use Rattle.atomic_table.specs.Seated.{TableId}
 use Rattle.feed_core.specs.Seen.{SeenState}
-use Rattle.feed_cell.specs.Turned.{IsMidTurn, TellsSoFar}
+use Rattle.feed_cell.specs.Turned.{TellsSoFar}
 use Rattle.feed_cell.proofs.MidTurn.{ends_after, full, gave_on, going_on, looked_on, may_look_next, misses_after, rests_after, room_so_far}
 use Rattle.feed_cell.proofs.cell.turning.run.Goals as goal
 use Rattle.feed_cell.proofs.cell.turning.run.Goals.{After-look_next-word}
@@ -79,8 +79,7 @@ returns-in-Ended-clause-room g c = ap (λ (s : SeenState). s.room) c.in-Ended.en
 
 pub loop-preserved : goal.loop-preserved
 loop-preserved g c =
-    let gives = c.in-Gave.ensures.serves in
-    (
+    let gives = c.in-Gave.ensures.serves in (
       gave_on g.B.Listener.told c.loop.counter c.args.seat.now.me c.look_next-word.new.seat.me c.serve.new.seat.me c.loop.seen c.serve.new.seen (looked g (goal.at.loop-preserved g c).After-look_next-word) gives,
       ap (λ (s : SeenState). s.room) gives.saw ∙ c.loop.invariant.1,
       (c.in-Gave.ensures.table.0 ∙ c.look_next-word.ensures.table.0 ∙ c.loop.invariant.2.0, c.in-Gave.ensures.table.1 ∙ c.look_next-word.ensures.table.1 ∙ c.loop.invariant.2.1),
