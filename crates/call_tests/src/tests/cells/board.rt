@@ -29,8 +29,11 @@ impl Board {
         }
     }
 
-    // Leaves a task for whoever runs it.
-    pub fn post<R: Wait>(&self, rt: &R, task: Task<InOrder>) {
+    // Leaves a task, where one was started, for whoever runs it.
+    pub fn post<R: Wait>(&self, rt: &R, start: Option<Task<InOrder>>) {
+        let Some(task) = start else {
+            return;
+        };
         if self.task.lock(rt).replace(task).is_some() {
             self.doubled.store(true, SeqCst);
         }
@@ -55,7 +58,7 @@ impl Board {
         let turn = task.turn(seen);
         self.given.fetch_add(items_in(seen.as_slice()), SeqCst);
         match turn {
-            Turn::Again(task) => self.post(rt, task),
+            Turn::Again(task) => self.post(rt, Some(task)),
             Turn::Resting => (),
             Turn::Ended(_) => self.ended.store(true, SeqCst),
         }

@@ -28,33 +28,40 @@ fn item_of(serial: u64, text: &Text) -> Result<Item, NoMemory> {
     })
 }
 
-// Puts the items in order, each again while it comes back from a full buffer, and closes.
+// Puts an item, again while it comes back from a full buffer.
+fn put_one<R: Wait>(
+    rt: &R,
+    board: &Board,
+    putting: &mut Putting<InOrder>,
+    item: Item,
+) -> Result<(), NoMemory> {
+    let mut item = item;
+    for _ in rt.forever() {
+        match putting.put(item)? {
+            Put::Accepted { start, .. } => {
+                board.post(rt, start);
+                break;
+            }
+            Put::Full(back) => item = back,
+            Put::Gone(_) => break,
+        }
+        thread::yield_now();
+    }
+    Ok(())
+}
+
+// Puts the items in order, and closes.
 fn put_all<R: Wait>(
     rt: &R,
     board: &Board,
     mut putting: Putting<InOrder>,
     text: &Text,
 ) -> Result<Producer<InOrder>, NoMemory> {
-    let mut serial = 0;
-    for _ in rt.forever() {
-        if serial == ITEMS {
-            break;
-        }
-        match putting.put(item_of(serial, text)?)? {
-            Put::Accepted { start, .. } => {
-                serial += 1;
-                if let Some(task) = start {
-                    board.post(rt, task);
-                }
-            }
-            Put::Full(_) => thread::yield_now(),
-            Put::Gone(_) => break,
-        }
+    for serial in 0..ITEMS {
+        put_one(rt, board, &mut putting, item_of(serial, text)?)?;
     }
     putting.producer.ready()?;
-    if let Some(task) = putting.producer.end(Ending::Normal) {
-        board.post(rt, task);
-    }
+    board.post(rt, putting.producer.end(Ending::Normal));
     Ok(putting.producer)
 }
 
@@ -76,9 +83,7 @@ fn request_all<R: Wait>(
         let some = (asked % 3 + 1).min(ITEMS - asked);
         asked += some;
         handle.ready()?;
-        if let Some(task) = handle.request(some as i64) {
-            board.post(rt, task);
-        }
+        board.post(rt, handle.request(some as i64));
     }
     Ok(handle)
 }
