@@ -71,7 +71,11 @@ const GREETED: Row<'static> = Row::Turn(b"s", Outlook::Resting);
 type Life = (&'static [Row<'static>], Option<&'static [u8]>, Left);
 
 const LIVES: [Life; 7] = [
-    (&ONE_PLACE, Some(b"sxzc"), (2, 2, 2, Some(How::Completed), false)),
+    (
+        &ONE_PLACE,
+        Some(b"sxzc"),
+        (2, 2, 2, Some(How::Completed), false),
+    ),
     // At rest nothing runs, whether or not something waits.
     (&[GREETED], Some(b"s"), (0, 0, 1, None, false)),
     (
@@ -151,7 +155,10 @@ fn a_life_is_whole_or_is_refused_memory(rt: HostRuntime) -> Result<(), Fail> {
         assert!(rt; is_told(alloc, &lane, Some(b"sxzc"))?);
         return Ok(());
     }
-    assert!(rt; !lane.running && lane.ending == Some(How::OutOfMemory), "row {wrong:?}");
+    assert!(rt;
+        !lane.running && lane.ending == Some(How::OutOfMemory),
+        "row {wrong:?}"
+    );
     let Some(Shown(subscriber)) = &lane.subscriber else {
         return Err(Fail::new("it has no subscriber"));
     };

@@ -55,7 +55,11 @@ fn a_task_alive_gives_the_producer_back(rt: HostRuntime) -> Result<(), Fail> {
 #[test]
 fn another_handle_gives_the_producer_back(rt: HostRuntime) -> Result<(), Fail> {
     let alloc = rt.alloc();
-    let (one, other, third) = (at_rest(&rt, alloc)?, at_rest(&rt, alloc)?, at_rest(&rt, alloc)?);
+    let (one, other, third) = (
+        at_rest(&rt, alloc)?,
+        at_rest(&rt, alloc)?,
+        at_rest(&rt, alloc)?,
+    );
     let Err(mut producer) = close(one.putting.producer, other.handle) else {
         return Err(Fail::new("its own handle lives"));
     };
@@ -63,7 +67,11 @@ fn another_handle_gives_the_producer_back(rt: HostRuntime) -> Result<(), Fail> {
     assert!(rt; !standing.ended && standing.held == 0);
     leaves(&rt, close(producer, one.handle), (0, 0, 0, None, false))?;
     // The other's handle made its last step in that close, so the other one is at rest for good.
-    leaves(&rt, close(other.putting.producer, third.handle), (0, 0, 0, None, false))
+    leaves(
+        &rt,
+        close(other.putting.producer, third.handle),
+        (0, 0, 0, None, false),
+    )
 }
 
 // A subscription whose own handle was dropped counts as one that runs, though its subscriber is there.
@@ -72,5 +80,9 @@ fn a_lost_handle_leaves_it_running(rt: HostRuntime) -> Result<(), Fail> {
     let alloc = rt.alloc();
     let (one, other) = (at_rest(&rt, alloc)?, at_rest(&rt, alloc)?);
     drop(one.handle);
-    leaves(&rt, close(one.putting.producer, other.handle), (0, 0, 0, None, true))
+    leaves(
+        &rt,
+        close(one.putting.producer, other.handle),
+        (0, 0, 0, None, true),
+    )
 }

@@ -71,12 +71,7 @@ impl<B: Listener> Parties<B> {
     }
 
     // Whether an item with this letter comes back: from a full buffer, or since the subscription is gone.
-    fn gives_back(
-        &mut self,
-        alloc: Global,
-        letter: u8,
-        from_gone: bool,
-    ) -> Result<bool, NoMemory> {
+    fn gives_back(&mut self, alloc: Global, letter: u8, from_gone: bool) -> Result<bool, NoMemory> {
         let item = item_with(alloc, &[letter])?;
         let twin = item.share()?;
         Ok(match self.putting.put(item)? {
@@ -110,12 +105,7 @@ impl<B: Listener> Parties<B> {
     }
 
     // Whether the task is there, and a turn of it tells what these letters write, and has this outlook.
-    fn turns(
-        &mut self,
-        alloc: Global,
-        letters: &[u8],
-        outlook: Outlook,
-    ) -> Result<bool, NoMemory> {
+    fn turns(&mut self, alloc: Global, letters: &[u8], outlook: Outlook) -> Result<bool, NoMemory> {
         let wanted = signals(alloc, letters)?;
         let mut seen = Seen::new(alloc)?;
         let Some(task) = self.task.take() else {

@@ -131,7 +131,10 @@ fn four_threads_share_a_subscription(rt: HostRuntime) -> Result<(), Fail> {
     for asked in [1, 4, 64] {
         let lane = relay(rt, rt.alloc(), asked)?;
         assert!(rt; numbers(&lane) == (ITEMS, ITEMS, ITEMS, Some(How::Completed), false));
-        assert!(rt; lane.subscriber.is_some_and(|listener| listener.has_all(ITEMS)));
+        assert!(rt;
+            lane.subscriber
+                .is_some_and(|listener| listener.has_all(ITEMS))
+        );
     }
     Ok(())
 }
