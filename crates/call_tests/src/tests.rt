@@ -1,4 +1,5 @@
 //! Tests of the public calls, one subject a file: what no clause can say.
+mod cells;
 mod count;
 mod desks;
 mod endings;
@@ -6,10 +7,10 @@ mod hub;
 mod listeners;
 mod names;
 mod numbers;
+mod play;
 mod pool;
 mod publishers;
 mod refusals;
-mod rings;
 mod subscribers;
 mod texts;
 mod worlds;

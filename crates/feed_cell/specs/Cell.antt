@@ -1,86 +1,177 @@
--- What holds of a ring's table between any two steps.
-use Rattle.std.specs.Prelude.{◌≡◌, ℕ, ◌+◌, ◌%◌, ◌<◌, ◌≤◌, Bool, true, List, [], ◌∷◌, ◌++◌, length, take, Option, Some, None}
+-- What holds of a subscription's table between any two steps.
+use Rattle.std.specs.Prelude.{◌≡◌, ℕ, ◌+◌, ◌%◌, ◌<◌, ◌≤◌, ◌⊎◌, Bool, true, false, List, [], ◌∷◌, ◌++◌, length, map, take, Option, Some, None}
 use mathlib.Core.Option as slot
 use mathlib.Core.Option.{some}
 use lib.ListN.{get_elem?}
 use Rattle.atomic_table.specs.Table.{State}
-use Rattle.feed_core.specs.Prelude.{Item, UNBOUNDED}
+use Rattle.feed_core.specs.Prelude.{Item, Ending, How, Signal, Subscribed, Next, Complete, Error}
+use Rattle.feed_cell.specs.Types.{Causes, Producing, Requesting, Idle, Runner, Nobody, Coming, Fresh, Looked, Saw, Measured, Over, Parts}
+use Rattle.feed_core.specs.World.Table.{is_started, is_over}
+use Rattle.feed_core.specs.World.Runs.{IsReached}
+use Rattle.feed_cell.specs.declared.cell.Held.{Held}
+use Rattle.feed_cell.specs.declared.cell.Lodger.{Lodger}
 use Rattle.feed_cell.specs.declared.cell.View.{View}
-use Rattle.feed_cell.specs.Views.{has_put, has_ask, has_take}
+use Rattle.feed_cell.specs.Views.{has_put, has_ask, has_run}
+use Rattle.feed_cell.specs.Control.{Flags, Reads, causes_of, marked}
 
--- a free slot holds nothing
-abbrev pub nothing : Option Item
-nothing = None
-
--- the words and slots of a ring, and what each of its parties knows
-abbrev pub Moment : Type 0
-Moment = State (Option Item) View
-
--- what was put, taken and asked for, the item whose slot is out, if any, and the number from which on places are free and at home
-pub record Lists (capacity : ℕ) (log taken item : List Item) (free asked : ℕ) : Type 0 where
+-- what was put and taken, the item whose slot is out, if any, and the number from which on places are free and at home
+pub record Lists (capacity : ℕ) (log taken item : List Item) (free : ℕ) : Type 0 where
   pub sized : 0 < capacity
   -- what was taken is the first of what was put, in its order, and the item that is out comes next
   pub begins : taken ++ item ≡ take (length taken + length item) log
   pub one_out : length item ≤ 1
   pub within : length taken + length item ≤ length log
-  -- no more was put than the buffer has room for
-  pub fits : length log ≤ length taken + capacity
-  -- no more was taken than was asked for
-  pub requested : length taken ≤ asked
-  pub asked_bounded : asked ≤ UNBOUNDED
-  pub free_above : length log ≤ free
-  pub free_below : free ≤ length taken + capacity
+  pub above : length log ≤ free
+  pub below : free ≤ length taken + capacity
 
--- each item from the number full on lies in its slot, each place from the number free on is empty, and so is the subscriber's
-pub record Lies (capacity : ℕ) (log : List Item) (head full free : ℕ) (homes : List (slot.Option (Option Item))) : Type 0 where
+-- each item from the number full on lies in its slot, and each place from the number free on is empty
+pub record Lies {B : Type 0} (capacity : ℕ) (log : List Item) (head full free : ℕ) (homes : List (slot.Option (Held B))) : Type 0 where
   pub wide : length homes ≡ capacity + 1
-  pub items : (k : ℕ) (x : Item) → full ≤ k → get_elem? log k ≡ some x → get_elem? homes (k % capacity) ≡ some (some (Some x))
-  pub places : (k : ℕ) → free ≤ k → k < head + capacity → get_elem? homes (k % capacity) ≡ some (some nothing)
-  pub nobody : get_elem? homes capacity ≡ some (some nothing)
+  pub items : (k : ℕ) (x : Item) → full ≤ k → get_elem? log k ≡ some x → get_elem? homes (k % capacity) ≡ some (some (Held.Item x))
+  pub places : (k : ℕ) → free ≤ k → k < head + capacity → get_elem? homes (k % capacity) ≡ some (some Held.Empty)
 
 -- at most one seat has this part, that one, and this is what it knows
 abbrev pub Only : (View → Bool) → ℕ → (View → Type 0) → List View → Type 0
 Only part seat Knows views = (j : ℕ) (d : View) → get_elem? views j ≡ some d → part d ≡ true → (j ≡ seat) × Knows d
 
--- what the putter knows of the ring: the parts of its view are these
-pub record KnowsPut (capacity : ℕ) (log : List Item) (head free own : ℕ) (put : List Item) (seen places : ℕ) : Type 0 where
-  pub capacity_is : own ≡ capacity
-  pub put_is : put ≡ log
-  pub seen_below : seen ≤ head
-  pub places_are : free ≡ length log + places
+-- whether a seat runs the task
+abbrev pub has_seat : Runner → Bool
+has_seat Nobody = false
+has_seat Coming = false
+has_seat (Over _) = false
+has_seat _ = true
 
-abbrev pub IsPutter : ℕ → List Item → ℕ → ℕ → View → Type 0
-IsPutter capacity log head free d = KnowsPut capacity log head free d.capacity d.put d.seen d.places
+-- whether it may have an item out
+abbrev pub may_hold : Runner → Bool
+may_hold (Saw _ _) = true
+may_hold (Measured _ _ _) = true
+may_hold _ = false
 
--- what the asker knows of it
-abbrev pub IsAsker : ℕ → View → Type 0
-IsAsker asked d = d.asked ≡ asked
+-- whether it has looked, and neither taken nor rested since
+abbrev pub has_looked : Runner → Bool
+has_looked (Looked _) = true
+has_looked (Saw _ _) = true
+has_looked (Measured _ _ _) = true
+has_looked _ = false
 
--- what the taker knows of it
-pub record KnowsTaken (capacity tail : ℕ) (taken item : List Item) (asked own : ℕ) (took out : List Item) (saw may : ℕ) : Type 0 where
-  pub capacity_is : own ≡ capacity
-  pub taken_is : took ≡ taken
-  pub item_is : out ≡ item
-  pub saw_below : saw ≤ tail
-  pub may_below : may ≤ asked
+-- how the subscription has ended, if it has
+abbrev pub how_of : Runner → Option How
+how_of (Over how) = Some how
+how_of _ = None
 
-abbrev pub IsTaker : ℕ → ℕ → List Item → List Item → ℕ → View → Type 0
-IsTaker capacity tail taken item asked d = KnowsTaken capacity tail taken item asked d.capacity d.taken d.item d.saw d.may
+-- the signals of a subscriber that was given these items, and goes on
+abbrev pub greeted : List Item → List Signal
+greeted items = Subscribed ∷ map Next items
 
--- the rule of a ring of this capacity
-pub record Cell (capacity : ℕ) (s : Moment) : Type 0 where
-  pub log : List Item
-  pub taken : List Item
-  pub item : List Item
-  pub free : ℕ
-  pub asked : ℕ
-  -- the seats of the putter, the asker and the taker
-  pub producer : ℕ
-  pub handle : ℕ
-  pub runner : ℕ
-  pub lists : Lists capacity log taken item free asked
-  pub words : s.words ≡ length taken ∷ length log ∷ asked ∷ 1 ∷ []
-  pub lies : Lies capacity log (length taken) (length taken + length item) free s.homes
-  pub producers : Only has_put producer (IsPutter capacity log (length taken) free) s.views
-  pub handles : Only has_ask handle (IsAsker asked) s.views
-  pub runners : Only has_take runner (IsTaker capacity (length log) taken item asked) s.views
+-- what a subscriber was told that these items were taken for, by how it has ended (Reactive Streams 1.0, 1.4, 1.5 and 1.7)
+abbrev pub IsToldBy : How → List Item → List Signal → Type 0
+IsToldBy How.Completed taken told = told ≡ greeted taken ++ Complete ∷ []
+IsToldBy (How.Errored fault) taken told = told ≡ greeted taken ++ Error fault ∷ []
+IsToldBy How.Cancelled taken told = told ≡ greeted taken
+IsToldBy (How.Failed _) taken told = told ≡ greeted taken
+IsToldBy How.OutOfMemory taken told =
+    (told ≡ greeted taken)
+    ⊎ (((taken ≡ []) × (told ≡ []))
+    ⊎ ((before : List Item) × (x : Item) × (taken ≡ before ++ x ∷ []) × (told ≡ greeted before)))
+
+-- what a subscriber at home was told, by where its task stands
+abbrev pub IsToldAt : Runner → List Item → List Signal → Type 0
+IsToldAt (Over how) taken told = IsToldBy how taken told
+IsToldAt _ taken told = told ≡ greeted taken
+
+-- what the words, the lists and the flags show of the subscription
+pub record Shows (capacity : ℕ) (w : Parts) (log taken item : List Item) (f : Flags) (answers : Causes) (away left : Bool) : Type 0 where
+  pub sized : w.capacity ≡ capacity
+  pub accepted : w.accepted ≡ length log
+  pub given : w.given ≡ length taken
+  pub none_out : may_hold w.runner ≡ false → item ≡ []
+  pub started : f.run ≡ is_started w.runner
+  pub new : f.active ≡ w.active
+  pub causes : w.causes ≡ causes_of f answers
+  pub home : has_seat w.runner ≡ false → away ≡ false
+  pub settled : left ≡ true → w.handle ≡ Idle
+
+-- the words
+abbrev pub words_of : Parts → Bool → ℕ → List ℕ
+words_of w left control = marked (is_over w.runner) w.given ∷ w.accepted ∷ marked left w.asked ∷ control ∷ []
+
+-- the subscriber is at home, with what is kept beside it
+pub record Lodges {B : Type 0} (told : B → List Signal) (capacity : ℕ) (runner : Runner) (taken : List Item) (own : ℕ) (answers : Causes) (homes : List (slot.Option (Held B))) : Type 0 where
+  pub guest : Lodger B
+  pub at : get_elem? homes capacity ≡ some (some (Held.Guest guest))
+  pub given_is : guest.given ≡ length taken
+  pub own_is : guest.own ≡ own
+  pub answers_are : guest.answers ≡ answers
+  pub how_is : guest.how ≡ how_of runner
+  pub told_is : IsToldAt runner taken (told guest.subscriber)
+
+-- while nobody has it out: before the first task takes the slot, it is empty, and later the subscriber is there
+abbrev pub LodgesAt : {B : Type 0} → (B → List Signal) → ℕ → Runner → List Item → ℕ → Causes → List (slot.Option (Held B)) → Type 0
+LodgesAt told capacity Fresh taken own answers homes = get_elem? homes capacity ≡ some (some Held.Empty)
+LodgesAt told capacity runner taken own answers homes = Lodges told capacity runner taken own answers homes
+
+-- what the producer knows
+pub record AsProducer (capacity : ℕ) (log : List Item) (given free : ℕ) (ended : Bool) (closing : Option Ending) (state : Bool) (producing : Producing) (d : View) : Type 0 where
+  pub sized : d.capacity ≡ capacity
+  pub put : d.put ≡ log
+  pub seen : d.seen ≤ given
+  pub places : free ≡ length log + d.places
+  pub over : d.over ≡ true → ended ≡ true
+  pub closed : d.closing ≡ closing
+  pub doubled : d.state ≡ state
+  pub stands : d.producing ≡ producing
+
+-- what the handle knows
+pub record AsHandle (capacity : ℕ) (asked : ℕ) (cancel argument left : Bool) (requesting : Requesting) (d : View) : Type 0 where
+  pub sized : d.capacity ≡ capacity
+  pub total : d.asked ≡ asked
+  pub cancels : d.cancel ≡ cancel
+  pub bad : d.argument ≡ argument
+  pub there : left ≡ false
+  pub stands : d.requesting ≡ requesting
+
+-- what a task that has its subscriber with it knows besides
+pub record KnowsAway (taken : List Item) (own : ℕ) (answers : Causes) (d : View) : Type 0 where
+  pub taken_is : d.taken ≡ taken
+  pub own_is : d.own ≡ own
+  pub answers_are : d.answers ≡ answers
+
+-- what the task knows
+pub record AsRunner (capacity : ℕ) (runner : Runner) (active : Bool) (control : ℕ) (away : Bool) (taken item : List Item) (own : ℕ) (answers : Causes) (d : View) : Type 0 where
+  pub sized : d.capacity ≡ capacity
+  pub seated : has_seat runner ≡ true
+  pub stands : d.runner ≡ runner
+  pub out : d.away ≡ away
+  pub knows : away ≡ true → KnowsAway taken own answers d
+  pub fresh : runner ≡ Fresh → KnowsAway taken own answers d
+  pub item_is : d.item ≡ item
+  pub latest : has_looked runner ≡ true → active ≡ false → control ≡ d.look
+
+module _ {B : Type 0} (told : B → List Signal) where
+  -- the rule of a subscription of this capacity
+  pub record Cell (capacity : ℕ) (s : State (Held B) View) : Type 0 where
+    -- what there is, which some list of possible events leads to
+    pub world : Parts
+    pub reached : IsReached world
+    pub log : List Item
+    pub taken : List Item
+    pub item : List Item
+    pub free : ℕ
+    pub control : ℕ
+    pub flags : Flags
+    pub answers : Causes
+    pub away : Bool
+    pub left : Bool
+    -- the seats of the producer, the handle and the task
+    pub producer : ℕ
+    pub handle : ℕ
+    pub runner : ℕ
+    pub lists : Lists capacity log taken item free
+    pub shows : Shows capacity world log taken item flags answers away left
+    pub reads : Reads control flags
+    pub words : s.words ≡ words_of world left control
+    pub lies : Lies capacity log (length taken) (length taken + length item) free s.homes
+    pub lodges : away ≡ false → LodgesAt told capacity world.runner taken world.own answers s.homes
+    pub producers : Only has_put producer (AsProducer capacity log world.given free (is_over world.runner) flags.closing flags.state world.producer) s.views
+    pub handles : Only has_ask handle (AsHandle capacity world.asked flags.cancel flags.argument left world.handle) s.views
+    pub runners : Only has_run runner (AsRunner capacity world.runner world.active control away taken item world.own answers) s.views

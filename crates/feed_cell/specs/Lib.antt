@@ -1,4 +1,14 @@
-pub mod Views
 pub mod Cell
+pub mod Control
+pub mod Left
+pub mod Offering
+pub mod Parties
+pub mod Paused
+pub mod Plays
+pub mod Running
+pub mod Serving
 pub mod Steps
-pub mod Ends
+pub mod Turned
+pub mod Turning
+pub mod Types
+pub mod Views

@@ -1,50 +1,49 @@
--- What each step tells the party that makes it: its seat afterwards, by its seat before and the number found.
-use Rattle.std.specs.Prelude.{◌≡◌, ℕ, ◌+◌, ◌%◌, ◌<◌, ◌≤◌, List, [], ◌∷◌, ◌++◌, length, Option, Some, None}
-use Rattle.atomic_table.specs.Table.{Me, rest}
-use Rattle.feed_core.specs.Prelude.{Item}
+-- What the steps of a party ask of its seat.
+use Rattle.std.specs.Prelude.{◌≡◌, ℕ, ◌%◌, ◌^◌, ◌<◌, ◌⊎◌, [], ◌∷◌, length, None, false}
+use Rattle.std.specs.Int.{bit_at}
+use Rattle.atomic_table.specs.Seated.{TableId}
+use Rattle.feed_core.specs.World.Table.{MayBegin}
+use Rattle.feed_cell.specs.declared.cell.Held.{Held}
 use Rattle.feed_cell.specs.declared.cell.View.{View}
-use Rattle.feed_cell.specs.Cell.{nothing}
+use Rattle.feed_cell.specs.Plays.{SeatOf}
+use Rattle.feed_cell.specs.Types.{HasRoom, Idle, Fresh}
+use Rattle.feed_cell.specs.Views.{IsProducer, IsHandle, IsRunner}
 
--- what a party knows, and the slots that it has out
-abbrev pub SeatView : Type 0
-SeatView = Me (Option Item) View
+-- a subscription's table has four words
+abbrev pub HasFourWords : TableId → Type 0
+HasFourWords ring = ring.words ≡ 4
 
--- an item or nothing, as a list
-abbrev pub items_in : Option Item → List Item
-items_in (Some x) = x ∷ []
-items_in None = []
+-- the task was handed over where the signal that found this word had started it, and else nothing changed
+abbrev pub IsHanded : {B : Type 0} → ℕ → View → SeatOf B → SeatOf B → Type 0
+IsHanded found handed before after = ((bit_at found 0 ≡ 1) × (after ≡ before)) ⊎ ((bit_at found 0 ≡ 0) × (after ≡ (handed, before.1)))
 
--- the item in the slot that was taken out last
-abbrev pub item_out : List (ℕ × Option Item) → List Item
-item_out [] = []
-item_out (slot ∷ more) = items_in slot.1
+-- the producer may look: it is not in the middle of a put or a signal
+pub record MayOffer {B : Type 0} (me : SeatOf B) : Type 0 where
+  pub is : IsProducer me.0
+  pub none_out : me.0.places ≡ 0
+  pub begins : MayBegin me.0.producing
 
--- the putter found this number of items taken: where that leaves room, the next slot is out with it
-abbrev pub IsStepOfRoom : SeatView → ℕ → SeatView → Type 0
-IsStepOfRoom before head after = (before.0.seen ≤ head) × (head ≤ length before.0.put) × (length before.0.put ≤ head + before.0.capacity)
-    × (length before.0.put < head + before.0.capacity → after ≡ (record before.0 { seen = head; looks = before.0.looks + 1; places = 1 }, (length before.0.put % before.0.capacity, nothing) ∷ before.1))
-    × (length before.0.put ≡ head + before.0.capacity → after ≡ (record before.0 { seen = head; looks = before.0.looks + 1 }, before.1))
+-- the producer has the slot of its next item out, and may put
+pub record HasPlace {B : Type 0} (capacity tail : ℕ) (me : SeatOf B) : Type 0 where
+  pub is : IsProducer me.0
+  pub stage : me.0.producing ≡ HasRoom
+  pub one_out : me.0.places ≡ 1
+  pub closing : me.0.closing ≡ None
+  pub slot : me.1 ≡ (length me.0.put % me.0.capacity, Held.Empty) ∷ []
+  pub counted : length me.0.put ≡ tail
+  pub sized : me.0.capacity ≡ capacity
+  pub positive : 0 < capacity
+  pub few : tail < 2 ^ 62
 
--- the item in the slot that was out is put
-abbrev pub IsStepOfPut : SeatView → SeatView → Type 0
-IsStepOfPut before after = after ≡ (record before.0 { put = before.0.put ++ item_out before.1; places = 0 }, rest before.1)
+-- the handle may make a step: it is not in the middle of a request or a signal
+pub record MayRequest {B : Type 0} (me : SeatOf B) : Type 0 where
+  pub is : IsHandle me.0
+  pub idle : me.0.requesting ≡ Idle
 
--- the taker found this number of items put: where there is one that it did not take, the next slot is out with it
-abbrev pub IsStepOfSee : SeatView → ℕ → SeatView → Type 0
-IsStepOfSee before tail after = (before.0.saw ≤ tail) × (length before.0.taken ≤ tail)
-    × (length before.0.taken < tail → (x : Item) × (after ≡ (record before.0 { item = x ∷ []; saw = tail; sees = before.0.sees + 1 }, (length before.0.taken % before.0.capacity, Some x) ∷ before.1)))
-    × (tail ≡ length before.0.taken → after ≡ (record before.0 { saw = tail; sees = before.0.sees + 1 }, before.1))
-
--- the taker found this number of items asked for: where it took as many, the slot that was out is given back
-abbrev pub IsStepOfMeasure : SeatView → ℕ → SeatView → Type 0
-IsStepOfMeasure before asked after = (before.0.may ≤ asked)
-    × (length before.0.taken < asked → after ≡ (record before.0 { may = asked; measures = before.0.measures + 1 }, before.1))
-    × (asked ≤ length before.0.taken → after ≡ (record before.0 { item = []; may = asked; measures = before.0.measures + 1 }, rest before.1))
-
--- the item that was out is taken, and its slot given back
-abbrev pub IsStepOfTake : SeatView → SeatView → Type 0
-IsStepOfTake before after = after ≡ (record before.0 { taken = before.0.taken ++ before.0.item; item = [] }, rest before.1)
-
--- this number is asked for in all
-abbrev pub IsStepOfAsk : SeatView → ℕ → SeatView → Type 0
-IsStepOfAsk before asked after = after ≡ (record before.0 { asked = asked }, before.1)
+-- the first task has not taken its subscriber's slot out yet
+pub record IsUnlodged {B : Type 0} (capacity : ℕ) (me : SeatOf B) : Type 0 where
+  pub is : IsRunner me.0
+  pub stage : me.0.runner ≡ Fresh
+  pub home : me.0.away ≡ false
+  pub none_out : me.1 ≡ []
+  pub sized : me.0.capacity ≡ capacity

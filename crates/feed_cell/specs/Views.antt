@@ -1,30 +1,38 @@
--- What the parties of a ring know: at first, and when seats are split and joined.
-use Rattle.std.specs.Prelude.{ℕ, Bool, true, false, []}
+-- What the parties of a subscription know: at first, and when seats are split.
+use Rattle.std.specs.Prelude.{◌≡◌, ℕ, Bool, true, false, None, []}
+use Rattle.feed_core.specs.Cause.{no_causes}
+use Rattle.feed_cell.specs.Types.{Free, Idle, Fresh, Ready}
 use Rattle.feed_cell.specs.declared.cell.View.{View}
 
--- the maker of a ring of this capacity has all three parts
+-- the maker of a subscription of this capacity has all three parts
 abbrev pub first_view : ℕ → View
 first_view capacity = record {
   capacity = capacity;
   puts = true;
   put = [];
+  producing = Free;
+  places = 0;
   seen = 0;
   looks = 0;
-  places = 0;
+  over = false;
+  closing = None;
+  state = false;
   asks = true;
   asked = 0;
-  takes = true;
+  requesting = Idle;
+  cancel = false;
+  argument = false;
+  runs = true;
+  runner = Fresh;
+  look = 0;
+  away = false;
   taken = [];
   item = [];
-  saw = 0;
-  sees = 0;
-  may = 0;
-  measures = 0;
+  grants = [];
+  own = 0;
+  answers = no_causes;
+  misses = 0;
 }
-
--- a seat without any part
-abbrev pub idle_view : View
-idle_view = record (first_view 0) { puts = false; asks = false; takes = false }
 
 -- which parts a seat has
 abbrev pub has_put : View → Bool
@@ -33,27 +41,40 @@ has_put v = v.puts
 abbrev pub has_ask : View → Bool
 has_ask v = v.asks
 
-abbrev pub has_take : View → Bool
-has_take v = v.takes
+abbrev pub has_run : View → Bool
+has_run v = v.runs
 
--- the asker's part goes to a seat of its own
+-- the handle's part goes to a seat of its own
 abbrev pub without_asking : View → View
 without_asking v = record v { asks = false }
 
 abbrev pub asking_alone : View → View
-asking_alone v = record v { puts = false; takes = false }
+asking_alone v = record v { puts = false; runs = false }
 
--- the taker's part goes to a seat of its own
-abbrev pub without_taking : View → View
-without_taking v = record v { takes = false }
+-- the first task's part goes to a seat of its own
+abbrev pub without_running : View → View
+without_running v = record v { runs = false }
 
-abbrev pub taking_alone : View → View
-taking_alone v = record v { puts = false; asks = false }
+abbrev pub running_alone : View → View
+running_alone v = record v { puts = false; asks = false }
 
--- a seat takes in what the asker's knows
-abbrev pub with_asking : View → View → View
-with_asking v w = record v { asks = w.asks; asked = w.asked }
+-- a side has handed over the task that its signal started
+abbrev pub producer_handed : View → View
+producer_handed v = record v { producing = Free }
 
--- a seat takes in what the taker's knows
-abbrev pub with_taking : View → View → View
-with_taking v w = record v { takes = w.takes; taken = w.taken; item = w.item; saw = w.saw; sees = w.sees; may = w.may; measures = w.measures }
+abbrev pub handle_handed : View → View
+handle_handed v = record v { requesting = Idle }
+
+-- the task that was handed over is ready, and its subscriber is at home
+abbrev pub running_handed : View → View
+running_handed v = record (first_view v.capacity) { puts = false; asks = false; runner = Ready }
+
+-- a seat of one kind
+abbrev pub IsProducer : View → Type 0
+IsProducer v = (v.puts ≡ true) × (v.asks ≡ false) × (v.runs ≡ false)
+
+abbrev pub IsHandle : View → Type 0
+IsHandle v = (v.puts ≡ false) × (v.asks ≡ true) × (v.runs ≡ false)
+
+abbrev pub IsRunner : View → Type 0
+IsRunner v = (v.puts ≡ false) × (v.asks ≡ false) × (v.runs ≡ true)

@@ -1,78 +1,176 @@
-//! The table that the parties of a ring share: its words and slots, its rule, and what a party knows.
+//! The table that the parties of a subscription share: its words and slots, its rule, and what a party knows.
+pub mod calling;
+pub mod causes;
 pub mod closing;
 pub mod handle;
 pub mod making;
-mod plays;
+pub mod offering;
+pub mod plays;
 pub mod producer;
-mod splits;
+pub mod requesting;
+pub mod running;
+pub mod serving;
+pub mod splits;
+pub mod taking;
 pub mod task;
+pub mod telling;
+pub mod turning;
 
 use atomic_table::{Seat, Table, TableRule};
-use flow_rules::Item;
+use feed_core::{Causes, Producing, Requesting, Runner};
+use flow_rules::{Ending, How, Item, Listener};
 use std::alloc::Global;
 use std::collections::LinkedList;
+use std::marker::PhantomData;
 
-/// The word of the number of items taken.
+/// The word of the number of items taken. Bit 63 says that the subscription has ended.
 pub(crate) const HEAD: usize = 0;
 
 /// The word of the number of items put.
 pub(crate) const TAIL: usize = 1;
 
-/// The word of the number of items asked for.
+/// The word of the number of items that the handle requested. Bit 63 says that the handle makes no step any more.
 pub(crate) const ASKED: usize = 2;
 
-/// What the words are at first: nothing was taken, put or asked for, and the ring is run.
+/// The word of the marks and causes.
+pub(crate) const CONTROL: usize = 3;
+
+/// Bit 63, of head and of asked.
+pub(crate) const MARK: u64 = 9223372036854775808;
+
+/// A control word without its mark of something new.
+pub(crate) const QUIET: u64 = 18446744073709551613;
+
+/// A control word without the mark of its task.
+pub(crate) const RESTING: u64 = 18446744073709551614;
+
+/// The mark of the task in the control word: it was started, and is not at rest since.
+pub(crate) const RUN: u64 = 1;
+
+/// What a signal sets in the control word: the mark of the task, that of something new, and its cause.
+pub(crate) const ITEM: u64 = 3;
+
+pub(crate) const CANCEL: u64 = 7;
+
+pub(crate) const ARGUMENT: u64 = 11;
+
+pub(crate) const STATE: u64 = 19;
+
+pub(crate) const ERROR: u64 = 35;
+
+pub(crate) const COMPLETE: u64 = 67;
+
+/// The code of a closing error stands in the control word from here on.
+pub(crate) const ERRORS: u64 = 4294967296;
+
+/// What the words are at first: nothing was taken, put or asked for, and the task is started.
 pub(crate) const FIRST_WORDS: [u64; 4] = [0, 0, 0, 1];
+
+/// Who is told, and what lies beside it while nobody runs the task.
+#[derive(Drop)]
+pub struct Lodger<B> {
+    /// Who is told.
+    pub subscriber: B,
+    /// How many items were taken.
+    pub given: u64,
+    /// How many items its answers have requested, at most [`UNBOUNDED`](flow_rules::UNBOUNDED).
+    pub own: u64,
+    /// The causes that its answers brought about.
+    pub answers: Causes,
+    /// How the subscription has ended, if it has.
+    pub how: Option<How>,
+}
+
+/// What a slot holds.
+#[derive(Drop)]
+pub enum Held<B> {
+    /// Nothing.
+    Empty,
+    /// An item that was put and not taken.
+    Item(Item),
+    /// The subscriber.
+    Guest(Lodger<B>),
+}
+
+/// By what the task took an item: its own look before it, and its own measure after that. No value of it is made.
+pub struct Grant {
+    /// The causes that the look showed.
+    pub causes: Causes,
+    /// How many items were requested in all, as the measure showed.
+    pub asked: u64,
+}
 
 /// What one party knows. No value of it is made.
 pub struct View {
     /// How many items the buffer has room for.
     pub capacity: u64,
-    /// Whether it puts.
+    /// Whether it is the producer.
     pub puts: bool,
     /// All that it put.
     pub put: LinkedList<Item>,
+    /// What it is in the middle of.
+    pub producing: Producing,
+    /// How many free slots it has out, 0 or 1.
+    pub places: u64,
     /// How many were taken, by its last load of head.
     pub seen: u64,
     /// How often it loaded head.
     pub looks: u64,
-    /// How many free slots it has out, 0 or 1.
-    pub places: u64,
-    /// Whether it asks.
+    /// Whether the subscription had ended, by its last load of head.
+    pub over: bool,
+    /// How it closed the subscription, if it did.
+    pub closing: Option<Ending>,
+    /// Whether it told of a second subscribing.
+    pub state: bool,
+    /// Whether it is the handle.
     pub asks: bool,
-    /// How many items it asked for.
+    /// How many items it requested.
     pub asked: u64,
-    /// Whether it takes.
-    pub takes: bool,
-    /// All that it took.
+    /// What it is in the middle of.
+    pub requesting: Requesting,
+    /// Whether it cancelled.
+    pub cancel: bool,
+    /// Whether it requested a number that is not positive.
+    pub argument: bool,
+    /// Whether it runs the task.
+    pub runs: bool,
+    /// Where the task stands.
+    pub runner: Runner,
+    /// The control word after its last look.
+    pub look: u64,
+    /// Whether it has the subscriber with it.
+    pub away: bool,
+    /// All that was taken.
     pub taken: LinkedList<Item>,
     /// The item whose slot it has out, or nothing.
     pub item: LinkedList<Item>,
-    /// How many were put, by its last load of tail.
-    pub saw: u64,
-    /// How often it loaded tail.
-    pub sees: u64,
-    /// How many were asked for, by its last load of asked.
-    pub may: u64,
-    /// How often it loaded asked.
-    pub measures: u64,
+    /// By what it took each of the items that it took, in order.
+    pub grants: LinkedList<Grant>,
+    /// How many items the answers requested, by what it brought to its last look.
+    pub own: u64,
+    /// The causes that the answers brought about, by what it brought to its last look.
+    pub answers: Causes,
+    /// How often it could not rest, since something was new.
+    pub misses: u64,
 }
 
-/// The table of a ring: the four words, a slot for each place, and a slot for the subscriber.
-pub(crate) type CellTable = Table<Option<Item>, View, u64, InCell, Global>;
+/// The table of a subscription: the four words, a slot for each place, and a slot for the subscriber.
+pub type CellTable<B> = Table<Held<B>, View, u64, InCell<B>, Global>;
 
 /// A party's seat at that table.
-pub(crate) type CellSeat = Seat<Option<Item>, View>;
+pub type CellSeat<B> = Seat<Held<B>, View>;
 
-/// The rule: the words are the numbers of items taken, put and asked for, each item that was put and not taken lies in its
-/// slot, and each party knows what it did. The capacity is told when the table is made.
-pub struct InCell;
+/// The rule: the words, slots and views show a subscription that some list of possible events leads to. The capacity is told when
+/// the table is made.
+pub struct InCell<B> {
+    marker: PhantomData<B>,
+}
 
-impl TableRule<Option<Item>, View, u64> for InCell {
+impl<B: Listener> TableRule<Held<B>, View, u64> for InCell<B> {
     ghost use Rattle.feed_cell.specs.Cell.{Cell};
     ghost use Rattle.feed_cell.specs.Views.{first_view};
 
-    ghost holds = { Cell };
+    ghost holds = { Cell B.told };
 
     ghost first = { first_view };
 }

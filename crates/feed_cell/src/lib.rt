@@ -1,45 +1,69 @@
-//! A bounded ring between one producer and one consumer, with the demand beside it: the buffer of a subscription
-//! (`SubmissionPublisher`, Java SE 17, and `Flow.Subscription.request`), without a lock.
+//! A subscription that threads share without a lock: the buffer of its items, its demand, the reasons why it may end, and its
+//! subscriber (`SubmissionPublisher` and `Flow.Subscription`, Java SE 17).
 //!
-//! Three parties share a ring, each in a thread of its own. The [`Putter`] puts items in, the [`Asker`] adds to the demand,
-//! and the [`Taker`] takes items out, in order, as many as were asked for. [`Ring::new`] makes the three, and [`ring_close`]
-//! takes them back and tells how many items were put, taken and asked for. No call waits, and none but [`Ring::new`] takes
-//! memory.
+//! Three parties share a subscription, each in a thread of its own. The [`Producer`] is its publisher's end: it puts items, closes, and
+//! looks how things stand. The [`Handle`] is its owner's end: it requests and cancels. The [`Task`] calls the subscriber; whoever has
+//! it runs it. [`Cell::new`] makes the three, and [`close`] takes the two ends back and tells what is left. No call waits, and
+//! none but [`Cell::new`] and the two calls named `ready` takes memory.
 //!
 //! # The words
 //!
-//! | Word | What it is | Who writes it | Who else reads it |
-//! |---|---|---|---|
-//! | head | how many items were taken | the taker | the putter |
-//! | tail | how many items were put | the putter | the taker |
-//! | asked | how many items were asked for, 2^63-1 at most | the asker | the taker |
-//! | control | 1: the ring is run | nobody | nobody |
+//! | Word | What it is | Who writes it |
+//! |---|---|---|
+//! | head | how many items were taken; bit 63: the subscription has ended | the task |
+//! | tail | how many items were put | the producer |
+//! | asked | how many items the handle requested, 2^63-1 at most; bit 63: the handle makes no step any more | the handle |
+//! | control | the marks and causes below | all three, one atomic step at a time |
 //!
-//! A word has one writer, which stores the next number and never reads its own word: it keeps the number beside its seat.
-//! None of the numbers ever falls, so what a load showed is at most what there is, and only more room, more items and
-//! more demand may have come since.
+//! | Bit of control | What it says | Who sets it | Who clears it |
+//! |---|---|---|---|
+//! | 0, the mark of the task | the task was started and is not at rest since | each signal | the rest of the task |
+//! | 1, the mark of something new | there was a signal since the task's last look | each signal | each look |
+//! | 2 | the owner cancelled | the handle | nobody |
+//! | 3 | a number was requested that is not positive | the handle | nobody |
+//! | 4 | the subscriber subscribed a second time | the producer | nobody |
+//! | 5 | it was closed with an error, whose code is in bits 32 to 63 | the producer | nobody |
+//! | 6 | it was closed | the producer | nobody |
+//!
+//! Each of the first three words has one writer, which keeps the number beside its seat and never reads its own word. None of
+//! the numbers ever falls, so what a load shows is at most what there is.
 //!
 //! # The slots
 //!
-//! There is one slot for each place of the buffer, and one more, which stays empty until a ring has a subscriber. Item number
-//! k, from 0 on, lies in slot k modulo the capacity. A slot is at home, or out with one party, which alone may read and
-//! write it then:
+//! There is one slot for each place of the buffer, and one for the subscriber. Item number k, from 0 on, lies in slot k modulo
+//! the capacity. A slot is at home, or out with one party, which alone may read and write it then.
 //!
-//! - A put loads head. Where fewer items than the capacity were put and not taken, slot tail is free, and that load takes it
-//!   out. The putter places the item in it, and the store of tail + 1 gives it back, with the item.
-//! - A take loads tail. Where more items were put than taken, slot head has one, and that load takes it out. A load of asked
-//!   follows: where no more were asked for than taken, it gives the slot back as it was. Else the taker moves the item out,
-//!   and the store of head + 1 gives the slot back, free.
+//! - A put loads head. Where fewer items than the capacity were put and not taken, slot tail is free, and that load takes it out. The
+//!   producer places the item in it, and the store of tail + 1 gives it back, with the item.
+//! - The task loads tail. Where more items were put than taken, slot head has one, and that load takes it out. A load of asked
+//!   follows: where no more are requested, it gives the slot back as it was. Else the task moves the item out, and the store of head
+//!   + 1 gives the slot back, free.
+//! - The subscriber's slot is out with the task from its first look until it rests or ends the subscription. What its answers have requested,
+//!   and the causes that they brought about, lie beside it there.
 //!
-//! So neither party ever meets the other in a slot: the putter's slot is free by a load of head, and becomes the taker's by
-//! the store of tail, and the other way round. The rule of the table (`cell.rt`) says this between any two steps, whatever
-//! the three do at the same time.
+//! # Signals and rest
+//!
+//! A signal sets the mark of the task, the mark of something new, and its cause, in one step. Where it finds the mark of
+//! the task clear, it has started the task: the side that made it splits a seat off for the task and hands it over. So at
+//! most one task serves a subscription. An item is signalled after its tail is stored, and a request after asked is.
+//!
+//! A look clears the mark of something new and tells the causes. The task loads tail and asked after the look, never before. Where it
+//! finds nothing to do, it rests by one compare-and-exchange: from the word after its look to the same without the mark of the
+//! task. That fails exactly where there was a signal since the look, and then the task looks again. So nothing is forgotten: a
+//! subscription at rest was told all that its demand and its ending allow, or somebody is between a store and its signal, and that signal
+//! will start the task.
+//!
+//! The mark of the task stays set after the end, so nothing starts the task of a subscription that has ended.
+//!
+//! The rule of the table (`cell.rt`) says this between any two steps, whatever the parties do at the same time: what the words, the
+//! slots and the parties show is a subscription that some list of possible events leads to (`feed_core`, `World`).
 #![tactic(auto)]
 
 mod cell;
 
-pub use cell::closing::ring_close;
-pub use cell::handle::Asker;
-pub use cell::making::Ring;
-pub use cell::producer::Putter;
-pub use cell::task::Taker;
+pub use cell::closing::close;
+pub use cell::handle::Handle;
+pub use cell::making::Cell;
+pub use cell::producer::Producer;
+pub use cell::task::Task;
+pub use cell::turning::Turn;

@@ -5,7 +5,7 @@ mod telling;
 
 pub use outlook::Outlook;
 pub use seen::Seen;
-pub(crate) use telling::{tell_next, tell_subscribed, tell_terminal};
+pub use telling::{tell_next, tell_subscribed, tell_terminal};
 
 /// The number of items that one turn gives at most, so that one subscriber with many can't keep the others waiting.
 pub const ITEMS_IN_A_TURN: usize = 64;

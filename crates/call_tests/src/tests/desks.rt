@@ -1,9 +1,10 @@
 //! The calls of a Desk, as rows, on listeners of each kind.
 ghost use Rattle.std.specs.Prelude.{◌≡◌, []};
 
+use super::play::{first_wrong, play};
 use super::subscribers::was_told;
-use crate::{Row, answers, desk_of};
-use feed_core::{Desk, Outlook, desks_keep_the_flow_rules};
+use crate::{Row, desk_of};
+use feed_core::Outlook;
 use flow_rules::{
     Collector, Fault, How, Listener, NoMemory, Shown, Subscriber, Tally, UNBOUNDED, audit,
 };
@@ -85,38 +86,6 @@ const UNBOUNDED_DEMAND: [Row<'static>; 7] = [
     Row::Turn(b"xy", Outlook::Resting),
 ];
 
-/// The place of the first row that a Desk does not answer as the row says.
-fn first_wrong<B: Listener>(
-    alloc: Global,
-    desk: &mut Desk<B>,
-    rows: &[Row<'_>],
-) -> Result<Option<usize>, NoMemory> {
-    for (place, row) in rows.iter().enumerate() {
-        if !answers(alloc, desk, *row)? {
-            return Ok(Some(place));
-        }
-    }
-    Ok(None)
-}
-
-/// Makes the calls on a Desk of this listener, for which this capacity is asked, compares each with its row, and takes the listener
-/// out.
-pub(super) fn play<B: Listener>(
-    rt: &impl Abort,
-    alloc: Global,
-    listener: B,
-    asked: usize,
-    rows: &[Row<'_>],
-) -> Result<B, Fail>
-    requires { B.told listener ≡ [] }
-{
-    let mut desk = desk_of(alloc, asked, listener)?;
-    let wrong = first_wrong(alloc, &mut desk, rows)?;
-    assert!(rt; wrong.is_none(), "row {wrong:?}");
-    desks_keep_the_flow_rules(&desk);
-    Ok(desk.into_subscriber())
-}
-
 /// Whether a subscriber was told what these letters write, which the Flow rules allow.
 pub(super) fn has_told<S: Subscriber>(
     alloc: Global,
@@ -134,16 +103,20 @@ pub(super) fn play_on_all(
     rows: &[Row<'_>],
     told: &[u8],
 ) -> Result<(), Fail> {
-    let collector = play(rt, alloc, Collector::new(alloc), asked, rows)?;
+    let (collector, twin) = (Collector::new(alloc), Collector::new(alloc));
+    let collector = play(rt, alloc, collector, twin, asked, rows)?;
     assert!(rt; has_told(alloc, &collector, told)?);
-    let shown = play(rt, alloc, Shown(Collector::new(alloc)), asked, rows)?;
+    let (shown, twin) = (Shown(Collector::new(alloc)), Shown(Collector::new(alloc)));
+    let shown = play(rt, alloc, shown, twin, asked, rows)?;
     assert!(rt; has_told(alloc, &shown.0, told)?);
     let boxed: Box<dyn Subscriber> = Box::new(alloc, Collector::new(alloc))?;
+    let twin: Box<dyn Subscriber> = Box::new(alloc, Collector::new(alloc))?;
     assert!(rt; boxed.steady());
-    let boxed = play(rt, alloc, boxed, asked, rows)?;
+    let boxed = play(rt, alloc, boxed, twin, asked, rows)?;
     assert!(rt; has_told(alloc, &boxed, told)?);
     let boxed: Box<dyn Listener> = Box::new(alloc, Tally::new())?;
-    let _ = play(rt, alloc, boxed, asked, rows)?;
+    let twin: Box<dyn Listener> = Box::new(alloc, Tally::new())?;
+    let _ = play(rt, alloc, boxed, twin, asked, rows)?;
     Ok(())
 }
 

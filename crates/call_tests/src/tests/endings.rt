@@ -1,7 +1,8 @@
-//! The endings of a Desk: what calls its task to an end, what a callback answers, and memory that a callback is refused.
+//! The endings of a subscription: what calls its task to an end, what a callback answers, and memory that a callback is refused.
 ghost use Rattle.std.specs.Prelude.{◌≡◌, []};
 
-use super::desks::{has_told, play, play_on_all};
+use super::desks::{has_told, play_on_all};
+use super::play::play;
 use crate::{Answering, Refused, Row};
 use feed_core::Outlook;
 use flow_rules::{Answer, Collector, Fault, How, NoMemory, UNBOUNDED};
@@ -79,7 +80,8 @@ fn a_refused_callback_ends_it(rt: HostRuntime) -> Result<(), Fail> {
             Row::Gone(b'z'),
         ];
         let refused = Refused::after(Collector::new(alloc), callbacks);
-        let refused = play(&rt, alloc, refused, 4, &rows)?;
+        let twin = Refused::after(Collector::new(alloc), callbacks);
+        let refused = play(&rt, alloc, refused, twin, 4, &rows)?;
         assert!(rt; has_told(alloc, refused.listener(), told)?);
     }
     Ok(())
@@ -109,7 +111,9 @@ fn each_answer(rt: HostRuntime) -> Result<(), Fail> {
             Row::Accepted(b'z', 5, false),
             Row::Turn(told, outlook),
         ];
-        let _ = play(&rt, alloc, Answering::after(callbacks, answer), 8, &rows)?;
+        let answering = Answering::after(callbacks, answer);
+        let twin = Answering::after(callbacks, answer);
+        let _ = play(&rt, alloc, answering, twin, 8, &rows)?;
     }
     Ok(())
 }
@@ -125,7 +129,9 @@ fn a_terminal_callback_is_not_obeyed(rt: HostRuntime) -> Result<(), Fail> {
             Row::Turn(b"sxc", Outlook::Ended(How::Completed)),
             Row::Counts(1, 1, 1),
         ];
-        let _ = play(&rt, alloc, Answering::after(2, answer), 8, &rows)?;
+        let answering = Answering::after(2, answer);
+        let twin = Answering::after(2, answer);
+        let _ = play(&rt, alloc, answering, twin, 8, &rows)?;
     }
     Ok(())
 }
@@ -171,7 +177,8 @@ fn play_after(
             Row::Turn(told, Outlook::Ended(how)),
             Row::Ended(Some(how)),
         ];
-        let _ = play(rt, alloc, Collector::new(alloc), 4, &rows)?;
+        let (collector, twin) = (Collector::new(alloc), Collector::new(alloc));
+        let _ = play(rt, alloc, collector, twin, 4, &rows)?;
     }
     Ok(())
 }
@@ -225,7 +232,9 @@ fn each_answer_at_an_item(rt: HostRuntime) -> Result<(), Fail> {
         rows[65] = Row::Turn(told.as_slice(), outlook);
         rows[66] = Row::Counts(64, u64::from(items), asked);
         rows[67] = Row::Capacity(64);
-        let _ = play(&rt, alloc, Answering::after(item, answer), 64, &rows)?;
+        let answering = Answering::after(item, answer);
+        let twin = Answering::after(item, answer);
+        let _ = play(&rt, alloc, answering, twin, 64, &rows)?;
     }
     Ok(())
 }
@@ -241,8 +250,9 @@ fn a_callback_asks_and_is_refused_later(rt: HostRuntime) -> Result<(), Fail> {
         Row::Turn(b"svw", Outlook::Ended(How::OutOfMemory)),
         Row::Counts(3, 3, 3),
     ];
-    let asks = Answering::after(1, Answer::Request(2));
-    let _ = play(&rt, alloc, Refused::after(asks, 3), 8, &rows)?;
+    let refused = Refused::after(Answering::after(1, Answer::Request(2)), 3);
+    let twin = Refused::after(Answering::after(1, Answer::Request(2)), 3);
+    let _ = play(&rt, alloc, refused, twin, 8, &rows)?;
     Ok(())
 }
 
@@ -272,7 +282,8 @@ fn each_ending_is_refused_memory(rt: HostRuntime) -> Result<(), Fail> {
             Row::Gone(b'z'),
         ];
         let refused = Refused::after(Collector::new(alloc), callbacks);
-        let refused = play(&rt, alloc, refused, 4, &rows)?;
+        let twin = Refused::after(Collector::new(alloc), callbacks);
+        let refused = play(&rt, alloc, refused, twin, 4, &rows)?;
         assert!(rt; has_told(alloc, refused.listener(), told)?);
     }
     Ok(())

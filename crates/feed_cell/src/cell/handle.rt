@@ -1,46 +1,99 @@
-//! The end of a ring that asks for items.
-ghost use Rattle.std.specs.Prelude.{◌≡◌, ◌<ℤ◌, pos, unsigned_abs};
-ghost use Rattle.flow_rules.specs.Demand.{total_after};
+//! The handle of a subscription, which its owner has (`Flow.Subscription`).
+ghost use Rattle.std.specs.Prelude.{◌≡◌, true, false, None, IfSome, IsSome, IsNone, OnOk, OnErr, IsOk};
+ghost use Rattle.feed_cell.specs.Parties.{MayAsk, handle_after_request, IsStarted};
 
-use super::plays::Ask;
-use super::{ASKED, CellSeat, CellTable};
-use flow_rules::UNBOUNDED;
+use super::producer::start;
+use super::requesting::{ask_more, signal_argument, signal_cancel, signal_request};
+use super::task::Task;
+use super::{CellSeat, CellTable};
+use flow_rules::{Listener, NoMemory};
 use std::alloc::Global;
 use std::marker::Model;
 use std::sync::Arc;
 
-/// The end of a ring that asks for items.
+/// The handle of a subscription (`Flow.Subscription`, Java SE 17).
 #[derive(Drop)]
-pub struct Asker {
-    pub(crate) table: Arc<CellTable, Global>,
-    pub(crate) seat: CellSeat,
-    /// The number of items asked for, as in the word asked, which this end alone writes.
+pub struct Handle<B: Listener> {
+    pub(crate) table: Arc<CellTable<B>, Global>,
+    /// What a started task gets, where it is there.
+    pub(crate) spare: Option<Arc<CellTable<B>, Global>>,
+    pub(crate) seat: CellSeat<B>,
+    pub(crate) capacity: u64,
+    /// The number of items requested, as in the word asked, which this end alone writes.
     pub(crate) asked: u64,
+    /// Whether it cancelled.
+    pub(crate) cancelled: bool,
 }
 
-impl Model for Asker {
-    ghost use Rattle.std.specs.Prelude.{◌≡◌, ◌≤◌, [], true};
+impl<B: Listener> Model for Handle<B> {
+    ghost use Rattle.std.specs.Prelude.{◌≡◌, ◌<◌, ◌≤◌, [], is_some, IfSome};
     ghost use Rattle.std.specs.Arc.{arc_value};
-    ghost use Rattle.flow_rules.specs.declared.demand.TheConstants.{UNBOUNDED};
-    ghost use Rattle.feed_cell.specs.Ends.{Requester, HasFourWords};
+    ghost use Rattle.feed_core.specs.Prelude.{UNBOUNDED};
+    ghost use Rattle.feed_cell.specs.Parties.{HandleState};
+    ghost use Rattle.feed_cell.specs.Steps.{HasFourWords, MayRequest};
 
-    ghost Value = { Requester };
+    ghost Value = { HandleState };
 
-    ghost view = { λ a. record { ring = a.seat.table_id; asked = a.asked } };
+    ghost view = { λ h. record { ring = h.seat.table_id; capacity = h.capacity; asked = h.seat.me.0.asked; cancelled = h.seat.me.0.cancel; argument = h.seat.me.0.argument; ready = is_some h.spare } };
 
-    ghost invariant = { λ a. ((arc_value a.table).shared.table_id ≡ a.seat.table_id) × HasFourWords a.seat.table_id × (a.seat.me.1 ≡ []) × (a.seat.me.0.asks ≡ true) × (a.seat.me.0.asked ≡ a.asked) × (a.asked ≤ UNBOUNDED) };
+    ghost invariant = { λ h. ((arc_value h.table).shared.table_id ≡ h.seat.table_id) × IfSome h.spare (λ spare. (arc_value spare).shared.table_id ≡ h.seat.table_id) × HasFourWords h.seat.table_id × (0 < h.capacity) × (h.seat.me.1 ≡ []) × MayRequest h.seat.me × (h.seat.me.0.capacity ≡ h.capacity) × (h.seat.me.0.asked ≡ h.asked) × (h.asked ≤ UNBOUNDED) × (h.seat.me.0.cancel ≡ h.cancelled) };
 }
 
-impl Asker {
-    /// Asks for so many items more. The total stays at [`UNBOUNDED`] once it is there (Reactive Streams 1.0, rules 3.8 and 3.17).
-    pub fn ask(&mut self, n: i64)
-        requires positive { pos 0 <ℤ n }
-        ensures ring { self.new.ring ≡ self.old.ring }
-        ensures asked { self.new.asked ≡ total_after self.old.asked (unsigned_abs n) }
+impl<B: Listener> Handle<B> {
+    /// Takes what one started task needs. Where that is there, it is not refused.
+    pub fn ready(&mut self) -> Result<(), NoMemory>
+        ensures ok { OnOk result (self.new ≡ record self.old { ready = true }) }
+        ensures err { OnErr result (self.new ≡ self.old) }
+        ensures stays { self.old.ready ≡ true → IsOk result }
     {
-        let table: &CellTable = &self.table;
-        let asked = (self.asked + n.unsigned_abs()).min(UNBOUNDED);
-        table.shared.store::<Ask>(&mut self.seat, ASKED, asked);
-        self.asked = asked;
+        if self.spare.is_none() {
+            self.spare = Some(Arc::try_clone(&self.table)?);
+        }
+        Ok(())
+    }
+
+    /// Adds to the demand (`Flow.Subscription.request`; Reactive Streams 1.0, rules 3.6, 3.8, 3.9 and 3.17). A number that is not
+    /// positive ends the subscription with an error. Where the task was at rest, it comes back and has to be run. After a cancel
+    /// this does nothing.
+    #[must_use]
+    pub fn request(&mut self, n: i64) -> Option<Task<B>>
+        requires may { MayAsk self.old }
+        ensures ignored { self.old.cancelled ≡ true → (self.new ≡ self.old) × IsNone result }
+        ensures requested { self.old.cancelled ≡ false → self.new ≡ record (handle_after_request n self.old) { ready = self.new.ready } }
+        ensures starts { IfSome result (IsStarted self.old.ring self.old.capacity) }
+        ensures spent { IsSome result → self.new.ready ≡ false }
+        ensures kept { IsNone result → self.new.ready ≡ self.old.ready }
+    {
+        if self.cancelled {
+            return None;
+        }
+        let table: &CellTable<B> = &self.table;
+        let task = if n > 0 {
+            self.asked = ask_more(table, &mut self.seat, self.asked, n.unsigned_abs());
+            signal_request(table, &mut self.seat)
+        } else {
+            signal_argument(table, &mut self.seat)
+        };
+        start(&mut self.spare, task, self.capacity)
+    }
+
+    /// Ends the subscription (`Flow.Subscription.cancel`; Reactive Streams 1.0, rules 3.5, 3.7 and 3.12): its subscriber is given at
+    /// most one item more. Where the task was at rest, it comes back and has to be run. Only the first cancel does anything.
+    #[must_use]
+    pub fn cancel(&mut self) -> Option<Task<B>>
+        requires may { MayAsk self.old }
+        ensures ignored { self.old.cancelled ≡ true → (self.new ≡ self.old) × IsNone result }
+        ensures cancelled { self.old.cancelled ≡ false → self.new ≡ record self.old { cancelled = true; ready = self.new.ready } }
+        ensures starts { IfSome result (IsStarted self.old.ring self.old.capacity) }
+        ensures spent { IsSome result → self.new.ready ≡ false }
+        ensures kept { IsNone result → self.new.ready ≡ self.old.ready }
+    {
+        if self.cancelled {
+            return None;
+        }
+        let table: &CellTable<B> = &self.table;
+        let task = signal_cancel(table, &mut self.seat);
+        self.cancelled = true;
+        start(&mut self.spare, task, self.capacity)
     }
 }

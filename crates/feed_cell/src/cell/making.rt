@@ -1,53 +1,147 @@
-//! How a ring is made.
-ghost use Rattle.std.specs.Prelude.{◌≡◌, [], IfOk};
+//! How a subscription is made.
+ghost use Rattle.std.specs.Prelude.{◌≡◌, ◌+◌, [], ◌∷◌, replicate, IfOk, IfErr, None, true};
+ghost use Rattle.std.specs.Arc.{arc_value};
+ghost use Rattle.feed_core.specs.Cause.{no_causes};
 ghost use Rattle.feed_core.specs.LaneCalls.{IsCapacity};
-ghost use Rattle.feed_cell.specs.Ends.{new_producer, new_requester, new_consumer};
+ghost use Rattle.feed_cell.specs.Parties.{new_producer, new_handle, IsNewTask};
+ghost use Rattle.feed_cell.specs.Steps.{HasFourWords, IsUnlodged};
+ghost use Rattle.feed_cell.specs.Views.{first_view};
+ghost use Rattle.feed_cell.specs.declared.cell.Held.TheVariants as Held;
 
-use super::handle::Asker;
-use super::producer::Putter;
+use super::handle::Handle;
+use super::plays::Enter;
+use super::producer::Producer;
 use super::splits::{HandleApart, RunnerApart};
-use super::task::Taker;
-use super::{CellTable, FIRST_WORDS};
-use flow_rules::NoMemory;
+use super::task::{Stage, Task};
+use super::{CONTROL, CellSeat, CellTable, FIRST_WORDS, Held, Lodger};
+use feed_core::Causes;
+use flow_rules::{Listener, NoMemory};
 use std::alloc::Global;
 use std::sync::Arc;
 
-/// Makes rings.
-pub struct Ring;
+/// Makes subscriptions.
+pub struct Cell;
 
-impl Ring {
-    /// A new ring of this capacity, which is one of `capacity`'s values: its three parties, with nothing put, asked for or
-    /// taken.
-    pub fn new(alloc: Global, capacity: usize) -> Result<(Putter, Asker, Taker), NoMemory>
+impl Cell {
+    /// A new subscription of this subscriber, with a buffer of this capacity, which is one of `capacity`'s values: its producer's end,
+    /// its handle, and its task, which owes the first turn. Where memory is refused, the subscriber comes back.
+    pub fn new<B: Listener>(
+        alloc: Global,
+        capacity: usize,
+        subscriber: B,
+    ) -> Result<(Producer<B>, Handle<B>, Task<B>), (NoMemory, B)>
         requires capacity { IsCapacity capacity }
-        ensures putter { IfOk result (λ parties. parties.0 ≡ new_producer capacity parties.0.ring) }
-        ensures asker { IfOk result (λ parties. parties.1 ≡ new_requester parties.0.ring) }
-        ensures taker { IfOk result (λ parties. parties.2 ≡ new_consumer capacity parties.0.ring) }
+        requires untold { B.told subscriber ≡ [] }
+        ensures producer { IfOk result (λ parties. parties.0 ≡ new_producer capacity parties.0.ring) }
+        ensures handle { IfOk result (λ parties. parties.1 ≡ new_handle capacity parties.0.ring) }
+        ensures task { IfOk result (λ parties. IsNewTask parties.0.ring capacity parties.2) }
+        ensures err { IfErr result (λ refused. refused.1 ≡ subscriber) }
     {
+        let Ok((table, mut seat)) = lay::<B>(alloc, capacity) else {
+            return Err((NoMemory, subscriber));
+        };
+        let Ok(shares) = share(alloc, table) else {
+            return Err((NoMemory, subscriber));
+        };
+        let (table, for_handle, for_task, spare, handle_spare) = shares;
+        let cell: &CellTable<B> = &table;
+        let mut running = cell.shared.split_seat::<RunnerApart>(&mut seat);
+        let asking = cell.shared.split_seat::<HandleApart>(&mut seat);
+        lodge(cell, &mut running, capacity, subscriber);
         let places = capacity as u64;
-        let (table, mut seat) = CellTable::vacant(alloc, &FIRST_WORDS, capacity + 1, &places)?;
-        let asking = table.shared.split_seat::<HandleApart>(&mut seat);
-        let taking = table.shared.split_seat::<RunnerApart>(&mut seat);
-        let table = Arc::new(alloc, table)?;
-        let for_asker = Arc::try_clone(&table)?;
-        let for_taker = Arc::try_clone(&table)?;
-        let putter = Putter {
+        let producer = Producer {
             table,
+            spare: Some(spare),
             seat,
             capacity: places,
             tail: 0,
+            closing: None,
         };
-        let asker = Asker {
-            table: for_asker,
+        let handle = Handle {
+            table: for_handle,
+            spare: Some(handle_spare),
             seat: asking,
-            asked: 0,
-        };
-        let taker = Taker {
-            table: for_taker,
-            seat: taking,
             capacity: places,
-            head: 0,
+            asked: 0,
+            cancelled: false,
         };
-        Ok((putter, asker, taker))
+        let task = Task {
+            table: for_task,
+            seat: running,
+            capacity: places,
+            stage: Stage::Fresh,
+        };
+        Ok((producer, handle, task))
     }
+}
+
+/// The table, with all its slots empty, and the seat of its maker.
+fn lay<B: Listener>(alloc: Global, capacity: usize) -> Result<(CellTable<B>, CellSeat<B>), NoMemory>
+    requires capacity { IsCapacity capacity }
+    ensures { IfOk result (λ made. (made.1.table_id ≡ made.0.shared.table_id) × HasFourWords made.1.table_id × (made.1.me ≡ (first_view capacity, []))) }
+{
+    let slots = empty_slots::<B>(alloc, capacity + 1)?;
+    let places = capacity as u64;
+    match CellTable::<B>::new(alloc, &FIRST_WORDS, slots, &places) {
+        Ok(made) => Ok(made),
+        Err(_) => Err(NoMemory),
+    }
+}
+
+/// So many empty slots.
+fn empty_slots<B: Listener>(alloc: Global, count: usize) -> Result<Vec<Held<B>>, NoMemory>
+    ensures { IfOk result (λ slots. slots.items ≡ replicate count Held.Empty) }
+{
+    let mut slots = Vec::with_capacity(alloc, count)?;
+    let mut i = 0;
+    while i < count {
+        slots.push_reserved(Held::Empty);
+        i += 1;
+    }
+    Ok(slots)
+}
+
+/// The table, for each of the three parties, and once more for each of the two that may start a task.
+fn share<B: Listener>(
+    alloc: Global,
+    table: CellTable<B>,
+) -> Result<
+    (
+        Arc<CellTable<B>, Global>,
+        Arc<CellTable<B>, Global>,
+        Arc<CellTable<B>, Global>,
+        Arc<CellTable<B>, Global>,
+        Arc<CellTable<B>, Global>,
+    ),
+    NoMemory,
+>
+    ensures { IfOk result (λ shares. (arc_value shares.0 ≡ table) × (arc_value shares.1 ≡ table) × (arc_value shares.2 ≡ table) × (arc_value shares.3 ≡ table) × (arc_value shares.4 ≡ table)) }
+{
+    let Ok(table) = Arc::new(alloc, table) else {
+        return Err(NoMemory);
+    };
+    let for_handle = Arc::try_clone(&table)?;
+    let for_task = Arc::try_clone(&table)?;
+    let spare = Arc::try_clone(&table)?;
+    let handle_spare = Arc::try_clone(&table)?;
+    Ok((table, for_handle, for_task, spare, handle_spare))
+}
+
+/// Takes the subscriber's slot out with the task, and places the subscriber there.
+fn lodge<B: Listener>(table: &CellTable<B>, seat: &mut CellSeat<B>, capacity: usize, subscriber: B)
+    requires table { (seat.old.table_id ≡ table.now.shared.table_id) × HasFourWords seat.old.table_id }
+    requires fresh { IsUnlodged capacity seat.old.me }
+    ensures table { (seat.new.table_id ≡ seat.old.table_id) × (seat.new.id ≡ seat.old.id) }
+    ensures lodged { seat.new.me ≡ (record seat.old.me.0 { away = true }, (capacity, Held.Guest (record { subscriber = subscriber; given = 0; own = 0; answers = no_causes; how = None })) ∷ []) }
+{
+    let _ = table.shared.load::<Enter>(seat, CONTROL);
+    let guest = Lodger {
+        subscriber,
+        given: 0,
+        own: 0,
+        answers: Causes::none(),
+        how: None,
+    };
+    let nothing = table.shared.exchange(seat, capacity, Held::Guest(guest));
+    drop(nothing);
 }

@@ -1,54 +1,142 @@
-//! The producer's end of a ring.
-ghost use Rattle.std.specs.Prelude.{◌≡◌, ◌+◌, ◌^◌, ◌<◌, ◌≤◌, [], ◌∷◌, ◌++◌, length, MatchResult};
+//! The producer's end of a subscription, which its publisher has.
+ghost use Rattle.std.specs.Prelude.{◌≡◌, ◌<◌, IfSome, IfNone, IsSome, None, []};
+ghost use Rattle.std.specs.Arc.{arc_value};
+ghost use Rattle.feed_cell.specs.Parties.{IsStarted};
+ghost use Rattle.feed_cell.specs.Steps.{HasFourWords};
+ghost use Rattle.feed_cell.specs.Views.{running_handed};
+ghost use Rattle.feed_cell.specs.declared.cell.View.{View};
 
-use super::plays::{Put, Room};
-use super::{CellSeat, CellTable, HEAD, TAIL};
-use flow_rules::Item;
+use super::offering::{
+    look, look_for_room, place, signal_complete, signal_error, signal_item, signal_state,
+};
+use super::task::{Stage, Task};
+use super::{CellSeat, CellTable, MARK};
+use flow_rules::{Ending, Feed, Item, Listener, NoMemory, Put, Standing};
 use std::alloc::Global;
 use std::marker::Model;
 use std::sync::Arc;
 
-/// The producer's end of a ring.
+/// The producer's end of a subscription.
 #[derive(Drop)]
-pub struct Putter {
-    pub(crate) table: Arc<CellTable, Global>,
-    pub(crate) seat: CellSeat,
+pub struct Producer<B: Listener> {
+    pub(crate) table: Arc<CellTable<B>, Global>,
+    /// What a started task gets, where it is there.
+    pub(crate) spare: Option<Arc<CellTable<B>, Global>>,
+    pub(crate) seat: CellSeat<B>,
     pub(crate) capacity: u64,
     /// The number of items put, as in the word tail, which this end alone writes.
     pub(crate) tail: u64,
+    /// How it closed the subscription, if it did.
+    pub(crate) closing: Option<Ending>,
 }
 
-impl Model for Putter {
-    ghost use Rattle.std.specs.Prelude.{◌≡◌, ◌+◌, ◌<◌, ◌≤◌, [], length, true};
+impl<B: Listener> Model for Producer<B> {
+    ghost use Rattle.std.specs.Prelude.{◌≡◌, ◌<◌, [], length, is_some, IfSome};
     ghost use Rattle.std.specs.Arc.{arc_value};
-    ghost use Rattle.feed_cell.specs.Ends.{Producer, HasFourWords};
+    ghost use Rattle.feed_cell.specs.Parties.{ProducerState, end_of};
+    ghost use Rattle.feed_cell.specs.Steps.{HasFourWords, MayOffer};
 
-    ghost Value = { Producer };
+    ghost Value = { ProducerState };
 
-    ghost view = { λ p. record { ring = p.seat.table_id; capacity = p.capacity; put = p.seat.me.0.put; seen = p.seat.me.0.seen; looks = p.seat.me.0.looks } };
+    ghost view = { λ p. record { ring = p.seat.table_id; end = end_of p.capacity p.seat.me.0 (is_some p.spare) } };
 
-    ghost invariant = { λ p. ((arc_value p.table).shared.table_id ≡ p.seat.table_id) × HasFourWords p.seat.table_id × (0 < p.capacity) × (p.seat.me.1 ≡ []) × (p.seat.me.0.puts ≡ true) × (p.seat.me.0.capacity ≡ p.capacity) × (p.seat.me.0.places ≡ 0) × (length p.seat.me.0.put ≡ p.tail) };
+    ghost invariant = { λ p. ((arc_value p.table).shared.table_id ≡ p.seat.table_id) × IfSome p.spare (λ spare. (arc_value spare).shared.table_id ≡ p.seat.table_id) × HasFourWords p.seat.table_id × (0 < p.capacity) × (p.seat.me.1 ≡ []) × MayOffer p.seat.me × (p.seat.me.0.capacity ≡ p.capacity) × (p.seat.me.0.closing ≡ p.closing) × (length p.seat.me.0.put ≡ p.tail) };
 }
 
-impl Putter {
-    /// Puts an item, and answers how many there are then that were put and not taken, by this call's look at head. Where that
-    /// look showed a full ring, the item comes back.
-    pub fn put(&mut self, item: Item) -> Result<u64, Item>
-        requires few { length self.old.put < 2 ^ 62 }
-        ensures ring { (self.new.ring ≡ self.old.ring) × (self.new.capacity ≡ self.old.capacity) }
-        ensures look { (self.new.looks ≡ self.old.looks + 1) × (self.old.seen ≤ self.new.seen) }
-        ensures put { MatchResult result (λ lag. (self.new.put ≡ self.old.put ++ item ∷ []) × (lag + self.new.seen ≡ length self.new.put) × (lag ≤ self.new.capacity)) (λ back. (back ≡ item) × (self.new.put ≡ self.old.put) × (length self.new.put ≡ self.new.seen + self.new.capacity)) }
-    {
-        let table: &CellTable = &self.table;
-        let head = table.shared.load::<Room>(&mut self.seat, HEAD);
-        if self.tail - head == self.capacity {
-            return Err(item);
+impl<B: Listener> Feed for Producer<B> {
+    ghost use Rattle.feed_cell.specs.Offering.{DoesCall};
+
+    type Task = Task<B>;
+
+    ghost meaning = { λ p. p.end };
+
+    ghost does = { DoesCall };
+
+    fn ready(&mut self) -> Result<(), NoMemory> {
+        if self.spare.is_none() {
+            self.spare = Some(Arc::try_clone(&self.table)?);
         }
-        let slot = (self.tail % self.capacity) as usize;
-        let nothing = table.shared.exchange(&mut self.seat, slot, Some(item));
-        drop(nothing);
-        self.tail += 1;
-        table.shared.store::<Put>(&mut self.seat, TAIL, self.tail);
-        Ok(self.tail - head)
+        Ok(())
     }
+
+    fn put(&mut self, item: Item) -> Put<Task<B>> {
+        if self.closing.is_some() {
+            return Put::Gone(item);
+        }
+        let table: &CellTable<B> = &self.table;
+        let head = look_for_room(table, &mut self.seat);
+        if head >= MARK {
+            return Put::Gone(item);
+        }
+        if self.tail - head == self.capacity {
+            return Put::Full(item);
+        }
+        place(table, &mut self.seat, self.capacity, self.tail, item);
+        let task = signal_item(table, &mut self.seat);
+        self.tail += 1;
+        Put::Accepted {
+            lag: self.tail - head,
+            start: start(&mut self.spare, task, self.capacity),
+        }
+    }
+
+    fn end(&mut self, ending: Ending) -> Option<Task<B>> {
+        if self.closing.is_some() {
+            return None;
+        }
+        let table: &CellTable<B> = &self.table;
+        let task = match ending {
+            Ending::Normal => signal_complete(table, &mut self.seat),
+            Ending::Failed(code) => signal_error(table, &mut self.seat, code),
+        };
+        self.closing = Some(ending);
+        start(&mut self.spare, task, self.capacity)
+    }
+
+    fn duplicate(&mut self) -> Option<Task<B>> {
+        let table: &CellTable<B> = &self.table;
+        let task = signal_state(table, &mut self.seat);
+        start(&mut self.spare, task, self.capacity)
+    }
+
+    fn standing(&mut self) -> Standing {
+        let table: &CellTable<B> = &self.table;
+        let head = look(table, &mut self.seat);
+        if head >= MARK {
+            Standing {
+                ended: true,
+                held: self.tail - (head - MARK),
+            }
+        } else {
+            Standing {
+                ended: false,
+                held: self.tail - head,
+            }
+        }
+    }
+}
+
+/// The task that a signal started, if it did: what was spare is spent for it.
+pub(crate) fn start<B: Listener>(
+    spare: &mut Option<Arc<CellTable<B>, Global>>,
+    seat: Option<CellSeat<B>>,
+    capacity: u64,
+) -> Option<Task<B>>
+    requires ready { IsSome spare.old }
+    requires fits { IfSome seat (λ seat. IfSome spare.old (λ spare. (arc_value spare).shared.table_id ≡ seat.table_id) × HasFourWords seat.table_id) }
+    requires handed { IfSome seat (λ seat. (view : View) × (view.capacity ≡ capacity) × (seat.me ≡ (running_handed view, []))) }
+    requires sized { 0 < capacity }
+    ensures none { IfNone result ((seat ≡ None) × (spare.new ≡ spare.old)) }
+    ensures spent { IfSome result (λ task. spare.new ≡ None) }
+    ensures started { IfSome result (λ task. IfSome seat (λ seat. IsStarted seat.table_id capacity task)) }
+    ensures some { IfSome result (λ task. IsSome seat) }
+{
+    let seat = seat?;
+    let table = spare.take()?;
+    Some(Task {
+        table,
+        seat,
+        capacity,
+        stage: Stage::Home,
+    })
 }

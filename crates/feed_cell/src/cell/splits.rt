@@ -1,8 +1,8 @@
-//! How the maker's seat becomes three, and how three become one again.
+//! How the maker's seat becomes three, and how a started task gets its seat.
 use super::View;
-use atomic_table::{Join, Split};
+use atomic_table::Split;
 
-/// The asker gets a seat of its own.
+/// The handle gets a seat of its own.
 pub(crate) struct HandleApart;
 
 impl Split<View> for HandleApart {
@@ -13,35 +13,35 @@ impl Split<View> for HandleApart {
     ghost right = { asking_alone };
 }
 
-/// The taker gets a seat of its own.
+/// The first task gets a seat of its own.
 pub(crate) struct RunnerApart;
 
 impl Split<View> for RunnerApart {
-    ghost use Rattle.feed_cell.specs.Views.{without_taking, taking_alone};
+    ghost use Rattle.feed_cell.specs.Views.{without_running, running_alone};
 
-    ghost left = { without_taking };
+    ghost left = { without_running };
 
-    ghost right = { taking_alone };
+    ghost right = { running_alone };
 }
 
-/// The asker's seat is given up to another.
-pub(crate) struct WithHandle;
+/// The task that the producer's signal has started gets a seat.
+pub(crate) struct ProducerHands;
 
-impl Join<View> for WithHandle {
-    ghost use Rattle.feed_cell.specs.Views.{with_asking, idle_view};
+impl Split<View> for ProducerHands {
+    ghost use Rattle.feed_cell.specs.Views.{producer_handed, running_handed};
 
-    ghost both = { with_asking };
+    ghost left = { producer_handed };
 
-    ghost spent = { idle_view };
+    ghost right = { running_handed };
 }
 
-/// The taker's seat is given up to another.
-pub(crate) struct WithRunner;
+/// The task that the handle's signal has started gets a seat.
+pub(crate) struct HandleHands;
 
-impl Join<View> for WithRunner {
-    ghost use Rattle.feed_cell.specs.Views.{with_taking, idle_view};
+impl Split<View> for HandleHands {
+    ghost use Rattle.feed_cell.specs.Views.{handle_handed, running_handed};
 
-    ghost both = { with_taking };
+    ghost left = { handle_handed };
 
-    ghost spent = { idle_view };
+    ghost right = { running_handed };
 }

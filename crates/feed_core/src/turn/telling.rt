@@ -10,10 +10,7 @@ use crate::turn::{SIGNALS_IN_A_TURN, Seen};
 use flow_rules::{Answer, How, Item, Listener, NoMemory, Signal};
 
 /// Tells `onSubscribe`.
-pub(crate) fn tell_subscribed<B: Listener>(
-    subscriber: &mut B,
-    seen: &mut Seen,
-) -> Result<Answer, NoMemory>
+pub fn tell_subscribed<B: Listener>(subscriber: &mut B, seen: &mut Seen) -> Result<Answer, NoMemory>
     requires room { length seen.old.signals < SIGNALS_IN_A_TURN }
     ensures told { OnOk result (B.told subscriber.new ≡ B.told subscriber.old ++ Subscribed ∷ []) }
     ensures seen { OnOk result (seen.new ≡ seen_with (Subscribed ∷ []) seen.old) }
@@ -28,7 +25,7 @@ pub(crate) fn tell_subscribed<B: Listener>(
 }
 
 /// Tells an item, and moves it to what was seen. Where the callback is refused memory, the item comes back.
-pub(crate) fn tell_next<B: Listener>(
+pub fn tell_next<B: Listener>(
     subscriber: &mut B,
     item: Item,
     seen: &mut Seen,
@@ -52,7 +49,7 @@ pub(crate) fn tell_next<B: Listener>(
 }
 
 /// Tells the terminal signal of an end, if it has one. What its callback answers is not obeyed.
-pub(crate) fn tell_terminal<B: Listener>(
+pub fn tell_terminal<B: Listener>(
     subscriber: &mut B,
     how: How,
     seen: &mut Seen,

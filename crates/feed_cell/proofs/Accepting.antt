@@ -1,0 +1,53 @@
+-- What a put that is accepted does to the producer's end.
+use Rattle.std.proofs.Common.{◌≡◌, ℕ, ◌+◌, ◌-◌, ◌<◌, Bool, true, false, [], ◌∷◌, ◌++◌, length, Option, None, is_some, ◌||◌, sym, refl, ap, ◌∙◌, length-append, arith}
+use Rattle.flow_rules.specs.Feed.{End, LookedIfOpen, TakesItem}
+use Rattle.feed_core.specs.Prelude.{Ending, Item}
+use Rattle.feed_cell.specs.Control.{MARK, marked}
+use Rattle.feed_cell.specs.Parties.{end_of}
+use Rattle.feed_cell.specs.Plays.{SeatOf, FindsRoom, after_look, sent}
+use Rattle.feed_cell.specs.Types.{Free, HasRoom, HasPut}
+use Rattle.feed_cell.specs.declared.cell.View.{View}
+
+-- a small head has no mark
+pub unmarked : (ended : Bool) (head found : ℕ) → found ≡ marked ended head → found < MARK → (ended ≡ false) × (found ≡ head)
+unmarked false head found is small = (refl, is)
+unmarked true head found is small = absurd (omega arith)
+
+module _ {B T : Type 0} (capacity tail found : ℕ) (before looked placed after : SeatOf B) (item : Item) (start : Option T) (ready later : Bool) (finds : FindsRoom before found looked) (small : found < MARK) (counted : length before.0.put ≡ tail)
+    (sized : before.0.capacity ≡ capacity) (unclosed : before.0.closing ≡ None) (room : tail - found < capacity)
+    (put : placed ≡ (record looked.0 { put = looked.0.put ++ item ∷ []; producing = HasPut; places = 0 }, [])) (signalled : after ≡ (sent None Free placed.0, placed.1)) (keeps : start ≡ None → later ≡ ready) where
+  ends : finds.ended ≡ false
+  ends = (unmarked finds.ended finds.head found finds.found_is small).0
+
+  head_is : found ≡ finds.head
+  head_is = (unmarked finds.ended finds.head found finds.found_is small).1
+
+  within : length before.0.put < finds.head + before.0.capacity
+  within = let h = head_is in let p = finds.put in let f = finds.fits in omega arith
+
+  abbrev seen : View
+  seen = after_look before.0 finds.head finds.ended HasRoom 1
+
+  view_is : after.0 ≡ record seen { put = before.0.put ++ item ∷ []; producing = Free; places = 0 }
+  view_is = ap (λ (m : SeatOf B). m.0) signalled ∙ ap (λ (m : SeatOf B). sent None Free m.0) put ∙ ap (λ (m : SeatOf B). record m.0 { put = m.0.put ++ item ∷ []; producing = Free; places = 0 }) (finds.room ends within)
+
+  pub accepted : (m : End) × LookedIfOpen (end_of capacity before.0 ready) m × TakesItem m item (tail + 1 - found) start (end_of capacity after.0 later)
+  accepted =
+      let h = head_is in
+      let p = finds.put in
+      let f = finds.fits in
+      let lag : tail + 1 - found ≡ length (before.0.put ++ item ∷ []) - finds.head = (let longer : length (before.0.put ++ item ∷ []) ≡ length before.0.put + 1 = length-append before.0.put (item ∷ []) in omega arith) in
+      let longer : length (before.0.put ++ item ∷ []) ≡ length before.0.put + 1 = length-append before.0.put (item ∷ []) in (
+        end_of capacity seen ready,
+        record {
+          unclosed = λ _. record { seen = finds.grows; over = finds.stays; taken = finds.put; fits = omega arith; rest = refl };
+          closed = λ some. (let never : false ≡ true = sym (ap (λ (o : Option Ending). is_some o) unclosed) ∙ some in cc);
+        },
+        record {
+          open_before = ap (λ (b : Bool). b || is_some before.0.closing) ends ∙ ap (λ (o : Option Ending). is_some o) unclosed;
+          room_before = omega arith;
+          taken = ap (λ (v : View). end_of capacity v later) view_is;
+          lag_after = lag ∙ sym (ap (λ (v : View). length v.put - v.seen) view_is);
+          ready = keeps;
+        },
+      )

@@ -1,0 +1,98 @@
+-- What the words and slots of a closed table show is what is left of the subscription.
+use Rattle.std.proofs.Common.{◌≡◌, ℕ, ◌+◌, ◌-◌, ◌%◌, ◌<◌, ◌≤◌, ◌⊎◌, Bool, true, false, List, [], ◌∷◌, length, sym, refl, ap, ◌∙◌, subst, inl, inr, ⊎_elim, arith}
+use mathlib.Core.Option as slot
+use mathlib.Core.Option.{some}
+use lib.ListN.{get_elem?}
+use Rattle.std.specs.Int.{bit_at}
+use Rattle.atomic_table.specs.Table.{State, Final, Seen}
+use Rattle.feed_core.specs.Prelude.{Signal}
+use Rattle.feed_core.specs.declared.lane.Lane.{Lane}
+use Rattle.feed_core.specs.World.Table.{is_started, is_over, total_of, MayBegin}
+use Rattle.feed_core.proofs.Interleavings.Reaching.{reached_kept}
+use Rattle.feed_core.proofs.Interleavings.Signalling.{starts_nobody}
+use Rattle.feed_cell.specs.Cell.{Cell}
+use Rattle.feed_cell.specs.Control.{MARK, number, marked}
+use Rattle.feed_cell.specs.Left.{OnGuest, lane_with, lane_without, IsLeftOf}
+use Rattle.feed_cell.specs.Parties.{end_of}
+use Rattle.feed_cell.specs.declared.cell.Held.{Held}
+use Rattle.feed_cell.specs.declared.cell.Lodger.{Lodger}
+use Rattle.feed_cell.specs.declared.cell.View.{View}
+use Rattle.feed_cell.proofs.Leaving.{IsSafe, lodges_safe, left_there, left_away}
+use Rattle.feed_cell.proofs.Marks.{unmark, marked_by, unmarked_by, large_by}
+
+-- a fact of who is in a slot, where that is known
+of_guest : {B : Type 0} (P : Lodger B → Type 0) (held : Held B) (g : Lodger B) → held ≡ Held.Guest g → OnGuest held P → P g
+of_guest P held g is on = subst (λ h. OnGuest h P) is on
+
+module _ {B : Type 0} (told : B → List Signal) (cap id : ℕ) (v : View) (words : List ℕ) (slots : List (Held B)) (last : Final (Seen (Cell told cap) id v) words slots) (puts : v.puts ≡ true) (begins : MayBegin v.producing)
+    (head tail asked control : ℕ) (held : Held B) (left : Lane B)
+    (heads : get_elem? words 0 ≡ some head) (tails : get_elem? words 1 ≡ some tail) (asks : get_elem? words 2 ≡ some asked) (controls : get_elem? words 3 ≡ some control)
+    (holds : get_elem? slots (length slots - 1) ≡ some held)
+    (there : (MARK ≤ head) ⊎ (bit_at control 0 ≡ 0) → OnGuest held (λ guest. (running : Bool) × (running ≡ false → (MARK ≤ head) ⊎ (MARK ≤ asked)) × (left ≡ lane_with guest (head % MARK) tail (asked % MARK) running)))
+    (away : head < MARK → bit_at control 0 ≡ 1 → left ≡ lane_without (head % MARK) tail (asked % MARK)) (capacity : ℕ) (ready : Bool) where
+  abbrev s : State (Held B) View
+  s = last.0
+
+  abbrev c : Cell told cap s
+  c = last.1.0
+
+  words_are : words ≡ marked (is_over c.world.runner) c.world.given ∷ c.world.accepted ∷ marked c.left c.world.asked ∷ c.control ∷ []
+  words_are = sym last.2 ∙ c.words
+
+  head_is : head ≡ marked (is_over c.world.runner) c.world.given
+  head_is = slot.some-injective head (marked (is_over c.world.runner) c.world.given) (sym heads ∙ ap (λ ws. get_elem? ws 0) words_are)
+
+  tail_is : tail ≡ c.world.accepted
+  tail_is = slot.some-injective tail c.world.accepted (sym tails ∙ ap (λ ws. get_elem? ws 1) words_are)
+
+  asked_is : asked ≡ marked c.left c.world.asked
+  asked_is = slot.some-injective asked (marked c.left c.world.asked) (sym asks ∙ ap (λ ws. get_elem? ws 2) words_are)
+
+  control_is : control ≡ c.control
+  control_is = slot.some-injective control c.control (sym controls ∙ ap (λ ws. get_elem? ws 3) words_are)
+
+  given_small : c.world.given < MARK
+  given_small = let kept = reached_kept c.reached in let asked : c.world.given ≤ total_of c.world = kept.requested in omega arith
+
+  asked_small : c.world.asked < MARK
+  asked_small = let kept = reached_kept c.reached in let bounded = kept.asked_bounded in omega arith
+
+  bit : bit_at control 0 ≡ number (is_started c.world.runner)
+  bit = ap (λ m. bit_at m 0) control_is ∙ c.reads.run ∙ ap number c.shows.started
+
+  -- where the subscriber is at home
+  safe_left : (safe : IsSafe told cap s c) → (MARK ≤ head) ⊎ (bit_at control 0 ≡ 0) → IsLeftOf told (end_of capacity v ready) left
+  safe_left safe shown =
+      let g = lodges_safe told cap s c safe in
+      let wide : length s.homes ≡ cap + 1 = c.lies.wide in
+      let same : length s.homes ≡ length slots = last.3 in
+      let place : length slots - 1 ≡ cap = omega arith in
+      let here : held ≡ Held.Guest g.guest = slot.some-injective held (Held.Guest g.guest) (sym holds ∙ ap (λ k. get_elem? slots k) place ∙ last.4 cap (Held.Guest g.guest) g.at) in
+      let found = of_guest (λ guest. (running : Bool) × (running ≡ false → (MARK ≤ head) ⊎ (MARK ≤ asked)) × (left ≡ lane_with guest (head % MARK) tail (asked % MARK) running)) held g.guest here (there shown) in
+      let head_there : head % MARK ≡ c.world.given = ap (λ m. m % MARK) head_is ∙ unmark (is_over c.world.runner) c.world.given given_small in
+      let asked_there : asked % MARK ≡ c.world.asked = ap (λ m. m % MARK) asked_is ∙ unmark c.left c.world.asked asked_small in
+      let left_is : left ≡ lane_with g.guest c.world.given c.world.accepted c.world.asked found.0 =
+      found.2 ∙ ap (λ m. lane_with g.guest m tail (asked % MARK) found.0) head_there ∙ ap (λ m. lane_with g.guest c.world.given m (asked % MARK) found.0) tail_is ∙ ap (λ m. lane_with g.guest c.world.given c.world.accepted m found.0) asked_there in
+      subst (λ l. IsLeftOf told (end_of capacity v ready) l) (sym left_is)
+      (left_there told cap s c id v last.1.1 puts begins capacity ready safe found.0 (λ rests. ⊎_elim
+      (λ large. inl (marked_by (is_over c.world.runner) c.world.given head given_small head_is large))
+      (λ large. inr (marked_by c.left c.world.asked asked asked_small asked_is large))
+      (found.1 rests)))
+
+  -- where a task was lost with it
+  lost_left : is_over c.world.runner ≡ false → is_started c.world.runner ≡ true → IsLeftOf told (end_of capacity v ready) left
+  lost_left goes started =
+      let head_there : head % MARK ≡ c.world.given = ap (λ m. m % MARK) head_is ∙ unmark (is_over c.world.runner) c.world.given given_small in
+      let asked_there : asked % MARK ≡ c.world.asked = ap (λ m. m % MARK) asked_is ∙ unmark c.left c.world.asked asked_small in
+      let left_is : left ≡ lane_without c.world.given c.world.accepted c.world.asked =
+      away (unmarked_by (is_over c.world.runner) c.world.given head given_small head_is goes) (bit ∙ ap number started)
+      ∙ ap (λ m. lane_without m tail (asked % MARK)) head_there ∙ ap (λ m. lane_without c.world.given m (asked % MARK)) tail_is ∙ ap (λ m. lane_without c.world.given c.world.accepted m) asked_there in
+      subst (λ l. IsLeftOf told (end_of capacity v ready) l) (sym left_is) (left_away told cap s c id v last.1.1 puts begins capacity ready goes)
+
+  by : (over started : Bool) → is_over c.world.runner ≡ over → is_started c.world.runner ≡ started → IsLeftOf told (end_of capacity v ready) left
+  by true started over e = safe_left (inl over) (inl (large_by (is_over c.world.runner) c.world.given head head_is over))
+  by false false goes e = safe_left (inr (starts_nobody c.world.runner e)) (inr (bit ∙ ap number e))
+  by false true goes e = lost_left goes e
+
+  pub left_of : IsLeftOf told (end_of capacity v ready) left
+  left_of = by (is_over c.world.runner) (is_started c.world.runner) refl refl

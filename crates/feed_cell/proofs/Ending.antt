@@ -1,0 +1,75 @@
+-- The task's end of the subscription.
+use Rattle.std.proofs.Common.{◌≡◌, ℕ, ◌+◌, true, false, List, [], ◌∷◌, length, set, Some, sym, refl, ap, ◌∙◌, subst, arith}
+use mathlib.Core.Option.{some}
+use Rattle.atomic_table.specs.Table.{gives, Allows}
+use Rattle.feed_core.specs.Cause.{with_cause_of}
+use Rattle.feed_core.specs.Prelude.{How, Item, Signal}
+use Rattle.feed_core.specs.World.Table.{MayEnd, after}
+use Rattle.feed_core.proofs.Interleavings.Reaching.{reached_more}
+use Rattle.feed_cell.proofs.Places.{lies_guest, changed}
+use Rattle.feed_cell.proofs.Reading.{or_true}
+use Rattle.feed_cell.proofs.Seats.{other, spent}
+use Rattle.feed_cell.proofs.Stages.{seated}
+use Rattle.feed_cell.specs.Cell.{Lies, Cell, IsToldBy}
+use Rattle.feed_cell.specs.Control.{Flags, MARK, causes_of, marked}
+use Rattle.feed_cell.specs.Plays.{IsEnd}
+use Rattle.feed_cell.specs.Types.{Causes, End}
+use Rattle.feed_cell.specs.Views.{IsRunner, has_put, has_ask, has_run}
+use Rattle.feed_cell.specs.declared.cell.Held.{Held}
+use Rattle.feed_cell.specs.declared.cell.Lodger.{Lodger}
+use Rattle.feed_cell.specs.declared.cell.View.{View}
+
+-- the cause of an end joins those of the answers
+ends_causes : (how : How) (f : Flags) (answers : Causes) → with_cause_of how (causes_of f answers) ≡ causes_of f (with_cause_of how answers)
+ends_causes How.Completed f answers = refl
+ends_causes (How.Errored fault) f answers = refl
+ends_causes How.Cancelled f answers = ap (λ b. record (causes_of f answers) { cancel = b }) (sym (or_true f.cancel))
+ends_causes (How.Failed code) f answers = refl
+ends_causes How.OutOfMemory f answers = refl
+
+module _ {B : Type 0} (told : B → List Signal) where
+  -- a store of head with its mark gives the subscriber's slot back
+  pub ends : (cap n id : ℕ) (v : View) (g : Lodger B) (more : List (ℕ × Held B)) (new : ℕ) (how : How) → IsRunner v → v.away ≡ true → MayEnd how (length v.taken) v.runner → v.item ≡ [] → new ≡ length v.taken + MARK
+      → g.given ≡ length v.taken → g.own ≡ v.own → g.answers ≡ with_cause_of how v.answers → g.how ≡ Some how → IsToldBy how v.taken (told g.subscriber)
+      → Allows (Cell told cap) n id (v, (v.capacity, Held.Guest g) ∷ more) 0 (λ _. new) (λ _. IsEnd (v, (v.capacity, Held.Guest g) ∷ more))
+  ends cap n id v g more new how is out may none_out new_is given_is own_is answers_are how_is told_is s c wide at small =
+      let k = (c.runners id v at is.2).1 in
+      let p = c.world in
+      let know = k.knows (sym k.out ∙ out) in
+      let seat = seated p.runner k.seated in
+      let same : length v.taken ≡ p.given = ap length know.taken_is ∙ sym c.shows.given in
+      let here : MayEnd how p.given p.runner = subst (MayEnd how p.given) k.stands (subst (λ (m : ℕ). MayEnd how m v.runner) same may) in
+      let item_is : c.item ≡ [] = sym k.item_is ∙ none_out in
+      let answers_there : with_cause_of how c.answers ≡ g.answers = ap (with_cause_of how) (sym know.answers_are) ∙ sym answers_are in
+      let w : View = record v { runs = false; away = false } in (
+        w,
+        gives,
+        tt,
+        record {
+          world = after (End how) p;
+          reached = reached_more (End how) c.reached here;
+          log = c.log;
+          taken = c.taken;
+          item = c.item;
+          free = c.free;
+          control = c.control;
+          flags = c.flags;
+          answers = g.answers;
+          away = false;
+          left = c.left;
+          producer = c.producer;
+          handle = c.handle;
+          runner = c.runner;
+          lists = c.lists;
+          shows = record { sized = c.shows.sized; accepted = c.shows.accepted; given = c.shows.given; none_out = λ _. item_is; started = c.shows.started ∙ seat.runs; new = c.shows.new; causes = ap (with_cause_of how) c.shows.causes ∙ ends_causes how c.flags c.answers ∙ ap (causes_of c.flags) answers_there; home = λ _. refl; settled = c.shows.settled };
+          reads = c.reads;
+          words = ap (λ (ws : List ℕ). set ws 0 new) c.words ∙ ap (λ (m : ℕ). m ∷ p.accepted ∷ marked c.left p.asked ∷ c.control ∷ []) (new_is ∙ ap (λ (m : ℕ). m + MARK) same);
+          lies = subst (λ (j : ℕ). Lies cap c.log (length c.taken) (length c.taken + length c.item) c.free (set s.homes j (some (Held.Guest g)))) (sym k.sized)
+              (lies_guest cap c.log s.homes (length c.taken) (length c.taken + length c.item) c.free (some (Held.Guest g)) c.lists.sized c.lies);
+          lodges = λ _. record { guest = g; at = changed s.homes v.capacity cap (some (Held.Guest g)) (sym k.sized) (let wide = c.lies.wide in let sized : v.capacity ≡ cap = k.sized in omega arith); given_is = given_is ∙ ap length know.taken_is; own_is = own_is ∙ know.own_is; answers_are = refl; how_is = how_is; told_is = subst (λ (l : List Item). IsToldBy how l (told g.subscriber)) know.taken_is told_is };
+          producers = other has_put c.producer _ _ s.views id w c.producers is.0 (λ d o. record { sized = o.sized; put = o.put; seen = o.seen; places = o.places; over = λ _. refl; closed = o.closed; doubled = o.doubled; stands = o.stands });
+          handles = other has_ask c.handle _ _ s.views id w c.handles is.1 (λ d h. h);
+          runners = spent has_run c.runner _ _ s.views id v w c.runners at is.2 refl;
+        },
+        refl,
+      )

@@ -1,0 +1,28 @@
+-- By what the task takes an item: the causes of its look, and the total of its measure.
+use Rattle.std.proofs.Common.{◌≡◌, ℕ, ◌<◌, [], ◌∷◌, ◌++◌, length, ap, sym, ◌∙◌, subst}
+use Rattle.atomic_table.specs.Table.{rest}
+use Rattle.feed_core.specs.Prelude.{Item, UNBOUNDED, total_after}
+use Rattle.feed_core.specs.World.Table.{MaySee, seeing, measuring}
+use Rattle.feed_cell.specs.Plays.{SeatOf, Sees, Measures, grants_by}
+use Rattle.feed_cell.specs.Running.{TakesNext}
+use Rattle.feed_cell.specs.Types.{Runner, Taken}
+
+module _ {B : Type 0} where
+  -- it saw an item, measured that more were requested than were taken, and took it
+  pub takes_next : (before there measured after : SeatOf B) (x : Item) (found word : ℕ) → MaySee before.0.runner → length before.0.taken < found → length before.0.taken < UNBOUNDED
+      → Sees before found there → (m : Measures there word measured) → length before.0.taken < total_after m.asked before.0.own
+      → after ≡ (record measured.0 { taken = measured.0.taken ++ x ∷ []; item = []; grants = measured.0.grants ++ grants_by measured.0.runner; runner = Taken }, rest measured.1)
+      → TakesNext x before after
+  takes_next before there measured after x found word may more few s m wanted took =
+      let saw = s.waits more in
+      let total : ℕ = total_after m.asked there.0.own in
+      let same : total ≡ total_after m.asked before.0.own = ap (λ (t : SeatOf B). total_after m.asked t.0.own) saw.1 in
+      let enough : length before.0.taken < total = subst (λ (n : ℕ). length before.0.taken < n) (sym same) wanted in
+      record {
+        granted = record { causes = may.0; asked = total; stage = may.1; runs_on = may.2; wanted = enough };
+        few = few;
+        took = took
+            ∙ ap (λ (t : SeatOf B). (record t.0 { taken = t.0.taken ++ x ∷ []; item = []; grants = t.0.grants ++ grants_by t.0.runner; runner = Taken }, rest t.1)) (m.wanted (subst (λ (t : SeatOf B). length t.0.taken < total) (sym saw.1) enough))
+            ∙ ap (λ (t : SeatOf B). (record t.0 { taken = t.0.taken ++ x ∷ []; item = []; grants = t.0.grants ++ grants_by (measuring total t.0.runner); runner = Taken }, rest t.1)) saw.1
+            ∙ ap (λ (r : Runner). (record before.0 { taken = before.0.taken ++ x ∷ []; item = []; grants = before.0.grants ++ grants_by (measuring total (seeing found r)); runner = Taken }, before.1)) may.1;
+      }

@@ -1,0 +1,97 @@
+-- How a started task gets its seat.
+use Rattle.std.proofs.Common.{◌≡◌, ℕ, true, false, List, [], ◌∷◌, ◌++◌, length, set, bit_and, Option, Some, None, IfSome, IfNone, sym, refl, ap, ◌∙◌, subst, inl, inr}
+use Rattle.std.specs.Int.{bit_at}
+use Rattle.std.proofs.lemmas.Nat.Bits.{bit_at_lowest}
+use lib.Bits.{and_mask}
+use Rattle.atomic_table.specs.Table as Table
+use Rattle.atomic_table.specs.Table.{Splits}
+use Rattle.feed_core.specs.Prelude.{Signal}
+use Rattle.feed_core.specs.World.Table.{is_started, is_over}
+use Rattle.feed_core.specs.World.Runs.{IsReached}
+use Rattle.feed_core.proofs.Interleavings.Reaching.{reached_more, reached_lawful}
+use Rattle.feed_cell.proofs.Seats.{mine, other, added, comes}
+use Rattle.feed_cell.specs.Cell.{Only, Cell, AsProducer, AsHandle, has_seat, may_hold, LodgesAt}
+use Rattle.feed_cell.specs.Control.{marked}
+use Rattle.feed_cell.specs.Types.{Hand, Producer, Handle, Producing, Free, Hands, Requesting, Idle, HandsOver, Runner, Coming, Ready}
+use Rattle.feed_cell.specs.Views.{IsProducer, IsHandle, has_put, has_ask, has_run, producer_handed, handle_handed, running_handed}
+use Rattle.feed_cell.specs.declared.cell.Held.{Held}
+use Rattle.feed_cell.specs.declared.cell.View.{View}
+
+module _ {B : Type 0} (told : B → List Signal) (cap : ℕ) where
+  -- the rule after a task was handed over, whichever side does it
+  hand_kept : (s : Table.State (Held B) View) (c : Cell told cap s) (id : ℕ) (v left : View) (producer : Producing) (handle : Requesting) → c.world.runner ≡ Coming → v.capacity ≡ cap → has_run left ≡ false
+      → IsReached (record c.world { producer = producer; handle = handle; runner = Ready }) → (c.left ≡ true → handle ≡ Idle)
+      → Only has_put c.producer (AsProducer cap c.log c.world.given c.free false c.flags.closing c.flags.state producer) (set s.views id left)
+      → Only has_ask c.handle (AsHandle cap c.world.asked c.flags.cancel c.flags.argument c.left handle) (set s.views id left)
+      → Cell told cap (record { words = s.words; homes = s.homes; views = set s.views id left ++ running_handed v ∷ [] })
+  hand_kept s c id v left producer handle coming sized runs reached settled producers handles =
+      let p = c.world in
+      let inside : c.away ≡ false = c.shows.home (ap has_seat coming) in
+      let none_out : c.item ≡ [] = c.shows.none_out (ap may_hold coming) in
+      record {
+        world = record p { producer = producer; handle = handle; runner = Ready };
+        reached = reached;
+        log = c.log;
+        taken = c.taken;
+        item = c.item;
+        free = c.free;
+        control = c.control;
+        flags = c.flags;
+        answers = c.answers;
+        away = c.away;
+        left = c.left;
+        producer = c.producer;
+        handle = c.handle;
+        runner = length s.views;
+        lists = c.lists;
+        shows = record { sized = c.shows.sized; accepted = c.shows.accepted; given = c.shows.given; none_out = λ _. none_out; started = c.shows.started ∙ ap is_started coming; new = c.shows.new; causes = c.shows.causes; home = λ _. inside; settled = settled };
+        reads = c.reads;
+        words = c.words ∙ ap (λ (r : Runner). marked (is_over r) p.given ∷ p.accepted ∷ marked c.left p.asked ∷ c.control ∷ []) coming;
+        lies = c.lies;
+        lodges = λ e. (let g : LodgesAt told cap Coming c.taken p.own c.answers s.homes = subst (λ (r : Runner). LodgesAt told cap r c.taken p.own c.answers s.homes) coming (c.lodges e) in record { guest = g.guest; at = g.at; given_is = g.given_is; own_is = g.own_is; answers_are = g.answers_are; how_is = g.how_is; told_is = g.told_is });
+        producers = added has_put c.producer _ (set s.views id left) (running_handed v) producers refl;
+        handles = added has_ask c.handle _ (set s.views id left) (running_handed v) handles refl;
+        runners = comes has_run _ s.views id left (running_handed v) (λ j d at has. (let seat = (c.runners j d at has).1.seated in let not : false ≡ true = sym (ap has_seat coming) ∙ seat in cc)) runs
+            (record { sized = sized; seated = refl; stands = refl; out = sym inside; knows = λ e. (let not : false ≡ true = sym inside ∙ e in cc); fresh = λ e. cc; item_is = sym none_out; latest = λ e. cc });
+      }
+
+  -- by the producer
+  pub producer_hands : (id : ℕ) (v : View) → IsProducer v → v.producing ≡ Hands → Splits (Cell told cap) id v (producer_handed v) (running_handed v)
+  producer_hands id v is stage s c at =
+      let k = (c.producers id v at is.0).1 in
+      let p = c.world in
+      let hands : p.producer ≡ Hands = sym k.stands ∙ stage in
+      let coming : p.runner ≡ Coming = (reached_lawful c.reached).coming.1 (inl hands) in
+      hand_kept s c id v (producer_handed v) Free p.handle coming k.sized is.2 (reached_more (Hand Producer) c.reached hands) c.shows.settled
+      (mine has_put c.producer _ _ s.views id v (producer_handed v) c.producers at is.0 (record { sized = k.sized; put = k.put; seen = k.seen; places = k.places; over = λ e. (let never : true ≡ false = sym (k.over e) ∙ ap is_over coming in cc); closed = k.closed; doubled = k.doubled; stands = refl }))
+      (other has_ask c.handle _ _ s.views id (producer_handed v) c.handles is.1 (λ d h. h))
+
+  -- by the handle
+  pub handle_hands : (id : ℕ) (v : View) → IsHandle v → v.requesting ≡ HandsOver → Splits (Cell told cap) id v (handle_handed v) (running_handed v)
+  handle_hands id v is stage s c at =
+      let k = (c.handles id v at is.1).1 in
+      let p = c.world in
+      let hands : p.handle ≡ HandsOver = sym k.stands ∙ stage in
+      let coming : p.runner ≡ Coming = (reached_lawful c.reached).coming.1 (inr hands) in
+      hand_kept s c id v (handle_handed v) p.producer Idle coming k.sized is.2 (reached_more (Hand Handle) c.reached hands) (λ _. refl)
+      (other has_put c.producer _ _ s.views id (handle_handed v) c.producers is.0 (λ d o. subst (λ (r : Runner). AsProducer cap c.log p.given c.free (is_over r) c.flags.closing c.flags.state p.producer d) coming o))
+      (mine has_ask c.handle _ _ s.views id v (handle_handed v) c.handles at is.1 (record { sized = k.sized; total = k.total; cancels = k.cancels; bad = k.bad; there = k.there; stands = refl }))
+
+-- what is left of the mark of the task, by the word that was found
+pub low_bit : (word : ℕ) → bit_and word 1 ≡ bit_at word 0
+low_bit word = and_mask word 1 ∙ sym (bit_at_lowest word)
+
+-- a fact of what is there, if anything is, and one where nothing is
+pub on_some : {A : Type 0} {P Q : A → Type 0} (r : Option A) → ((x : A) → P x → Q x) → IfSome r P → IfSome r Q
+on_some None f p = p
+on_some (Some x) f p = f x p
+
+pub on_none : {A P Q : Type 0} (r : Option A) → (P → Q) → IfNone r P → IfNone r Q
+on_none None f p = f p
+on_none (Some x) f p = p
+
+pub some_of : {A : Type 0} (P : A → Type 0) (r : Option A) (x : A) → r ≡ Some x → IfSome r P → P x
+some_of P r x is p = subst (λ o. IfSome o P) is p
+
+pub none_of : {A P : Type 0} (r : Option A) → r ≡ None → IfNone r P → P
+none_of {A} {P} r is p = subst (λ o. IfNone o P) is p

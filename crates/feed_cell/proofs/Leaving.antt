@@ -1,0 +1,312 @@
+-- What is left of a subscription keeps the Flow rules, and is settled where its task is at rest or has ended.
+use Rattle.std.proofs.Common.{◌≡◌, ℕ, ◌+◌, ◌≤◌, ◌⊎◌, min, Bool, true, false, List, [], ◌∷◌, ◌++◌, length, map, drop, Option, Some, None, is_some, sym, refl, ap, ◌∙◌, subst, inl, inr, ⊎_elim, append-nil, length-append, take-append-drop, append_assoc, arith}
+use mathlib.Core.Option.{some}
+use lib.ListN.{get_elem?}
+use Rattle.atomic_table.specs.Table.{State}
+use Rattle.feed_core.specs.Lane.{LaneState, IsSettled}
+use Rattle.feed_core.specs.Prelude.{Item, Signal, Subscribed, Next, Complete, Error, Fault, Published, IllegalArgument, IllegalState, Ending, How, total_after, items_of}
+use Rattle.feed_core.specs.Sound.{is_begun, signals_of, loss_of, HasCause, IsAtRest, IsSound}
+use Rattle.feed_core.specs.World.Kept.{HasEnded}
+use Rattle.feed_core.specs.World.Table.{is_over, total_of, MayBegin}
+use Rattle.flow_rules.proofs.Items.{items_of_append}
+use Rattle.feed_core.proofs.SignalLists.{items_of_nexts}
+use Rattle.feed_core.proofs.DeskSteps.{no_cause}
+use Rattle.feed_core.proofs.FlowRules.{flow_kept, settled_some, settled_at_rest}
+use Rattle.feed_core.proofs.Interleavings.Reaching.{reached_kept, reached_lawful}
+use Rattle.feed_cell.specs.Cell.{Cell, Lodges, LodgesAt, IsToldAt, IsToldBy, has_seat, may_hold, how_of, greeted}
+use Rattle.feed_cell.specs.Left.{lane_with, lane_without, IsLeftOf}
+use Rattle.feed_cell.specs.Parties.{end_of}
+use Rattle.feed_cell.specs.Types.{Runner, Nobody, Coming, Fresh, Ready, Looked, Saw, Measured, Taken, Over, Parts, HasPut, HasAsked, Idle, Free, HasRoom}
+use Rattle.feed_cell.specs.declared.cell.Held.{Held}
+use Rattle.feed_cell.specs.declared.cell.View.{View}
+
+-- the items of these signals and others
+items_then : (items : List Item) (more : List Signal) → items_of (map Next items ++ more) ≡ items ++ items_of more
+items_then items more = items_of_append (map Next items) more ∙ ap (λ (l : List Item). l ++ items_of more) (items_of_nexts items)
+
+-- what was told is the list of some items and the end, and those are all that were taken, or all but the last one
+record Fits (how : Option How) (taken : List Item) (told : List Signal) : Type 0 where
+  pub told_is : told ≡ signals_of (is_begun told) (items_of told) how
+  pub items : (items_of told ≡ taken) ⊎ ((how ≡ Some How.OutOfMemory) × ((x : Item) × (taken ≡ items_of told ++ x ∷ [])))
+
+-- of a literal list
+fits_ending : (how : Option How) (taken : List Item) (ending : List Signal) → items_of ending ≡ [] → signals_of true taken how ≡ Subscribed ∷ (map Next taken ++ ending) → Fits how taken (Subscribed ∷ (map Next taken ++ ending))
+fits_ending how taken ending none_there is =
+    let items : items_of (map Next taken ++ ending) ≡ taken = items_then taken ending ∙ ap (λ (l : List Item). taken ++ l) none_there ∙ append-nil taken in
+    record { told_is = sym is ∙ ap (λ (l : List Item). signals_of true l how) (sym items); items = inl items }
+
+fits_greeted : (how : Option How) (taken : List Item) (told : List Signal) → signals_of true taken how ≡ Subscribed ∷ (map Next taken ++ []) → told ≡ greeted taken → Fits how taken told
+fits_greeted how taken told is e = subst (λ t. Fits how taken t) (ap (λ l. Subscribed ∷ l) (append-nil (map Next taken)) ∙ sym e) (fits_ending how taken [] refl is)
+
+fits_by : (how : How) (taken : List Item) (told : List Signal) → IsToldBy how taken told → Fits (Some how) taken told
+fits_by How.Completed taken told e = subst (λ t. Fits (Some How.Completed) taken t) (sym e) (fits_ending (Some How.Completed) taken (Complete ∷ []) refl refl)
+fits_by (How.Errored fault) taken told e = subst (λ t. Fits (Some (How.Errored fault)) taken t) (sym e) (fits_ending (Some (How.Errored fault)) taken (Error fault ∷ []) refl refl)
+fits_by How.Cancelled taken told e = fits_greeted (Some How.Cancelled) taken told refl e
+fits_by (How.Failed code) taken told e = fits_greeted (Some (How.Failed code)) taken told refl e
+fits_by How.OutOfMemory taken told (inl e) = fits_greeted (Some How.OutOfMemory) taken told refl e
+fits_by How.OutOfMemory taken told (inr (inl e)) = subst (λ t. Fits (Some How.OutOfMemory) taken t) (sym e.1) (record { told_is = refl; items = inl (sym e.0) })
+fits_by How.OutOfMemory taken told (inr (inr e)) =
+    let f = fits_greeted (Some How.OutOfMemory) e.0 told refl e.3 in
+    let items : items_of told ≡ e.0 = ap items_of e.3 ∙ ap items_of (ap (λ l. Subscribed ∷ l) (sym (append-nil (map Next e.0)))) ∙ items_then e.0 [] ∙ append-nil e.0 in
+    record { told_is = f.told_is; items = inr (refl, (e.1, e.2 ∙ ap (λ (l : List Item). l ++ e.1 ∷ []) (sym items))) }
+
+fits_at : (r : Runner) (taken : List Item) (told : List Signal) → (r ≡ Fresh → ⊥) → IsToldAt r taken told → Fits (how_of r) taken told
+fits_at (Over how) taken told other e = fits_by how taken told e
+fits_at Nobody taken told other e = fits_greeted None taken told refl e
+fits_at Coming taken told other e = fits_greeted None taken told refl e
+fits_at Ready taken told other e = fits_greeted None taken told refl e
+fits_at (Looked c) taken told other e = fits_greeted None taken told refl e
+fits_at (Saw c t) taken told other e = fits_greeted None taken told refl e
+fits_at (Measured c t a) taken told other e = fits_greeted None taken told refl e
+fits_at Taken taken told other e = fits_greeted None taken told refl e
+fits_at Fresh taken told other e = absurd (other refl)
+
+-- an end has its cause
+caused : (w : Parts) (how : How) (lane : LaneState) → lane.causes ≡ w.causes → lane.given ≡ w.given → length lane.accepted ≡ w.accepted → lane.how ≡ Some how → HasEnded how w → HasCause lane
+caused w How.Completed lane causes given accepted is e = record {
+  completed = λ _. ap (λ z. z.closing) causes ∙ e.0;
+  whole = λ _. given ∙ e.1 ∙ sym accepted;
+  published = λ code h. (let s = sym is ∙ h in cc);
+  argument = λ h. (let s = sym is ∙ h in cc);
+  state = λ h. (let s = sym is ∙ h in cc);
+  cancelled = λ h. (let s = sym is ∙ h in cc);
+  failed = λ code h. (let s = sym is ∙ h in cc);
+  refused = λ h. (let s = sym is ∙ h in cc);
+}
+caused w (How.Errored fault) lane causes given accepted is e = record {
+  completed = λ h. (let s = sym is ∙ h in cc);
+  whole = λ h. (let s = sym is ∙ h in cc);
+  published = λ code h. ap (λ z. z.closing) causes ∙ of_code fault code e (sym is ∙ h);
+  argument = λ h. ap (λ z. z.argument) causes ∙ of_argument fault e (sym is ∙ h);
+  state = λ h. ap (λ z. z.state) causes ∙ of_state fault e (sym is ∙ h);
+  cancelled = λ h. (let s = sym is ∙ h in cc);
+  failed = λ code h. (let s = sym is ∙ h in cc);
+  refused = λ h. (let s = sym is ∙ h in cc);
+} where
+  of_code : (fault : Fault) (code : ℕ) → HasEnded (How.Errored fault) w → Some (How.Errored fault) ≡ Some (How.Errored (Published code)) → w.causes.closing ≡ Some (Ending.Failed code)
+  of_code (Published other) code e same = e ∙ ap (λ (m : ℕ). Some (Ending.Failed m)) (cc)
+  of_code IllegalArgument code e same = cc
+  of_code IllegalState code e same = cc
+
+  of_argument : (fault : Fault) → HasEnded (How.Errored fault) w → Some (How.Errored fault) ≡ Some (How.Errored IllegalArgument) → w.causes.argument ≡ true
+  of_argument (Published other) e same = cc
+  of_argument IllegalArgument e same = e
+  of_argument IllegalState e same = cc
+
+  of_state : (fault : Fault) → HasEnded (How.Errored fault) w → Some (How.Errored fault) ≡ Some (How.Errored IllegalState) → w.causes.state ≡ true
+  of_state (Published other) e same = cc
+  of_state IllegalArgument e same = cc
+  of_state IllegalState e same = e
+caused w How.Cancelled lane causes given accepted is e = record {
+  completed = λ h. (let s = sym is ∙ h in cc);
+  whole = λ h. (let s = sym is ∙ h in cc);
+  published = λ code h. (let s = sym is ∙ h in cc);
+  argument = λ h. (let s = sym is ∙ h in cc);
+  state = λ h. (let s = sym is ∙ h in cc);
+  cancelled = λ _. ap (λ z. z.cancel) causes ∙ e;
+  failed = λ code h. (let s = sym is ∙ h in cc);
+  refused = λ h. (let s = sym is ∙ h in cc);
+}
+caused w (How.Failed n) lane causes given accepted is e = record {
+  completed = λ h. (let s = sym is ∙ h in cc);
+  whole = λ h. (let s = sym is ∙ h in cc);
+  published = λ code h. (let s = sym is ∙ h in cc);
+  argument = λ h. (let s = sym is ∙ h in cc);
+  state = λ h. (let s = sym is ∙ h in cc);
+  cancelled = λ h. (let s = sym is ∙ h in cc);
+  failed = λ code h. (let s : Some (How.Failed n) ≡ Some (How.Failed code) = sym is ∙ h in ap (λ z. z.failed) causes ∙ e ∙ ap (λ (m : ℕ). Some m) (cc));
+  refused = λ h. (let s = sym is ∙ h in cc);
+}
+caused w How.OutOfMemory lane causes given accepted is e = record {
+  completed = λ h. (let s = sym is ∙ h in cc);
+  whole = λ h. (let s = sym is ∙ h in cc);
+  published = λ code h. (let s = sym is ∙ h in cc);
+  argument = λ h. (let s = sym is ∙ h in cc);
+  state = λ h. (let s = sym is ∙ h in cc);
+  cancelled = λ h. (let s = sym is ∙ h in cc);
+  failed = λ code h. (let s = sym is ∙ h in cc);
+  refused = λ _. ap (λ z. z.memory) causes ∙ e;
+}
+
+-- who has not ended has no end
+unended : (r : Runner) → how_of r ≡ None → is_over r ≡ false
+unended Nobody e = refl
+unended Coming e = refl
+unended Fresh e = refl
+unended Ready e = refl
+unended (Looked c) e = refl
+unended (Saw c t) e = refl
+unended (Measured c t a) e = refl
+unended Taken e = refl
+unended (Over how) e = cc
+
+goes_on : (r : Runner) → is_over r ≡ false → how_of r ≡ None
+goes_on Nobody e = refl
+goes_on Coming e = refl
+goes_on Fresh e = refl
+goes_on Ready e = refl
+goes_on (Looked c) e = refl
+goes_on (Saw c t) e = refl
+goes_on (Measured c t a) e = refl
+goes_on Taken e = refl
+goes_on (Over how) e = cc
+
+has_ended : (r : Runner) → is_over r ≡ true → is_some (how_of r) ≡ true
+has_ended (Over how) e = refl
+has_ended Nobody e = cc
+has_ended Coming e = cc
+has_ended Fresh e = cc
+has_ended Ready e = cc
+has_ended (Looked c) e = cc
+has_ended (Saw c t) e = cc
+has_ended (Measured c t a) e = cc
+has_ended Taken e = cc
+
+module _ {B : Type 0} (told : B → List Signal) (cap : ℕ) (s : State (Held B) View) (c : Cell told cap s) where
+  -- the lane of a subscription whose subscriber was told this
+  abbrev pub lane_told_so : List Signal → LaneState
+  lane_told_so text = record { accepted = c.log; given = c.world.given; asked = total_of c.world; causes = c.world.causes; how = how_of c.world.runner; told = text }
+
+  ends_by : (r : Runner) → c.world.runner ≡ r → (text : List Signal) → HasCause (lane_told_so text)
+  ends_by (Over how) e text = caused c.world how (lane_told_so text) refl refl (sym c.shows.accepted) (ap how_of e) ((reached_lawful c.reached).ended how e)
+  ends_by Nobody e text = no_cause (lane_told_so text) (ap how_of e)
+  ends_by Coming e text = no_cause (lane_told_so text) (ap how_of e)
+  ends_by Fresh e text = no_cause (lane_told_so text) (ap how_of e)
+  ends_by Ready e text = no_cause (lane_told_so text) (ap how_of e)
+  ends_by (Looked x) e text = no_cause (lane_told_so text) (ap how_of e)
+  ends_by (Saw x t) e text = no_cause (lane_told_so text) (ap how_of e)
+  ends_by (Measured x t a) e text = no_cause (lane_told_so text) (ap how_of e)
+  ends_by Taken e text = no_cause (lane_told_so text) (ap how_of e)
+
+  -- the lane is sound
+  pub sound_left : (text : List Signal) → (c.world.runner ≡ Fresh → ⊥) → IsToldAt c.world.runner c.taken text → may_hold c.world.runner ≡ false → IsSound (lane_told_so text)
+  sound_left text begun told_is held =
+      let kept = reached_kept c.reached in
+      let fits = fits_at c.world.runner c.taken text begun told_is in
+      let n : ℕ = length c.taken + length c.item in
+      let item_is : c.item ≡ [] = c.shows.none_out held in
+      let prefix : c.taken ++ drop n c.log ≡ c.log = ap (λ (l : List Item). l ++ drop n c.log) (sym (append-nil c.taken) ∙ ap (λ (l : List Item). c.taken ++ l) (sym item_is) ∙ c.lists.begins) ∙ take-append-drop n c.log in
+      let given : c.world.given ≡ length c.taken = c.shows.given in
+      let accepted : c.world.accepted ≡ length c.log = c.shows.accepted in
+      let taken : c.world.given ≤ c.world.accepted = kept.taken in
+      record {
+        told_is = fits.told_is;
+        in_order = ⊎_elim
+            (λ all. (drop n c.log, ap (λ (l : List Item). l ++ drop n c.log) all ∙ prefix))
+            (λ lost. (lost.1.0 ∷ drop n c.log, sym (append_assoc (items_of text) (lost.1.0 ∷ []) (drop n c.log)) ∙ ap (λ (l : List Item). l ++ drop n c.log) (sym lost.1.1) ∙ prefix))
+            fits.items;
+        counts = ⊎_elim
+            (λ all. (let same : length (items_of text) ≡ length c.taken = ap length all in record { tells = omega arith; loses = omega arith; taken = omega arith; requested = kept.requested }))
+            (λ lost. (
+            let same : length c.taken ≡ length (items_of text) + 1 = ap length lost.1.1 ∙ length-append (items_of text) (lost.1.0 ∷ []) in
+            let loss : loss_of (how_of c.world.runner) ≡ 1 = ap loss_of lost.0 in
+            record { tells = omega arith; loses = omega arith; taken = omega arith; requested = kept.requested }))
+            fits.items;
+        cause = ends_by c.world.runner refl text;
+        unfailed = λ e. kept.unfailed (unended c.world.runner e);
+        remembered = λ e. kept.remembered (unended c.world.runner e);
+      }
+
+  -- the lane of a task at rest is at rest
+  pub rests_left : (text : List Signal) → c.world.runner ≡ Nobody → text ≡ greeted c.taken → MayBegin c.world.producer → c.left ≡ true → IsAtRest (lane_told_so text)
+  rests_left text e text_is begins left =
+      let law = reached_lawful c.reached in
+      let accepted : c.world.accepted ≡ length c.log = c.shows.accepted in
+      let all : c.world.given ≡ min c.world.accepted (total_of c.world) = law.all_given e (record { put = λ put. between begins put; asked = λ asked. (let idle = c.shows.settled left in let never : Idle ≡ HasAsked = sym idle ∙ asked in cc) }) in
+      record {
+        unended = ap how_of e;
+        begun = ap is_begun text_is;
+        runs_on = law.runs_on e;
+        all_given = all ∙ ap (λ (m : ℕ). min m (total_of c.world)) accepted;
+        waits = λ some. (let waits = law.waits e some in let total : ℕ = total_of c.world in omega arith);
+      }
+    where
+      between : MayBegin c.world.producer → c.world.producer ≡ HasPut → ⊥
+      between (inl free) put = (let never : Free ≡ HasPut = sym free ∙ put in cc)
+      between (inr room) put = (let never : HasRoom ≡ HasPut = sym room ∙ put in cc)
+
+  -- a task that has ended, or is at rest, where its subscriber is at home
+  abbrev pub IsSafe : Type 0
+  IsSafe = (is_over c.world.runner ≡ true) ⊎ (c.world.runner ≡ Nobody)
+
+  safe_held : IsSafe → (c.world.runner ≡ Fresh → ⊥) × (may_hold c.world.runner ≡ false) × (has_seat c.world.runner ≡ false)
+  safe_held (inl over) = by c.world.runner refl over where
+    by : (r : Runner) → c.world.runner ≡ r → is_over r ≡ true → (c.world.runner ≡ Fresh → ⊥) × (may_hold c.world.runner ≡ false) × (has_seat c.world.runner ≡ false)
+    by (Over how) e over = ((λ fresh. (let never : Over how ≡ Fresh = sym e ∙ fresh in cc)), ap may_hold e, ap has_seat e)
+    by Nobody e over = cc
+    by Coming e over = cc
+    by Fresh e over = cc
+    by Ready e over = cc
+    by (Looked x) e over = cc
+    by (Saw x t) e over = cc
+    by (Measured x t a) e over = cc
+    by Taken e over = cc
+  safe_held (inr e) = ((λ fresh. (let never : Nobody ≡ Fresh = sym e ∙ fresh in cc)), ap may_hold e, ap has_seat e)
+
+  pub lodges_safe : IsSafe → Lodges told cap c.world.runner c.taken c.world.own c.answers s.homes
+  lodges_safe safe = at c.world.runner refl (c.lodges (c.shows.home (safe_held safe).2)) where
+    at : (r : Runner) → c.world.runner ≡ r → LodgesAt told cap r c.taken c.world.own c.answers s.homes → Lodges told cap r c.taken c.world.own c.answers s.homes
+    at Fresh fresh g = absurd ((safe_held safe).0 fresh)
+    at Nobody is g = g
+    at Coming is g = g
+    at Ready is g = g
+    at (Looked x) is g = g
+    at (Saw x t) is g = g
+    at (Measured x t a) is g = g
+    at Taken is g = g
+    at (Over how) is g = g
+
+  module _ (id : ℕ) (v : View) (at : get_elem? s.views id ≡ some v) (puts : v.puts ≡ true) (begins : MayBegin v.producing) (capacity : ℕ) (ready : Bool) where
+    may : MayBegin c.world.producer
+    may = subst MayBegin (c.producers id v at puts).1.stands begins
+
+    -- its subscriber is at home
+    pub left_there : (safe : IsSafe) (running : Bool) → (running ≡ false → (is_over c.world.runner ≡ true) ⊎ (c.left ≡ true))
+        → IsLeftOf told (end_of capacity v ready) (lane_with (lodges_safe safe).guest c.world.given c.world.accepted c.world.asked running)
+    left_there safe running settles =
+        let k = (c.producers id v at puts).1 in
+        let g = lodges_safe safe in
+        let held = safe_held safe in
+        let text = told g.guest.subscriber in
+        let sound = sound_left text held.0 g.told_is held.1 in
+        let taken : c.world.given ≤ c.world.accepted = (reached_kept c.reached).taken in
+        let accepted : c.world.accepted ≡ length c.log = c.shows.accepted in
+        record {
+          lane = lane_told_so text;
+          accepted = sym k.put;
+          closing = ap (λ z. z.closing) c.shows.causes ∙ sym k.closed;
+          state = ap (λ z. z.state) c.shows.causes ∙ sym k.doubled;
+          counted = accepted;
+          given = refl;
+          taken = omega arith;
+          ending = g.how_is;
+          flow = (refl, ap (total_after c.world.asked) g.own_is, flow_kept sound);
+          settled = λ rests. (refl, settles_by (settles rests) safe);
+          over = λ over. ap is_some g.how_is ∙ has_ended c.world.runner (k.over over);
+        }
+      where
+        settles_by : (is_over c.world.runner ≡ true) ⊎ (c.left ≡ true) → IsSafe → IsSettled (lane_told_so (told (lodges_safe safe).guest.subscriber))
+        settles_by (inl over) either = settled_some (sound_left _ (safe_held safe).0 (lodges_safe safe).told_is (safe_held safe).1) (has_ended c.world.runner over)
+        settles_by (inr left) (inl over) = settled_some (sound_left _ (safe_held safe).0 (lodges_safe safe).told_is (safe_held safe).1) (has_ended c.world.runner over)
+        settles_by (inr left) (inr e) = settled_at_rest (sound_left _ (safe_held safe).0 (lodges_safe safe).told_is (safe_held safe).1)
+            (rests_left _ e (subst (λ r. IsToldAt r c.taken (told (lodges_safe safe).guest.subscriber)) e (lodges_safe safe).told_is) may left)
+
+    -- a task was lost with it
+    pub left_away : is_over c.world.runner ≡ false → IsLeftOf told (end_of capacity v ready) (lane_without c.world.given c.world.accepted c.world.asked)
+    left_away goes =
+        let k = (c.producers id v at puts).1 in
+        let taken : c.world.given ≤ c.world.accepted = (reached_kept c.reached).taken in
+        let accepted : c.world.accepted ≡ length c.log = c.shows.accepted in
+        record {
+          lane = lane_told_so [];
+          accepted = sym k.put;
+          closing = ap (λ z. z.closing) c.shows.causes ∙ sym k.closed;
+          state = ap (λ z. z.state) c.shows.causes ∙ sym k.doubled;
+          counted = accepted;
+          given = refl;
+          taken = omega arith;
+          ending = sym (goes_on c.world.runner goes);
+          flow = tt;
+          settled = λ e. cc;
+          over = λ over. (let never : true ≡ false = sym (k.over over) ∙ goes in cc);
+        }

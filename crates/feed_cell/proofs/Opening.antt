@@ -1,0 +1,189 @@
+-- How a subscription's table starts, how its maker's seat becomes three, and how the first task takes its subscriber with it.
+use Rattle.std.proofs.Common.{◌≡◌, ℕ, ◌+◌, ◌%◌, ◌<◌, ◌≤◌, true, false, List, [], ◌∷◌, length, map, replicate, slice_index, set, None, sym, refl, ap, ◌∙◌, subst, mod-lt, min, arith}
+use Rattle.std.proofs.lemmas.List.{length-map, length-replicate}
+use mathlib.Core.Option.{some, none, some-ne-none}
+use lib.ListN.{get_elem?}
+use Rattle.atomic_table.proofs.Lists.{at_map}
+use Rattle.atomic_table.specs.Table.{opening, takes, Allows, Splits}
+use Rattle.feed_core.specs.Cause.{no_causes}
+use Rattle.feed_core.specs.Prelude.{Signal}
+use Rattle.feed_core.specs.LaneCalls.{IsCapacity}
+use Rattle.feed_core.specs.World.Runs.{made}
+use Rattle.feed_core.proofs.Interleavings.Reaching.{reached_made}
+use Rattle.feed_cell.proofs.Lists.{at_replicate}
+use Rattle.feed_cell.proofs.Places.{lies_guest}
+use Rattle.feed_cell.proofs.Seats.{alone, mine, other, added, moved}
+use Rattle.feed_cell.specs.Cell.{Lies, Cell, AsProducer, AsHandle, AsRunner, LodgesAt}
+use Rattle.feed_cell.specs.Parties.{IsFresh}
+use Rattle.feed_cell.specs.Plays.{SeatOf, Enters}
+use Rattle.feed_cell.specs.Types.{Free, Idle, Runner, Fresh}
+use Rattle.feed_cell.specs.Views.{IsRunner, first_view, has_put, has_ask, has_run, without_asking, asking_alone, without_running, running_alone}
+use Rattle.feed_cell.specs.declared.cell.Held.{Held}
+use Rattle.feed_cell.specs.declared.cell.View.{View}
+
+module _ {B : Type 0} (told : B → List Signal) where
+  -- the table at the start
+  pub opens : (cap : ℕ) → IsCapacity cap → Cell told cap (opening (0 ∷ 0 ∷ 0 ∷ 1 ∷ []) (replicate (cap + 1) Held.Empty) (first_view cap))
+  opens cap capacity =
+      let positive : 0 < capacity.0 = capacity.1 in
+      let covers : min capacity.0 65536 ≤ cap = capacity.2.covers in
+      let sized : 0 < cap = (omega arith) in
+      let slots : List (Held B) = replicate (cap + 1) Held.Empty in
+      let home : (k : ℕ) → k < cap + 1 → get_elem? (map some slots) k ≡ some (some Held.Empty) = λ k within. at_map some slots k Held.Empty (at_replicate (cap + 1) Held.Empty k within) in
+      record {
+        world = made cap;
+        reached = reached_made cap capacity;
+        log = [];
+        taken = [];
+        item = [];
+        free = 0;
+        control = 1;
+        flags = record { run = true; active = false; cancel = false; argument = false; state = false; closing = None };
+        answers = no_causes;
+        away = false;
+        left = false;
+        producer = 0;
+        handle = 0;
+        runner = 0;
+        lists = record { sized = sized; begins = refl; one_out = omega arith; within = omega arith; above = omega arith; below = omega arith };
+        shows = record { sized = refl; accepted = refl; given = refl; none_out = λ _. refl; started = refl; new = refl; causes = refl; home = λ _. refl; settled = λ e. refl };
+        reads = record { run = refl; active = refl; cancel = refl; argument = refl; state = refl; error = refl; complete = refl; code = refl };
+        words = refl;
+        lies = record {
+          wide = length-map slots some ∙ length-replicate (cap + 1) Held.Empty;
+          items = λ k x from at. absurd (some-ne-none x (sym at));
+          places = λ k from to. home (k % cap) (let low : k % cap < cap = mod-lt k sized in omega arith);
+        };
+        lodges = λ _. home cap (omega arith);
+        producers = alone has_put (AsProducer cap [] 0 0 false None false Free) (first_view cap) (record { sized = refl; put = refl; seen = omega arith; places = refl; over = λ e. cc; closed = refl; doubled = refl; stands = refl });
+        handles = alone has_ask (AsHandle cap 0 false false false Idle) (first_view cap) (record { sized = refl; total = refl; cancels = refl; bad = refl; there = refl; stands = refl });
+        runners = alone has_run (AsRunner cap Fresh false 1 false [] [] 0 no_causes) (first_view cap)
+            (record { sized = refl; seated = refl; stands = refl; out = refl; knows = λ e. cc; fresh = λ _. record { taken_is = refl; own_is = refl; answers_are = refl }; item_is = refl; latest = λ e. cc });
+      }
+
+  -- the first task gets a seat of its own
+  pub splits_runner : (cap id : ℕ) (v : View) → v.puts ≡ true → v.asks ≡ true → v.runs ≡ true → Splits (Cell told cap) id v (without_running v) (running_alone v)
+  splits_runner cap id v puts asks runs s c at =
+      let p = (c.producers id v at puts).1 in
+      let h = (c.handles id v at asks).1 in
+      let r = (c.runners id v at runs).1 in
+      record {
+        world = c.world;
+        reached = c.reached;
+        log = c.log;
+        taken = c.taken;
+        item = c.item;
+        free = c.free;
+        control = c.control;
+        flags = c.flags;
+        answers = c.answers;
+        away = c.away;
+        left = c.left;
+        producer = c.producer;
+        handle = c.handle;
+        runner = length s.views;
+        lists = c.lists;
+        shows = c.shows;
+        reads = c.reads;
+        words = c.words;
+        lies = c.lies;
+        lodges = c.lodges;
+        producers = added has_put c.producer _ (set s.views id (without_running v)) (running_alone v)
+            (mine has_put c.producer _ _ s.views id v (without_running v) c.producers at puts (record { sized = p.sized; put = p.put; seen = p.seen; places = p.places; over = p.over; closed = p.closed; doubled = p.doubled; stands = p.stands })) refl;
+        handles = added has_ask c.handle _ (set s.views id (without_running v)) (running_alone v)
+            (mine has_ask c.handle _ _ s.views id v (without_running v) c.handles at asks (record { sized = h.sized; total = h.total; cancels = h.cancels; bad = h.bad; there = h.there; stands = h.stands })) refl;
+        runners = moved has_run c.runner _ _ s.views id v (without_running v) (running_alone v) c.runners at runs refl
+            (record { sized = r.sized; seated = r.seated; stands = r.stands; out = r.out; knows = λ e. (let k = r.knows e in record { taken_is = k.taken_is; own_is = k.own_is; answers_are = k.answers_are }); fresh = λ e. (let k = r.fresh e in record { taken_is = k.taken_is; own_is = k.own_is; answers_are = k.answers_are }); item_is = r.item_is; latest = r.latest });
+      }
+
+  -- the handle gets a seat of its own
+  pub splits_handle : (cap id : ℕ) (v : View) → v.puts ≡ true → v.asks ≡ true → v.runs ≡ false → Splits (Cell told cap) id v (without_asking v) (asking_alone v)
+  splits_handle cap id v puts asks runs s c at =
+      let p = (c.producers id v at puts).1 in
+      let h = (c.handles id v at asks).1 in
+      record {
+        world = c.world;
+        reached = c.reached;
+        log = c.log;
+        taken = c.taken;
+        item = c.item;
+        free = c.free;
+        control = c.control;
+        flags = c.flags;
+        answers = c.answers;
+        away = c.away;
+        left = c.left;
+        producer = c.producer;
+        handle = length s.views;
+        runner = c.runner;
+        lists = c.lists;
+        shows = c.shows;
+        reads = c.reads;
+        words = c.words;
+        lies = c.lies;
+        lodges = c.lodges;
+        producers = added has_put c.producer _ (set s.views id (without_asking v)) (asking_alone v)
+            (mine has_put c.producer _ _ s.views id v (without_asking v) c.producers at puts (record { sized = p.sized; put = p.put; seen = p.seen; places = p.places; over = p.over; closed = p.closed; doubled = p.doubled; stands = p.stands })) refl;
+        handles = moved has_ask c.handle _ _ s.views id v (without_asking v) (asking_alone v) c.handles at asks refl
+            (record { sized = h.sized; total = h.total; cancels = h.cancels; bad = h.bad; there = h.there; stands = h.stands });
+        runners = added has_run c.runner _ (set s.views id (without_asking v)) (asking_alone v)
+            (other has_run c.runner _ _ s.views id (without_asking v) c.runners runs (λ d k. k)) refl;
+      }
+
+  -- a load takes the subscriber's slot out
+  pub enters : (cap n id : ℕ) (v : View) (more : List (ℕ × Held B)) → IsRunner v → v.runner ≡ Fresh → v.away ≡ false → Allows (Cell told cap) n id (v, more) 3 (λ n. n) (λ _. Enters (v, more))
+  enters cap n id v more is fresh home s c wide at small =
+      let k = (c.runners id v at is.2).1 in
+      let stage : c.world.runner ≡ Fresh = sym k.stands ∙ fresh in
+      let inside : c.away ≡ false = sym k.out ∙ home in
+      let vacant : LodgesAt told cap Fresh c.taken c.world.own c.answers s.homes = subst (λ (r : Runner). LodgesAt told cap r c.taken c.world.own c.answers s.homes) stage (c.lodges inside) in
+      let knows = k.fresh stage in
+      let w : View = record v { away = true } in (
+        w,
+        takes v.capacity Held.Empty,
+        ap (λ (j : ℕ). get_elem? s.homes j) k.sized ∙ vacant,
+        record {
+          world = c.world;
+          reached = c.reached;
+          log = c.log;
+          taken = c.taken;
+          item = c.item;
+          free = c.free;
+          control = c.control;
+          flags = c.flags;
+          answers = c.answers;
+          away = true;
+          left = c.left;
+          producer = c.producer;
+          handle = c.handle;
+          runner = c.runner;
+          lists = c.lists;
+          shows = record { sized = c.shows.sized; accepted = c.shows.accepted; given = c.shows.given; none_out = c.shows.none_out; started = c.shows.started; new = c.shows.new; causes = c.shows.causes; home = λ e. (let h = k.seated in cc); settled = c.shows.settled };
+          reads = c.reads;
+          words = ap (λ (ws : List ℕ). set ws 3 (slice_index ws 3)) c.words;
+          lies = subst (λ (j : ℕ). Lies cap c.log (length c.taken) (length c.taken + length c.item) c.free (set s.homes j none)) (sym k.sized)
+              (lies_guest cap c.log s.homes (length c.taken) (length c.taken + length c.item) c.free none c.lists.sized c.lies);
+          lodges = λ e. cc;
+          producers = other has_put c.producer _ _ s.views id w c.producers is.0 (λ d p. p);
+          handles = other has_ask c.handle _ _ s.views id w c.handles is.1 (λ d h. h);
+          runners = mine has_run c.runner _ _ s.views id v w c.runners at is.2
+              (record { sized = k.sized; seated = k.seated; stands = k.stands; out = refl; knows = λ _. record { taken_is = knows.taken_is; own_is = knows.own_is; answers_are = knows.answers_are }; fresh = λ _. record { taken_is = knows.taken_is; own_is = knows.own_is; answers_are = knows.answers_are }; item_is = k.item_is; latest = k.latest });
+        },
+        refl,
+      )
+
+  -- the first task, with its subscriber placed in the slot
+  pub lodged : (capacity : ℕ) (v : View) (b : B) (me : SeatOf B) → v.capacity ≡ capacity → v.runner ≡ Fresh → v.taken ≡ [] → v.own ≡ 0 → v.answers ≡ no_causes → told b ≡ []
+      → me ≡ (record v { away = true }, (capacity, Held.Guest (record { subscriber = b; given = 0; own = 0; answers = no_causes; how = None })) ∷ []) → IsFresh told me
+  lodged capacity v b me sized stage taken own answers untold is = subst (λ (m : SeatOf B). IsFresh told m) (sym is) (record {
+    guest = record { subscriber = b; given = 0; own = 0; answers = no_causes; how = None };
+    slot = ap (λ (n : ℕ). (n, Held.Guest (record { subscriber = b; given = 0; own = 0; answers = no_causes; how = None })) ∷ []) (sym sized);
+    away = refl;
+    stage = stage;
+    taken = taken;
+    untold = untold;
+    given = refl;
+    own = sym own;
+    answers = sym answers;
+    how = refl;
+  })

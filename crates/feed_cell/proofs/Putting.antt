@@ -1,0 +1,78 @@
+-- The producer's store of tail.
+use Rattle.std.proofs.Common.{◌≡◌, ℕ, ◌+◌, ◌%◌, ◌≤◌, List, [], ◌∷◌, ◌++◌, length, set, None, sym, refl, ap, ap₂, ◌∙◌, subst, length-append, arith}
+use Rattle.std.proofs.lemmas.List.{take-append-le}
+use mathlib.Core.Option.{some}
+use Rattle.atomic_table.specs.Table.{gives, Allows, rest}
+use Rattle.feed_core.specs.Prelude.{Item, Signal}
+use Rattle.feed_core.specs.World.Table.{is_over, after}
+use Rattle.feed_core.proofs.Interleavings.Reaching.{reached_more}
+use Rattle.feed_cell.proofs.Places.{lies_put, stays_home}
+use Rattle.feed_cell.proofs.Seats.{mine, other}
+use Rattle.feed_cell.proofs.Stages.{lodges_else}
+use Rattle.feed_cell.specs.Cell.{Lies, Cell}
+use Rattle.feed_cell.specs.Control.{marked}
+use Rattle.feed_cell.specs.Plays.{SeatOf, IsPut}
+use Rattle.feed_cell.specs.Steps.{HasPlace}
+use Rattle.feed_cell.specs.Types.{Put, HasRoom, HasPut}
+use Rattle.feed_cell.specs.Views.{IsProducer, has_put, has_ask, has_run}
+use Rattle.feed_cell.specs.declared.cell.Held.{Held}
+use Rattle.feed_cell.specs.declared.cell.View.{View}
+
+module _ {B : Type 0} (told : B → List Signal) where
+  -- a store of tail gives the slot back, with the next item
+  pub puts_item : (cap n id : ℕ) (v : View) (i new : ℕ) (x : Item) (more : List (ℕ × Held B)) → IsProducer v → v.producing ≡ HasRoom → v.places ≡ 1 → v.closing ≡ None → i ≡ length v.put % v.capacity → new ≡ length v.put + 1
+      → Allows (Cell told cap) n id (v, (i, Held.Item x) ∷ more) 1 (λ _. new) (λ _. IsPut (v, (i, Held.Item x) ∷ more))
+  puts_item cap n id v i new x more is stage one closed slot_at new_is s c wide at small =
+      let k = (c.producers id v at is.0).1 in
+      let p = c.world in
+      let log : List Item = c.log ++ x ∷ [] in
+      let longer : length log ≡ length c.log + 1 = length-append c.log (x ∷ []) in
+      let put_is : length v.put ≡ length c.log = ap length k.put in
+      let slot_is : i ≡ length c.log % cap = slot_at ∙ ap (λ (m : ℕ). m % v.capacity) put_is ∙ ap (λ (m : ℕ). length c.log % m) k.sized in
+      let within : length c.taken + length c.item ≤ length c.log = c.lists.within in
+      let below : c.free ≤ length c.taken + cap = c.lists.below in
+      let free_is : c.free ≡ length c.log + 1 = k.places ∙ ap (λ (m : ℕ). length c.log + m) one in
+      let accepted : p.accepted ≡ length c.log = c.shows.accepted in
+      let stage_is : p.producer ≡ HasRoom = sym k.stands ∙ stage in
+      let closing_is : p.causes.closing ≡ None = ap (λ z. z.closing) c.shows.causes ∙ sym k.closed ∙ closed in
+      let w : View = record v { put = v.put ++ x ∷ []; producing = HasPut; places = 0 } in (
+        w,
+        gives,
+        tt,
+        record {
+          world = after Put p;
+          reached = reached_more Put c.reached (stage_is, closing_is);
+          log = log;
+          taken = c.taken;
+          item = c.item;
+          free = length c.log + 1;
+          control = c.control;
+          flags = c.flags;
+          answers = c.answers;
+          away = c.away;
+          left = c.left;
+          producer = c.producer;
+          handle = c.handle;
+          runner = c.runner;
+          lists = record { sized = c.lists.sized; begins = c.lists.begins ∙ sym (take-append-le (length c.taken + length c.item) c.log (x ∷ []) within); one_out = c.lists.one_out; within = omega arith; above = omega arith; below = omega arith };
+          shows = record { sized = c.shows.sized; accepted = omega arith; given = c.shows.given; none_out = c.shows.none_out; started = c.shows.started; new = c.shows.new; causes = c.shows.causes; home = c.shows.home; settled = c.shows.settled };
+          reads = c.reads;
+          words = ap (λ (ws : List ℕ). set ws 1 new) c.words ∙ ap (λ (m : ℕ). marked (is_over p.runner) p.given ∷ m ∷ marked c.left p.asked ∷ c.control ∷ []) (omega arith);
+          lies = lies_put cap c.log s.homes (length c.taken) (length c.taken + length c.item) i x c.lists.sized (omega arith) (omega arith) (omega arith) slot_is
+              (subst (λ (m : ℕ). Lies cap c.log (length c.taken) (length c.taken + length c.item) m s.homes) free_is c.lies);
+          lodges = λ e. lodges_else told cap p.runner c.taken p.own c.answers s.homes (set s.homes i (some (Held.Item x))) (λ y at. stays_home cap c.log s.homes i (length c.log) (some (Held.Item x)) y c.lists.sized slot_is at) (c.lodges e);
+          producers = mine has_put c.producer _ _ s.views id v w c.producers at is.0
+              (record { sized = k.sized; put = ap (λ (l : List Item). l ++ x ∷ []) k.put; seen = k.seen; places = omega arith; over = k.over; closed = k.closed; doubled = k.doubled; stands = refl });
+          handles = other has_ask c.handle _ _ s.views id w c.handles is.1 (λ d k. k);
+          runners = other has_run c.runner _ _ s.views id w c.runners is.2 (λ d k. k);
+        },
+        refl,
+      )
+
+  -- the same, of a seat that placed its item
+  pub puts_placed : (cap n id : ℕ) (capacity tail : ℕ) (before me : SeatOf B) (i new : ℕ) (x : Item) → HasPlace capacity tail before → me ≡ (before.0, (i, Held.Item x) ∷ rest before.1) → i ≡ tail % capacity → new ≡ tail + 1
+      → Allows (Cell told cap) n id me 1 (λ _. new) (λ _. IsPut me)
+  puts_placed cap n id capacity tail before me i new x h placed slot_at new_is =
+      let at : i ≡ length before.0.put % before.0.capacity = slot_at ∙ ap₂ (λ (a b : ℕ). a % b) (sym h.counted) (sym h.sized) in
+      let next : new ≡ length before.0.put + 1 = new_is ∙ ap (λ (m : ℕ). m + 1) (sym h.counted) in
+      subst (λ (m : SeatOf B). Allows (Cell told cap) n id m 1 (λ _. new) (λ _. IsPut m)) (sym placed) (puts_item cap n id before.0 i new x (rest before.1) h.is h.stage h.one_out h.closing at next)

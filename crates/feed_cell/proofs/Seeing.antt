@@ -1,0 +1,156 @@
+-- The task's loads of tail and asked.
+use Rattle.std.proofs.Common.{◌≡◌, ℕ, ◌+◌, ◌%◌, ◌≤◌, true, List, [], ◌∷◌, ◌++◌, length, take, slice_index, set, sym, refl, ap, ◌∙◌, subst, append-nil, add-one, length-take-le, arith}
+use mathlib.Core.Option as slot
+use mathlib.Core.Option.{some, none}
+use mathlib.Core.Logic.{dite}
+use native.Mathlib.Decide.{dec_lt}
+use lib.ListN.{get_elem?}
+use Rattle.atomic_table.specs.Table.{keeps, takes, gives, Allows}
+use Rattle.feed_core.specs.Prelude.{Item, Signal, total_after}
+use Rattle.feed_core.specs.World.Table.{MaySee, MayMeasure, seeing, measuring, total_of}
+use Rattle.feed_core.specs.World.Runs.{IsReached}
+use Rattle.feed_core.proofs.Interleavings.Reaching.{reached_more, reached_kept}
+use Rattle.feed_cell.proofs.Lists.{there, take_one_more, parted}
+use Rattle.feed_cell.proofs.Moving.{knows_too, move_kept}
+use Rattle.feed_cell.proofs.Places.{lies_out, lies_back}
+use Rattle.feed_cell.specs.Cell.{Lies, Cell, may_hold, has_looked}
+use Rattle.feed_cell.specs.Plays.{SeatOf, Sees, Measures, MeasuresNone}
+use Rattle.feed_cell.specs.Types.{See, Measure, Runner, Looked, Saw, Measured}
+use Rattle.feed_cell.specs.Views.{IsRunner}
+use Rattle.feed_cell.specs.declared.cell.Held.{Held}
+use Rattle.feed_cell.specs.declared.cell.View.{View}
+
+-- the slots, where the numbers of items taken and of items out are known
+pub lies_at : {B : Type 0} (cap : ℕ) (log : List Item) (head full full' free : ℕ) (homes : List (slot.Option (Held B))) → full ≡ full' → Lies cap log head full free homes → Lies cap log head full' free homes
+lies_at cap log head full full' free homes same = subst (λ (m : ℕ). Lies cap log head m free homes) same
+
+module _ {B : Type 0} (told : B → List Signal) where
+  -- a load of tail takes the next slot out where it has an item
+  pub sees_item : (cap n id : ℕ) (me : SeatOf B) → IsRunner me.0 → me.0.away ≡ true → MaySee me.0.runner → Allows (Cell told cap) n id me 1 (λ n. n) (Sees me)
+  sees_item cap n id me is out may s c wide at small =
+      let v : View = me.0 in
+      let k = (c.runners id v at is.2).1 in
+      let p = c.world in
+      let stage : p.runner ≡ Looked may.0 = sym k.stands ∙ may.1 in
+      let know = k.knows (sym k.out ∙ out) in
+      let found : ℕ = slice_index s.words 1 in
+      let found_is : found ≡ p.accepted = ap (λ ws. slice_index ws 1) c.words in
+      let words_are = ap (λ (ws : List ℕ). set ws 1 (slice_index ws 1)) c.words in
+      let reached : IsReached (record p { runner = Saw may.0 p.accepted }) = subst IsReached (ap (λ (r : Runner). record p { runner = seeing p.accepted r }) stage) (reached_more See c.reached (may.0, stage, may.2)) in
+      let stands : seeing found v.runner ≡ Saw may.0 p.accepted = ap (seeing found) may.1 ∙ ap (Saw may.0) found_is in
+      let taken_is : length v.taken ≡ length c.taken = ap length know.taken_is in
+      let slot_is : length v.taken % v.capacity ≡ length c.taken % cap = ap (λ (m : ℕ). m % v.capacity) taken_is ∙ ap (λ (m : ℕ). length c.taken % m) k.sized in
+      let item_is : c.item ≡ [] = c.shows.none_out (ap may_hold stage) in
+      let none_is : length c.item ≡ 0 = ap length item_is in
+      let accepted : p.accepted ≡ length c.log = c.shows.accepted in
+      let within : length c.taken + length c.item ≤ length c.log = c.lists.within in
+      let above : length c.log ≤ c.free = c.lists.above in
+      let below : c.free ≤ length c.taken + cap = c.lists.below in
+      let lies : Lies cap c.log (length c.taken) (length c.taken) c.free s.homes = lies_at cap c.log (length c.taken) (length c.taken + length c.item) (length c.taken) c.free s.homes (omega arith) c.lies in
+      dite (dec_lt (length c.taken) (length c.log))
+      (λ more.
+      let next = there c.log (length c.taken) more in
+      let x : Item = next.0 in
+      let w : View = record v { runner = seeing found v.runner; item = x ∷ [] } in (
+        w,
+        takes (length v.taken % v.capacity) (Held.Item x),
+        ap (λ (j : ℕ). get_elem? s.homes j) slot_is ∙ lies.items (length c.taken) x (omega arith) next.1,
+        move_kept told cap s c id v w (Saw may.0 p.accepted) (x ∷ []) _ (set s.homes (length v.taken % v.capacity) none) at is is.0 is.1 refl reached (λ e. cc)
+            (record {
+              sized = c.lists.sized;
+              begins = ap (λ (l : List Item). l ++ x ∷ []) (sym (append-nil c.taken) ∙ ap (λ (l : List Item). c.taken ++ l) (sym item_is) ∙ c.lists.begins ∙ ap (λ (m : ℕ). take m c.log) (omega arith))
+                  ∙ sym (take_one_more c.log (length c.taken) x next.1) ∙ ap (λ (m : ℕ). take m c.log) (sym (add-one (length c.taken)));
+              one_out = omega arith;
+              within = omega arith;
+              above = above;
+              below = below;
+            })
+            (lies_out cap c.log s.homes (length c.taken) c.free (length v.taken % v.capacity) c.lists.sized (omega arith) (omega arith) slot_is lies)
+            words_are
+            (record { sized = k.sized; seated = refl; stands = stands; out = out; knows = λ _. knows_too c.taken p.own c.answers v w refl refl refl know; fresh = λ e. cc; item_is = refl; latest = λ _ quiet. k.latest (ap has_looked stage) quiet }),
+        record { put = omega arith; waits = λ _. (x, refl); empty = λ none_there. absurd (omega arith) },
+      ))
+      (λ none_more.
+      let w : View = record v { runner = seeing found v.runner } in (
+        w,
+        keeps,
+        tt,
+        move_kept told cap s c id v w (Saw may.0 p.accepted) c.item _ s.homes at is is.0 is.1 refl reached (λ e. cc) c.lists c.lies words_are
+            (record { sized = k.sized; seated = refl; stands = stands; out = out; knows = λ _. knows_too c.taken p.own c.answers v w refl refl refl know; fresh = λ e. cc; item_is = k.item_is; latest = λ _ quiet. k.latest (ap has_looked stage) quiet }),
+        record { put = omega arith; waits = λ more. absurd (omega (arith, none_more)); empty = λ _. refl },
+      ))
+
+  -- a load of asked, with no item out
+  pub measures_none : (cap n id : ℕ) (me : SeatOf B) → IsRunner me.0 → me.0.away ≡ true → MayMeasure me.0.runner → me.0.item ≡ [] → Allows (Cell told cap) n id me 2 (λ n. n) (MeasuresNone me)
+  measures_none cap n id me is out may none_out s c wide at small =
+      let v : View = me.0 in
+      let k = (c.runners id v at is.2).1 in
+      let p = c.world in
+      let kept = reached_kept c.reached in
+      let stage : p.runner ≡ Saw may.0 may.1 = sym k.stands ∙ may.2 in
+      let know = k.knows (sym k.out ∙ out) in
+      let total : total_after p.asked v.own ≡ total_of p = ap (total_after p.asked) know.own_is in
+      let reached : IsReached (record p { runner = Measured may.0 may.1 (total_of p) }) = subst IsReached (ap (λ (r : Runner). record p { runner = measuring (total_of p) r }) stage) (reached_more Measure c.reached (may.0, may.1, stage)) in
+      let stands : measuring (total_after p.asked v.own) v.runner ≡ Measured may.0 may.1 (total_of p) = ap (measuring (total_after p.asked v.own)) may.2 ∙ ap (Measured may.0 may.1) total in
+      let taken_is : length v.taken ≡ length c.taken = ap length know.taken_is in
+      let given : p.given ≡ length c.taken = c.shows.given in
+      let requested : p.given ≤ total_of p = kept.requested in
+      let w : View = record v { runner = measuring (total_after p.asked v.own) v.runner } in (
+        w,
+        keeps,
+        tt,
+        move_kept told cap s c id v w (Measured may.0 may.1 (total_of p)) c.item _ s.homes at is is.0 is.1 refl reached (λ e. cc) c.lists c.lies (ap (λ (ws : List ℕ). set ws 2 (slice_index ws 2)) c.words)
+            (record { sized = k.sized; seated = refl; stands = stands; out = out; knows = λ _. knows_too c.taken p.own c.answers v w refl refl refl know; fresh = λ e. cc; item_is = k.item_is; latest = λ _ quiet. k.latest (ap has_looked stage) quiet }),
+        record { asked = p.asked; left = c.left; found_is = ap (λ ws. slice_index ws 2) c.words; bounded = kept.asked_bounded; met = omega arith; measured = refl },
+      )
+
+  -- a load of asked gives the slot back where no more is requested
+  pub measures : (cap n id : ℕ) (v : View) (i : ℕ) (x : Item) (more : List (ℕ × Held B)) → IsRunner v → v.away ≡ true → MayMeasure v.runner → v.item ≡ x ∷ [] → i ≡ length v.taken % v.capacity
+      → Allows (Cell told cap) n id (v, (i, Held.Item x) ∷ more) 2 (λ n. n) (Measures (v, (i, Held.Item x) ∷ more))
+  measures cap n id v i x more is out may one slot_at s c wide at small =
+      let k = (c.runners id v at is.2).1 in
+      let p = c.world in
+      let kept = reached_kept c.reached in
+      let stage : p.runner ≡ Saw may.0 may.1 = sym k.stands ∙ may.2 in
+      let know = k.knows (sym k.out ∙ out) in
+      let total : total_after p.asked v.own ≡ total_of p = ap (total_after p.asked) know.own_is in
+      let reached : IsReached (record p { runner = Measured may.0 may.1 (total_of p) }) = subst IsReached (ap (λ (r : Runner). record p { runner = measuring (total_of p) r }) stage) (reached_more Measure c.reached (may.0, may.1, stage)) in
+      let stands : measuring (total_after p.asked v.own) v.runner ≡ Measured may.0 may.1 (total_of p) = ap (measuring (total_after p.asked v.own)) may.2 ∙ ap (Measured may.0 may.1) total in
+      let taken_is : length v.taken ≡ length c.taken = ap length know.taken_is in
+      let given : p.given ≡ length c.taken = c.shows.given in
+      let requested : p.given ≤ total_of p = kept.requested in
+      let words_are = ap (λ (ws : List ℕ). set ws 2 (slice_index ws 2)) c.words in
+      let slot_is : i ≡ length c.taken % cap = slot_at ∙ ap (λ (m : ℕ). m % v.capacity) taken_is ∙ ap (λ (m : ℕ). length c.taken % m) k.sized in
+      let item_is : c.item ≡ x ∷ [] = sym k.item_is ∙ one in
+      let one_is : length c.item ≡ 1 = ap length item_is in
+      let within : length c.taken + length c.item ≤ length c.log = c.lists.within in
+      let above : length c.log ≤ c.free = c.lists.above in
+      let below : c.free ≤ length c.taken + cap = c.lists.below in
+      dite (dec_lt (length v.taken) (total_after p.asked v.own))
+      (λ wanted.
+      let w : View = record v { runner = measuring (total_after p.asked v.own) v.runner } in (
+        w,
+        keeps,
+        tt,
+        move_kept told cap s c id v w (Measured may.0 may.1 (total_of p)) c.item _ s.homes at is is.0 is.1 refl reached (λ e. cc) c.lists c.lies words_are
+            (record { sized = k.sized; seated = refl; stands = stands; out = out; knows = λ _. knows_too c.taken p.own c.answers v w refl refl refl know; fresh = λ e. cc; item_is = k.item_is; latest = λ _ quiet. k.latest (ap has_looked stage) quiet }),
+        record { asked = p.asked; left = c.left; found_is = ap (λ ws. slice_index ws 2) c.words; bounded = kept.asked_bounded; met = omega arith; wanted = λ _. refl; enough = λ e. absurd (omega arith) },
+      ))
+      (λ met.
+      let next = there c.log (length c.taken) (omega arith) in
+      let begun : c.taken ++ x ∷ [] ≡ take (length c.taken) c.log ++ next.0 ∷ [] = ap (λ (l : List Item). c.taken ++ l) (sym item_is) ∙ c.lists.begins ∙ ap (λ (m : ℕ). take m c.log) (ap (λ (m : ℕ). length c.taken + m) one_is ∙ add-one (length c.taken)) ∙ take_one_more c.log (length c.taken) next.0 next.1 in
+      let lengths : length (take (length c.taken) c.log) ≡ length c.taken = length-take-le (length c.taken) c.log (omega arith) in
+      let parts = parted c.taken (take (length c.taken) c.log) x next.0 (sym lengths) begun in
+      let w : View = record v { runner = measuring (total_after p.asked v.own) v.runner; item = [] } in (
+        w,
+        gives,
+        tt,
+        move_kept told cap s c id v w (Measured may.0 may.1 (total_of p)) [] _ (set s.homes i (some (Held.Item x))) at is is.0 is.1 refl reached (λ _. refl)
+            (record { sized = c.lists.sized; begins = append-nil c.taken ∙ parts.0 ∙ ap (λ (m : ℕ). take m c.log) (omega arith); one_out = omega arith; within = omega arith; above = above; below = below })
+            (lies_at cap c.log (length c.taken) (length c.taken) (length c.taken + 0) c.free _ (omega arith)
+            (lies_back cap c.log s.homes (length c.taken) c.free i x c.lists.sized (omega arith) (omega arith) slot_is (next.1 ∙ ap (λ (y : Item). some y) (sym parts.1))
+            (lies_at cap c.log (length c.taken) (length c.taken + length c.item) (length c.taken + 1) c.free s.homes (omega arith) c.lies)))
+            words_are
+            (record { sized = k.sized; seated = refl; stands = stands; out = out; knows = λ _. knows_too c.taken p.own c.answers v w refl refl refl know; fresh = λ e. cc; item_is = refl; latest = λ _ quiet. k.latest (ap has_looked stage) quiet }),
+        record { asked = p.asked; left = c.left; found_is = ap (λ ws. slice_index ws 2) c.words; bounded = kept.asked_bounded; met = omega arith; wanted = λ e. absurd (omega (arith, met)); enough = λ _. refl },
+      ))

@@ -1,0 +1,39 @@
+-- What is left of a subscription that is closed for good.
+use Rattle.std.specs.Prelude.{◌≡◌, ℕ, ◌≤◌, Bool, true, false, Some, None, IfSome, IsSome, List, length}
+use Rattle.feed_core.specs.Lane.{LaneState, IsFlow, IsSettled}
+use Rattle.feed_core.specs.Prelude.{Signal, total_after}
+use Rattle.feed_core.specs.declared.lane.Lane.{Lane}
+use Rattle.flow_rules.specs.Feed.{End}
+use Rattle.feed_cell.specs.declared.cell.Held.{Held}
+use Rattle.feed_cell.specs.declared.cell.Lodger.{Lodger}
+
+-- what is left where the subscriber is at home
+abbrev pub lane_with : {B : Type 0} → Lodger B → ℕ → ℕ → ℕ → Bool → Lane B
+lane_with g given accepted asked running = record { subscriber = Some g.subscriber; accepted = accepted; given = given; asked = total_after asked g.own; ending = g.how; running = running }
+
+-- what is left where a task was lost with it
+abbrev pub lane_without : {B : Type 0} → ℕ → ℕ → ℕ → Lane B
+lane_without given accepted asked = record { subscriber = None; accepted = accepted; given = given; asked = asked; ending = None; running = true }
+
+-- what is left of a subscription, by what its publisher knew of it: the lane of its items and causes, and the subscriber, where that
+-- is there, who was told what the lane says
+pub record IsLeftOf {B : Type 0} (told : B → List Signal) (end : End) (left : Lane B) : Type 0 where
+  pub lane : LaneState
+  pub accepted : lane.accepted ≡ end.accepted
+  pub closing : lane.causes.closing ≡ end.closing
+  pub state : lane.causes.state ≡ end.state
+  pub counted : left.accepted ≡ length lane.accepted
+  pub given : left.given ≡ lane.given
+  pub taken : lane.given ≤ length lane.accepted
+  pub ending : left.ending ≡ lane.how
+  -- the Flow rules hold of a lane whose subscriber is there
+  pub flow : IfSome left.subscriber (λ b. (told b ≡ lane.told) × (left.asked ≡ lane.asked) × IsFlow lane)
+  -- and nothing is forgotten in one that doesn't run
+  pub settled : left.running ≡ false → IsSome left.subscriber × IsSettled lane
+  -- a subscription whose publisher has seen its end has one
+  pub over : end.over ≡ true → IsSome left.ending
+
+-- of the subscriber in a slot, if one is there
+abbrev pub OnGuest : {B : Type 0} → Held B → (Lodger B → Type 0) → Type 0
+OnGuest (Held.Guest g) P = P g
+OnGuest _ P = Unit {0}

@@ -1,0 +1,106 @@
+-- What callers see of the three parties of a subscription.
+use Rattle.std.specs.Prelude.{◌≡◌, ℕ, zero, suc, ℤ, pos, negsuc, Bool, true, false, ◌||◌, None, List, [], ◌∷◌, length}
+use Rattle.atomic_table.specs.Seated.{TableId}
+use Rattle.flow_rules.specs.Feed.{End}
+use Rattle.feed_core.specs.Cause.{no_causes}
+use Rattle.feed_core.specs.Prelude.{Answer, Signal, total_after}
+use Rattle.feed_core.specs.World.Table.{MayLook}
+use Rattle.feed_cell.specs.Cell.{greeted}
+use Rattle.feed_cell.specs.declared.cell.Held.{Held}
+use Rattle.feed_cell.specs.declared.cell.Lodger.{Lodger}
+use Rattle.feed_cell.specs.declared.cell.View.{View}
+use Rattle.feed_cell.specs.Plays.{SeatOf}
+use Rattle.feed_cell.specs.Turning.{own_after, answers_after}
+use Rattle.feed_cell.specs.Types.{Fresh, Ready}
+
+-- the producer: whose subscription it is, and what its publisher knows of that
+pub record ProducerState : Type 0 where
+  pub ring : TableId
+  pub end : End
+
+-- the producer's end, by what its seat knows and whether it is ready
+abbrev pub end_of : ℕ → View → Bool → End
+end_of capacity v ready = record { capacity = capacity; accepted = v.put; seen = v.seen; looks = v.looks; over = v.over; closing = v.closing; state = v.state; ready = ready }
+
+-- the handle: how many items it requested in all, whether it cancelled, whether it requested a number that is not positive, and
+-- whether it has what one started task needs
+pub record HandleState : Type 0 where
+  pub ring : TableId
+  pub capacity : ℕ
+  pub asked : ℕ
+  pub cancelled : Bool
+  pub argument : Bool
+  pub ready : Bool
+
+-- the task: what it knows of the subscription, and what its subscriber was told, where that is with it
+pub record TaskState : Type 0 where
+  pub ring : TableId
+  pub knows : View
+  pub told : List Signal
+
+-- a new subscription's parties
+abbrev pub new_producer : ℕ → TableId → ProducerState
+new_producer capacity ring = record { ring = ring; end = record { capacity = capacity; accepted = []; seen = 0; looks = 0; over = false; closing = None; state = false; ready = true } }
+
+abbrev pub new_handle : ℕ → TableId → HandleState
+new_handle capacity ring = record { ring = ring; capacity = capacity; asked = 0; cancelled = false; argument = false; ready = true }
+
+-- its task was never run, and its subscriber was told nothing
+pub record IsNewTask (ring : TableId) (capacity : ℕ) (task : TaskState) : Type 0 where
+  pub ring_is : task.ring ≡ ring
+  pub sized : task.knows.capacity ≡ capacity
+  pub stage : task.knows.runner ≡ Fresh
+  pub taken : task.knows.taken ≡ []
+  pub own : task.knows.own ≡ 0
+  pub answers : task.knows.answers ≡ no_causes
+  pub misses : task.knows.misses ≡ 0
+  pub untold : task.told ≡ []
+
+-- a task that a signal started: its subscriber is at home
+pub record IsStarted (ring : TableId) (capacity : ℕ) (task : TaskState) : Type 0 where
+  pub ring_is : task.ring ≡ ring
+  pub sized : task.knows.capacity ≡ capacity
+  pub stage : task.knows.runner ≡ Ready
+  pub home : task.knows.away ≡ false
+
+-- a handle may request or cancel: it has what a started task needs, or it has cancelled, after which it starts none
+abbrev pub MayAsk : HandleState → Type 0
+MayAsk handle = (handle.ready || handle.cancelled) ≡ true
+
+-- the handle after a request of this number: a number that is not positive is a bad request (Reactive Streams 1.0, 3.9)
+abbrev pub handle_after_request : ℤ → HandleState → HandleState
+handle_after_request (pos zero) handle = record handle { argument = true }
+handle_after_request (pos (suc n)) handle = record handle { asked = total_after handle.asked (suc n) }
+handle_after_request (negsuc n) handle = record handle { argument = true }
+
+-- a task that goes on: its subscriber is with it, with what the last callback answered, which its next look brings in
+pub record IsGoing {B : Type 0} (told : B → List Signal) (me : SeatOf B) : Type 0 where
+  pub guest : Lodger B
+  pub answer : Answer
+  pub slot : me.1 ≡ (me.0.capacity, Held.Guest guest) ∷ []
+  pub away : me.0.away ≡ true
+  pub may : MayLook answer me.0.runner
+  pub text : told guest.subscriber ≡ greeted me.0.taken
+  pub given : guest.given ≡ length me.0.taken
+  pub own : guest.own ≡ own_after answer me.0.own
+  pub answers : guest.answers ≡ answers_after answer me.0.answers
+  pub how : guest.how ≡ None
+
+-- a task that was never run: its subscriber is with it, and was told nothing
+pub record IsFresh {B : Type 0} (told : B → List Signal) (me : SeatOf B) : Type 0 where
+  pub guest : Lodger B
+  pub slot : me.1 ≡ (me.0.capacity, Held.Guest guest) ∷ []
+  pub away : me.0.away ≡ true
+  pub stage : me.0.runner ≡ Fresh
+  pub taken : me.0.taken ≡ []
+  pub untold : told guest.subscriber ≡ []
+  pub given : guest.given ≡ 0
+  pub own : guest.own ≡ me.0.own
+  pub answers : guest.answers ≡ me.0.answers
+  pub how : guest.how ≡ None
+
+-- a task that was handed over: its subscriber is at home
+pub record IsHome {B : Type 0} (me : SeatOf B) : Type 0 where
+  pub slot : me.1 ≡ []
+  pub home : me.0.away ≡ false
+  pub stage : me.0.runner ≡ Ready

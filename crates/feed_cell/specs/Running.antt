@@ -1,0 +1,188 @@
+-- Where a task stands in the middle of a turn.
+use Rattle.std.specs.Prelude.{◌≡◌, ℕ, ◌+◌, ◌%◌, ◌<◌, ◌≤◌, ◌⊎◌, true, List, [], ◌∷◌, ◌++◌, length, Option, None, Some, bit_and}
+use Rattle.atomic_table.specs.Table.{rest}
+use Rattle.feed_core.specs.Cause.{stops, closes, with_cause_of}
+use Rattle.feed_core.specs.PlainTurn.{terminal_of}
+use Rattle.feed_core.specs.Prelude.{Answer, How, Item, Signal, UNBOUNDED}
+use Rattle.feed_core.specs.Seen.{SeenState, seen_with}
+use Rattle.feed_core.specs.Steps.{HasTerminal}
+use Rattle.feed_core.specs.World.Table.{MayEnd}
+use Rattle.feed_cell.specs.declared.cell.Grant.{Grant}
+use Rattle.feed_cell.specs.declared.cell.Held.{Held}
+use Rattle.feed_cell.specs.declared.cell.Lodger.{Lodger}
+use Rattle.feed_cell.specs.Cell.{greeted, IsToldBy}
+use Rattle.feed_cell.specs.Control.{Flags, Reads, causes_of}
+use Rattle.feed_cell.specs.Paused.{told_out}
+use Rattle.feed_cell.specs.Plays.{SeatOf, QUIET}
+use Rattle.feed_cell.specs.Turning.{own_after, answers_after}
+use Rattle.feed_cell.specs.Parties.{IsGoing}
+use Rattle.feed_cell.specs.Types.{Causes, Looked, Measured, Taken}
+use Rattle.feed_cell.specs.Views.{IsRunner}
+
+-- an answer that goes on
+abbrev pub IsGoOn : Answer → Type 0
+IsGoOn Answer.Go = Unit {0}
+IsGoOn (Answer.Request _) = Unit {0}
+IsGoOn Answer.Cancel = ⊥
+IsGoOn (Answer.Fail _) = ⊥
+
+-- an end that an answer asks for, after its signal was told
+abbrev pub IsQuietEnd : How → Type 0
+IsQuietEnd How.Completed = ⊥
+IsQuietEnd (How.Errored _) = ⊥
+IsQuietEnd How.Cancelled = Unit {0}
+IsQuietEnd (How.Failed _) = Unit {0}
+IsQuietEnd How.OutOfMemory = ⊥
+
+-- the task has an item out, and the subscriber's slot behind it
+pub record HasItem {B : Type 0} (me : SeatOf B) : Type 0 where
+  pub item : Item
+  pub one_out : me.0.item ≡ item ∷ []
+  pub slot : me.1 ≡ (length me.0.taken % me.0.capacity, Held.Item item) ∷ rest me.1
+
+module _ {B : Type 0} (told : B → List Signal) where
+  -- its subscriber is with it, and goes on; what the answers brought about was brought in
+  pub record Carries (me : SeatOf B) : Type 0 where
+    pub guest : Lodger B
+    pub slot : me.1 ≡ (me.0.capacity, Held.Guest guest) ∷ []
+    pub is : IsRunner me.0
+    pub away : me.0.away ≡ true
+    pub none_out : me.0.item ≡ []
+    pub text : told guest.subscriber ≡ greeted me.0.taken
+    pub given : guest.given ≡ length me.0.taken
+    pub own : guest.own ≡ me.0.own
+    pub answers : guest.answers ≡ me.0.answers
+    pub how : guest.how ≡ None
+
+  -- it has looked, and found this word
+  pub record HasLooked (word : ℕ) (me : SeatOf B) : Type 0 where
+    pub carries : Carries me
+    pub flags : Flags
+    pub reads : Reads word flags
+    pub stage : me.0.runner ≡ Looked (causes_of flags me.0.answers)
+    pub look : me.0.look ≡ bit_and word QUIET
+    pub few : length me.0.taken ≤ UNBOUNDED
+
+  -- its subscriber has ended so, and it may end the subscription
+  pub record IsEnding (how : How) (me : SeatOf B) : Type 0 where
+    pub guest : Lodger B
+    pub slot : me.1 ≡ (me.0.capacity, Held.Guest guest) ∷ []
+    pub is : IsRunner me.0
+    pub away : me.0.away ≡ true
+    pub none_out : me.0.item ≡ []
+    pub may : MayEnd how (length me.0.taken) me.0.runner
+    pub text : IsToldBy how me.0.taken (told guest.subscriber)
+    pub given : guest.given ≡ length me.0.taken
+    pub own : guest.own ≡ me.0.own
+    pub answers : guest.answers ≡ with_cause_of how me.0.answers
+    pub how_is : guest.how ≡ Some how
+
+  -- a callback was told this, and its answer goes on
+  pub record GoesOnWith (signal : Signal) (count : ℕ) (old new : Lodger B) (seen later : SeenState) : Type 0 where
+    pub answer : Answer
+    pub goes : IsGoOn answer
+    pub text : told new.subscriber ≡ told old.subscriber ++ signal ∷ []
+    pub saw : later ≡ seen_with (signal ∷ []) seen
+    pub given : new.given ≡ old.given + count
+    pub own : new.own ≡ own_after answer old.own
+    pub answers : new.answers ≡ answers_after answer old.answers
+    pub how : new.how ≡ old.how
+
+  -- a callback was told this, and its answer is an end; or it was refused memory, which is one, and nothing was told
+  pub record EndsWith (signal : Signal) (count : ℕ) (how : How) (old new : Lodger B) (seen later : SeenState) : Type 0 where
+    pub last : List Signal
+    pub shape : ((how ≡ How.OutOfMemory) × (last ≡ [])) ⊎ (IsQuietEnd how × (last ≡ signal ∷ []))
+    pub text : told new.subscriber ≡ told old.subscriber ++ last
+    pub saw : later ≡ seen_with last seen
+    pub given : new.given ≡ old.given + count
+    pub own : new.own ≡ old.own
+    pub answers : new.answers ≡ with_cause_of how old.answers
+    pub how_is : new.how ≡ Some how
+
+  -- the end that is due was told, where it has a signal; or its callback was refused memory, which is the end
+  pub record FinishesWith (due how : How) (old new : Lodger B) (seen later : SeenState) : Type 0 where
+    pub last : List Signal
+    pub shape : ((how ≡ due) × (last ≡ terminal_of due)) ⊎ ((how ≡ How.OutOfMemory) × HasTerminal due × (last ≡ []))
+    pub text : told new.subscriber ≡ told old.subscriber ++ last
+    pub saw : later ≡ seen_with last seen
+    pub given : new.given ≡ old.given
+    pub own : new.own ≡ old.own
+    pub answers : new.answers ≡ with_cause_of how old.answers
+    pub how_is : new.how ≡ Some how
+
+  -- what the subscriber that is with the task was told, and what the turn saw, grew by these signals; nothing else changed but what lies beside it
+  pub record TellsThere (last : List Signal) (before after : SeatOf B) (seen later : SeenState) : Type 0 where
+    pub view : after.0 ≡ before.0
+    pub text : told_out told after.1 ≡ told_out told before.1 ++ last
+    pub saw : later ≡ seen_with last seen
+
+  -- it goes on after it was told this signal
+  pub record GoesOnThere (signal : Signal) (before after : SeatOf B) (seen later : SeenState) : Type 0 where
+    pub going : IsGoing told after
+    pub tells : TellsThere (signal ∷ []) before after seen later
+
+  -- its answer to this signal is an end, or it was refused memory, which is one
+  pub record EndsThere (signal : Signal) (how : How) (before after : SeatOf B) (seen later : SeenState) : Type 0 where
+    pub ending : IsEnding how after
+    pub last : List Signal
+    pub shape : ((how ≡ How.OutOfMemory) × (last ≡ [])) ⊎ (IsQuietEnd how × (last ≡ signal ∷ []))
+    pub tells : TellsThere last before after seen later
+
+  -- the end that is due was told, where it has a signal; or its callback was refused memory, which is the end
+  pub record FinishesThere (due how : How) (before after : SeatOf B) (seen later : SeenState) : Type 0 where
+    pub ending : IsEnding how after
+    pub last : List Signal
+    pub shape : ((how ≡ due) × (last ≡ terminal_of due)) ⊎ ((how ≡ How.OutOfMemory) × HasTerminal due × (last ≡ []))
+    pub tells : TellsThere last before after seen later
+
+  -- it has taken this item, and its subscriber was not told of it yet
+  pub record HasTaken (item : Item) (me : SeatOf B) : Type 0 where
+    pub guest : Lodger B
+    pub slot : me.1 ≡ (me.0.capacity, Held.Guest guest) ∷ []
+    pub is : IsRunner me.0
+    pub away : me.0.away ≡ true
+    pub none_out : me.0.item ≡ []
+    pub stage : me.0.runner ≡ Taken
+    pub before : List Item
+    pub taken : me.0.taken ≡ before ++ item ∷ []
+    pub text : told guest.subscriber ≡ greeted before
+    pub given : guest.given ≡ length before
+    pub own : guest.own ≡ me.0.own
+    pub answers : guest.answers ≡ me.0.answers
+    pub how : guest.how ≡ None
+
+module _ {B : Type 0} where
+  -- the task found no item that was put, or none that was requested
+  pub record FindsNone (tail : ℕ) (before after : SeatOf B) : Type 0 where
+    pub causes : Causes
+    pub asked : ℕ
+    pub stage : before.0.runner ≡ Looked causes
+    pub runs_on : stops causes ≡ None
+    pub why : (tail ≡ length before.0.taken) ⊎ (asked ≡ length before.0.taken)
+    pub put : length before.0.taken ≤ tail
+    pub found : after ≡ (record before.0 { runner = Measured causes tail asked; item = [] }, before.1)
+
+  -- one more item was requested than were taken, by a measure after a look that found no end at once
+  pub record IsGranted (before : SeatOf B) : Type 0 where
+    pub causes : Causes
+    pub asked : ℕ
+    pub stage : before.0.runner ≡ Looked causes
+    pub runs_on : stops causes ≡ None
+    pub wanted : length before.0.taken < asked
+
+  abbrev pub grant_of : (before : SeatOf B) → IsGranted before → Grant
+  grant_of before granted = record { causes = granted.causes; asked = granted.asked }
+
+  -- it took this item, which was put and requested
+  pub record TakesNext (item : Item) (before after : SeatOf B) : Type 0 where
+    pub granted : IsGranted before
+    pub few : length before.0.taken < UNBOUNDED
+    pub took : after ≡ (record before.0 { runner = Taken; taken = before.0.taken ++ item ∷ []; item = []; grants = before.0.grants ++ grant_of before granted ∷ [] }, before.1)
+
+  -- the task has measured, and has no item to give; this end waits for the items, if one does
+  pub record HasMeasured (tail : ℕ) (due : Option How) (me : SeatOf B) : Type 0 where
+    pub causes : Causes
+    pub asked : ℕ
+    pub stage : me.0.runner ≡ Measured causes tail asked
+    pub waits : due ≡ closes causes
+    pub why : (tail ≡ length me.0.taken) ⊎ (asked ≡ length me.0.taken)

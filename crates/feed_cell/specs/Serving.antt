@@ -1,0 +1,101 @@
+-- What the task does after a look.
+use Rattle.std.specs.Prelude.{◌≡◌, ◌+◌, ◌≤◌, ◌⊎◌, false, List, [], ◌∷◌, ◌++◌, length}
+use Rattle.feed_core.specs.Prelude.{How, Item, Signal, Next}
+use Rattle.feed_core.specs.Seen.{SeenState, seen_with}
+use Rattle.feed_cell.specs.declared.cell.serving.Served.{Served}
+use Rattle.feed_cell.specs.Cell.{greeted, IsToldBy}
+use Rattle.feed_cell.specs.Parties.{IsGoing}
+use Rattle.feed_cell.specs.Paused.{told_out}
+use Rattle.feed_cell.specs.Plays.{SeatOf}
+use Rattle.feed_cell.specs.Running.{IsGranted, grant_of, EndsThere, FinishesThere, GoesOnThere}
+use Rattle.feed_cell.specs.Types.{Nobody}
+use Rattle.feed_cell.specs.Views.{IsRunner}
+
+-- the seat after it ended the subscription
+abbrev pub HasLeft : {B : Type 0} → SeatOf B → SeatOf B → Type 0
+HasLeft ending after = after ≡ (record ending.0 { runs = false; away = false }, [])
+
+-- the last item, if one was taken, and by what
+abbrev pub IsLastGrant : {B : Type 0} → SeatOf B → SeatOf B → List Item → Type 0
+IsLastGrant before after took =
+    ((took ≡ []) × (after.0.grants ≡ before.0.grants))
+    ⊎ ((length took ≡ 1) × ((granted : IsGranted before) × (after.0.grants ≡ before.0.grants ++ grant_of before granted ∷ [])))
+
+module _ {B : Type 0} (told : B → List Signal) where
+  -- it gave this item, and goes on
+  pub record GivesItem (before after : SeatOf B) (seen later : SeenState) : Type 0 where
+    pub item : Item
+    pub granted : IsGranted before
+    pub grants : after.0.grants ≡ before.0.grants ++ grant_of before granted ∷ []
+    pub going : IsGoing told after
+    pub is : IsRunner after.0
+    pub none_out : after.0.item ≡ []
+    pub taken : after.0.taken ≡ before.0.taken ++ item ∷ []
+    pub text : told_out told after.1 ≡ told_out told before.1 ++ Next item ∷ []
+    pub saw : later ≡ seen_with (Next item ∷ []) seen
+    pub misses : after.0.misses ≡ before.0.misses
+    pub sized : after.0.capacity ≡ before.0.capacity
+
+  -- it could not rest, and goes on
+  pub record MissesRest (before after : SeatOf B) : Type 0 where
+    pub going : IsGoing told after
+    pub is : IsRunner after.0
+    pub none_out : after.0.item ≡ []
+    pub taken : after.0.taken ≡ before.0.taken
+    pub text : told_out told after.1 ≡ told_out told before.1
+    pub misses : after.0.misses ≡ before.0.misses + 1
+    pub grants : after.0.grants ≡ before.0.grants
+    pub sized : after.0.capacity ≡ before.0.capacity
+
+  -- it rests, and was told all that was taken
+  pub record RestsNow (before after : SeatOf B) : Type 0 where
+    pub text : told_out told before.1 ≡ greeted before.0.taken
+    pub taken : after.0.taken ≡ before.0.taken
+    pub misses : after.0.misses ≡ before.0.misses
+    pub grants : after.0.grants ≡ before.0.grants
+    pub runs : after.0.runs ≡ false
+    pub stage : after.0.runner ≡ Nobody
+
+  -- it ended the subscription: these items were taken and these signals told before
+  pub record EndsSo (how : How) (before after : SeatOf B) (seen later : SeenState) : Type 0 where
+    pub took : List Item
+    pub last : List Signal
+    pub few : length took ≤ 1
+    pub granted : IsLastGrant before after took
+    pub text : IsToldBy how (before.0.taken ++ took) (told_out told before.1 ++ last)
+    pub saw : later ≡ seen_with last seen
+    pub taken : after.0.taken ≡ before.0.taken ++ took
+    pub misses : after.0.misses ≡ before.0.misses
+    pub runs : after.0.runs ≡ false
+
+  -- what it did after a look
+  abbrev pub Serves : Served → SeatOf B → SeatOf B → SeenState → SeenState → Type 0
+  Serves Served.Gave before after seen later = GivesItem before after seen later
+  Serves Served.Rested before after seen later = RestsNow before after × (later ≡ seen)
+  Serves Served.Missed before after seen later = MissesRest before after × (later ≡ seen)
+  Serves (Served.Ended how) before after seen later = EndsSo how before after seen later
+
+  -- by the answer of the callback for an item that was taken
+  abbrev pub Gives : Item → Served → SeatOf B → SeatOf B → SeenState → SeenState → Type 0
+  Gives item Served.Gave before after seen later = GoesOnThere told (Next item) before after seen later
+  Gives item Served.Rested before after seen later = ⊥
+  Gives item Served.Missed before after seen later = ⊥
+  Gives item (Served.Ended how) before after seen later = (ending : SeatOf B) × EndsThere told (Next item) how before ending seen later × HasLeft ending after
+
+  -- by the end that was due
+  abbrev pub Finishes : How → Served → SeatOf B → SeatOf B → SeenState → SeenState → Type 0
+  Finishes due (Served.Ended how) before after seen later = (ending : SeatOf B) × FinishesThere told due how before ending seen later × HasLeft ending after
+  Finishes due _ before after seen later = ⊥
+
+  -- by its rest
+  abbrev pub TriesRest : Served → SeatOf B → SeatOf B → Type 0
+  TriesRest Served.Rested before after = RestsNow before after
+  TriesRest Served.Missed before after = MissesRest before after
+  TriesRest _ before after = ⊥
+
+  -- where there was no item to give
+  abbrev pub Concludes : Served → SeatOf B → SeatOf B → SeenState → SeenState → Type 0
+  Concludes Served.Gave before after seen later = ⊥
+  Concludes Served.Rested before after seen later = TriesRest Served.Rested before after × (later ≡ seen)
+  Concludes Served.Missed before after seen later = TriesRest Served.Missed before after × (later ≡ seen)
+  Concludes (Served.Ended how) before after seen later = (due : How) × Finishes due (Served.Ended how) before after seen later

@@ -1,0 +1,124 @@
+-- What a turn of a task did (`Flow.Subscriber`, Java SE 17; Reactive Streams 1.0, 1.1, 1.3, 1.5, 1.7 and 1.9).
+use Rattle.std.specs.Prelude.{◌≡◌, ℕ, ◌+◌, ◌<◌, ◌≤◌, ◌↔◌, ◌⊎◌, true, false, None, List, [], ◌∷◌, ◌++◌, length}
+use Rattle.feed_core.specs.Cause.{stops}
+use Rattle.feed_core.specs.Prelude.{Complete, Error, Fault, How, IsFlowText, Item, Signal, items_of}
+use Rattle.feed_core.specs.declared.turn.TheConstants.{ITEMS_IN_A_TURN, SIGNALS_IN_A_TURN}
+use Rattle.feed_core.specs.declared.turn.outlook.Outlook.{Outlook}
+use Rattle.feed_core.specs.declared.turn.outlook.Outlook.TheVariants.{Again, Resting, Ended}
+use Rattle.feed_core.specs.Turn.{EndsIn}
+use Rattle.feed_cell.specs.Cell.{greeted, IsToldBy}
+use Rattle.feed_cell.specs.Parties.{TaskState, IsGoing, IsHome}
+use Rattle.feed_cell.specs.Paused.{told_out}
+use Rattle.feed_cell.specs.Plays.{SeatOf}
+use Rattle.feed_cell.specs.Types.{Nobody}
+use Rattle.feed_cell.specs.declared.cell.Grant.{Grant}
+use Rattle.feed_cell.specs.declared.cell.View.{View}
+use Rattle.feed_cell.specs.declared.cell.task.Stage.{Stage}
+use Rattle.feed_cell.specs.declared.cell.turning.Turn.{Turn}
+
+-- all that a subscriber was told that these items were taken for, after a turn with this outlook
+abbrev pub IsTextOf : Outlook → List Item → List Signal → Type 0
+IsTextOf Again taken text = text ≡ greeted taken
+IsTextOf Resting taken text = text ≡ greeted taken
+IsTextOf (Ended how) taken text = IsToldBy how taken text
+
+-- the items that were told are those that were taken, without the last where its onNext was refused memory
+abbrev pub AreGivenOf : Outlook → List Item → List Item → Type 0
+AreGivenOf outlook given took = (given ≡ took) ⊎ ((outlook ≡ Ended How.OutOfMemory) × ((item : Item) × (took ≡ given ++ item ∷ [])))
+
+-- what its subscriber was told before a turn, and which items were taken by then: nothing yet, or onSubscribe and those items
+abbrev pub IsBefore : List Item → List Signal → Type 0
+IsBefore base start = ((start ≡ []) × (base ≡ [])) ⊎ (start ≡ greeted base)
+
+-- each of these items was taken by a look that showed no end at once (no cancel, bad request, second subscribing or error), and by a
+-- measure that showed more items requested than were taken before it
+abbrev pub AreGranted : ℕ → List Grant → Type 0
+AreGranted given [] = Unit {0}
+AreGranted given (grant ∷ more) = (stops grant.causes ≡ None) × (given < grant.asked) × AreGranted (given + 1) more
+
+-- a turn that saw these signals, of a task that knew this, and whose subscriber was known to have been told that
+pub record TurnsAs (old : View) (known seen : List Signal) (outlook : Outlook) : Type 0 where
+  -- what its subscriber was told before, and the items that were taken by then; a task that has its subscriber with it knows them
+  pub start : List Signal
+  pub base : List Item
+  pub knew : old.away ≡ true → (start ≡ known) × (base ≡ old.taken)
+  pub before : IsBefore base start
+  -- the items that this turn took, in order
+  pub took : List Item
+  pub at_most : length took ≤ ITEMS_IN_A_TURN
+  -- by what it took each
+  pub grants : List Grant
+  pub one_each : length grants ≡ length took
+  pub granted : AreGranted (length base) grants
+  -- its subscriber was told what this turn saw, after what it was told before
+  pub text : IsTextOf outlook (base ++ took) (start ++ seen)
+  pub allowed : IsFlowText (start ++ seen)
+  pub given : AreGivenOf outlook (items_of seen) took
+  pub few : length seen ≤ SIGNALS_IN_A_TURN
+  -- the last signal tells the end
+  pub completed : EndsIn seen Complete ↔ (outlook ≡ Ended How.Completed)
+  pub errored : (fault : Fault) → EndsIn seen (Error fault) ↔ (outlook ≡ Ended (How.Errored fault))
+
+-- another turn is owed: this one took as many items as it may, or something was new when it would have rested
+pub record GoesOnAs (old new : View) (known later seen : List Signal) : Type 0 where
+  pub turned : TurnsAs old known seen Again
+  pub taken : new.taken ≡ turned.base ++ turned.took
+  pub grants : new.grants ≡ old.grants ++ turned.grants
+  pub told_is : later ≡ turned.start ++ seen
+  pub why : ((length (items_of seen) ≡ ITEMS_IN_A_TURN) × (new.misses ≡ old.misses)) ⊎ (new.misses ≡ old.misses + 1)
+
+-- no turn is owed: the task rests or the subscription has ended, and its seat runs the task no more
+pub record StopsAs (old new : View) (known seen : List Signal) (outlook : Outlook) : Type 0 where
+  pub turned : TurnsAs old known seen outlook
+  pub taken : new.taken ≡ turned.base ++ turned.took
+  pub grants : new.grants ≡ old.grants ++ turned.grants
+  pub misses : new.misses ≡ old.misses
+  pub runs : new.runs ≡ false
+
+module _ {B : Type 0} (told : B → List Signal) where
+  -- a turn so far, after so many items: what its subscriber was told before, and since
+  pub record TellsSoFar (count : ℕ) (before me : SeatOf B) (seen : List Signal) : Type 0 where
+    pub start : List Signal
+    pub base : List Item
+    pub knew : before.0.away ≡ true → (start ≡ told_out told before.1) × (base ≡ before.0.taken)
+    pub opened : IsBefore base start
+    pub took : List Item
+    pub counted : length took ≡ count
+    pub text : start ++ seen ≡ greeted (base ++ took)
+    pub taken : me.0.taken ≡ base ++ took
+    pub told_is : told_out told me.1 ≡ start ++ seen
+    pub grants : List Grant
+    pub one_each : length grants ≡ count
+    pub granted : AreGranted (length base) grants
+    pub grants_are : me.0.grants ≡ before.0.grants ++ grants
+    pub misses : me.0.misses ≡ before.0.misses
+
+  -- before each look of a turn, by where its task stands
+  abbrev pub IsMidTurn : Stage → ℕ → SeatOf B → SeatOf B → List Signal → Type 0
+  IsMidTurn Stage.Fresh count before me seen = ⊥
+  IsMidTurn Stage.Home count before me seen = (count ≡ 0) × (seen ≡ []) × IsHome me × (before.0.away ≡ me.0.away) × (me.0.misses ≡ before.0.misses) × (me.0.grants ≡ before.0.grants)
+  IsMidTurn Stage.Going count before me seen = IsGoing told me × TellsSoFar count before me seen
+
+  -- a turn that ran on a seat, by its outlook
+  abbrev pub RunsAs : Outlook → SeatOf B → SeatOf B → List Signal → Type 0
+  RunsAs Again before after seen = IsGoing told after × GoesOnAs before.0 after.0 (told_out told before.1) (told_out told after.1) seen
+  RunsAs Resting before after seen = StopsAs before.0 after.0 (told_out told before.1) seen Resting × (after.0.runner ≡ Nobody)
+  RunsAs (Ended how) before after seen = StopsAs before.0 after.0 (told_out told before.1) seen (Ended how)
+
+  -- a task may look, once its subscriber was greeted
+  abbrev pub MayLookNext : Stage → SeatOf B → Type 0
+  MayLookNext Stage.Fresh me = ⊥
+  MayLookNext Stage.Home me = IsHome me
+  MayLookNext Stage.Going me = IsGoing told me
+
+-- a task that goes on keeps its subscriber, and what it has taken
+abbrev pub KeepsGoing : {B : Type 0} → Stage → SeatOf B → SeatOf B → Type 0
+KeepsGoing Stage.Fresh before after = ⊥
+KeepsGoing Stage.Home before after = Unit {0}
+KeepsGoing Stage.Going before after = (after.1 ≡ before.1) × (after.0.taken ≡ before.0.taken)
+
+-- what came of a turn of a task: the task that goes on, or the turn was its last
+abbrev pub TurnsInto : {B : Type 0} → TaskState → List Signal → Turn B → Type 0
+TurnsInto task seen (Turn.Again next) = (next.ring ≡ task.ring) × GoesOnAs task.knows next.knows task.told next.told seen
+TurnsInto task seen Turn.Resting = (last : View) × StopsAs task.knows last task.told seen Resting × (last.runner ≡ Nobody)
+TurnsInto task seen (Turn.Ended how) = (last : View) × StopsAs task.knows last task.told seen (Ended how)

@@ -1,0 +1,141 @@
+//! The steps of the producer.
+ghost use Rattle.std.specs.Prelude.{◌≡◌, ◌+◌, ◌*◌, [], ◌∷◌, ◌++◌, Some, None, IfSome, IfNone};
+ghost use Rattle.std.specs.Int.{bit_at};
+ghost use Rattle.feed_core.specs.Prelude.{Ending};
+ghost use Rattle.feed_core.specs.World.Table.{MayBegin, ProducerMay};
+ghost use Rattle.feed_cell.specs.Plays.{FindsRoom, Stands, sent};
+ghost use Rattle.feed_cell.specs.Steps.{HasFourWords, MayOffer, HasPlace, IsHanded};
+ghost use Rattle.feed_cell.specs.Types.{State, Closing, Free, HasPut, Hands};
+ghost use Rattle.feed_cell.specs.Views.{IsProducer, producer_handed, running_handed};
+
+use super::plays::{Put, Room, SignalComplete, SignalError, SignalItem, SignalState, Stand};
+use super::splits::ProducerHands;
+use super::{
+    COMPLETE, CONTROL, CellSeat, CellTable, ERROR, ERRORS, HEAD, Held, ITEM, RUN, STATE, TAIL,
+};
+use flow_rules::{Item, Listener};
+
+/// Loads head, and takes the slot of the next item out where there is room.
+pub(crate) fn look_for_room<B: Listener>(table: &CellTable<B>, seat: &mut CellSeat<B>) -> u64
+    requires table { (seat.old.table_id ≡ table.now.shared.table_id) × HasFourWords seat.old.table_id }
+    requires may { MayOffer seat.old.me }
+    ensures table { (seat.new.table_id ≡ seat.old.table_id) × (seat.new.id ≡ seat.old.id) }
+    ensures finds { FindsRoom seat.old.me result seat.new.me }
+{
+    table.shared.load::<Room>(seat, HEAD)
+}
+
+/// Loads head.
+pub(crate) fn look<B: Listener>(table: &CellTable<B>, seat: &mut CellSeat<B>) -> u64
+    requires table { (seat.old.table_id ≡ table.now.shared.table_id) × HasFourWords seat.old.table_id }
+    requires may { MayOffer seat.old.me }
+    ensures table { (seat.new.table_id ≡ seat.old.table_id) × (seat.new.id ≡ seat.old.id) }
+    ensures stands { Stands seat.old.me result seat.new.me }
+{
+    table.shared.load::<Stand>(seat, HEAD)
+}
+
+/// Places the item in the slot that is out, and stores the new tail.
+pub(crate) fn place<B: Listener>(
+    table: &CellTable<B>,
+    seat: &mut CellSeat<B>,
+    capacity: u64,
+    tail: u64,
+    item: Item,
+)
+    requires table { (seat.old.table_id ≡ table.now.shared.table_id) × HasFourWords seat.old.table_id }
+    requires place { HasPlace capacity tail seat.old.me }
+    ensures table { (seat.new.table_id ≡ seat.old.table_id) × (seat.new.id ≡ seat.old.id) }
+    ensures put { seat.new.me ≡ (record seat.old.me.0 { put = seat.old.me.0.put ++ item ∷ []; producing = HasPut; places = 0 }, []) }
+{
+    let slot = (tail % capacity) as usize;
+    let nothing = table.shared.exchange(seat, slot, Held::Item(item));
+    drop(nothing);
+    table.shared.store::<Put>(seat, TAIL, tail + 1);
+}
+
+/// Signals an item that was put. Where the task was at rest, its seat comes back.
+pub(crate) fn signal_item<B: Listener>(
+    table: &CellTable<B>,
+    seat: &mut CellSeat<B>,
+) -> Option<CellSeat<B>>
+    requires table { (seat.old.table_id ≡ table.now.shared.table_id) × HasFourWords seat.old.table_id }
+    requires put { IsProducer seat.old.me.0 × (seat.old.me.0.producing ≡ HasPut) }
+    ensures table { (seat.new.table_id ≡ seat.old.table_id) × (seat.new.id ≡ seat.old.id) }
+    ensures sent { seat.new.me ≡ (sent None Free seat.old.me.0, seat.old.me.1) }
+    ensures starts { IfSome result (λ task. (task.table_id ≡ seat.old.table_id) × (task.me ≡ (running_handed seat.old.me.0, []))) }
+{
+    let found = table.shared.fetch_or::<SignalItem>(seat, CONTROL, ITEM);
+    hand_over(table, seat, found)
+}
+
+/// Signals a second subscribing.
+pub(crate) fn signal_state<B: Listener>(
+    table: &CellTable<B>,
+    seat: &mut CellSeat<B>,
+) -> Option<CellSeat<B>>
+    requires table { (seat.old.table_id ≡ table.now.shared.table_id) × HasFourWords seat.old.table_id }
+    requires may { MayOffer seat.old.me }
+    ensures table { (seat.new.table_id ≡ seat.old.table_id) × (seat.new.id ≡ seat.old.id) }
+    ensures sent { seat.new.me ≡ (sent (Some State) Free seat.old.me.0, seat.old.me.1) }
+    ensures starts { IfSome result (λ task. (task.table_id ≡ seat.old.table_id) × (task.me ≡ (running_handed seat.old.me.0, []))) }
+{
+    let found = table.shared.fetch_or::<SignalState>(seat, CONTROL, STATE);
+    hand_over(table, seat, found)
+}
+
+/// Signals a close.
+pub(crate) fn signal_complete<B: Listener>(
+    table: &CellTable<B>,
+    seat: &mut CellSeat<B>,
+) -> Option<CellSeat<B>>
+    requires table { (seat.old.table_id ≡ table.now.shared.table_id) × HasFourWords seat.old.table_id }
+    requires may { MayOffer seat.old.me }
+    requires unclosed { seat.old.me.0.closing ≡ None }
+    ensures table { (seat.new.table_id ≡ seat.old.table_id) × (seat.new.id ≡ seat.old.id) }
+    ensures sent { seat.new.me ≡ (sent (Some (Closing Ending.Normal)) Free seat.old.me.0, seat.old.me.1) }
+    ensures starts { IfSome result (λ task. (task.table_id ≡ seat.old.table_id) × (task.me ≡ (running_handed seat.old.me.0, []))) }
+{
+    let found = table
+        .shared
+        .fetch_or::<SignalComplete>(seat, CONTROL, COMPLETE);
+    hand_over(table, seat, found)
+}
+
+/// Signals a close with this error.
+pub(crate) fn signal_error<B: Listener>(
+    table: &CellTable<B>,
+    seat: &mut CellSeat<B>,
+    code: u32,
+) -> Option<CellSeat<B>>
+    requires table { (seat.old.table_id ≡ table.now.shared.table_id) × HasFourWords seat.old.table_id }
+    requires may { MayOffer seat.old.me }
+    requires unclosed { seat.old.me.0.closing ≡ None }
+    ensures table { (seat.new.table_id ≡ seat.old.table_id) × (seat.new.id ≡ seat.old.id) }
+    ensures sent { seat.new.me ≡ (sent (Some (Closing (Ending.Failed code))) Free seat.old.me.0, seat.old.me.1) }
+    ensures starts { IfSome result (λ task. (task.table_id ≡ seat.old.table_id) × (task.me ≡ (running_handed seat.old.me.0, []))) }
+{
+    let found = table
+        .shared
+        .fetch_or::<SignalError>(seat, CONTROL, u64::from(code) * ERRORS + ERROR);
+    hand_over(table, seat, found)
+}
+
+/// Hands the task over that the signal that found this word has started, if it has.
+fn hand_over<B: Listener>(
+    table: &CellTable<B>,
+    seat: &mut CellSeat<B>,
+    found: u64,
+) -> Option<CellSeat<B>>
+    requires table { (seat.old.table_id ≡ table.now.shared.table_id) × HasFourWords seat.old.table_id }
+    requires producer { IsProducer seat.old.me.0 }
+    requires hands { bit_at found 0 ≡ 0 → seat.old.me.0.producing ≡ Hands }
+    ensures table { (seat.new.table_id ≡ seat.old.table_id) × (seat.new.id ≡ seat.old.id) }
+    ensures handed { IsHanded found (producer_handed seat.old.me.0) seat.old.me seat.new.me }
+    ensures starts { IfSome result (λ task. (task.table_id ≡ seat.old.table_id) × (task.me ≡ (running_handed seat.old.me.0, []))) }
+{
+    if found & RUN != 0 {
+        return None;
+    }
+    Some(table.shared.split_seat::<ProducerHands>(seat))
+}

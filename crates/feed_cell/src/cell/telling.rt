@@ -1,0 +1,78 @@
+//! What the task tells its subscriber, and what the answers change beside it.
+ghost use Rattle.std.specs.Prelude.{◌≡◌, ◌<◌, length, IfSome, IfNone, None, Some};
+ghost use Rattle.feed_core.specs.Cause.{with_cause_of};
+ghost use Rattle.feed_core.specs.Prelude.{Next, Subscribed, UNBOUNDED};
+ghost use Rattle.feed_core.specs.declared.turn.TheConstants.{SIGNALS_IN_A_TURN};
+ghost use Rattle.feed_cell.specs.Running.{IsGoOn, IsQuietEnd, GoesOnWith, EndsWith, FinishesWith};
+ghost use Rattle.feed_cell.specs.Turning.{own_after, answers_after};
+
+use super::Lodger;
+use feed_core::{Seen, tell_next, tell_subscribed, tell_terminal};
+use flow_rules::{Answer, How, Item, Listener, NoMemory, UNBOUNDED};
+
+/// Tells `onSubscribe`, and does what its answer asks for: the end, if it does.
+pub(crate) fn greet<B: Listener>(guest: &mut Lodger<B>, seen: &mut Seen) -> Option<How>
+    requires room { length seen.old.signals < SIGNALS_IN_A_TURN }
+    ensures goes { IfNone result (GoesOnWith B.told Subscribed 0 guest.old guest.new seen.old seen.new) }
+    ensures ends { IfSome result (λ how. EndsWith B.told Subscribed 0 how guest.old guest.new seen.old seen.new) }
+{
+    match tell_subscribed(&mut guest.subscriber, seen) {
+        Ok(answer) => obey(guest, answer),
+        Err(NoMemory) => Some(end_as(guest, How::OutOfMemory)),
+    }
+}
+
+/// Tells an item that was taken, and does what the answer asks for: the end, if it does.
+pub(crate) fn give<B: Listener>(guest: &mut Lodger<B>, item: Item, seen: &mut Seen) -> Option<How>
+    requires room { length seen.old.signals < SIGNALS_IN_A_TURN }
+    requires few { guest.old.given < UNBOUNDED }
+    ensures goes { IfNone result (GoesOnWith B.told (Next item) 1 guest.old guest.new seen.old seen.new) }
+    ensures ends { IfSome result (λ how. EndsWith B.told (Next item) 1 how guest.old guest.new seen.old seen.new) }
+{
+    guest.given += 1;
+    match tell_next(&mut guest.subscriber, item, seen) {
+        Ok(answer) => obey(guest, answer),
+        Err(_) => Some(end_as(guest, How::OutOfMemory)),
+    }
+}
+
+/// Tells the end that is due, where it has a signal. Answers the end that it is.
+pub(crate) fn finish<B: Listener>(guest: &mut Lodger<B>, due: How, seen: &mut Seen) -> How
+    requires room { length seen.old.signals < SIGNALS_IN_A_TURN }
+    ensures { FinishesWith B.told due result guest.old guest.new seen.old seen.new }
+{
+    match tell_terminal(&mut guest.subscriber, due, seen) {
+        Ok(()) => end_as(guest, due),
+        Err(NoMemory) => end_as(guest, How::OutOfMemory),
+    }
+}
+
+/// Does what an answer asks for: it adds to the demand, or ends the subscription.
+fn obey<B: Listener>(guest: &mut Lodger<B>, answer: Answer) -> Option<How>
+    ensures goes { IfNone result (IsGoOn answer × (guest.new ≡ record guest.old { own = own_after answer guest.old.own; answers = answers_after answer guest.old.answers })) }
+    ensures ends { IfSome result (λ how. IsQuietEnd how × (guest.new ≡ record guest.old { answers = with_cause_of how guest.old.answers; how = Some how })) }
+{
+    match answer {
+        Answer::Go => None,
+        Answer::Request(n) => {
+            if n > 0 {
+                guest.own = guest.own.saturating_add(n.unsigned_abs()).min(UNBOUNDED);
+            } else {
+                guest.answers.argument = true;
+            }
+            None
+        }
+        Answer::Cancel => Some(end_as(guest, How::Cancelled)),
+        Answer::Fail(code) => Some(end_as(guest, How::Failed(code))),
+    }
+}
+
+/// Notes that the subscription ends so, with the cause of that.
+fn end_as<B: Listener>(guest: &mut Lodger<B>, how: How) -> How
+    ensures value { result ≡ how }
+    ensures ended { guest.new ≡ record guest.old { answers = with_cause_of how guest.old.answers; how = Some how } }
+{
+    guest.answers.join(how);
+    guest.how = Some(how);
+    how
+}

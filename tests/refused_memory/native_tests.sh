@@ -1,0 +1,85 @@
+#!/bin/sh
+# Runs native tests of counts, pools and cells with the Nth request for memory refused, for N from 1 up to a run
+# that meets none. Each run has to end by itself, within a minute, either well or with the error that a refusal gives.
+#
+# It fails, too, where a run does not say that its test was run, and where no request of a test was refused, as when the
+# library that refuses is not loaded.
+#
+# It needs the native tests, which `rt test` leaves in crates/call_tests/out, and gcc. TESTS names another program.
+set -eu
+cd "$(dirname "$0")/../.."
+. tests/program.sh
+tests=${TESTS:-crates/call_tests/out/call_tests_tests}
+need call_tests "$tests"
+work=$(mktemp -d)
+trap 'rm -rf "$work"' EXIT
+gcc -shared -fPIC -O1 -Wall -Werror -o "$work/refuse.so" tests/refused_memory/refuse.c
+
+MOST=5000
+tried=0
+failures=0
+
+# one PROGRAM TEST N: runs it, and prints `met`, `none`, or what went wrong.
+one() {
+    status=0
+    timeout 60 env REFUSE="$3" LD_PRELOAD="$work/refuse.so" "$1" "$2" >"$work/out" 2>"$work/err" || status=$?
+    if [ "$status" -eq 0 ]; then
+        # A program that ran one test says so.
+        if ! grep -q '^test result: ok' "$work/out"; then
+            echo "no test was run"
+            return
+        fi
+    elif ! { [ "$status" -eq 101 ] &&
+        grep -qE '^error: (NoMemory|AllocError|AllocFailed|SpawnError)' "$work/err"; }; then
+        echo "status $status"
+        return
+    fi
+    if grep -q '^request refused' "$work/err"; then
+        echo met
+    elif [ "$status" -ne 0 ]; then
+        echo "an error with no refusal"
+    else
+        echo none
+    fi
+}
+
+# each PROGRAM TEST: refuses its requests in turn.
+each() {
+    tried=$((tried + 1))
+    n=1
+    while [ "$n" -le "$MOST" ]; do
+        answer=$(one "$1" "$2" "$n")
+        case $answer in
+        met) n=$((n + 1)) ;;
+        none)
+            if [ "$n" -eq 1 ]; then
+                echo "$2: no request was refused"
+                failures=$((failures + 1))
+            else
+                echo "$2: $((n - 1)) requests, each refused in turn"
+            fi
+            return
+            ;;
+        *)
+            echo "$2: request $n refused: $answer"
+            cat "$work/err"
+            failures=$((failures + 1))
+            return
+            ;;
+        esac
+    done
+    echo "$2: still refused at request $MOST"
+    failures=$((failures + 1))
+}
+
+for name in a_refusal_is_answered the_last_of_three_is_true no_two_of_one_count_are_the_last of_all_one_is_the_last; do
+    each "$tests" "tests::count::$name"
+done
+for name in alone::a_refusal_is_answered alone::a_full_pool_gives_the_job_back alone::a_shut_pool_gives_the_job_back \
+    alone::stop_gives_the_jobs_left_in_order threads::each_job_of_two_workers_ran_twice \
+    threads::a_job_need_not_be_sync sleepers::a_shut_ends_both_that_sleep; do
+    each "$tests" "tests::pool::$name"
+done
+each "$tests" tests::cells::a_life_is_whole_or_is_refused_memory
+echo "$tried tests, $failures failed"
+[ "$tried" -gt 0 ] && [ "$failures" -eq 0 ]
