@@ -20,12 +20,13 @@ median() {
     cut -d ' ' -f "$1" "$work/times" | sort -n | sed -n "$(((runs + 1) / 2))p"
 }
 
-# measure COMMAND..: sets seconds, KiB at the peak and switches to their medians.
+# measure COMMAND..: sets seconds, KiB at the peak and switches to their medians. Each report has to be that of the first command.
 measure() {
     : >"$work/times"
-    for run in $(seq "$runs"); do
+    for _ in $(seq "$runs"); do
         /usr/bin/time -a -o "$work/times" -f '%e %M %w' "$@" <"$work/in" >"$work/out"
-        cmp -s "$work/out" "$work/want" || { [ "$run" = 1 ] && [ ! -f "$work/want" ] && cp "$work/out" "$work/want"; }
+        [ -f "$work/want" ] || cp "$work/out" "$work/want"
+        cmp "$work/out" "$work/want" || exit 1
     done
     seconds=$(median 1) peak=$(median 2) switches=$(median 3)
 }
@@ -39,12 +40,12 @@ row() {
 }
 
 measure "$work/copy_lines" a b c d
-copy=$(awk -v s="$seconds" 'BEGIN { print s > 0 ? s : 0.01 }')
+copy=$(awk -v s="$seconds" 'BEGIN { print (s > 0 ? s : 0.01) }')
 row 'no publisher' "$copy"
 for capacity in 4 256 65536; do
     for workers in 1 2 4; do
         measure "$program" threads --workers "$workers" --cap "$capacity" a:200000 b:200000 c:200000 d:200000
-        [ "$workers" != 1 ] || one=$(awk -v s="$seconds" 'BEGIN { print s > 0 ? s : 0.01 }')
+        [ "$workers" != 1 ] || one=$(awk -v s="$seconds" 'BEGIN { print (s > 0 ? s : 0.01) }')
         row "capacity $capacity, $workers workers" "$one"
     done
 done

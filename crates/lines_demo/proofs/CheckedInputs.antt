@@ -1,12 +1,12 @@
 -- An input, checked after its lines were read.
-use Rattle.std.proofs.Common.{◌≡◌, ◌<◌, ◌≤◌, ◌+◌, ◌-◌, ℕ, Bool, true, false, nat_lt, List, [], ◌∷◌, length, refl, sym, ap, ◌∙◌, inl, inr, arith, Ok, Err}
-use Rattle.std.specs.Prelude.{◌⊎◌, Result}
+use Rattle.std.proofs.Common.{◌≡◌, ◌<◌, ◌≤◌, ◌+◌, ◌-◌, ℕ, Bool, true, false, nat_lt, List, [], ◌∷◌, length, refl, sym, ap, inl, inr, arith, Ok, Err}
+use Rattle.std.specs.Prelude.{◌⊎◌}
 use Rattle.std.specs.List.{list_any}
 use Rattle.std.proofs.lemmas.Bool.Decides.{nat_tests}
 use Rattle.lines_demo.specs.Prelude.{Refusal, capacity_of}
 use Rattle.lines_demo.specs.Line.{lines_of}
 use Rattle.lines_demo.specs.Threads.Plan.{PlanState, IsOrLacksMemory}
-use Rattle.lines_demo.specs.Threads.Input.{InputState, checked_input, input_after, input_of, sources_of, spelled_publications, would_block}
+use Rattle.lines_demo.specs.Threads.Input.{input_after, input_of, sources_of, spelled_publications, would_block}
 use Rattle.lines_demo.specs.declared.threads.input.Publication.{Publication}
 use Rattle.lines_demo.specs.declared.threads.input.TheConstants.{MOST_SOURCES}
 use Rattle.lines_demo.specs.declared.threads.plan.NamedDemand.{NamedDemand}

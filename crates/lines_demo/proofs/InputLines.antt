@@ -31,9 +31,9 @@ pub spells_more : (bytes line stripped rest : List ℕ) (read new : List Publica
 spells_more bytes line stripped rest read new spells is adds =
     let ok = ap (λ l. line_publications l) (sym is) ∙ adds.1.0 in
     rw adds.1.1 (spells ∙ ap (λ first. joined (Ok read) (joined first (spelled_publications (lines_of rest)))) ok ∙ by (spelled_publications (lines_of rest))) where
-  by : (r : Result (List Publication) Refusal) → joined (Ok read) (joined (Ok adds.0) r) ≡ joined (Ok (read ++ adds.0)) r
-  by (Err refusal) = refl
-  by (Ok later) = ap (λ ps. Ok ps) (sym (append_assoc read adds.0 later))
+      by : (r : Result (List Publication) Refusal) → joined (Ok read) (joined (Ok adds.0) r) ≡ joined (Ok (read ++ adds.0)) r
+      by (Err refusal) = refl
+      by (Ok later) = ap (λ ps. Ok ps) (sym (append_assoc read adds.0 later))
 
 -- a line is refused
 pub spells_wrong : (bytes line stripped rest : List ℕ) (read : List Publication) (refusal : Refusal) → SpellsFirst bytes read line rest → stripped ≡ without_return line → line_publications stripped ≡ Err refusal

@@ -1,5 +1,5 @@
 -- The subscribers that words spell, word after word.
-use Rattle.std.proofs.Common.{◌≡◌, ◌<◌, ◌≤◌, ◌+◌, ℕ, zero, suc, List, [], ◌∷◌, ◌++◌, length, drop, map, refl, sym, ap, ◌∙◌, append_assoc, Option, Some, None, get_or, arith, add-one, Bor}
+use Rattle.std.proofs.Common.{◌≡◌, ◌<◌, ◌≤◌, ◌+◌, ℕ, suc, List, [], ◌∷◌, ◌++◌, length, drop, map, refl, sym, ap, ◌∙◌, append_assoc, Option, Some, None, get_or, add-one, Bor}
 use Rattle.std.specs.Prelude.{option_map, slice_get}
 use Rattle.std.proofs.lemmas.Option.{slice_get-get_or, slice_get-map, slice_get_within, get_or_from_slice_get}
 use Rattle.std.proofs.Math.Seq.{drop-cons}
@@ -31,9 +31,9 @@ pub reads_more : (words rest others : List (List ℕ)) (word : List ℕ) (read :
 reads_more words rest others word read s reads is spelled =
     reads ∙ ap (λ ws. option_map (λ (later : List NamedDemand). read ++ later) (spelled_subscribers ws)) is
     ∙ ap (λ o. option_map (λ (later : List NamedDemand). read ++ later) (before_others o (spelled_subscribers others))) spelled ∙ by (spelled_subscribers others) where
-  by : (o : Option (List NamedDemand)) → option_map (λ (later : List NamedDemand). read ++ later) (before_others (Some s) o) ≡ option_map (λ (later : List NamedDemand). (read ++ s ∷ []) ++ later) o
-  by None = refl
-  by (Some later) = ap (λ xs. Some xs) (sym (append_assoc read (s ∷ []) later))
+      by : (o : Option (List NamedDemand)) → option_map (λ (later : List NamedDemand). read ++ later) (before_others (Some s) o) ≡ option_map (λ (later : List NamedDemand). (read ++ s ∷ []) ++ later) o
+      by None = refl
+      by (Some later) = ap (λ xs. Some xs) (sym (append_assoc read (s ∷ []) later))
 
 -- a word spells none
 pub reads_wrong : (words rest others : List (List ℕ)) (word : List ℕ) (read : List NamedDemand) → Reads words read rest → rest ≡ word ∷ others → spelled_subscriber word ≡ None → spelled_subscribers words ≡ None

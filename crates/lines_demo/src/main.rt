@@ -43,7 +43,8 @@ const FORGET: &str = "forget";
 const THREADS: &str = "threads";
 
 /// What `--help` says of runs on threads.
-const LINES: &str = "A line of standard input is `SOURCE TEXT`, SOURCE a number up to 4,294,967,295. All of it is read first. Then each source publishes
+const LINES: &str =
+    "A line of standard input is `SOURCE TEXT`, SOURCE a number up to 4,294,967,295. All of it is read first. Then each source publishes
 its texts in order from a thread of its own, and where all have ended the publisher is closed. The report has, for each
 subscriber in order and each source in ascending order, a line `NAME SOURCE TEXT` for each item that it was told, in order; then
   NAME complete K   it was told all K items, and completed
@@ -83,9 +84,9 @@ fn main(rt: HostRuntime) -> ExitCode {
 }
 
 /// Does what the command line asks for.
-fn run<R: Input + Print + Eprint + Env + AllocGlobal + Threads + Wait + Copy + Send + Sync + 'static>(
-    rt: R,
-) -> Result<ExitCode, ScriptFault> {
+fn run<
+    R: Input + Print + Eprint + Env + AllocGlobal + Threads + Wait + Copy + Send + Sync + 'static,
+>(rt: R) -> Result<ExitCode, ScriptFault> {
     let Some(words) = command_words(&rt)? else {
         let _ = eprintln!(rt; "lines_demo: an argument is not UTF-8");
         return Ok(ExitCode::from(WRONG_USE));
@@ -206,7 +207,9 @@ fn threads_line<'a>(alloc: Global) -> Result<Command<'a>, AllocError> {
         .value_name("N")
         .required(true)
         .action(ArgAction::Set)
-        .help("The capacity of each subscriber's buffer, rounded up to a power of two, at most 65536");
+        .help(
+            "The capacity of each subscriber's buffer, rounded up to a power of two, at most 65536",
+        );
     let subscribers = Arg::new(alloc, SUBSCRIBERS)
         .value_name("NAME:D")
         .required(true)

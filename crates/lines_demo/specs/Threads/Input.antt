@@ -1,5 +1,5 @@
 -- The input of `threads`: lines `SOURCE TEXT`, and why they are refused.
-use Rattle.std.specs.Prelude.{◌≡◌, ℕ, ◌+◌, ◌<◌, ◌≤◌, ◌==◌, Bool, if◌then◌else◌, nat_lt, nat_le, Option, Some, None, Result, Ok, Err, List, [], ◌∷◌, ◌++◌, length, fold, insert}
+use Rattle.std.specs.Prelude.{◌≡◌, ℕ, ◌+◌, ◌==◌, Bool, if◌then◌else◌, nat_lt, nat_le, Option, Some, None, Result, Ok, Err, List, [], ◌∷◌, ◌++◌, length, fold, insert}
 use Rattle.std.specs.List.{list_any, position_or_len}
 use Rattle.lines_demo.specs.Prelude.{Refusal, LONGEST_TEXT, capacity_of}
 use Rattle.lines_demo.specs.Line.{lines_of, without_return}

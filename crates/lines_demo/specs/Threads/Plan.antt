@@ -58,10 +58,10 @@ is_worker_count workers = nat_le 1 workers && nat_le workers MOST_WORKERS
 abbrev pub checked_plan : ℕ → ℕ → List NamedDemand → Result PlanState Refusal
 checked_plan workers capacity subscribers =
     if is_worker_count workers then
-      (if capacity == 0 then Err Refusal.BadCapacity
-      else (if has_twice subscribers then Err Refusal.Duplicate
-      else (if nat_lt MOST_LIVE (length subscribers) then Err Refusal.TooMany
-      else Ok (record { workers = workers; capacity = capacity; subscribers = subscribers }))))
+    (if capacity == 0 then Err Refusal.BadCapacity
+    else (if has_twice subscribers then Err Refusal.Duplicate
+    else (if nat_lt MOST_LIVE (length subscribers) then Err Refusal.TooMany
+    else Ok (record { workers = workers; capacity = capacity; subscribers = subscribers }))))
     else Err Refusal.BadWorkers
 
 -- the same, if all of them are spelled

@@ -98,11 +98,7 @@ impl Plan {
     }
 
     /// The plan of these numbers and subscribers, if it isn't refused.
-    fn checked(
-        workers: u64,
-        capacity: u64,
-        subscribers: Vec<NamedDemand>,
-    ) -> Result<Plan, Refusal>
+    fn checked(workers: u64, capacity: u64, subscribers: Vec<NamedDemand>) -> Result<Plan, Refusal>
         ensures { result ≡ checked_plan workers capacity subscribers.items }
     {
         if workers < 1 || workers > MOST_WORKERS as u64 {
@@ -156,7 +152,9 @@ impl Plan {
             return true;
         };
         let beyond = many.saturating_sub(capacity) as u64;
-        self.subscribers.iter().any(|subscriber| subscriber.demand < beyond)
+        self.subscribers
+            .iter()
+            .any(|subscriber| subscriber.demand < beyond)
     }
 }
 
@@ -207,5 +205,7 @@ fn stands_twice(subscribers: &[NamedDemand]) -> bool
 fn is_in(name: &Name, subscribers: &[NamedDemand]) -> bool
     ensures { result ≡ is_among name.now subscribers.now }
 {
-    subscribers.iter().any(|subscriber| subscriber.name == *name)
+    subscribers
+        .iter()
+        .any(|subscriber| subscriber.name == *name)
 }

@@ -88,7 +88,9 @@ fn told_of<S: Subscriber>(left: &NamedLane<Shown<S>>) -> &[Signal] {
 
 /// How many items are among the signals.
 fn count_items(told: &[Signal]) -> usize {
-    told.iter().filter(|signal| matches!(signal, Signal::Next(_))).count()
+    told.iter()
+        .filter(|signal| matches!(signal, Signal::Next(_)))
+        .count()
 }
 
 /// How a subscription ended, as a report says it.

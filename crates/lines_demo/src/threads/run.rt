@@ -13,8 +13,8 @@ use flow_rules::{Refusal, Shown, Subscriber};
 use publisher::{Outcome, PARTS, Publisher, Submitter, Subscription, finish};
 use std::alloc::Global;
 use std::io::{Read, Write};
-use std::sync::Wait;
 use std::marker::Brand;
+use std::sync::Wait;
 use std::sync::ledger::{Blank, Ledger};
 use std::thread::Threads;
 
@@ -72,7 +72,15 @@ fn report_lines<
     requires drops { (drops.name ≡ D.name) × ((drops.parts ≡ D.parts) × (D.parts ≡ PARTS)) }
     requires untold { All (λ s. S.told s ≡ []) subscribers.items }
 {
-    let outcome = publish_lines::<L, D, S, R>(rt, alloc, plan, input, subscribers, publications, drops)?;
+    let outcome = publish_lines::<L, D, S, R>(
+        rt,
+        alloc,
+        plan,
+        input,
+        subscribers,
+        publications,
+        drops,
+    )?;
     if write_report(alloc, writer, input.sources(), &outcome)? {
         Ok(COMPLETE)
     } else {
@@ -100,10 +108,23 @@ fn publish_lines<
     requires untold { All (λ s. S.told s ≡ []) subscribers.items }
     ensures { IfOk result (λ outcome. IsOutcome (λ shown. S.told shown.0) outcome) }
 {
-    let publisher: Publisher<L, D, Shown<S>> =
-        Publisher::new(rt, alloc, publications, drops, plan.workers(), plan.capacity())?;
+    let publisher: Publisher<L, D, Shown<S>> = Publisher::new(
+        rt,
+        alloc,
+        publications,
+        drops,
+        plan.workers(),
+        plan.capacity(),
+    )?;
     let mut subscriptions = Vec::new(alloc);
-    let subscribed = subscribe_all(&rt, alloc, &publisher, plan.subscribers(), subscribers, &mut subscriptions);
+    let subscribed = subscribe_all(
+        &rt,
+        alloc,
+        &publisher,
+        plan.subscribers(),
+        subscribers,
+        &mut subscriptions,
+    );
     let published = match subscribed {
         Ok(()) => publish_and_close(&rt, alloc, &publisher, input),
         Err(refusal) => Err(refusal),
@@ -121,7 +142,9 @@ fn publish_lines<
 }
 
 /// What a publisher leaves, also where some subscription has not ended.
-fn outcome_of<B: Drop>(finished: Result<Outcome<B>, (Refusal, Outcome<B>)>) -> Result<Outcome<B>, Refusal>
+fn outcome_of<B: Drop>(
+    finished: Result<Outcome<B>, (Refusal, Outcome<B>)>,
+) -> Result<Outcome<B>, Refusal>
     ensures { IfOk result (λ outcome. outcome ≡ outcome_of finished) }
 {
     match finished {

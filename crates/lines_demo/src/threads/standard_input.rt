@@ -13,10 +13,9 @@ use std::sync::Wait;
 use std::thread::Threads;
 
 /// Publishes the lines on standard input as the command line asks, and reports on standard output. The answer is the exit status.
-pub fn run_standard_input<R: Input + Print + AllocGlobal + Threads + Wait + Copy + Send + Sync + 'static>(
-    rt: R,
-    matches: &ArgMatches<'_>,
-) -> Result<u8, LinesFault> {
+pub fn run_standard_input<
+    R: Input + Print + AllocGlobal + Threads + Wait + Copy + Send + Sync + 'static,
+>(rt: R, matches: &ArgMatches<'_>) -> Result<u8, LinesFault> {
     let alloc = rt.alloc();
     let plan = Plan::read(alloc, matches)?;
     let mut reader = rt.reader();

@@ -1,4 +1,4 @@
-use Rattle.std.proofs.Common.{◌≡◌, ◌∙◌, ◌<◌, ◌≤◌, ◌+◌, ap, sym, refl, inr, take, length, arith, rules}
+use Rattle.std.proofs.Common.{◌≡◌, ◌<◌, ◌≤◌, ◌+◌, ap, refl, inr, take, length, arith, rules}
 use Rattle.lines_demo.specs.Threads.Input.{sources_of, with_source}
 use Rattle.lines_demo.specs.declared.threads.input.TheConstants.{MOST_SOURCES}
 use Rattle.lines_demo.proofs.InputSources.{sources_more, sources_fewer}

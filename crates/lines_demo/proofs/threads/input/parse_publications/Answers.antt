@@ -1,5 +1,4 @@
-use Rattle.std.proofs.Common.{◌≡◌, ◌<◌, [], length, rules, inl, inr, ap, ◌∙◌, sym, Ok}
-use Rattle.std.specs.Prelude.{OnOk}
+use Rattle.std.proofs.Common.{◌<◌, length, rules}
 use Rattle.lines_demo.specs.Threads.Input.{AddsLine}
 use Rattle.lines_demo.proofs.InputLines.{SpellsFirst, spells_none, spells_first, spells_more, spells_all, refused_line}
 use Rattle.lines_demo.proofs.Lines.{lines_split}

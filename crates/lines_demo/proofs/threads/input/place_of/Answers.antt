@@ -1,6 +1,5 @@
 use Rattle.std.proofs.Common.{◌∙◌, ap, length, nat_le}
 use Rattle.std.specs.Prelude.{unwrap_or}
-use Rattle.lines_demo.proofs.InputSources.{place_within}
 use Rattle.lines_demo.proofs.Places.{unwrap_or_position}
 use Rattle.lines_demo.proofs.threads.input.place_of.Goals as goal
 

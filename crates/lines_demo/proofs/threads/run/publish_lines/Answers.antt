@@ -1,4 +1,4 @@
-use Rattle.std.proofs.Common.{◌≡◌, IfOk, sym, subst}
+use Rattle.std.proofs.Common.{◌≡◌, sym, subst}
 use Rattle.std.proofs.lemmas.Result.{IfOk-weaker}
 use Rattle.publisher.specs.Outcome.{IsOutcome, outcome_of}
 use Rattle.lines_demo.proofs.threads.run.publish_lines.Goals as goal
