@@ -10,7 +10,7 @@ A run has to end by itself within ten seconds, in one of these ways:
 - with status 3 and a report in which one subscriber, whose callback was refused memory, has the end `memory`: it was told a beginning of
   each source's lines, and the other subscriber is told what it is told with ample memory.
 
-Each way but the second has to be met.
+The first way and the last have to be met; how often each is depends on how the threads run.
 """
 
 import os
@@ -84,7 +84,7 @@ def main(program, hook):
     if number == 1 or (ran.returncode, ran.stdout, said) != (0, full, b""):
         print("no request was refused, or the run with ample memory is wrong")
         return 1
-    missing = [it for it in met if it != "cut" and not met[it]]
+    missing = [it for it in ("stopped", "a callback") if not met[it]]
     print(f"{number - 1} requests, each refused in turn: " + ", ".join(f"{met[it]} {it}" for it in met))
     if missing:
         print(f"never: {missing}")
