@@ -75,7 +75,10 @@ impl<B: Listener> Parties<B> {
         let item = item_with(alloc, &[letter])?;
         let twin = item.share()?;
         Ok(match self.putting.put(item)? {
-            Put::Accepted { .. } => false,
+            Put::Accepted {
+                lag: _,
+                start: _start,
+            } => false,
             Put::Full(back) => !from_gone && back == twin,
             Put::Gone(back) => from_gone && back == twin,
         })
