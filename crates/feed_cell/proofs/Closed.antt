@@ -1,5 +1,5 @@
 -- What the words and slots of a closed table show is what is left of the subscription.
-use Rattle.std.proofs.Common.{◌≡◌, ℕ, ◌+◌, ◌-◌, ◌%◌, ◌<◌, ◌≤◌, ◌⊎◌, Bool, true, false, List, [], ◌∷◌, length, sym, refl, ap, ◌∙◌, subst, inl, inr, ⊎_elim, arith}
+use Rattle.std.proofs.Common.{◌≡◌, ℕ, ◌+◌, ◌-◌, ◌%◌, ◌<◌, ◌≤◌, ◌⊎◌, Bool, true, false, List, [], ◌∷◌, length, Option, IfSome, sym, refl, ap, ◌∙◌, subst, inl, inr, ⊎_elim, arith}
 use mathlib.Core.Option as slot
 use mathlib.Core.Option.{some}
 use lib.ListN.{get_elem?}
@@ -13,7 +13,8 @@ use Rattle.feed_core.proofs.Interleavings.Signalling.{starts_nobody}
 use Rattle.feed_cell.specs.Cell.{Cell}
 use Rattle.feed_cell.specs.Control.{MARK, number, marked}
 use Rattle.feed_cell.specs.Left.{OnGuest, lane_with, lane_without, IsLeftOf}
-use Rattle.feed_cell.specs.Parties.{end_of}
+use Rattle.flow_rules.specs.Feed.{End}
+use Rattle.feed_cell.specs.Parties.{HandleState, KnowsHandle, end_of}
 use Rattle.feed_cell.specs.declared.cell.Held.{Held}
 use Rattle.feed_cell.specs.declared.cell.Lodger.{Lodger}
 use Rattle.feed_cell.specs.declared.cell.View.{View}
@@ -29,7 +30,8 @@ module _ {B : Type 0} (told : B → List Signal) (cap id : ℕ) (v : View) (word
     (heads : get_elem? words 0 ≡ some head) (tails : get_elem? words 1 ≡ some tail) (asks : get_elem? words 2 ≡ some asked) (controls : get_elem? words 3 ≡ some control)
     (holds : get_elem? slots (length slots - 1) ≡ some held)
     (there : (MARK ≤ head) ⊎ (bit_at control 0 ≡ 0) → OnGuest held (λ guest. (running : Bool) × (running ≡ false → (MARK ≤ head) ⊎ (MARK ≤ asked)) × (left ≡ lane_with guest (head % MARK) tail (asked % MARK) running)))
-    (away : head < MARK → bit_at control 0 ≡ 1 → left ≡ lane_without (head % MARK) tail (asked % MARK)) (capacity : ℕ) (ready : Bool) where
+    (away : head < MARK → bit_at control 0 ≡ 1 → left ≡ lane_without (head % MARK) tail (asked % MARK)) (end : End) (end_is : end ≡ end_of v.capacity v end.ready)
+    (handle : Option HandleState) (knows : IfSome handle (λ h. KnowsHandle h v)) where
   abbrev s : State (Held B) View
   s = last.0
 
@@ -61,7 +63,7 @@ module _ {B : Type 0} (told : B → List Signal) (cap id : ℕ) (v : View) (word
   bit = ap (λ m. bit_at m 0) control_is ∙ c.reads.run ∙ ap number c.shows.started
 
   -- where the subscriber is at home
-  safe_left : (safe : IsSafe told cap s c) → (MARK ≤ head) ⊎ (bit_at control 0 ≡ 0) → IsLeftOf told (end_of capacity v ready) left
+  safe_left : (safe : IsSafe told cap s c) → (MARK ≤ head) ⊎ (bit_at control 0 ≡ 0) → IsLeftOf told end handle left
   safe_left safe shown =
       let g = lodges_safe told cap s c safe in
       let wide : length s.homes ≡ cap + 1 = c.lies.wide in
@@ -73,26 +75,26 @@ module _ {B : Type 0} (told : B → List Signal) (cap id : ℕ) (v : View) (word
       let asked_there : asked % MARK ≡ c.world.asked = ap (λ m. m % MARK) asked_is ∙ unmark c.left c.world.asked asked_small in
       let left_is : left ≡ lane_with g.guest c.world.given c.world.accepted c.world.asked found.0 =
       found.2 ∙ ap (λ m. lane_with g.guest m tail (asked % MARK) found.0) head_there ∙ ap (λ m. lane_with g.guest c.world.given m (asked % MARK) found.0) tail_is ∙ ap (λ m. lane_with g.guest c.world.given c.world.accepted m found.0) asked_there in
-      subst (λ l. IsLeftOf told (end_of capacity v ready) l) (sym left_is)
-      (left_there told cap s c id v last.1.1 puts begins capacity ready safe found.0 (λ rests. ⊎_elim
+      subst (λ l. IsLeftOf told end handle l) (sym left_is)
+      (left_there told cap s c id v last.1.1 puts begins end end_is handle knows safe found.0 (λ rests. ⊎_elim
       (λ large. inl (marked_by (is_over c.world.runner) c.world.given head given_small head_is large))
       (λ large. inr (marked_by c.left c.world.asked asked asked_small asked_is large))
       (found.1 rests)))
 
   -- where a task was lost with it
-  lost_left : is_over c.world.runner ≡ false → is_started c.world.runner ≡ true → IsLeftOf told (end_of capacity v ready) left
+  lost_left : is_over c.world.runner ≡ false → is_started c.world.runner ≡ true → IsLeftOf told end handle left
   lost_left goes started =
       let head_there : head % MARK ≡ c.world.given = ap (λ m. m % MARK) head_is ∙ unmark (is_over c.world.runner) c.world.given given_small in
       let asked_there : asked % MARK ≡ c.world.asked = ap (λ m. m % MARK) asked_is ∙ unmark c.left c.world.asked asked_small in
       let left_is : left ≡ lane_without c.world.given c.world.accepted c.world.asked =
       away (unmarked_by (is_over c.world.runner) c.world.given head given_small head_is goes) (bit ∙ ap number started)
       ∙ ap (λ m. lane_without m tail (asked % MARK)) head_there ∙ ap (λ m. lane_without c.world.given m (asked % MARK)) tail_is ∙ ap (λ m. lane_without c.world.given c.world.accepted m) asked_there in
-      subst (λ l. IsLeftOf told (end_of capacity v ready) l) (sym left_is) (left_away told cap s c id v last.1.1 puts begins capacity ready goes)
+      subst (λ l. IsLeftOf told end handle l) (sym left_is) (left_away told cap s c id v last.1.1 puts begins end end_is handle knows goes)
 
-  by : (over started : Bool) → is_over c.world.runner ≡ over → is_started c.world.runner ≡ started → IsLeftOf told (end_of capacity v ready) left
+  by : (over started : Bool) → is_over c.world.runner ≡ over → is_started c.world.runner ≡ started → IsLeftOf told end handle left
   by true started over e = safe_left (inl over) (inl (large_by (is_over c.world.runner) c.world.given head head_is over))
   by false false goes e = safe_left (inr (starts_nobody c.world.runner e)) (inr (bit ∙ ap number e))
   by false true goes e = lost_left goes e
 
-  pub left_of : IsLeftOf told (end_of capacity v ready) left
+  pub left_of : IsLeftOf told end handle left
   left_of = by (is_over c.world.runner) (is_started c.world.runner) refl refl

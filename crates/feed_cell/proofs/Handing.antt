@@ -75,7 +75,7 @@ module _ {B : Type 0} (told : B → List Signal) (cap : ℕ) where
       let coming : p.runner ≡ Coming = (reached_lawful c.reached).coming.1 (inr hands) in
       hand_kept s c id v (handle_handed v) p.producer Idle coming k.sized is.2 (reached_more (Hand Handle) c.reached hands) (λ _. refl)
       (other has_put c.producer _ _ s.views id (handle_handed v) c.producers is.0 (λ d o. subst (λ (r : Runner). AsProducer cap c.log p.given c.free (is_over r) c.flags.closing c.flags.state p.producer d) coming o))
-      (mine has_ask c.handle _ _ s.views id v (handle_handed v) c.handles at is.1 (record { sized = k.sized; total = k.total; cancels = k.cancels; bad = k.bad; there = k.there; stands = refl }))
+      (mine has_ask c.handle _ _ s.views id v (handle_handed v) c.handles at is.1 (record { sized = k.sized; total = k.total; cancels = k.cancels; bad = k.bad; leaves = k.leaves; stands = refl }))
 
 -- what is left of the mark of the task, by the word that was found
 pub low_bit : (word : ℕ) → bit_and word 1 ≡ bit_at word 0

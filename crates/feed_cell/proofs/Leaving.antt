@@ -1,10 +1,10 @@
 -- What is left of a subscription keeps the Flow rules, and is settled where its task is at rest or has ended.
-use Rattle.std.proofs.Common.{◌≡◌, ℕ, ◌+◌, ◌≤◌, ◌⊎◌, min, Bool, true, false, List, [], ◌∷◌, ◌++◌, length, map, drop, Option, Some, None, is_some, sym, refl, ap, ◌∙◌, subst, inl, inr, ⊎_elim, append-nil, length-append, take-append-drop, append_assoc, arith}
+use Rattle.std.proofs.Common.{◌≡◌, ℕ, ◌+◌, ◌≤◌, ◌⊎◌, min, Bool, true, false, ◌||◌, List, [], ◌∷◌, ◌++◌, length, map, drop, Option, Some, None, IfSome, is_some, sym, refl, ap, ◌∙◌, subst, inl, inr, ⊎_elim, append-nil, length-append, take-append-drop, append_assoc, arith}
 use mathlib.Core.Option.{some}
 use lib.ListN.{get_elem?}
 use Rattle.atomic_table.specs.Table.{State}
 use Rattle.feed_core.specs.Lane.{LaneState, IsSettled}
-use Rattle.feed_core.specs.Prelude.{Item, Signal, Subscribed, Next, Complete, Error, Fault, Published, IllegalArgument, IllegalState, Ending, How, total_after, items_of}
+use Rattle.feed_core.specs.Prelude.{Item, Signal, Subscribed, Next, Complete, Error, Fault, Published, IllegalArgument, IllegalState, Ending, How, UNBOUNDED, total_after, items_of}
 use Rattle.feed_core.specs.Sound.{is_begun, signals_of, loss_of, HasCause, IsAtRest, IsSound}
 use Rattle.feed_core.specs.World.Kept.{HasEnded}
 use Rattle.feed_core.specs.World.Table.{is_over, total_of, MayBegin}
@@ -14,9 +14,12 @@ use Rattle.feed_core.proofs.DeskSteps.{no_cause}
 use Rattle.feed_core.proofs.FlowRules.{flow_kept, settled_some, settled_at_rest}
 use Rattle.feed_core.proofs.Interleavings.Reaching.{reached_kept, reached_lawful}
 use Rattle.feed_cell.specs.Cell.{Cell, Lodges, LodgesAt, IsToldAt, IsToldBy, has_seat, may_hold, how_of, greeted}
-use Rattle.feed_cell.specs.Left.{lane_with, lane_without, IsLeftOf}
-use Rattle.feed_cell.specs.Parties.{end_of}
-use Rattle.feed_cell.specs.Types.{Runner, Nobody, Coming, Fresh, Ready, Looked, Saw, Measured, Taken, Over, Parts, HasPut, HasAsked, Idle, Free, HasRoom}
+use Rattle.flow_rules.specs.Feed.{End}
+use Rattle.feed_cell.specs.Control.{Flags, causes_of}
+use Rattle.feed_cell.specs.Left.{lane_with, lane_without, causes_left, CountsHandle, IsLeftOf}
+use Rattle.feed_cell.specs.Parties.{HandleState, KnowsHandle, end_of}
+use Rattle.feed_cell.proofs.Handing.{on_some}
+use Rattle.feed_cell.specs.Types.{Causes, Runner, Nobody, Coming, Fresh, Ready, Looked, Saw, Measured, Taken, Over, Parts, HasPut, HasAsked, Idle, Free, HasRoom}
 use Rattle.feed_cell.specs.declared.cell.Held.{Held}
 use Rattle.feed_cell.specs.declared.cell.View.{View}
 
@@ -127,6 +130,19 @@ caused w How.OutOfMemory lane causes given accepted is e = record {
   failed = λ code h. (let s = sym is ∙ h in cc);
   refused = λ _. ap (λ z. z.memory) causes ∙ e;
 }
+
+-- the causes by the flags, where those say what the publisher and the handle did
+flagged : (f : Flags) (answers : Causes) (handle : HandleState) (end : End) → f.cancel ≡ handle.cancelled → f.argument ≡ handle.argument → f.state ≡ end.state → f.closing ≡ end.closing
+    → causes_of f answers ≡ causes_left end handle answers
+flagged f answers handle end cancel argument state closing =
+    ap (λ z. record { cancel = z || answers.cancel; argument = f.argument || answers.argument; state = f.state; closing = f.closing; failed = answers.failed; memory = answers.memory }) cancel
+    ∙ ap (λ z. record { cancel = handle.cancelled || answers.cancel; argument = z || answers.argument; state = f.state; closing = f.closing; failed = answers.failed; memory = answers.memory }) argument
+    ∙ ap (λ z. record { cancel = handle.cancelled || answers.cancel; argument = handle.argument || answers.argument; state = z; closing = f.closing; failed = answers.failed; memory = answers.memory }) state
+    ∙ ap (λ z. record { cancel = handle.cancelled || answers.cancel; argument = handle.argument || answers.argument; state = end.state; closing = z; failed = answers.failed; memory = answers.memory }) closing
+
+-- a total within its bound, with nothing more
+whole_total : (asked : ℕ) → asked ≤ UNBOUNDED → asked ≡ total_after asked 0
+whole_total asked bounded = omega arith
 
 -- who has not ended has no end
 unended : (r : Runner) → how_of r ≡ None → is_over r ≡ false
@@ -256,15 +272,48 @@ module _ {B : Type 0} (told : B → List Signal) (cap : ℕ) (s : State (Held B)
     at Taken is g = g
     at (Over how) is g = g
 
-  module _ (id : ℕ) (v : View) (at : get_elem? s.views id ≡ some v) (puts : v.puts ≡ true) (begins : MayBegin v.producing) (capacity : ℕ) (ready : Bool) where
+  -- the total and the causes have what the seat that the handle had knows, beside what the answers brought about
+  counts : (end : End) (handle : HandleState) (id : ℕ) (v : View) → get_elem? s.views id ≡ some v → KnowsHandle handle v → end.state ≡ c.flags.state → end.closing ≡ c.flags.closing
+      → (total own : ℕ) → total ≡ total_after c.world.asked own → CountsHandle end handle total c.world.causes
+  counts end handle id v at knows state closing total own is =
+      let k = (c.handles id v at knows.is).1 in
+      record {
+        own = own;
+        answers = c.answers;
+        total_is = is ∙ ap (λ a. total_after a own) (sym k.total ∙ knows.asked);
+        causes_are = c.shows.causes ∙ flagged c.flags c.answers handle end (sym k.cancels ∙ knows.cancelled) (sym k.bad ∙ knows.argument) (sym state) (sym closing);
+      }
+
+  module _ (id : ℕ) (v : View) (at : get_elem? s.views id ≡ some v) (puts : v.puts ≡ true) (begins : MayBegin v.producing) (end : End) (end_is : end ≡ end_of v.capacity v end.ready)
+      (handle : Option HandleState) (knows : IfSome handle (λ h. KnowsHandle h v)) where
+    put_is : end.accepted ≡ c.log
+    put_is = ap (λ z. z.accepted) end_is ∙ (c.producers id v at puts).1.put
+
+    closing_is : end.closing ≡ c.flags.closing
+    closing_is = ap (λ z. z.closing) end_is ∙ (c.producers id v at puts).1.closed
+
+    state_is : end.state ≡ c.flags.state
+    state_is = ap (λ z. z.state) end_is ∙ (c.producers id v at puts).1.doubled
+
+    over_is : end.over ≡ true → is_over c.world.runner ≡ true
+    over_is over = (c.producers id v at puts).1.over (sym (ap (λ z. z.over) end_is) ∙ over)
+
+    -- no more was accepted than there is room for
+    room_kept : length c.log ≤ c.world.given + end.capacity
+    room_kept =
+        let sized : end.capacity ≡ cap = ap (λ z. z.capacity) end_is ∙ (c.producers id v at puts).1.sized in
+        let given : c.world.given ≡ length c.taken = c.shows.given in
+        let above : length c.log ≤ c.free = c.lists.above in
+        let below : c.free ≤ length c.taken + cap = c.lists.below in
+        omega arith
+
     may : MayBegin c.world.producer
     may = subst MayBegin (c.producers id v at puts).1.stands begins
 
     -- its subscriber is at home
     pub left_there : (safe : IsSafe) (running : Bool) → (running ≡ false → (is_over c.world.runner ≡ true) ⊎ (c.left ≡ true))
-        → IsLeftOf told (end_of capacity v ready) (lane_with (lodges_safe safe).guest c.world.given c.world.accepted c.world.asked running)
+        → IsLeftOf told end handle (lane_with (lodges_safe safe).guest c.world.given c.world.accepted c.world.asked running)
     left_there safe running settles =
-        let k = (c.producers id v at puts).1 in
         let g = lodges_safe safe in
         let held = safe_held safe in
         let text = told g.guest.subscriber in
@@ -273,16 +322,18 @@ module _ {B : Type 0} (told : B → List Signal) (cap : ℕ) (s : State (Held B)
         let accepted : c.world.accepted ≡ length c.log = c.shows.accepted in
         record {
           lane = lane_told_so text;
-          accepted = sym k.put;
-          closing = ap (λ z. z.closing) c.shows.causes ∙ sym k.closed;
-          state = ap (λ z. z.state) c.shows.causes ∙ sym k.doubled;
+          accepted = sym put_is;
+          closing = ap (λ z. z.closing) c.shows.causes ∙ sym closing_is;
+          state = ap (λ z. z.state) c.shows.causes ∙ sym state_is;
           counted = accepted;
           given = refl;
           taken = omega arith;
+          room = room_kept;
+          handled = on_some handle (λ h known. counts end h id v at known state_is closing_is (total_after c.world.asked g.guest.own) g.guest.own refl) knows;
           ending = g.how_is;
           flow = (refl, ap (total_after c.world.asked) g.own_is, flow_kept sound);
           settled = λ rests. (refl, settles_by (settles rests) safe);
-          over = λ over. ap is_some g.how_is ∙ has_ended c.world.runner (k.over over);
+          over = λ over. ap is_some g.how_is ∙ has_ended c.world.runner (over_is over);
         }
       where
         settles_by : (is_over c.world.runner ≡ true) ⊎ (c.left ≡ true) → IsSafe → IsSettled (lane_told_so (told (lodges_safe safe).guest.subscriber))
@@ -292,21 +343,22 @@ module _ {B : Type 0} (told : B → List Signal) (cap : ℕ) (s : State (Held B)
             (rests_left _ e (subst (λ r. IsToldAt r c.taken (told (lodges_safe safe).guest.subscriber)) e (lodges_safe safe).told_is) may left)
 
     -- a task was lost with it
-    pub left_away : is_over c.world.runner ≡ false → IsLeftOf told (end_of capacity v ready) (lane_without c.world.given c.world.accepted c.world.asked)
+    pub left_away : is_over c.world.runner ≡ false → IsLeftOf told end handle (lane_without c.world.given c.world.accepted c.world.asked)
     left_away goes =
-        let k = (c.producers id v at puts).1 in
         let taken : c.world.given ≤ c.world.accepted = (reached_kept c.reached).taken in
         let accepted : c.world.accepted ≡ length c.log = c.shows.accepted in
         record {
           lane = lane_told_so [];
-          accepted = sym k.put;
-          closing = ap (λ z. z.closing) c.shows.causes ∙ sym k.closed;
-          state = ap (λ z. z.state) c.shows.causes ∙ sym k.doubled;
+          accepted = sym put_is;
+          closing = ap (λ z. z.closing) c.shows.causes ∙ sym closing_is;
+          state = ap (λ z. z.state) c.shows.causes ∙ sym state_is;
           counted = accepted;
           given = refl;
           taken = omega arith;
+          room = room_kept;
+          handled = on_some handle (λ h known. counts end h id v at known state_is closing_is c.world.asked 0 (let bounded = (reached_kept c.reached).asked_bounded in whole_total c.world.asked bounded)) knows;
           ending = sym (goes_on c.world.runner goes);
           flow = tt;
           settled = λ e. cc;
-          over = λ over. (let never : true ≡ false = sym (k.over over) ∙ goes in cc);
+          over = λ over. (let never : true ≡ false = sym (over_is over) ∙ goes in cc);
         }

@@ -3,6 +3,7 @@ pub mod Calling
 pub mod Closed
 pub mod Ending
 pub mod Flagging
+mod Gathering
 pub mod Granting
 pub mod Handing
 pub mod Leaving

@@ -56,7 +56,7 @@ module _ {B : Type 0} (told : B → List Signal) where
         };
         lodges = λ _. home cap (omega arith);
         producers = alone has_put (AsProducer cap [] 0 0 false None false Free) (first_view cap) (record { sized = refl; put = refl; seen = omega arith; places = refl; over = λ e. cc; closed = refl; doubled = refl; stands = refl });
-        handles = alone has_ask (AsHandle cap 0 false false false Idle) (first_view cap) (record { sized = refl; total = refl; cancels = refl; bad = refl; there = refl; stands = refl });
+        handles = alone has_ask (AsHandle cap 0 false false false Idle) (first_view cap) (record { sized = refl; total = refl; cancels = refl; bad = refl; leaves = refl; stands = refl });
         runners = alone has_run (AsRunner cap Fresh false 1 false [] [] 0 no_causes) (first_view cap)
             (record { sized = refl; seated = refl; stands = refl; out = refl; knows = λ e. cc; fresh = λ _. record { taken_is = refl; own_is = refl; answers_are = refl }; item_is = refl; latest = λ e. cc });
       }
@@ -91,7 +91,7 @@ module _ {B : Type 0} (told : B → List Signal) where
         producers = added has_put c.producer _ (set s.views id (without_running v)) (running_alone v)
             (mine has_put c.producer _ _ s.views id v (without_running v) c.producers at puts (record { sized = p.sized; put = p.put; seen = p.seen; places = p.places; over = p.over; closed = p.closed; doubled = p.doubled; stands = p.stands })) refl;
         handles = added has_ask c.handle _ (set s.views id (without_running v)) (running_alone v)
-            (mine has_ask c.handle _ _ s.views id v (without_running v) c.handles at asks (record { sized = h.sized; total = h.total; cancels = h.cancels; bad = h.bad; there = h.there; stands = h.stands })) refl;
+            (mine has_ask c.handle _ _ s.views id v (without_running v) c.handles at asks (record { sized = h.sized; total = h.total; cancels = h.cancels; bad = h.bad; leaves = h.leaves; stands = h.stands })) refl;
         runners = moved has_run c.runner _ _ s.views id v (without_running v) (running_alone v) c.runners at runs refl
             (record { sized = r.sized; seated = r.seated; stands = r.stands; out = r.out; knows = λ e. (let k = r.knows e in record { taken_is = k.taken_is; own_is = k.own_is; answers_are = k.answers_are }); fresh = λ e. (let k = r.fresh e in record { taken_is = k.taken_is; own_is = k.own_is; answers_are = k.answers_are }); item_is = r.item_is; latest = r.latest });
       }
@@ -125,7 +125,7 @@ module _ {B : Type 0} (told : B → List Signal) where
         producers = added has_put c.producer _ (set s.views id (without_asking v)) (asking_alone v)
             (mine has_put c.producer _ _ s.views id v (without_asking v) c.producers at puts (record { sized = p.sized; put = p.put; seen = p.seen; places = p.places; over = p.over; closed = p.closed; doubled = p.doubled; stands = p.stands })) refl;
         handles = moved has_ask c.handle _ _ s.views id v (without_asking v) (asking_alone v) c.handles at asks refl
-            (record { sized = h.sized; total = h.total; cancels = h.cancels; bad = h.bad; there = h.there; stands = h.stands });
+            (record { sized = h.sized; total = h.total; cancels = h.cancels; bad = h.bad; leaves = h.leaves; stands = h.stands });
         runners = added has_run c.runner _ (set s.views id (without_asking v)) (asking_alone v)
             (other has_run c.runner _ _ s.views id (without_asking v) c.runners runs (λ d k. k)) refl;
       }

@@ -4,7 +4,7 @@ use Rattle.atomic_table.specs.Table.{keeps, Allows}
 use Rattle.feed_core.specs.Prelude.{Signal, total_after}
 use Rattle.feed_core.specs.World.Table.{is_over, after}
 use Rattle.feed_core.proofs.Interleavings.Reaching.{reached_more}
-use Rattle.feed_cell.proofs.Seats.{mine, other, spent}
+use Rattle.feed_cell.proofs.Seats.{mine, other}
 use Rattle.feed_cell.specs.Cell.{Cell}
 use Rattle.feed_cell.specs.Control.{MARK, marked}
 use Rattle.feed_cell.specs.Plays.{SeatOf, IsAsk, Leaves}
@@ -14,11 +14,12 @@ use Rattle.feed_cell.specs.declared.cell.View.{View}
 
 module _ {B : Type 0} (told : B → List Signal) where
   -- a store of asked
-  pub asks_more : (cap n id : ℕ) (me : SeatOf B) (new m : ℕ) → IsHandle me.0 → me.0.requesting ≡ Idle → 1 ≤ m → new ≡ total_after me.0.asked m → Allows (Cell told cap) n id me 2 (λ _. new) (λ _. IsAsk me new)
-  asks_more cap n id me new m is idle some new_is s c wide at small =
+  pub asks_more : (cap n id : ℕ) (me : SeatOf B) (new m : ℕ) → IsHandle me.0 → me.0.requesting ≡ Idle → me.0.left ≡ false → 1 ≤ m → new ≡ total_after me.0.asked m → Allows (Cell told cap) n id me 2 (λ _. new) (λ _. IsAsk me new)
+  asks_more cap n id me new m is idle stays some new_is s c wide at small =
       let v : View = me.0 in
       let k = (c.handles id v at is.1).1 in
       let p = c.world in
+      let here : c.left ≡ false = sym k.leaves ∙ stays in
       let total : new ≡ total_after p.asked m = new_is ∙ ap (λ (a : ℕ). total_after a m) k.total in
       let w : View = record v { asked = new; requesting = HasAsked } in (
         w,
@@ -40,13 +41,13 @@ module _ {B : Type 0} (told : B → List Signal) where
           handle = c.handle;
           runner = c.runner;
           lists = c.lists;
-          shows = record { sized = c.shows.sized; accepted = c.shows.accepted; given = c.shows.given; none_out = c.shows.none_out; started = c.shows.started; new = c.shows.new; causes = c.shows.causes; home = c.shows.home; settled = λ e. absurd (true≢false (sym e ∙ k.there)) };
+          shows = record { sized = c.shows.sized; accepted = c.shows.accepted; given = c.shows.given; none_out = c.shows.none_out; started = c.shows.started; new = c.shows.new; causes = c.shows.causes; home = c.shows.home; settled = λ e. absurd (true≢false (sym e ∙ here)) };
           reads = c.reads;
-          words = ap (λ (ws : List ℕ). set ws 2 new) c.words ∙ ap (λ (a : ℕ). marked (is_over p.runner) p.given ∷ p.accepted ∷ a ∷ c.control ∷ []) (total ∙ ap (λ b. marked b (total_after p.asked m)) (sym k.there));
+          words = ap (λ (ws : List ℕ). set ws 2 new) c.words ∙ ap (λ (a : ℕ). marked (is_over p.runner) p.given ∷ p.accepted ∷ a ∷ c.control ∷ []) (total ∙ ap (λ b. marked b (total_after p.asked m)) (sym here));
           lies = c.lies;
           lodges = c.lodges;
           producers = other has_put c.producer _ _ s.views id w c.producers is.0 (λ d k. k);
-          handles = mine has_ask c.handle _ _ s.views id v w c.handles at is.1 (record { sized = k.sized; total = total; cancels = k.cancels; bad = k.bad; there = k.there; stands = refl });
+          handles = mine has_ask c.handle _ _ s.views id v w c.handles at is.1 (record { sized = k.sized; total = total; cancels = k.cancels; bad = k.bad; leaves = k.leaves; stands = refl });
           runners = other has_run c.runner _ _ s.views id w c.runners is.2 (λ d k. k);
         },
         refl,
@@ -59,7 +60,7 @@ module _ {B : Type 0} (told : B → List Signal) where
       let k = (c.handles id v at is.1).1 in
       let p = c.world in
       let total : new ≡ p.asked + MARK = new_is ∙ ap (λ (a : ℕ). a + MARK) k.total in
-      let w : View = record v { asks = false } in (
+      let w : View = record v { left = true } in (
         w,
         keeps,
         tt,
@@ -85,7 +86,7 @@ module _ {B : Type 0} (told : B → List Signal) where
           lies = c.lies;
           lodges = c.lodges;
           producers = other has_put c.producer _ _ s.views id w c.producers is.0 (λ d k. k);
-          handles = spent has_ask c.handle _ _ s.views id v w c.handles at is.1 refl;
+          handles = mine has_ask c.handle _ _ s.views id v w c.handles at is.1 (record { sized = k.sized; total = k.total; cancels = k.cancels; bad = k.bad; leaves = refl; stands = k.stands });
           runners = other has_run c.runner _ _ s.views id w c.runners is.2 (λ d k. k);
         },
         refl,

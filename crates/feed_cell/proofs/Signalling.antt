@@ -1,5 +1,5 @@
 -- Signals, of both sides.
-use Rattle.std.proofs.Common.{◌≡◌, ℕ, ◌+◌, ◌*◌, ◌/◌, ◌^◌, ◌⊎◌, Bool, true, false, List, [], ◌∷◌, slice_index, set, bit_or, Option, Some, None, sym, refl, ap, ◌∙◌, subst, inl, inr, arith}
+use Rattle.std.proofs.Common.{◌≡◌, ℕ, ◌+◌, ◌*◌, ◌/◌, ◌^◌, ◌⊎◌, Bool, true, false, true≢false, List, [], ◌∷◌, slice_index, set, bit_or, Option, Some, None, sym, refl, ap, ◌∙◌, subst, inl, inr, arith}
 use Rattle.std.specs.Int.{bit_at}
 use Rattle.atomic_table.specs.Table.{State, keeps, Allows}
 use Rattle.feed_core.specs.Prelude.{Item, Ending, Signal}
@@ -116,9 +116,9 @@ sent_handle_kind (Some (Closing ending)) p v is = is
 
 sent_handle_knows : (cap asked : ℕ) (f : Flags) (left : Bool) (before h : Requesting) (cause : Option Cause) (v : View) → HandleMay cause before → AsHandle cap asked f.cancel f.argument left before v
     → AsHandle cap asked (both (signal_of cause) f).cancel (both (signal_of cause) f).argument left h (sent_by_handle cause h v)
-sent_handle_knows cap asked f left before h None v may k = record { sized = k.sized; total = k.total; cancels = k.cancels; bad = k.bad; there = k.there; stands = refl }
-sent_handle_knows cap asked f left before h (Some Cancel) v may k = record { sized = k.sized; total = k.total; cancels = refl; bad = k.bad; there = k.there; stands = refl }
-sent_handle_knows cap asked f left before h (Some Argument) v may k = record { sized = k.sized; total = k.total; cancels = k.cancels; bad = refl; there = k.there; stands = refl }
+sent_handle_knows cap asked f left before h None v may k = record { sized = k.sized; total = k.total; cancels = k.cancels; bad = k.bad; leaves = k.leaves; stands = refl }
+sent_handle_knows cap asked f left before h (Some Cancel) v may k = record { sized = k.sized; total = k.total; cancels = refl; bad = k.bad; leaves = k.leaves; stands = refl }
+sent_handle_knows cap asked f left before h (Some Argument) v may k = record { sized = k.sized; total = k.total; cancels = k.cancels; bad = refl; leaves = k.leaves; stands = refl }
 sent_handle_knows cap asked f left before h (Some Doubled) v may k = absurd may
 sent_handle_knows cap asked f left before h (Some (Closing ending)) v may k = absurd may
 
@@ -164,9 +164,9 @@ module _ {B : Type 0} (told : B → List Signal) where
       )
 
   -- and with the handle's
-  pub handle_signals : (cap n id : ℕ) (me : SeatOf B) (mask : ℕ) (cause : Option Cause) → IsHandle me.0 → HandleMay cause me.0.requesting → Reads mask (signal_of cause)
+  pub handle_signals : (cap n id : ℕ) (me : SeatOf B) (mask : ℕ) (cause : Option Cause) → IsHandle me.0 → HandleMay cause me.0.requesting → me.0.left ≡ false → Reads mask (signal_of cause)
       → Allows (Cell told cap) n id me 3 (λ n. bit_or n mask) (HandleSignals cause me)
-  handle_signals cap n id me mask cause is may sets s c wide at small =
+  handle_signals cap n id me mask cause is may stays sets s c wide at small =
       let v : View = me.0 in
       let k = (c.handles id v at is.1).1 in
       let p = c.world in
@@ -180,7 +180,7 @@ module _ {B : Type 0} (told : B → List Signal) where
         keeps,
         tt,
         signal_kept told cap s c cause mask p.producer (requesting_after (is_started p.runner)) id w sets (inr (no_closing cause p.handle here))
-            (reached_more (Signals Handle cause) c.reached here) (λ e. let there = k.there in cc) kind.2
+            (reached_more (Signals Handle cause) c.reached here) (λ e. absurd (true≢false (sym e ∙ sym k.leaves ∙ stays))) kind.2
             (other has_put c.producer _ _ s.views id w c.producers kind.0 (λ d o. producer_knows cap c.log p.given c.free (is_over (started p.runner)) c.flags p.producer p.handle cause d here
             (subst (λ b. AsProducer cap c.log p.given c.free b c.flags.closing c.flags.state p.producer d) (sym st.over) o)))
             (mine has_ask c.handle _ _ s.views id v w c.handles at is.1 (sent_handle_knows cap p.asked c.flags c.left p.handle (requesting_after (is_started p.runner)) cause v here k)),

@@ -127,7 +127,7 @@ pub record AsHandle (capacity : ℕ) (asked : ℕ) (cancel argument left : Bool)
   pub total : d.asked ≡ asked
   pub cancels : d.cancel ≡ cancel
   pub bad : d.argument ≡ argument
-  pub there : left ≡ false
+  pub leaves : d.left ≡ left
   pub stands : d.requesting ≡ requesting
 
 -- what a task that has its subscriber with it knows besides

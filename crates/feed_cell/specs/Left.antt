@@ -1,11 +1,13 @@
 -- What is left of a subscription that is closed for good.
-use Rattle.std.specs.Prelude.{◌≡◌, ℕ, ◌≤◌, Bool, true, false, Some, None, IfSome, IsSome, List, length}
+use Rattle.std.specs.Prelude.{◌≡◌, ℕ, ◌+◌, ◌≤◌, Bool, true, false, ◌||◌, Option, Some, None, IfSome, IsSome, List, length}
 use Rattle.feed_core.specs.Lane.{LaneState, IsFlow, IsSettled}
 use Rattle.feed_core.specs.Prelude.{Signal, total_after}
 use Rattle.feed_core.specs.declared.lane.Lane.{Lane}
 use Rattle.flow_rules.specs.Feed.{End}
 use Rattle.feed_cell.specs.declared.cell.Held.{Held}
 use Rattle.feed_cell.specs.declared.cell.Lodger.{Lodger}
+use Rattle.feed_cell.specs.Parties.{HandleState}
+use Rattle.feed_cell.specs.Types.{Causes}
 
 -- what is left where the subscriber is at home
 abbrev pub lane_with : {B : Type 0} → Lodger B → ℕ → ℕ → ℕ → Bool → Lane B
@@ -15,9 +17,22 @@ lane_with g given accepted asked running = record { subscriber = Some g.subscrib
 abbrev pub lane_without : {B : Type 0} → ℕ → ℕ → ℕ → Lane B
 lane_without given accepted asked = record { subscriber = None; accepted = accepted; given = given; asked = asked; ending = None; running = true }
 
--- what is left of a subscription, by what its publisher knew of it: the lane of its items and causes, and the subscriber, where that
--- is there, who was told what the lane says
-pub record IsLeftOf {B : Type 0} (told : B → List Signal) (end : End) (left : Lane B) : Type 0 where
+-- the causes of a subscription: its publisher's, its handle's, and those that the answers of callbacks brought about
+abbrev pub causes_left : End → HandleState → Causes → Causes
+causes_left end handle answers =
+    record { cancel = handle.cancelled || answers.cancel; argument = handle.argument || answers.argument; state = end.state; closing = end.closing; failed = answers.failed; memory = answers.memory }
+
+-- what its own handle did is in the total and in the causes
+pub record CountsHandle (end : End) (handle : HandleState) (total : ℕ) (causes : Causes) : Type 0 where
+  -- what the answers of callbacks requested, and the causes that they brought about
+  pub own : ℕ
+  pub answers : Causes
+  pub total_is : total ≡ total_after handle.asked own
+  pub causes_are : causes ≡ causes_left end handle answers
+
+-- what is left of a subscription, by what its publisher and its handle, where that is known, knew of it: the lane of its items and
+-- causes, and the subscriber, where that is there, who was told what the lane says
+pub record IsLeftOf {B : Type 0} (told : B → List Signal) (end : End) (handle : Option HandleState) (left : Lane B) : Type 0 where
   pub lane : LaneState
   pub accepted : lane.accepted ≡ end.accepted
   pub closing : lane.causes.closing ≡ end.closing
@@ -25,6 +40,8 @@ pub record IsLeftOf {B : Type 0} (told : B → List Signal) (end : End) (left : 
   pub counted : left.accepted ≡ length lane.accepted
   pub given : left.given ≡ lane.given
   pub taken : lane.given ≤ length lane.accepted
+  pub room : length lane.accepted ≤ lane.given + end.capacity
+  pub handled : IfSome handle (λ handle. CountsHandle end handle left.asked lane.causes)
   pub ending : left.ending ≡ lane.how
   -- the Flow rules hold of a lane whose subscriber is there
   pub flow : IfSome left.subscriber (λ b. (told b ≡ lane.told) × (left.asked ≡ lane.asked) × IsFlow lane)

@@ -32,11 +32,18 @@ pub record HandleState : Type 0 where
   pub argument : Bool
   pub ready : Bool
 
--- the task: what it knows of the subscription, and what its subscriber was told, where that is with it
+-- the task: its seat, what it knows of the subscription, and what its subscriber was told, where that is with it
 pub record TaskState : Type 0 where
   pub ring : TableId
+  pub seat : ℕ
   pub knows : View
   pub told : List Signal
+
+-- a seat whose task is over: what it knew when it stopped
+pub record SpentState : Type 0 where
+  pub ring : TableId
+  pub seat : ℕ
+  pub knows : View
 
 -- a new subscription's parties
 abbrev pub new_producer : ℕ → TableId → ProducerState
@@ -62,6 +69,13 @@ pub record IsStarted (ring : TableId) (capacity : ℕ) (task : TaskState) : Type
   pub sized : task.knows.capacity ≡ capacity
   pub stage : task.knows.runner ≡ Ready
   pub home : task.knows.away ≡ false
+
+-- the seat of a handle that has left knows what its owner did
+pub record KnowsHandle (handle : HandleState) (v : View) : Type 0 where
+  pub is : v.asks ≡ true
+  pub asked : v.asked ≡ handle.asked
+  pub cancelled : v.cancel ≡ handle.cancelled
+  pub argument : v.argument ≡ handle.argument
 
 -- a handle may request or cancel: it has what a started task needs, or it has cancelled, after which it starts none
 abbrev pub MayAsk : HandleState → Type 0

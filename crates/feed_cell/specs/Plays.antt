@@ -122,7 +122,7 @@ pub record HandleSignals {B : Type 0} (cause : Option Cause) (before : SeatOf B)
 
 -- the handle makes no step any more
 abbrev pub Leaves : {B : Type 0} → SeatOf B → SeatOf B → Type 0
-Leaves before after = after ≡ (record before.0 { asks = false }, before.1)
+Leaves before after = after ≡ (record before.0 { left = true }, before.1)
 
 -- the first task takes its subscriber's slot out, where nobody is yet
 abbrev pub Enters : {B : Type 0} → SeatOf B → SeatOf B → Type 0

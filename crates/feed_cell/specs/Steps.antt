@@ -39,6 +39,7 @@ pub record HasPlace {B : Type 0} (capacity tail : ℕ) (me : SeatOf B) : Type 0 
 pub record MayRequest {B : Type 0} (me : SeatOf B) : Type 0 where
   pub is : IsHandle me.0
   pub idle : me.0.requesting ≡ Idle
+  pub stays : me.0.left ≡ false
 
 -- the first task has not taken its subscriber's slot out yet
 pub record IsUnlodged {B : Type 0} (capacity : ℕ) (me : SeatOf B) : Type 0 where

@@ -117,8 +117,8 @@ KeepsGoing Stage.Fresh before after = ⊥
 KeepsGoing Stage.Home before after = Unit {0}
 KeepsGoing Stage.Going before after = (after.1 ≡ before.1) × (after.0.taken ≡ before.0.taken)
 
--- what came of a turn of a task: the task that goes on, or the turn was its last
+-- what came of a turn of a task: the task that goes on, or its seat, which rested or ended the subscription and runs nothing any more
 abbrev pub TurnsInto : {B : Type 0} → TaskState → List Signal → Turn B → Type 0
-TurnsInto task seen (Turn.Again next) = (next.ring ≡ task.ring) × GoesOnAs task.knows next.knows task.told next.told seen
-TurnsInto task seen Turn.Resting = (last : View) × StopsAs task.knows last task.told seen Resting × (last.runner ≡ Nobody)
-TurnsInto task seen (Turn.Ended how) = (last : View) × StopsAs task.knows last task.told seen (Ended how)
+TurnsInto task seen (Turn.Again next) = (next.ring ≡ task.ring) × (next.seat ≡ task.seat) × GoesOnAs task.knows next.knows task.told next.told seen
+TurnsInto task seen (Turn.Resting spent) = (spent.ring ≡ task.ring) × (spent.seat ≡ task.seat) × StopsAs task.knows spent.knows task.told seen Resting × (spent.knows.runner ≡ Nobody)
+TurnsInto task seen (Turn.Ended how spent) = (spent.ring ≡ task.ring) × (spent.seat ≡ task.seat) × StopsAs task.knows spent.knows task.told seen (Ended how)

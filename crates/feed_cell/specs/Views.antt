@@ -22,6 +22,7 @@ first_view capacity = record {
   requesting = Idle;
   cancel = false;
   argument = false;
+  left = false;
   runs = true;
   runner = Fresh;
   look = 0;
@@ -68,6 +69,13 @@ handle_handed v = record v { requesting = Idle }
 -- the task that was handed over is ready, and its subscriber is at home
 abbrev pub running_handed : View → View
 running_handed v = record (first_view v.capacity) { puts = false; asks = false; runner = Ready }
+
+-- the producer's seat takes in what the handle's knows, and that has no part any more
+abbrev pub with_asking : View → View → View
+with_asking v h = record v { asks = h.asks; asked = h.asked; requesting = h.requesting; cancel = h.cancel; argument = h.argument; left = h.left }
+
+abbrev pub no_part : View
+no_part = record (first_view 0) { puts = false; asks = false; runs = false }
 
 -- a seat of one kind
 abbrev pub IsProducer : View → Type 0

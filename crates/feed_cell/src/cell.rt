@@ -132,6 +132,8 @@ pub struct View {
     pub cancel: bool,
     /// Whether it requested a number that is not positive.
     pub argument: bool,
+    /// Whether it is the handle that has left, which makes no step any more.
+    pub left: bool,
     /// Whether it runs the task.
     pub runs: bool,
     /// Where the task stands.

@@ -1,17 +1,20 @@
 //! How a subscription is closed for good: its producer's end and its handle are given back.
-ghost use Rattle.std.specs.Prelude.{◌≡◌, ◌%◌, ◌-◌, ◌<◌, ◌≤◌, ◌⊎◌, ℕ, Bool, true, false, IfOk, IfErr};
+ghost use Rattle.std.specs.Prelude.{◌≡◌, ◌%◌, ◌-◌, ◌<◌, ◌≤◌, ◌⊎◌, ℕ, Bool, true, false, [], Option, Some, None, IfSome, IfOk, IfErr};
 ghost use Rattle.std.specs.Int.{bit_at};
 ghost use Rattle.std.specs.Mem.Slots.{IsFull, slots_items, slots_len};
 ghost use mathlib.Core.Option.{some};
 ghost use lib.ListN.{get_elem?};
+ghost use Rattle.feed_core.specs.World.Table.{MayBegin};
 ghost use Rattle.feed_cell.specs.Control.{MARK};
+ghost use Rattle.flow_rules.specs.Feed.{End};
 ghost use Rattle.feed_cell.specs.Left.{IsLeftOf, OnGuest, lane_with, lane_without};
-ghost use Rattle.feed_cell.specs.Parties.{end_of};
+ghost use Rattle.feed_cell.specs.Parties.{HandleState, KnowsHandle, end_of};
 ghost use Rattle.feed_cell.specs.Steps.{HasFourWords, MayOffer};
 
 use super::handle::Handle;
 use super::producer::Producer;
 use super::requesting::leave;
+use super::splits::Gather;
 use super::{ASKED, CONTROL, CellSeat, CellTable, HEAD, Held, Lodger, MARK, RUN, TAIL};
 use atomic_table::Closed;
 use feed_core::Lane;
@@ -24,22 +27,61 @@ use std::sync::Arc;
 /// back, not ready.
 ///
 /// A lane that doesn't run is settled: its subscriber was told all that its demand and its ending allow. One that runs has lost a
-/// task, or its own handle was never closed.
+/// task, or its own handle was never closed. The handle may be that of another subscription, whose own lane is closed later: so nothing
+/// is said of what this one requested. [`close_own`] says it.
 pub fn close<B: Listener>(producer: Producer<B>, handle: Handle<B>) -> Result<Lane<B>, Producer<B>>
-    ensures left { IfOk result (λ left. IsLeftOf B.told producer.end left) }
+    ensures left { IfOk result (λ left. IsLeftOf B.told producer.end None left) }
     ensures back { IfErr result (λ back. back ≡ record producer { end = record producer.end { ready = false } }) }
 {
+    drop(step_out(handle));
+    let (table, seat) = unshared(producer)?;
+    Ok(take_apart(table, seat))
+}
+
+/// The same, with the subscription's own handle: what that requested is part of the total, and its cancel and its bad requests are
+/// among the causes. It makes one step more, a load.
+pub fn close_own<B: Listener>(
+    producer: Producer<B>,
+    handle: Handle<B>,
+) -> Result<Lane<B>, Producer<B>>
+    requires own { handle.ring ≡ producer.ring }
+    ensures left { IfOk result (λ left. IsLeftOf B.told producer.end (Some handle) left) }
+    ensures back { IfErr result (λ back. back ≡ record producer { end = record producer.end { ready = false } }) }
+{
+    let asking = step_out(handle);
+    let (table, mut seat) = unshared(producer)?;
+    table.shared.join_seat::<Gather>(&mut seat, asking);
+    Ok(take_apart(table, seat))
+}
+
+/// The handle makes its last step. Its seat, which knows what it requested, comes back.
+fn step_out<B: Listener>(handle: Handle<B>) -> CellSeat<B>
+    ensures seat { (result.table_id ≡ handle.ring) × (result.me.1 ≡ []) }
+    ensures knows { KnowsHandle handle result.me.0 }
+{
     let Handle {
-        table: of_handle,
-        spare: handle_spare,
-        seat: mut asking,
+        table,
+        spare,
+        mut seat,
         capacity: _,
         asked,
         cancelled: _,
     } = handle;
-    leave(&of_handle, &mut asking, asked);
-    drop(of_handle);
-    drop(handle_spare);
+    leave(&table, &mut seat, asked);
+    drop(table);
+    drop(spare);
+    seat
+}
+
+/// The table with the producer's seat, where nobody else shares it. Else the producer's end comes back, not ready.
+fn unshared<B: Listener>(
+    producer: Producer<B>,
+) -> Result<(CellTable<B>, CellSeat<B>), Producer<B>>
+    ensures table { IfOk result (λ parts. (parts.1.table_id ≡ parts.0.shared.table_id) × (parts.1.table_id ≡ producer.ring) × HasFourWords parts.1.table_id) }
+    ensures may { IfOk result (λ parts. MayOffer parts.1.me) }
+    ensures knows { IfOk result (λ parts. producer.end ≡ end_of parts.1.me.0.capacity parts.1.me.0 producer.end.ready) }
+    ensures back { IfErr result (λ back. back ≡ record producer { end = record producer.end { ready = false } }) }
+{
     let Producer {
         table,
         spare,
@@ -50,7 +92,7 @@ pub fn close<B: Listener>(producer: Producer<B>, handle: Handle<B>) -> Result<La
     } = producer;
     drop(spare);
     match Arc::try_unwrap(table) {
-        Ok(table) => Ok(take_apart(table, seat)),
+        Ok(table) => Ok((table, seat)),
         Err(table) => Err(Producer {
             table,
             spare: None,
@@ -62,11 +104,11 @@ pub fn close<B: Listener>(producer: Producer<B>, handle: Handle<B>) -> Result<La
     }
 }
 
-/// Takes a subscription apart that nobody shares any more, with the producer's seat.
+/// Takes a subscription apart that nobody shares any more, with the producer's seat, which may have taken the handle's in.
 fn take_apart<B: Listener>(table: CellTable<B>, seat: CellSeat<B>) -> Lane<B>
     requires table { (seat.table_id ≡ table.shared.table_id) × HasFourWords seat.table_id }
-    requires may { MayOffer seat.me }
-    ensures left { (capacity : ℕ) (ready : Bool) → IsLeftOf B.told (end_of capacity seat.me.0 ready) result }
+    requires may { (seat.me.0.puts ≡ true) × MayBegin seat.me.0.producing }
+    ensures left { (end : End) (handle : Option HandleState) → end ≡ end_of seat.me.0.capacity seat.me.0 end.ready → IfSome handle (λ handle. KnowsHandle handle seat.me.0) → IsLeftOf B.told end handle result }
 {
     let closed = table.close_with(seat);
     let head = closed.word(HEAD);

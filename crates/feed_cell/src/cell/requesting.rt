@@ -1,5 +1,5 @@
 //! The steps of the handle.
-ghost use Rattle.std.specs.Prelude.{◌≡◌, ◌+◌, ◌≤◌, [], Some, None, IfSome, false};
+ghost use Rattle.std.specs.Prelude.{◌≡◌, ◌+◌, ◌≤◌, [], Some, None, IfSome, true, false};
 ghost use Rattle.std.specs.Int.{bit_at};
 ghost use Rattle.feed_core.specs.Prelude.{total_after};
 ghost use Rattle.feed_cell.specs.Control.{MARK};
@@ -40,7 +40,7 @@ pub(crate) fn signal_request<B: Listener>(
     seat: &mut CellSeat<B>,
 ) -> Option<CellSeat<B>>
     requires table { (seat.old.table_id ≡ table.now.shared.table_id) × HasFourWords seat.old.table_id }
-    requires stored { IsHandle seat.old.me.0 × (seat.old.me.0.requesting ≡ HasAsked) }
+    requires stored { IsHandle seat.old.me.0 × (seat.old.me.0.requesting ≡ HasAsked) × (seat.old.me.0.left ≡ false) }
     ensures table { (seat.new.table_id ≡ seat.old.table_id) × (seat.new.id ≡ seat.old.id) }
     ensures sent { seat.new.me ≡ (sent_by_handle None Idle seat.old.me.0, seat.old.me.1) }
     ensures starts { IfSome result (λ task. (task.table_id ≡ seat.old.table_id) × (task.me ≡ (running_handed seat.old.me.0, []))) }
@@ -88,7 +88,7 @@ pub(crate) fn leave<B: Listener>(table: &CellTable<B>, seat: &mut CellSeat<B>, a
     requires counted { seat.old.me.0.asked ≡ asked }
     requires bounded { asked ≤ UNBOUNDED }
     ensures table { (seat.new.table_id ≡ seat.old.table_id) × (seat.new.id ≡ seat.old.id) }
-    ensures left { seat.new.me ≡ (record seat.old.me.0 { asks = false }, seat.old.me.1) }
+    ensures left { seat.new.me ≡ (record seat.old.me.0 { left = true }, seat.old.me.1) }
 {
     table.shared.store::<Leave>(seat, ASKED, asked + MARK);
 }

@@ -1,6 +1,6 @@
-//! How the maker's seat becomes three, and how a started task gets its seat.
+//! How the maker's seat becomes three, how a started task gets its seat, and how the seats of the two ends become one.
 use super::View;
-use atomic_table::Split;
+use atomic_table::{Join, Split};
 
 /// The handle gets a seat of its own.
 pub(crate) struct HandleApart;
@@ -44,4 +44,15 @@ impl Split<View> for HandleHands {
     ghost left = { handle_handed };
 
     ghost right = { running_handed };
+}
+
+/// The producer's seat takes in that of the handle.
+pub(crate) struct Gather;
+
+impl Join<View> for Gather {
+    ghost use Rattle.feed_cell.specs.Views.{with_asking, no_part};
+
+    ghost both = { with_asking };
+
+    ghost spent = { no_part };
 }

@@ -35,7 +35,22 @@ impl<B: Listener> Model for Task<B> {
 
     ghost Value = { TaskState };
 
-    ghost view = { λ t. record { ring = t.seat.table_id; knows = t.seat.me.0; told = told_out B.told t.seat.me.1 } };
+    ghost view = { λ t. record { ring = t.seat.table_id; seat = t.seat.id; knows = t.seat.me.0; told = told_out B.told t.seat.me.1 } };
 
     ghost invariant = { λ t. ((arc_value t.table).shared.table_id ≡ t.seat.table_id) × HasFourWords t.seat.table_id × (0 < t.capacity) × IsRunner t.seat.me.0 × (t.seat.me.0.capacity ≡ t.capacity) × (t.seat.me.0.item ≡ []) × IsPaused B.told t.stage t.seat.me };
+}
+
+/// The seat of a task that is over. It can't be made but by the step with which the task went to rest or ended its subscription, it does
+/// nothing any more, and it has no bytes.
+#[derive(Drop)]
+pub struct Spent<B: Listener> {
+    pub(crate) seat: CellSeat<B>,
+}
+
+impl<B: Listener> Model for Spent<B> {
+    ghost use Rattle.feed_cell.specs.Parties.{SpentState};
+
+    ghost Value = { SpentState };
+
+    ghost view = { λ s. record { ring = s.seat.table_id; seat = s.seat.id; knows = s.seat.me.0 } };
 }

@@ -10,7 +10,7 @@ ghost use Rattle.feed_cell.specs.Views.{IsRunner};
 use super::calling::greet_there;
 use super::running::{end, look, look_first};
 use super::serving::{Served, serve};
-use super::task::{Stage, Task};
+use super::task::{Spent, Stage, Task};
 use super::{CellSeat, CellTable};
 use feed_core::{ITEMS_IN_A_TURN, Outlook, Seen};
 use flow_rules::{How, Listener};
@@ -22,9 +22,9 @@ pub enum Turn<B: Listener> {
     /// Another turn is owed, of this task.
     Again(Task<B>),
     /// No turn is owed until something is signalled.
-    Resting,
+    Resting(Spent<B>),
     /// The subscription has ended, and no turn is ever owed again.
-    Ended(How),
+    Ended(How, Spent<B>),
 }
 
 impl<B: Listener> Task<B> {
@@ -51,8 +51,8 @@ impl<B: Listener> Task<B> {
                 capacity,
                 stage: Stage::Going,
             }),
-            Outlook::Resting => Turn::Resting,
-            Outlook::Ended(how) => Turn::Ended(how),
+            Outlook::Resting => Turn::Resting(Spent { seat }),
+            Outlook::Ended(how) => Turn::Ended(how, Spent { seat }),
         }
     }
 }

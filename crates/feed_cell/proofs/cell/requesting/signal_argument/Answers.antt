@@ -5,4 +5,4 @@ use Rattle.feed_cell.proofs.Signalling.{handle_signals}
 use Rattle.feed_cell.proofs.cell.requesting.signal_argument.Goals as goal
 
 pub fetch_or-found-requires : goal.fetch_or-found-requires
-fetch_or-found-requires g c = (search rules, search rules, handle_signals g.B.Listener.told _ _ _ c.args.seat.now.me _ (Some Argument) c.requires.may.is c.requires.may.idle mask_argument)
+fetch_or-found-requires g c = (search rules, search rules, handle_signals g.B.Listener.told _ _ _ c.args.seat.now.me _ (Some Argument) c.requires.may.is c.requires.may.idle c.requires.may.stays mask_argument)

@@ -4,4 +4,4 @@ use Rattle.feed_cell.proofs.Signalling.{handle_signals}
 use Rattle.feed_cell.proofs.cell.requesting.signal_request.Goals as goal
 
 pub fetch_or-found-requires : goal.fetch_or-found-requires
-fetch_or-found-requires g c = (search rules, search rules, handle_signals g.B.Listener.told _ _ _ c.args.seat.now.me _ None c.requires.stored.0 c.requires.stored.1 mask_plain)
+fetch_or-found-requires g c = (search rules, search rules, handle_signals g.B.Listener.told _ _ _ c.args.seat.now.me _ None c.requires.stored.0 c.requires.stored.1 c.requires.stored.2 mask_plain)
