@@ -3,6 +3,7 @@ use Rattle.std.proofs.Common.{◌≡◌, ℕ, suc, ◌+◌, ◌<◌, true, false
 use Rattle.std.proofs.lemmas.List.{length-map, map-append}
 use Rattle.feed_core.specs.Prelude.{How, Item, Next, Signal, Subscribed, items_of}
 use Rattle.feed_core.specs.Seen.{SeenState}
+use Rattle.feed_core.specs.World.Table.{MayEnd}
 use Rattle.feed_core.specs.declared.turn.outlook.Outlook.TheVariants.{Again, Resting, Ended}
 use Rattle.feed_cell.specs.Cell.{greeted, IsToldBy}
 use Rattle.feed_cell.specs.Parties.{IsFresh, IsGoing}
@@ -73,21 +74,23 @@ module _ {B : Type 0} (told : B → List Signal) where
 
     -- that was its end
     pub greeted_end : (how : How) (last : SeatOf B) → EndsThere told Subscribed how before after seen later → last ≡ (record after.0 { runs = false; away = false }, [])
-        → StopsAs before.0 last.0 (told_out told before.1) later.signals (Ended how)
+        → StopsAs before.0 last.0 (told_out told before.1) later.signals (Ended how) × MayEnd how (length last.0.taken) last.0.runner
     greeted_end how last ends left =
         let taken : after.0.taken ≡ [] = ap (λ (v : View). v.taken) ends.tells.view ∙ fresh.taken in
         let saw : later.signals ≡ ends.last = ap (λ (s : SeenState). s.signals) ends.tells.saw ∙ ap (λ s. s ++ ends.last) nothing in
         let text : told ends.ending.guest.subscriber ≡ later.signals =
         sym (ap (told_out told) ends.ending.slot) ∙ ends.tells.text ∙ ap (λ s. s ++ ends.last) untold ∙ sym saw
-        in
-        record {
-          turned = whole_turn before.0 (told_out told before.1) later.signals [] [] [] (Ended how) (λ e. (sym untold, sym fresh.taken)) (inl (refl, refl)) (omega arith) [] refl tt
-              (subst (λ (l : List Item). IsToldBy how l later.signals) taken (subst (λ (s : List Signal). IsToldBy how after.0.taken s) text ends.ending.text));
-          taken = ap (λ (m : SeatOf B). m.0.taken) left ∙ taken;
-          grants = ap (λ (m : SeatOf B). m.0.grants) left ∙ ap (λ (v : View). v.grants) ends.tells.view ∙ sym (append-nil before.0.grants);
-          misses = ap (λ (m : SeatOf B). m.0.misses) left ∙ ap (λ (v : View). v.misses) ends.tells.view;
-          runs = ap (λ (m : SeatOf B). m.0.runs) left;
-        }
+        in (
+          record {
+            turned = whole_turn before.0 (told_out told before.1) later.signals [] [] [] (Ended how) (λ e. (sym untold, sym fresh.taken)) (inl (refl, refl)) (omega arith) [] refl tt
+                (subst (λ (l : List Item). IsToldBy how l later.signals) taken (subst (λ (s : List Signal). IsToldBy how after.0.taken s) text ends.ending.text));
+            taken = ap (λ (m : SeatOf B). m.0.taken) left ∙ taken;
+            grants = ap (λ (m : SeatOf B). m.0.grants) left ∙ ap (λ (v : View). v.grants) ends.tells.view ∙ sym (append-nil before.0.grants);
+            misses = ap (λ (m : SeatOf B). m.0.misses) left ∙ ap (λ (v : View). v.misses) ends.tells.view;
+            runs = ap (λ (m : SeatOf B). m.0.runs) left;
+          },
+          subst (λ (m : SeatOf B). MayEnd how (length m.0.taken) m.0.runner) (sym left) ends.ending.may,
+        )
 
   -- a task may look in the middle of a turn
   pub may_look_next : (stage : Stage) (count : ℕ) (before me : SeatOf B) (seen : List Signal) → IsMidTurn told stage count before me seen → MayLookNext told stage me
@@ -225,24 +228,26 @@ module _ {B : Type 0} (told : B → List Signal) where
         (t.grants ++ grant ∷ [], omega arith, one_more one.1.0, one.1.1 ∙ ap (λ l. l ++ grant ∷ []) t.grants_are ∙ append_assoc before.0.grants t.grants (grant ∷ []))
 
     -- it ended
-    pub ends_after : (how : How) → count < 64 → EndsSo told how mid after seen later → StopsAs before.0 after.0 (told_out told before.1) later.signals (Ended how)
+    pub ends_after : (how : How) → count < 64 → EndsSo told how mid after seen later → StopsAs before.0 after.0 (told_out told before.1) later.signals (Ended how) × MayEnd how (length after.0.taken) after.0.runner
     ends_after how short ends =
         let saw : later.signals ≡ seen.signals ++ ends.last = ap (λ (s : SeenState). s.signals) ends.saw in
         let items : mid.0.taken ++ ends.took ≡ t.base ++ (t.took ++ ends.took) = ap (λ l. l ++ ends.took) t.taken ∙ append_assoc t.base t.took ends.took in
         let signals : told_out told mid.1 ++ ends.last ≡ t.start ++ later.signals =
         ap (λ s. s ++ ends.last) t.told_is ∙ append_assoc t.start seen.signals ends.last ∙ ap (λ s. t.start ++ s) (sym saw)
         in
-        let last = all_granted ends.took ends.granted in
-        record {
-          turned = whole_turn before.0 (told_out told before.1) later.signals t.start t.base (t.took ++ ends.took) (Ended how) t.knew t.opened
-              (let c = t.counted in let few = ends.few in let l = length-append t.took ends.took in omega arith)
-              last.0 last.1 last.2
-              (subst (λ (l : List Item). IsToldBy how l (t.start ++ later.signals)) items (subst (λ (s : List Signal). IsToldBy how (mid.0.taken ++ ends.took) s) signals ends.text));
-          taken = ends.taken ∙ items;
-          grants = last.3;
-          misses = ends.misses ∙ t.misses;
-          runs = ends.runs;
-        }
+        let last = all_granted ends.took ends.granted in (
+          record {
+            turned = whole_turn before.0 (told_out told before.1) later.signals t.start t.base (t.took ++ ends.took) (Ended how) t.knew t.opened
+                (let c = t.counted in let few = ends.few in let l = length-append t.took ends.took in omega arith)
+                last.0 last.1 last.2
+                (subst (λ (l : List Item). IsToldBy how l (t.start ++ later.signals)) items (subst (λ (s : List Signal). IsToldBy how (mid.0.taken ++ ends.took) s) signals ends.text));
+            taken = ends.taken ∙ items;
+            grants = last.3;
+            misses = ends.misses ∙ t.misses;
+            runs = ends.runs;
+          },
+          ends.may,
+        )
 
   -- a turn is over after 64 items
   pub full : (before me : SeatOf B) (seen : List Signal) → TellsSoFar told 64 before me seen → GoesOnAs before.0 me.0 (told_out told before.1) (told_out told me.1) seen

@@ -1,7 +1,8 @@
 -- What the task does after a look: its steps, put together.
-use Rattle.std.proofs.Common.{◌≡◌, ℕ, ◌+◌, false, List, [], ◌∷◌, ◌++◌, sym, refl, ap, ◌∙◌, subst, inl, inr, append-nil, arith}
+use Rattle.std.proofs.Common.{◌≡◌, ℕ, ◌+◌, false, List, [], ◌∷◌, ◌++◌, length, sym, refl, ap, ◌∙◌, subst, inl, inr, append-nil, arith}
 use Rattle.feed_core.specs.Prelude.{Answer, How, Item, Signal, Next}
 use Rattle.feed_core.specs.Seen.{SeenState}
+use Rattle.feed_core.specs.World.Table.{MayEnd}
 use Rattle.feed_cell.specs.Cell.{greeted, IsToldBy}
 use Rattle.feed_cell.specs.Paused.{told_out}
 use Rattle.feed_cell.specs.Plays.{SeatOf}
@@ -84,6 +85,7 @@ module _ {B : Type 0} (told : B → List Signal) where
         taken = ap (λ (m : SeatOf B). m.0.taken) g.2 ∙ taken;
         misses = ap (λ (m : SeatOf B). m.0.misses) g.2 ∙ ap (λ (v : View). v.misses) e.tells.view ∙ ap (λ (m : SeatOf B). m.0.misses) t.took;
         runs = ap (λ (m : SeatOf B). m.0.runs) g.2;
+        may = subst (λ (m : SeatOf B). MayEnd how (length m.0.taken) m.0.runner) (sym g.2) e.ending.may;
       }
 
   -- an end was told
@@ -105,6 +107,7 @@ module _ {B : Type 0} (told : B → List Signal) where
         taken = ap (λ (m : SeatOf B). m.0.taken) f.2 ∙ taken;
         misses = ap (λ (m : SeatOf B). m.0.misses) f.2 ∙ ap (λ (v : View). v.misses) e.tells.view ∙ same;
         runs = ap (λ (m : SeatOf B). m.0.runs) f.2;
+        may = subst (λ (m : SeatOf B). MayEnd how (length m.0.taken) m.0.runner) (sym f.2) e.ending.may;
       }
 
   -- there was no item to give

@@ -2,6 +2,7 @@
 use Rattle.std.specs.Prelude.{◌≡◌, ◌+◌, ◌≤◌, ◌⊎◌, false, List, [], ◌∷◌, ◌++◌, length}
 use Rattle.feed_core.specs.Prelude.{How, Item, Signal, Next}
 use Rattle.feed_core.specs.Seen.{SeenState, seen_with}
+use Rattle.feed_core.specs.World.Table.{MayEnd}
 use Rattle.feed_cell.specs.declared.cell.serving.Served.{Served}
 use Rattle.feed_cell.specs.Cell.{greeted, IsToldBy}
 use Rattle.feed_cell.specs.Parties.{IsGoing}
@@ -67,6 +68,7 @@ module _ {B : Type 0} (told : B → List Signal) where
     pub taken : after.0.taken ≡ before.0.taken ++ took
     pub misses : after.0.misses ≡ before.0.misses
     pub runs : after.0.runs ≡ false
+    pub may : MayEnd how (length after.0.taken) after.0.runner
 
   -- what it did after a look
   abbrev pub Serves : Served → SeatOf B → SeatOf B → SeenState → SeenState → Type 0

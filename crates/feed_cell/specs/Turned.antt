@@ -1,6 +1,7 @@
 -- What a turn of a task did (`Flow.Subscriber`, Java SE 17; Reactive Streams 1.0, 1.1, 1.3, 1.5, 1.7 and 1.9).
 use Rattle.std.specs.Prelude.{◌≡◌, ℕ, ◌+◌, ◌<◌, ◌≤◌, ◌↔◌, ◌⊎◌, true, false, None, List, [], ◌∷◌, ◌++◌, length}
 use Rattle.feed_core.specs.Cause.{stops}
+use Rattle.feed_core.specs.World.Table.{MayEnd}
 use Rattle.feed_core.specs.Prelude.{Complete, Error, Fault, How, IsFlowText, Item, Signal, items_of}
 use Rattle.feed_core.specs.declared.turn.TheConstants.{ITEMS_IN_A_TURN, SIGNALS_IN_A_TURN}
 use Rattle.feed_core.specs.declared.turn.outlook.Outlook.{Outlook}
@@ -103,7 +104,7 @@ module _ {B : Type 0} (told : B → List Signal) where
   abbrev pub RunsAs : Outlook → SeatOf B → SeatOf B → List Signal → Type 0
   RunsAs Again before after seen = IsGoing told after × GoesOnAs before.0 after.0 (told_out told before.1) (told_out told after.1) seen
   RunsAs Resting before after seen = StopsAs before.0 after.0 (told_out told before.1) seen Resting × (after.0.runner ≡ Nobody)
-  RunsAs (Ended how) before after seen = StopsAs before.0 after.0 (told_out told before.1) seen (Ended how)
+  RunsAs (Ended how) before after seen = StopsAs before.0 after.0 (told_out told before.1) seen (Ended how) × MayEnd how (length after.0.taken) after.0.runner
 
   -- a task may look, once its subscriber was greeted
   abbrev pub MayLookNext : Stage → SeatOf B → Type 0
@@ -117,8 +118,9 @@ KeepsGoing Stage.Fresh before after = ⊥
 KeepsGoing Stage.Home before after = Unit {0}
 KeepsGoing Stage.Going before after = (after.1 ≡ before.1) × (after.0.taken ≡ before.0.taken)
 
--- what came of a turn of a task: the task that goes on, or its seat, which rested or ended the subscription and runs nothing any more
+-- what came of a turn of a task: the task that goes on, or its seat, which runs nothing any more. It rested; or it ended the
+-- subscription, as what its last look saw or its last callback answered allows
 abbrev pub TurnsInto : {B : Type 0} → TaskState → List Signal → Turn B → Type 0
 TurnsInto task seen (Turn.Again next) = (next.ring ≡ task.ring) × (next.seat ≡ task.seat) × GoesOnAs task.knows next.knows task.told next.told seen
 TurnsInto task seen (Turn.Resting spent) = (spent.ring ≡ task.ring) × (spent.seat ≡ task.seat) × StopsAs task.knows spent.knows task.told seen Resting × (spent.knows.runner ≡ Nobody)
-TurnsInto task seen (Turn.Ended how spent) = (spent.ring ≡ task.ring) × (spent.seat ≡ task.seat) × StopsAs task.knows spent.knows task.told seen (Ended how)
+TurnsInto task seen (Turn.Ended how spent) = (spent.ring ≡ task.ring) × (spent.seat ≡ task.seat) × StopsAs task.knows spent.knows task.told seen (Ended how) × MayEnd how (length spent.knows.taken) spent.knows.runner

@@ -74,9 +74,7 @@ fn step_out<B: Listener>(handle: Handle<B>) -> CellSeat<B>
 }
 
 /// The table with the producer's seat, where nobody else shares it. Else the producer's end comes back, not ready.
-fn unshared<B: Listener>(
-    producer: Producer<B>,
-) -> Result<(CellTable<B>, CellSeat<B>), Producer<B>>
+fn unshared<B: Listener>(producer: Producer<B>) -> Result<(CellTable<B>, CellSeat<B>), Producer<B>>
     ensures table { IfOk result (λ parts. (parts.1.table_id ≡ parts.0.shared.table_id) × (parts.1.table_id ≡ producer.ring) × HasFourWords parts.1.table_id) }
     ensures may { IfOk result (λ parts. MayOffer parts.1.me) }
     ensures knows { IfOk result (λ parts. producer.end ≡ end_of parts.1.me.0.capacity parts.1.me.0 producer.end.ready) }
