@@ -182,8 +182,8 @@ fn run<R: Wait>(rt: &R, task: Task<InOrder>, seen: &mut Seen) -> bool {
     for _ in rt.forever() {
         match task.turn(seen) {
             Turn::Again(next) => task = next,
-            Turn::Resting => return false,
-            Turn::Ended(_) => return true,
+            Turn::Resting(_) => return false,
+            Turn::Ended(..) => return true,
         }
     }
     unreachable!()
