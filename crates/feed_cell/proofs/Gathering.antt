@@ -6,7 +6,7 @@ use Rattle.atomic_table.proofs.Lists.{at_set}
 use Rattle.atomic_table.specs.Table.{Joins}
 use Rattle.feed_core.specs.Prelude.{Signal}
 use Rattle.feed_cell.proofs.Seats.{lacks, mine, other}
-use Rattle.feed_cell.specs.Cell.{Only, Cell, AsHandle}
+use Rattle.feed_cell.specs.Cell.{Only, Cell}
 use Rattle.feed_cell.specs.Views.{has_put, has_ask, has_run, with_asking, no_part}
 use Rattle.feed_cell.specs.declared.cell.View.{View}
 

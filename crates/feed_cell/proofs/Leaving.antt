@@ -1,135 +1,26 @@
 -- What is left of a subscription keeps the Flow rules, and is settled where its task is at rest or has ended.
-use Rattle.std.proofs.Common.{◌≡◌, ℕ, ◌+◌, ◌≤◌, ◌⊎◌, min, Bool, true, false, ◌||◌, List, [], ◌∷◌, ◌++◌, length, map, drop, Option, Some, None, IfSome, is_some, sym, refl, ap, ◌∙◌, subst, inl, inr, ⊎_elim, append-nil, length-append, take-append-drop, append_assoc, arith}
+use Rattle.std.proofs.Common.{◌≡◌, ℕ, ◌+◌, ◌≤◌, ◌⊎◌, min, Bool, true, false, ◌||◌, List, [], ◌∷◌, ◌++◌, length, drop, Option, IfSome, is_some, sym, refl, ap, ◌∙◌, subst, inl, inr, ⊎_elim, append-nil, length-append, take-append-drop, append_assoc, arith}
 use mathlib.Core.Option.{some}
 use lib.ListN.{get_elem?}
 use Rattle.atomic_table.specs.Table.{State}
 use Rattle.feed_core.specs.Lane.{LaneState, IsSettled}
-use Rattle.feed_core.specs.Prelude.{Item, Signal, Subscribed, Next, Complete, Error, Fault, Published, IllegalArgument, IllegalState, Ending, How, UNBOUNDED, total_after, items_of}
-use Rattle.feed_core.specs.Sound.{is_begun, signals_of, loss_of, HasCause, IsAtRest, IsSound}
-use Rattle.feed_core.specs.World.Kept.{HasEnded}
+use Rattle.feed_core.specs.Prelude.{Item, Signal, UNBOUNDED, total_after, items_of}
+use Rattle.feed_core.specs.Sound.{is_begun, loss_of, HasCause, IsAtRest, IsSound}
 use Rattle.feed_core.specs.World.Table.{is_over, total_of, MayBegin}
-use Rattle.flow_rules.proofs.Items.{items_of_append}
-use Rattle.feed_core.proofs.SignalLists.{items_of_nexts}
 use Rattle.feed_core.proofs.DeskSteps.{no_cause}
 use Rattle.feed_core.proofs.FlowRules.{flow_kept, settled_some, settled_at_rest}
 use Rattle.feed_core.proofs.Interleavings.Reaching.{reached_kept, reached_lawful}
-use Rattle.feed_cell.specs.Cell.{Cell, Lodges, LodgesAt, IsToldAt, IsToldBy, has_seat, may_hold, how_of, greeted}
+use Rattle.feed_cell.specs.Cell.{Cell, Lodges, LodgesAt, IsToldAt, has_seat, may_hold, how_of, greeted}
 use Rattle.flow_rules.specs.Feed.{End}
 use Rattle.feed_cell.specs.Control.{Flags, causes_of}
 use Rattle.feed_cell.specs.Left.{lane_with, lane_without, causes_left, CountsHandle, IsLeftOf}
 use Rattle.feed_cell.specs.Parties.{HandleState, KnowsHandle, end_of}
+use Rattle.feed_cell.proofs.Caused.{caused, unended, goes_on, has_ended}
+use Rattle.feed_cell.proofs.Fitting.{fits_at}
 use Rattle.feed_cell.proofs.Handing.{on_some}
-use Rattle.feed_cell.specs.Types.{Causes, Runner, Nobody, Coming, Fresh, Ready, Looked, Saw, Measured, Taken, Over, Parts, HasPut, HasAsked, Idle, Free, HasRoom}
+use Rattle.feed_cell.specs.Types.{Causes, Runner, Nobody, Coming, Fresh, Ready, Looked, Saw, Measured, Taken, Over, HasPut, HasAsked, Idle, Free, HasRoom}
 use Rattle.feed_cell.specs.declared.cell.Held.{Held}
 use Rattle.feed_cell.specs.declared.cell.View.{View}
-
--- the items of these signals and others
-items_then : (items : List Item) (more : List Signal) → items_of (map Next items ++ more) ≡ items ++ items_of more
-items_then items more = items_of_append (map Next items) more ∙ ap (λ (l : List Item). l ++ items_of more) (items_of_nexts items)
-
--- what was told is the list of some items and the end, and those are all that were taken, or all but the last one
-record Fits (how : Option How) (taken : List Item) (told : List Signal) : Type 0 where
-  pub told_is : told ≡ signals_of (is_begun told) (items_of told) how
-  pub items : (items_of told ≡ taken) ⊎ ((how ≡ Some How.OutOfMemory) × ((x : Item) × (taken ≡ items_of told ++ x ∷ [])))
-
--- of a literal list
-fits_ending : (how : Option How) (taken : List Item) (ending : List Signal) → items_of ending ≡ [] → signals_of true taken how ≡ Subscribed ∷ (map Next taken ++ ending) → Fits how taken (Subscribed ∷ (map Next taken ++ ending))
-fits_ending how taken ending none_there is =
-    let items : items_of (map Next taken ++ ending) ≡ taken = items_then taken ending ∙ ap (λ (l : List Item). taken ++ l) none_there ∙ append-nil taken in
-    record { told_is = sym is ∙ ap (λ (l : List Item). signals_of true l how) (sym items); items = inl items }
-
-fits_greeted : (how : Option How) (taken : List Item) (told : List Signal) → signals_of true taken how ≡ Subscribed ∷ (map Next taken ++ []) → told ≡ greeted taken → Fits how taken told
-fits_greeted how taken told is e = subst (λ t. Fits how taken t) (ap (λ l. Subscribed ∷ l) (append-nil (map Next taken)) ∙ sym e) (fits_ending how taken [] refl is)
-
-fits_by : (how : How) (taken : List Item) (told : List Signal) → IsToldBy how taken told → Fits (Some how) taken told
-fits_by How.Completed taken told e = subst (λ t. Fits (Some How.Completed) taken t) (sym e) (fits_ending (Some How.Completed) taken (Complete ∷ []) refl refl)
-fits_by (How.Errored fault) taken told e = subst (λ t. Fits (Some (How.Errored fault)) taken t) (sym e) (fits_ending (Some (How.Errored fault)) taken (Error fault ∷ []) refl refl)
-fits_by How.Cancelled taken told e = fits_greeted (Some How.Cancelled) taken told refl e
-fits_by (How.Failed code) taken told e = fits_greeted (Some (How.Failed code)) taken told refl e
-fits_by How.OutOfMemory taken told (inl e) = fits_greeted (Some How.OutOfMemory) taken told refl e
-fits_by How.OutOfMemory taken told (inr (inl e)) = subst (λ t. Fits (Some How.OutOfMemory) taken t) (sym e.1) (record { told_is = refl; items = inl (sym e.0) })
-fits_by How.OutOfMemory taken told (inr (inr e)) =
-    let f = fits_greeted (Some How.OutOfMemory) e.0 told refl e.3 in
-    let items : items_of told ≡ e.0 = ap items_of e.3 ∙ ap items_of (ap (λ l. Subscribed ∷ l) (sym (append-nil (map Next e.0)))) ∙ items_then e.0 [] ∙ append-nil e.0 in
-    record { told_is = f.told_is; items = inr (refl, (e.1, e.2 ∙ ap (λ (l : List Item). l ++ e.1 ∷ []) (sym items))) }
-
-fits_at : (r : Runner) (taken : List Item) (told : List Signal) → (r ≡ Fresh → ⊥) → IsToldAt r taken told → Fits (how_of r) taken told
-fits_at (Over how) taken told other e = fits_by how taken told e
-fits_at Nobody taken told other e = fits_greeted None taken told refl e
-fits_at Coming taken told other e = fits_greeted None taken told refl e
-fits_at Ready taken told other e = fits_greeted None taken told refl e
-fits_at (Looked c) taken told other e = fits_greeted None taken told refl e
-fits_at (Saw c t) taken told other e = fits_greeted None taken told refl e
-fits_at (Measured c t a) taken told other e = fits_greeted None taken told refl e
-fits_at Taken taken told other e = fits_greeted None taken told refl e
-fits_at Fresh taken told other e = absurd (other refl)
-
--- an end has its cause
-caused : (w : Parts) (how : How) (lane : LaneState) → lane.causes ≡ w.causes → lane.given ≡ w.given → length lane.accepted ≡ w.accepted → lane.how ≡ Some how → HasEnded how w → HasCause lane
-caused w How.Completed lane causes given accepted is e = record {
-  completed = λ _. ap (λ z. z.closing) causes ∙ e.0;
-  whole = λ _. given ∙ e.1 ∙ sym accepted;
-  published = λ code h. (let s = sym is ∙ h in cc);
-  argument = λ h. (let s = sym is ∙ h in cc);
-  state = λ h. (let s = sym is ∙ h in cc);
-  cancelled = λ h. (let s = sym is ∙ h in cc);
-  failed = λ code h. (let s = sym is ∙ h in cc);
-  refused = λ h. (let s = sym is ∙ h in cc);
-}
-caused w (How.Errored fault) lane causes given accepted is e = record {
-  completed = λ h. (let s = sym is ∙ h in cc);
-  whole = λ h. (let s = sym is ∙ h in cc);
-  published = λ code h. ap (λ z. z.closing) causes ∙ of_code fault code e (sym is ∙ h);
-  argument = λ h. ap (λ z. z.argument) causes ∙ of_argument fault e (sym is ∙ h);
-  state = λ h. ap (λ z. z.state) causes ∙ of_state fault e (sym is ∙ h);
-  cancelled = λ h. (let s = sym is ∙ h in cc);
-  failed = λ code h. (let s = sym is ∙ h in cc);
-  refused = λ h. (let s = sym is ∙ h in cc);
-} where
-  of_code : (fault : Fault) (code : ℕ) → HasEnded (How.Errored fault) w → Some (How.Errored fault) ≡ Some (How.Errored (Published code)) → w.causes.closing ≡ Some (Ending.Failed code)
-  of_code (Published other) code e same = e ∙ ap (λ (m : ℕ). Some (Ending.Failed m)) (cc)
-  of_code IllegalArgument code e same = cc
-  of_code IllegalState code e same = cc
-
-  of_argument : (fault : Fault) → HasEnded (How.Errored fault) w → Some (How.Errored fault) ≡ Some (How.Errored IllegalArgument) → w.causes.argument ≡ true
-  of_argument (Published other) e same = cc
-  of_argument IllegalArgument e same = e
-  of_argument IllegalState e same = cc
-
-  of_state : (fault : Fault) → HasEnded (How.Errored fault) w → Some (How.Errored fault) ≡ Some (How.Errored IllegalState) → w.causes.state ≡ true
-  of_state (Published other) e same = cc
-  of_state IllegalArgument e same = cc
-  of_state IllegalState e same = e
-caused w How.Cancelled lane causes given accepted is e = record {
-  completed = λ h. (let s = sym is ∙ h in cc);
-  whole = λ h. (let s = sym is ∙ h in cc);
-  published = λ code h. (let s = sym is ∙ h in cc);
-  argument = λ h. (let s = sym is ∙ h in cc);
-  state = λ h. (let s = sym is ∙ h in cc);
-  cancelled = λ _. ap (λ z. z.cancel) causes ∙ e;
-  failed = λ code h. (let s = sym is ∙ h in cc);
-  refused = λ h. (let s = sym is ∙ h in cc);
-}
-caused w (How.Failed n) lane causes given accepted is e = record {
-  completed = λ h. (let s = sym is ∙ h in cc);
-  whole = λ h. (let s = sym is ∙ h in cc);
-  published = λ code h. (let s = sym is ∙ h in cc);
-  argument = λ h. (let s = sym is ∙ h in cc);
-  state = λ h. (let s = sym is ∙ h in cc);
-  cancelled = λ h. (let s = sym is ∙ h in cc);
-  failed = λ code h. (let s : Some (How.Failed n) ≡ Some (How.Failed code) = sym is ∙ h in ap (λ z. z.failed) causes ∙ e ∙ ap (λ (m : ℕ). Some m) (cc));
-  refused = λ h. (let s = sym is ∙ h in cc);
-}
-caused w How.OutOfMemory lane causes given accepted is e = record {
-  completed = λ h. (let s = sym is ∙ h in cc);
-  whole = λ h. (let s = sym is ∙ h in cc);
-  published = λ code h. (let s = sym is ∙ h in cc);
-  argument = λ h. (let s = sym is ∙ h in cc);
-  state = λ h. (let s = sym is ∙ h in cc);
-  cancelled = λ h. (let s = sym is ∙ h in cc);
-  failed = λ code h. (let s = sym is ∙ h in cc);
-  refused = λ _. ap (λ z. z.memory) causes ∙ e;
-}
 
 -- the causes by the flags, where those say what the publisher and the handle did
 flagged : (f : Flags) (answers : Causes) (handle : HandleState) (end : End) → f.cancel ≡ handle.cancelled → f.argument ≡ handle.argument → f.state ≡ end.state → f.closing ≡ end.closing
@@ -143,40 +34,6 @@ flagged f answers handle end cancel argument state closing =
 -- a total within its bound, with nothing more
 whole_total : (asked : ℕ) → asked ≤ UNBOUNDED → asked ≡ total_after asked 0
 whole_total asked bounded = omega arith
-
--- who has not ended has no end
-unended : (r : Runner) → how_of r ≡ None → is_over r ≡ false
-unended Nobody e = refl
-unended Coming e = refl
-unended Fresh e = refl
-unended Ready e = refl
-unended (Looked c) e = refl
-unended (Saw c t) e = refl
-unended (Measured c t a) e = refl
-unended Taken e = refl
-unended (Over how) e = cc
-
-goes_on : (r : Runner) → is_over r ≡ false → how_of r ≡ None
-goes_on Nobody e = refl
-goes_on Coming e = refl
-goes_on Fresh e = refl
-goes_on Ready e = refl
-goes_on (Looked c) e = refl
-goes_on (Saw c t) e = refl
-goes_on (Measured c t a) e = refl
-goes_on Taken e = refl
-goes_on (Over how) e = cc
-
-has_ended : (r : Runner) → is_over r ≡ true → is_some (how_of r) ≡ true
-has_ended (Over how) e = refl
-has_ended Nobody e = cc
-has_ended Coming e = cc
-has_ended Fresh e = cc
-has_ended Ready e = cc
-has_ended (Looked c) e = cc
-has_ended (Saw c t) e = cc
-has_ended (Measured c t a) e = cc
-has_ended Taken e = cc
 
 module _ {B : Type 0} (told : B → List Signal) (cap : ℕ) (s : State (Held B) View) (c : Cell told cap s) where
   -- the lane of a subscription whose subscriber was told this

@@ -1,9 +1,11 @@
 pub mod Accepting
 pub mod Calling
+pub mod Caused
 pub mod Closed
 pub mod Ending
+pub mod Fitting
 pub mod Flagging
-mod Gathering
+pub mod Gathering
 pub mod Granting
 pub mod Handing
 pub mod Leaving

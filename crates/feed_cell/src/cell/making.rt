@@ -43,7 +43,13 @@ impl Cell {
         let Ok(shares) = share(alloc, table) else {
             return Err((NoMemory, subscriber));
         };
-        let (table, for_handle, for_task, spare, handle_spare) = shares;
+        let Shares {
+            producer: table,
+            handle: for_handle,
+            task: for_task,
+            producer_spare: spare,
+            handle_spare,
+        } = shares;
         let cell: &CellTable<B> = &table;
         let mut running = cell.shared.split_seat::<RunnerApart>(&mut seat);
         let asking = cell.shared.split_seat::<HandleApart>(&mut seat);
@@ -101,30 +107,30 @@ fn empty_slots<B: Listener>(alloc: Global, count: usize) -> Result<Vec<Held<B>>,
     Ok(slots)
 }
 
-/// The table, for each of the three parties, and once more for each of the two that may start a task.
-fn share<B: Listener>(
-    alloc: Global,
-    table: CellTable<B>,
-) -> Result<
-    (
-        Arc<CellTable<B>, Global>,
-        Arc<CellTable<B>, Global>,
-        Arc<CellTable<B>, Global>,
-        Arc<CellTable<B>, Global>,
-        Arc<CellTable<B>, Global>,
-    ),
-    NoMemory,
->
-    ensures { IfOk result (λ shares. (arc_value shares.0 ≡ table) × (arc_value shares.1 ≡ table) × (arc_value shares.2 ≡ table) × (arc_value shares.3 ≡ table) × (arc_value shares.4 ≡ table)) }
+/// The table, once for each party.
+struct Shares<B: Listener> {
+    producer: Arc<CellTable<B>, Global>,
+    handle: Arc<CellTable<B>, Global>,
+    task: Arc<CellTable<B>, Global>,
+    /// Once more for each of the two ends, which may start a task.
+    producer_spare: Arc<CellTable<B>, Global>,
+    handle_spare: Arc<CellTable<B>, Global>,
+}
+
+/// The table, shared by all who need it.
+fn share<B: Listener>(alloc: Global, table: CellTable<B>) -> Result<Shares<B>, NoMemory>
+    ensures { IfOk result (λ shares. (arc_value shares.producer ≡ table) × (arc_value shares.handle ≡ table) × (arc_value shares.task ≡ table) × (arc_value shares.producer_spare ≡ table) × (arc_value shares.handle_spare ≡ table)) }
 {
-    let Ok(table) = Arc::new(alloc, table) else {
+    let Ok(producer) = Arc::new(alloc, table) else {
         return Err(NoMemory);
     };
-    let for_handle = Arc::try_clone(&table)?;
-    let for_task = Arc::try_clone(&table)?;
-    let spare = Arc::try_clone(&table)?;
-    let handle_spare = Arc::try_clone(&table)?;
-    Ok((table, for_handle, for_task, spare, handle_spare))
+    Ok(Shares {
+        handle: Arc::try_clone(&producer)?,
+        task: Arc::try_clone(&producer)?,
+        producer_spare: Arc::try_clone(&producer)?,
+        handle_spare: Arc::try_clone(&producer)?,
+        producer,
+    })
 }
 
 /// Takes the subscriber's slot out with the task, and places the subscriber there.
