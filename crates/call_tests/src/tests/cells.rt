@@ -10,7 +10,6 @@ mod relay;
 
 use super::desks::has_told;
 use crate::Row;
-use feed_cell::close;
 use feed_core::{Lane, Outlook};
 use flow_rules::{Collector, How, Listener, NoMemory, Shown, Signal, Subscriber, audit};
 use parties::Parties;
@@ -45,11 +44,7 @@ pub(super) fn left_of<B: Listener>(
     let mut parties = Parties::new(alloc, asked, listener)?;
     let wrong = parties.first_wrong(alloc, rows)?;
     assert!(rt; wrong.is_none(), "row {wrong:?} of its parties");
-    drop(parties.task);
-    match close(parties.putting.producer, parties.handle) {
-        Ok(lane) => Ok(lane),
-        Err(_) => Err(Fail::new("it is still shared")),
-    }
+    Ok(parties.close().ok_or("it is still shared")?)
 }
 
 // A whole life. Its subscriber requests one item when it is subscribed, and so it does in the lives below.
@@ -147,10 +142,7 @@ fn a_life_is_whole_or_is_refused_memory(rt: HostRuntime) -> Result<(), Fail> {
     let alloc = rt.alloc();
     let mut parties = Parties::new(alloc, 1, Shown(Collector::asking(alloc, 1)))?;
     let wrong = parties.first_wrong(alloc, &ONE_PLACE)?;
-    drop(parties.task);
-    let Ok(lane) = close(parties.putting.producer, parties.handle) else {
-        return Err(Fail::new("it is still shared"));
-    };
+    let lane = parties.close().ok_or("it is still shared")?;
     if wrong.is_none() {
         assert!(rt; is_told(alloc, &lane, Some(b"sxzc"))?);
         return Ok(());

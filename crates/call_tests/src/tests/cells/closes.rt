@@ -2,30 +2,54 @@
 use super::parties::Parties;
 use super::{Left, numbers};
 use crate::Row;
-use feed_cell::{Producer, Turn, close};
+use feed_cell::{Handle, Producer, Task, Turn, close};
 use feed_core::{Lane, Outlook, Seen};
-use flow_rules::{Collector, Feed, Shown, Signal, Subscriber};
+use flow_rules::{Collector, Feed, NoMemory, Shown, Signal, Subscriber};
 use std::alloc::Global;
 use std::process::Abort;
 use std::test::Fail;
 
 type Told = Shown<Collector>;
 
-// The parties of a subscription at rest, whose subscriber was subscribed and requested nothing.
-fn at_rest(rt: &impl Abort, alloc: Global) -> Result<Parties<Told>, Fail> {
+// The ends of a subscription at rest, whose subscriber was subscribed and requested nothing.
+fn at_rest(rt: &impl Abort, alloc: Global) -> Result<(Producer<Told>, Handle<Told>), Fail> {
     let mut parties = Parties::new(alloc, 1, Shown(Collector::new(alloc)))?;
     let wrong = parties.first_wrong(alloc, &[Row::Turn(b"s", Outlook::Resting)])?;
     assert!(rt; wrong.is_none() && parties.task.is_none());
-    Ok(parties)
+    Ok(parties.into_ends())
+}
+
+// Whether there is a task that rests after a turn.
+fn rests(alloc: Global, task: Option<Task<Told>>) -> Result<bool, NoMemory> {
+    let mut seen = Seen::new(alloc)?;
+    match task {
+        Some(task) => Ok(matches!(task.turn(&mut seen), Turn::Resting)),
+        None => Ok(false),
+    }
+}
+
+// Closes a subscription that is still shared. Its producer comes back, which has not ended and holds nothing.
+fn comes_back(
+    rt: &impl Abort,
+    producer: Producer<Told>,
+    handle: Handle<Told>,
+) -> Result<Producer<Told>, Fail> {
+    let Err(mut producer) = close(producer, handle) else {
+        return Err(Fail::new("it is shared"));
+    };
+    let standing = producer.standing();
+    assert!(rt; !standing.ended && standing.held == 0);
+    Ok(producer)
 }
 
 // Closes a subscription, and compares what is left, and what its subscriber was told.
 fn leaves(
     rt: &impl Abort,
-    closed: Result<Lane<Told>, Producer<Told>>,
+    producer: Producer<Told>,
+    handle: Handle<Told>,
     left: Left,
 ) -> Result<(), Fail> {
-    let Ok(lane) = closed else {
+    let Ok(lane) = close(producer, handle) else {
         return Err(Fail::new("it is still shared"));
     };
     assert!(rt; numbers(&lane) == left);
@@ -38,51 +62,33 @@ fn leaves(
 #[test]
 fn a_task_alive_gives_the_producer_back(rt: HostRuntime) -> Result<(), Fail> {
     let alloc = rt.alloc();
-    let mut seen = Seen::new(alloc)?;
-    let other = at_rest(&rt, alloc)?;
+    let (_other, of_other) = at_rest(&rt, alloc)?;
     let parties = Parties::new(alloc, 1, Shown(Collector::new(alloc)))?;
-    let Err(producer) = close(parties.putting.producer, parties.handle) else {
-        return Err(Fail::new("it is shared"));
-    };
-    let Some(task) = parties.task else {
-        return Err(Fail::new("it has a task"));
-    };
-    assert!(rt; matches!(task.turn(&mut seen), Turn::Resting));
-    leaves(&rt, close(producer, other.handle), (0, 0, 0, None, false))
+    let task = parties.task;
+    let producer = comes_back(&rt, parties.putting.producer, parties.handle)?;
+    assert!(rt; rests(alloc, task)?);
+    leaves(&rt, producer, of_other, (0, 0, 0, None, false))
 }
 
 // While its own handle lives, another's does not close it. That one's own subscription is left with no handle then.
 #[test]
 fn another_handle_gives_the_producer_back(rt: HostRuntime) -> Result<(), Fail> {
     let alloc = rt.alloc();
-    let (one, other, third) = (
-        at_rest(&rt, alloc)?,
-        at_rest(&rt, alloc)?,
-        at_rest(&rt, alloc)?,
-    );
-    let Err(mut producer) = close(one.putting.producer, other.handle) else {
-        return Err(Fail::new("its own handle lives"));
-    };
-    let standing = producer.standing();
-    assert!(rt; !standing.ended && standing.held == 0);
-    leaves(&rt, close(producer, one.handle), (0, 0, 0, None, false))?;
+    let (one, of_one) = at_rest(&rt, alloc)?;
+    let (other, of_other) = at_rest(&rt, alloc)?;
+    let (_third, of_third) = at_rest(&rt, alloc)?;
+    let one = comes_back(&rt, one, of_other)?;
+    leaves(&rt, one, of_one, (0, 0, 0, None, false))?;
     // The other's handle made its last step in that close, so the other one is at rest for good.
-    leaves(
-        &rt,
-        close(other.putting.producer, third.handle),
-        (0, 0, 0, None, false),
-    )
+    leaves(&rt, other, of_third, (0, 0, 0, None, false))
 }
 
 // A subscription whose own handle was dropped counts as one that runs, though its subscriber is there.
 #[test]
 fn a_lost_handle_leaves_it_running(rt: HostRuntime) -> Result<(), Fail> {
     let alloc = rt.alloc();
-    let (one, other) = (at_rest(&rt, alloc)?, at_rest(&rt, alloc)?);
-    drop(one.handle);
-    leaves(
-        &rt,
-        close(one.putting.producer, other.handle),
-        (0, 0, 0, None, true),
-    )
+    let (one, of_one) = at_rest(&rt, alloc)?;
+    let (_other, of_other) = at_rest(&rt, alloc)?;
+    drop(of_one);
+    leaves(&rt, one, of_other, (0, 0, 0, None, true))
 }

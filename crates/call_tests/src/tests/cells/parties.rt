@@ -3,8 +3,8 @@ ghost use Rattle.std.specs.Prelude.{◌≡◌, []};
 
 use super::putting::Putting;
 use crate::{Row, item_with, signals};
-use feed_cell::{Cell, Handle, Task, Turn};
-use feed_core::{Outlook, Seen};
+use feed_cell::{Cell, Handle, Producer, Task, Turn, close};
+use feed_core::{Lane, Outlook, Seen};
 use flow_rules::{Ending, Feed, Listener, NoMemory, Put, Refusal, capacity};
 use std::alloc::Global;
 
@@ -43,6 +43,17 @@ impl<B: Listener> Parties<B> {
             }
         }
         Ok(None)
+    }
+
+    // The producer and the handle. The task is dropped.
+    pub fn into_ends(self) -> (Producer<B>, Handle<B>) {
+        (self.putting.producer, self.handle)
+    }
+
+    // Closes it for good, without its task, unless it is still shared.
+    pub fn close(self) -> Option<Lane<B>> {
+        let (producer, handle) = self.into_ends();
+        close(producer, handle).ok()
     }
 
     // Whether a row's call is answered as the row says. What a Desk alone shows is passed over; a close compares it.
