@@ -59,8 +59,8 @@ impl Board {
         self.given.fetch_add(items_in(seen.as_slice()), SeqCst);
         match turn {
             Turn::Again(task) => self.post(rt, Some(task)),
-            Turn::Resting => (),
-            Turn::Ended(_) => self.ended.store(true, SeqCst),
+            Turn::Resting(_) => (),
+            Turn::Ended(..) => self.ended.store(true, SeqCst),
         }
         true
     }

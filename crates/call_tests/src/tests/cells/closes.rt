@@ -1,10 +1,12 @@
-//! A close of a subscription that is still shared, or with the handle of another one.
+//! A close of a subscription that is still shared, or with the handle of another one, or with one that is known to be its own.
+ghost use Rattle.std.specs.Prelude.{◌≡◌, IfOk};
+
 use super::parties::Parties;
 use super::{Left, numbers};
 use crate::Row;
-use feed_cell::{Handle, Producer, Task, Turn, close};
+use feed_cell::{Cell, Handle, Producer, Task, Turn, close, close_own};
 use feed_core::{Lane, Outlook, Seen};
-use flow_rules::{Collector, Feed, NoMemory, Shown, Signal, Subscriber};
+use flow_rules::{Collector, Feed, How, NoMemory, Shown, Signal, Subscriber, capacity};
 use std::alloc::Global;
 use std::process::Abort;
 use std::test::Fail;
@@ -23,7 +25,7 @@ fn at_rest(rt: &impl Abort, alloc: Global) -> Result<(Producer<Told>, Handle<Tol
 fn rests(alloc: Global, task: Option<Task<Told>>) -> Result<bool, NoMemory> {
     let mut seen = Seen::new(alloc)?;
     match task {
-        Some(task) => Ok(matches!(task.turn(&mut seen), Turn::Resting)),
+        Some(task) => Ok(matches!(task.turn(&mut seen), Turn::Resting(_))),
         None => Ok(false),
     }
 }
@@ -91,4 +93,37 @@ fn a_lost_handle_leaves_it_running(rt: HostRuntime) -> Result<(), Fail> {
     let (_other, of_other) = at_rest(&rt, alloc)?;
     drop(of_one);
     leaves(&rt, one, of_other, (0, 0, 0, None, true))
+}
+
+// The ends of a subscription whose handle has requested two items and cancelled, and its task, which was never run.
+fn cancelled(
+    rt: &impl Abort,
+    alloc: Global,
+) -> Result<(Producer<Told>, Handle<Told>, Task<Told>), Fail>
+    ensures { IfOk result (λ parties. parties.1.ring ≡ parties.0.ring) }
+{
+    let made = Cell::new(alloc, capacity(1)?, Shown(Collector::new(alloc)));
+    let Ok((producer, mut handle, task)) = made else {
+        return Err(Fail::new("there is no memory"));
+    };
+    let starts = handle.request(2).is_some() || handle.cancel().is_some();
+    assert!(rt; !starts);
+    Ok((producer, handle, task))
+}
+
+// Closed with its own handle, what is left counts what that did; while a task is alive, the producer comes back.
+#[test]
+fn its_own_handle_counts(rt: HostRuntime) -> Result<(), Fail> {
+    let alloc = rt.alloc();
+    let (one, of_one, alive) = cancelled(&rt, alloc)?;
+    let (other, of_other, task) = cancelled(&rt, alloc)?;
+    assert!(rt; close_own(one, of_one).is_err());
+    drop(alive);
+    let mut seen = Seen::new(alloc)?;
+    assert!(rt; matches!(task.turn(&mut seen), Turn::Ended(How::Cancelled, _)));
+    let Ok(lane) = close_own(other, of_other) else {
+        return Err(Fail::new("it is still shared"));
+    };
+    assert!(rt; numbers(&lane) == (0, 0, 2, Some(How::Cancelled), false));
+    Ok(())
 }

@@ -130,8 +130,8 @@ impl<B: Listener> Parties<B> {
                 self.task = Some(task);
                 Outlook::Again
             }
-            Turn::Resting => Outlook::Resting,
-            Turn::Ended(how) => Outlook::Ended(how),
+            Turn::Resting(_) => Outlook::Resting,
+            Turn::Ended(how, _) => Outlook::Ended(how),
         };
         Ok(found == outlook && seen.as_slice() == wanted.as_slice())
     }
