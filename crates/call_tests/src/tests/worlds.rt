@@ -3,7 +3,7 @@ mod chance;
 mod table;
 
 use feed_core::{
-    Cause, Causes, Event, Parts, Producing, Requesting, Runner, Side, World, all_runs,
+    Cause, Causes, Event, Parts, Producing, Requesting, Runner, Side, all_runs,
     at_most_one_item_follows_an_end, worlds_at_rest_forget_nothing,
 };
 use flow_rules::{Answer, Ending, How};
@@ -255,60 +255,29 @@ fn is_as(row: &Row<'_>) -> bool {
     found == is_possible && world.parts() == parts && all_runs(events) == world
 }
 
-/// Calls the laws, which tell their caller what no test compares.
-fn call_laws() {
-    worlds_at_rest_forget_nothing();
-    at_most_one_item_follows_an_end();
-}
-
-/// The place of the first row that is not so.
-fn first_wrong(rows: &[Row<'_>]) -> Option<usize> {
-    for (place, row) in rows.iter().enumerate() {
-        if !is_as(row) {
-            return Some(place);
-        }
-    }
-    None
-}
-
 #[test]
 fn a_signal_starts_a_task_at_rest(rt: HostRuntime) -> Result<(), Fail> {
-    call_laws();
-    let wrong = first_wrong(&REST_AND_WAKE);
-    assert!(rt; wrong.is_none(), "row {wrong:?}");
+    worlds_at_rest_forget_nothing();
+    for (place, row) in REST_AND_WAKE.iter().enumerate() {
+        assert!(rt; is_as(row), "row {place}");
+    }
     Ok(())
 }
 
 #[test]
 fn no_race_loses_anything(rt: HostRuntime) -> Result<(), Fail> {
-    let wrong = first_wrong(&RACES);
-    assert!(rt; wrong.is_none(), "row {wrong:?}");
+    at_most_one_item_follows_an_end();
+    for (place, row) in RACES.iter().enumerate() {
+        assert!(rt; is_as(row), "row {place}");
+    }
     Ok(())
-}
-
-/// Whether a world shows that nothing was made.
-fn is_nothing(world: &World) -> bool {
-    world.parts() == None
-        && world.capacity() == 0
-        && world.cut() == None
-        && world.runner() == Runner::Nobody
-        && !world.runner().is_started()
-}
-
-/// What a world has counted: its capacity, the items accepted and given, and what was requested by the handle and by answers.
-fn counts(world: &World) -> (usize, u64, u64, u64, u64) {
-    (
-        world.capacity(),
-        world.accepted(),
-        world.given(),
-        world.asked(),
-        world.own(),
-    )
 }
 
 #[test]
 fn a_world_shows_its_parts(rt: HostRuntime) -> Result<(), Fail> {
-    assert!(rt; is_nothing(&all_runs(&[])));
+    let nothing = all_runs(&[]);
+    assert!(rt; nothing.parts() == None && nothing.capacity() == 0 && nothing.cut() == None);
+    assert!(rt; nothing.runner() == Runner::Nobody && !nothing.runner().is_started());
     let world = all_runs(&[
         Event::Make(2),
         Event::Look(Answer::Request(3)),
@@ -322,7 +291,8 @@ fn a_world_shows_its_parts(rt: HostRuntime) -> Result<(), Fail> {
         Event::Signal(Side::Handle, None),
         SIGNAL_CANCEL,
     ]);
-    assert!(rt; counts(&world) == (2, 1, 1, 4, 3) && world.cut() == Some(0));
+    assert!(rt; (world.capacity(), world.accepted(), world.given()) == (2, 1, 1));
+    assert!(rt; (world.asked(), world.own(), world.cut()) == (4, 3, Some(0)));
     assert!(rt; world.active() && world.causes() == CANCELLED);
     assert!(rt; world.producer() == Producing::Free && world.handle() == Requesting::Idle);
     assert!(rt; world.runner() == Runner::Taken && world.runner().is_started());
