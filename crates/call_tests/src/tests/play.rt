@@ -9,15 +9,6 @@ use std::alloc::Global;
 use std::process::Abort;
 use std::test::Fail;
 
-/// Whether a Desk answers a row's call as the row says, and nothing of what that tells of the Desk.
-fn is_answered<B: Listener>(
-    alloc: Global,
-    desk: &mut Desk<B>,
-    row: Row<'_>,
-) -> Result<bool, NoMemory> {
-    answers(alloc, desk, row)
-}
-
 /// The place of the first row that a Desk does not answer as the row says.
 pub(super) fn first_wrong<B: Listener>(
     alloc: Global,
@@ -25,7 +16,7 @@ pub(super) fn first_wrong<B: Listener>(
     rows: &[Row<'_>],
 ) -> Result<Option<usize>, NoMemory> {
     for (place, row) in rows.iter().enumerate() {
-        if !is_answered(alloc, desk, *row)? {
+        if !answers(alloc, desk, *row)? {
             return Ok(Some(place));
         }
     }
