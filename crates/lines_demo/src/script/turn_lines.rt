@@ -1,8 +1,8 @@
 //! The lines of a turn: a line for each signal that was told, and one for want of memory.
 ghost use Rattle.std.specs.Prelude.{◌≡◌, ◌++◌, ◌∷◌, [], is_ok, codes, IfOk, Some};
 ghost use Rattle.feed_core.specs.Turn.{how_after};
-ghost use Rattle.lines_demo.specs.Writing.{Writes};
-ghost use Rattle.lines_demo.specs.Script.Turns.{signal_line, signal_lines, untold_end_line, turn_lines};
+ghost use Rattle.lines_demo.specs.Writing.{Writes, line_of};
+ghost use Rattle.lines_demo.specs.Script.Turns.{fault_text, signal_line, signal_lines, untold_end_line, turn_lines};
 
 use crate::writing::{OutputFault, write_line, write_whole};
 use feed_core::Outlook;
@@ -52,30 +52,48 @@ fn write_signal<W: Write>(
     ensures { Writes (is_ok result) (W.contents writer.old) (W.contents writer.new) (signal_line name.now signal.now) }
 {
     match signal {
-        Signal::Subscribed => write_line(writer, line, format_args!("{name} subscribed")),
+        Signal::Subscribed => write_named(writer, line, name, " subscribed"),
         Signal::Next(item) => {
             if make_next(line, name, item.text.as_bytes()).is_err() {
                 return Err(OutputFault::Memory);
             }
             write_whole(writer, line.as_slice())
         }
-        Signal::Complete => write_line(writer, line, format_args!("{name} complete")),
-        Signal::Error(Fault::Published(code)) => write_line(
+        Signal::Complete => write_named(writer, line, name, " complete"),
+        Signal::Error(fault) => write_fault(writer, line, name, fault),
+    }
+}
+
+/// Writes the line of an error that the subscriber was told.
+fn write_fault<W: Write>(
+    writer: &mut W,
+    line: &mut Vec<u8>,
+    name: &Name,
+    fault: &Fault,
+) -> Result<(), OutputFault>
+    ensures { Writes (is_ok result) (W.contents writer.old) (W.contents writer.new) (line_of (name.now ++ fault_text fault.now)) }
+{
+    match fault {
+        Fault::Published(code) => write_line(
             writer,
             line,
             format_args!("{name} error published {code}"),
         ),
-        Signal::Error(Fault::IllegalArgument) => write_line(
-            writer,
-            line,
-            format_args!("{name} error argument"),
-        ),
-        Signal::Error(Fault::IllegalState) => write_line(
-            writer,
-            line,
-            format_args!("{name} error state"),
-        ),
+        Fault::IllegalArgument => write_named(writer, line, name, " error argument"),
+        Fault::IllegalState => write_named(writer, line, name, " error state"),
     }
+}
+
+/// Writes the line of what is said of a subscriber.
+fn write_named<W: Write>(
+    writer: &mut W,
+    line: &mut Vec<u8>,
+    name: &Name,
+    what: &str,
+) -> Result<(), OutputFault>
+    ensures { Writes (is_ok result) (W.contents writer.old) (W.contents writer.new) (line_of (name.now ++ what.now)) }
+{
+    write_line(writer, line, format_args!("{name}{what}"))
 }
 
 /// Puts the line of an item into the buffer.

@@ -14,3 +14,8 @@ returns-then-len-gt-MOST_SOURCES-clause-err c =
     let fewer : length (sources_of (take (i + 1) ps)) ≤ length (sources_of ps) = sources_fewer ps (i + 1) in
     let same : length c.add_source.new.sources.items ≡ length (sources_of (take (i + 1) ps)) = ap length so_far in
     inr (refl, omega arith)
+
+pub loop-publication-preserved : goal.loop-publication-preserved
+loop-publication-preserved c =
+    let added : c.add_source.new.sources.items ≡ with_source c.publication-item.result.source c.loop-publication.sources.items = search rules in
+    (sources_more c.args.publications.now c.loop-publication.publication-index c.publication-item.result c.loop-publication.sources.items c.add_source.new.sources.items c.loop-publication-test.true c.publication-item.is c.loop-publication.invariant.0 added, omega arith)
