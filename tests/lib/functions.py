@@ -13,12 +13,14 @@ NAMED = re.compile(r"(\bconst\s+)?(?:\bunsafe\s+)?\bfn\s+(\w+)")
 
 @dataclass
 class Function:
-    """A function: the offsets inside the braces of its body (none: 0), the heads of the blocks around it, outermost first, and
-    its clauses, each a kind and a name, which is empty where the clause has none."""
+    """A function: where its item begins, with what is written above it, the offsets inside the braces of its body (none: 0),
+    the heads of the blocks around it, outermost first, and its clauses, each a kind and a name, which is empty where the
+    clause has none."""
 
     name: str
     is_const: bool
     around: tuple
+    item: int = 0
     start: int = 0
     end: int = 0
     clauses: list = field(default_factory=list)
@@ -49,7 +51,7 @@ def functions_of(text):
         head, block = code[since:at], blocks[-1]
         named = NAMED.search(head) if sign != "}" else None
         if named:
-            block.awaited = Function(named[2], bool(named[1]), tuple(it.head for it in blocks[1:]))
+            block.awaited = Function(named[2], bool(named[1]), tuple(it.head for it in blocks[1:]), since)
             found.append(block.awaited)
         if sign == "{":
             clause = CLAUSE.search(head)

@@ -2,33 +2,46 @@
 
 import os
 import re
+from dataclasses import replace
 
+from copies import has_files, may_be_copied, name_of_copy, proofs_of_copy, text_of, text_of_copy
 from functions import end_of, functions_of, path_of
 
 
-def text_of(file):
-    with open(file, encoding="utf-8") as it:
-        return it.read()
-
-
 class Change:
-    """What an edit does in one function: the function, its file, the offsets of its body there, and the new body."""
+    """What an edit does in one function: the function, its file, the offsets of its body there, and the new body. Of the copies of
+    the function it changes that of its number, or with 0 the function itself."""
 
-    def __init__(self, function, file, body):
-        self.function, self.file, self.body = function, file, body
+    def __init__(self, function, file, body, number=0):
+        self.function, self.file, self.body, self.number = function, file, body, number
         self.start, self.end = function.start, function.end
 
     def is_of(self, other):
         """Whether the other change is of the same function."""
         return (self.file, self.start) == (other.file, other.start)
 
+    def of_copy(self, number):
+        """The same change in a copy of the function."""
+        return Change(self.function, self.file, self.body, number) if number else self
+
+    def changed(self):
+        """The function that it changes."""
+        name = self.function.name
+        return replace(self.function, name=name_of_copy(name, self.number)) if self.number else self.function
+
     def name_among(self, crate, known):
-        """What rt calls the function, among the names that a check printed, or None where that isn't clear."""
-        return path_of(crate, self.file, self.function, known)
+        """What rt calls that function, among the names that a check printed, or None where that isn't clear."""
+        return path_of(crate, self.file, self.changed(), known)
 
     def end_of_name(self, crate):
-        """The end of what rt calls the function, or its modules; None where that isn't clear."""
-        return end_of(crate, self.file, self.function)
+        """The end of what rt calls that function, or its modules; None where that isn't clear."""
+        return end_of(crate, self.file, self.changed())
+
+    def piece(self, text):
+        """The offsets in the file between which it writes, and what it writes there."""
+        if self.number:
+            return self.end + 1, self.end + 1, text_of_copy(text, self, self.number)
+        return self.start, self.end, self.body
 
 
 class Edit:
@@ -85,15 +98,17 @@ class Edit:
         return None
 
 
-def batches(edits):
-    """The edits in as few checks as can be: none with two edits of one function, and alone what is not in one function's body."""
+def batches(edits, folder):
+    """The edits in as few checks as can be: none with two edits of one function that can't be copied, and alone what is not in one
+    function's body."""
     shared, alone = [], []
     for edit in edits:
         if len(edit.changes) != 1:
             alone.append([edit])
             continue
         change = edit.changes[0]
-        free = (it for it in shared if not any(change.is_of(other.changes[0]) for other in it))
+        is_copied = may_be_copied(folder, change)
+        free = (it for it in shared if is_copied or not any(change.is_of(other.changes[0]) for other in it))
         batch = next(free, None)
         if batch is None:
             shared.append([edit])
@@ -102,27 +117,43 @@ def batches(edits):
     return [*shared, *alone]
 
 
-def together(batch, folder):
-    """The texts with all edits of a batch."""
-    if len(batch) == 1:
-        return batch[0].texts
-    texts = {}
-    for it in sorted((edit.changes[0] for edit in batch), key=lambda it: -it.start):
-        text = texts.get(it.file) or text_of(f"{folder}/{it.file}")
-        texts[it.file] = text[: it.start] + it.body + text[it.end :]
-    return texts
-
-
-def named_by(errors, batch, folder):
-    """The edits of the batch in whose functions these errors stand, each a file and a line."""
-    texts, found = together(batch, folder), []
+def as_tried(batch):
+    """Each edit of a batch with its changes there: of several edits of one function, all but the first change copies of it."""
+    tried = []
     for edit in batch:
-        change = edit.changes[0]
-        # Changes above this one, in the order of the file, move it.
-        moved = [it.changes[0] for it in batch if it.changes[0].file == change.file and it.changes[0].start < change.start]
-        start = change.start + sum(len(it.body) - (it.end - it.start) for it in moved)
-        first = texts[change.file].count("\n", 0, start) + 1
-        last = first + change.body.count("\n")
-        if any(file == change.file and first <= line <= last for file, line in errors):
-            found.append(edit)
-    return found
+        before = sum(len(edit.changes) == 1 and edit.changes[0].is_of(it[0]) for _, it in tried)
+        tried.append((edit, [it.of_copy(before) for it in edit.changes]))
+    return tried
+
+
+def controls_of(tried, folder):
+    """Of each function that is copied and may have proof files a copy more, with its own body: that has to have no open goal."""
+    last = {(it.file, it.start): it for _, changes in tried for it in changes if it.number}
+    own = lambda it: text_of(f"{folder}/{it.file}")[it.start : it.end]
+    return [Change(it.function, it.file, own(it), it.number + 1) for it in last.values() if has_files(folder, it)]
+
+
+def together(tried, controls, folder):
+    """The texts with all edits of a batch, and for each edit the file and the offsets of what it writes there."""
+    if len(tried) == 1:
+        return tried[0][0].texts, []
+    texts, places = {}, []
+    tried = [*tried, *((None, [it]) for it in controls)]
+    for file in dict.fromkeys(changes[0].file for _, changes in tried):
+        was, text, since = text_of(f"{folder}/{file}"), "", 0
+        pieces = [(*it.piece(was), edit) for edit, (it,) in tried if it.file == file]
+        for start, end, new, edit in sorted(pieces, key=lambda it: it[:2]):
+            text += was[since:start]
+            places.append((edit, file, len(text), len(text) + len(new)))
+            text, since = text + new, end
+        texts[file] = text + was[since:]
+    for _, (it,) in tried:
+        texts |= proofs_of_copy(folder, it, it.number) if it.number else {}
+    return texts, places
+
+
+def named_by(errors, texts, places):
+    """The edits in what they write these errors stand, each a file and a line."""
+    line = lambda file, offset: texts[file].count("\n", 0, offset) + 1
+    lines = [(edit, file, line(file, start), line(file, end)) for edit, file, start, end in places]
+    return [edit for edit, file, first, last in lines if edit and any(at == file and first <= it <= last for at, it in errors)]

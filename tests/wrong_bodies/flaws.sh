@@ -1,14 +1,14 @@
 #!/usr/bin/env bash
 # Plants flaws of its own in a tiny crate, and compares what try.py says of each: a bug is refused, and all else is reported.
 # All is tried over what a check kept of the crate without them: what has changed since has to be proved anew.
-# It needs the toolchain's command `rt`, and takes a dozen checks of a crate of five functions and a few of one above it, one or two
+# It needs the toolchain's command `rt`, and takes a dozen checks of a crate of six functions and a few of one above it, two or three
 # minutes.
 set -eu
 here=$(cd "$(dirname "$0")" && pwd)
 work=$(mktemp -d)
 trap 'rm -rf "$work"' EXIT
 crate=$work/crates/tiny
-mkdir -p "$crate/src" "$crate/proofs/least_of_three" "$crate/wrong-bodies"
+mkdir -p "$crate/src" "$crate/proofs/least_of_three" "$crate/proofs/lowest" "$crate/wrong-bodies"
 echo 'tiny:' >"$work/crates.txt"
 cat >"$crate/src/lib.rt" <<'END'
 #![tactic(auto)]
@@ -28,6 +28,13 @@ pub fn least_of_three(a: u8, b: u8, c: u8) -> u8
 {
     let low = least(a, b);
     least(low, c)
+}
+
+pub fn lowest(a: u8, b: u8, c: u8) -> u8
+    ensures { result ≡ min (min a b) c }
+{
+    let low: u8 = least(a, b);
+    least(c, low)
 }
 
 pub fn least_again(a: u8, b: u8) -> u8
@@ -67,6 +74,15 @@ low_is c = c.least-low.ensures
 pub returns : goal.returns
 returns c = search (low_is c, c.least.ensures, rules)
 END
+# One more with answers, which a lemma names.
+sed 's/least_of_three/lowest/' "$crate/proofs/least_of_three/Answers.antt" >"$crate/proofs/lowest/Answers.antt"
+echo 'mod Naming' >"$crate/proofs/Lib.antt"
+cat >"$crate/proofs/Naming.antt" <<'END'
+use Rattle.tiny.proofs.lowest.Statement.{statement}
+
+pub again : {A : Type 1} → statement A → statement A
+again it = it
+END
 
 # edit NAME LINE..
 edit() {
@@ -101,7 +117,13 @@ edit a_bug 'old: if a < b' 'new: if a > b'
 edit a_bug_in_a_constant 'old: u8 = 200' 'new: u8 = 201'
 edit no_bug 'old: if a < b' 'new: if a <= b'
 edit a_bug_in_an_impl 'old: if b < a' 'new: if b > a'
+edit another_bug_in_an_impl 'old: { b } else { a }' 'new: { a } else { a }'
+edit a_bug_in_what_is_named 'old: least(c, low)' 'new: least(b, low)'
+edit no_bug_in_what_is_named 'old: least(c, low)' 'new: (least(c, low))'
 edit names_are_gone 'old: let low = least(a, b);' 'new: let lowest = least(a, b);' 'old: least(low, c)' 'new: least(lowest, c)'
+edit no_bug_with_answers 'old: least(low, c)' 'new: (least(low, c))'
+edit one_bug_more 'old: if a < b { a }' 'new: if a < b { b }'
+edit one_more_with_answers 'old: least(low, c)' 'new: least(low, b)'
 edit only_its_callee_is_wrong 'old:     least(a, b)' 'new:     least(b, a)'
 edit no_such_name 'old: a.min(MOST)' 'new: a.min(LEAST)'
 edit no_single_place 'old: least(' 'new: most('
@@ -114,15 +136,21 @@ try --proved "$sum"
 said 'tiny/a_bug: refused: note: src/lib.rt:'
 said 'tiny/a_bug_in_a_constant: refused: '
 said 'tiny/a_bug_in_an_impl: refused: note: src/lib.rt:'
+said 'tiny/another_bug_in_an_impl: refused: note: src/lib.rt:'
+said 'tiny/a_bug_in_what_is_named: refused: ./proofs/lowest/Answers.antt:'
+said 'tiny/no_bug_in_what_is_named: LET THROUGH'
 said 'tiny/no_bug: LET THROUGH'
 said 'tiny/names_are_gone: refused only by names that are gone'
+said 'tiny/no_bug_with_answers: LET THROUGH'
+said 'tiny/one_bug_more: refused: note: src/lib.rt:'
+said 'tiny/one_more_with_answers: refused: ./proofs/least_of_three_again_2/Answers.antt:'
 said 'tiny/only_its_callee_is_wrong: LET THROUGH'
 said "tiny/no_such_name: it doesn't compile"
-said 'tiny/no_single_place: an `old:` text is in src/lib.rt 4 times'
+said 'tiny/no_single_place: an `old:` text is in src/lib.rt 6 times'
 said 'tiny/no_line: this line is not in its place: now: a'
 said 'tiny/half_a_pair: it has no pair'
 said "tiny/another_end.txt: its name doesn't end in .edit"
-said '3 passed, 8 failed'
+said '7 passed, 10 failed'
 
 try tiny/no_such_edit
 [ "$status" -eq 1 ]

@@ -2,11 +2,13 @@
 """Tries the wrong bodies crates/NAME/wrong-bodies/*.edit: the prover has to refuse each at the function that it changes.
 
 An edit is a file with a line `file: src/x.rt` and then pairs of lines `old: TEXT` and `new: TEXT`, each old text once in
-that file. Contracts separate functions, so edits of different functions are tried in one check. It counts as a refusal
-only where the edited function itself has an open goal: a text that can't be read, a proof file that names what is gone, or
-a callee that is not proved is none. What is not refused so is tried alone before it is reported. An edit of several
-functions, or of anything but a body (a constant, a type, a clause, an invariant), is tried alone; of the last, any open
-goal of the crate counts. Where edits are of bodies alone, only those functions are checked, with what they call.
+that file. Contracts separate functions, so edits of different functions are tried in one check; so are several of one
+function, each but the first in a copy of it, where it can be copied. Where proof files are copied, too, a copy with the
+function's own body has to have no open goal. It counts as a refusal only where the edited function itself has an open goal:
+a text that can't be read, a proof file that names what is gone, or a callee that is not proved is none. What is not refused
+so is tried alone before it is reported. An edit of several functions, or of anything but a body (a constant, a type, a
+clause, an invariant), is tried alone; of the last, any open goal of the crate counts. Where edits are of bodies alone, only
+those functions are checked, with what they call.
 
 It works on a copy in a temporary folder. The crates are proved there first as they are, and those below others built. With
 --proved SUM that is left out where the copy has this sum: its sources were proved, and what is built of them in out/rlib is
@@ -27,7 +29,7 @@ from concurrent.futures import ThreadPoolExecutor
 
 sys.dont_write_bytecode = True
 sys.path.append(f"{os.path.dirname(os.path.realpath(__file__))}/../lib")
-from edits import Edit, batches, named_by, together
+from edits import Edit, as_tried, batches, controls_of, named_by, together
 from prover import check_words
 from verdicts import Check
 
@@ -57,6 +59,7 @@ class Crate:
         """Checks the crate in its room with these texts in place of its own: these functions alone, where each has a name."""
         folder = f"{self.room}/crates/{self.name}"
         for file in texts:
+            os.makedirs(os.path.dirname(f"{folder}/{file}"), exist_ok=True)
             with open(f"{folder}/{file}", "w", encoding="utf-8") as it:
                 it.write(texts[file])
         only = [] if None in functions else [word for it in functions for word in ("--only", it)]
@@ -66,7 +69,11 @@ class Crate:
             # A name that fits several functions, or none.
             check = self.run(*words)
         for file in texts:
-            shutil.copyfile(f"{self.folder}/{file}", f"{folder}/{file}")
+            if os.path.isfile(f"{self.folder}/{file}"):
+                shutil.copyfile(f"{self.folder}/{file}", f"{folder}/{file}")
+            else:
+                # The proofs of a copied function.
+                shutil.rmtree(os.path.dirname(f"{folder}/{file}"), ignore_errors=True)
         self.take_back_kept()
         return check
 
@@ -87,20 +94,26 @@ class Crate:
 
     def try_batch(self, batch):
         """Tries edits in one check, and alone what is not refused there."""
-        functions = [change.end_of_name(self.name) for edit in batch for change in edit.changes]
-        check = self.check(together(batch, self.folder), functions or [None])
+        tried = as_tried(batch)
+        controls = controls_of(tried, self.folder)
+        texts, places = together(tried, controls, self.folder)
+        functions = [it.end_of_name(self.name) for changes in (*(it for _, it in tried), controls) for it in changes]
+        check = self.check(texts, functions or [None])
         if len(batch) > 1 and not check.is_judged:
             # An edit that doesn't compile hides all others.
-            wrong = named_by(check.places, batch, self.folder)
+            wrong = named_by(check.places, texts, places)
             rest = [it for it in batch if it not in wrong] if wrong else []
             for edit in wrong or batch:
                 self.try_batch([edit])
             if rest:
                 self.try_batch(rest)
             return
-        for edit in batch:
-            edit.is_refused, edit.why = check.judge([it.name_among(self.name, check.verdicts) for it in edit.changes])
-            if not edit.is_refused and len(batch) > 1:
+        known = check.verdicts
+        doubted = [it for it in controls if not check.is_met(it.name_among(self.name, known))]
+        for edit, changes in tried:
+            edit.is_refused, edit.why = check.judge([it.name_among(self.name, known) for it in changes])
+            is_doubted = any(it.number and it.is_of(other) for it in changes for other in doubted)
+            if (is_doubted or not edit.is_refused) and len(batch) > 1:
                 self.try_batch([edit])
 
     def try_all(self, base, room):
@@ -111,7 +124,7 @@ class Crate:
         good = [it for it in self.edits if it.why is None]
         for edit in good:
             edit.place(self.folder)
-        for batch in batches(good):
+        for batch in batches(good, self.folder):
             self.try_batch(batch)
         shutil.rmtree(room)
         lines = [f"wrong body {self.name}/{it.name}: {'refused: ' * it.is_refused}{it.why}" for it in self.edits]

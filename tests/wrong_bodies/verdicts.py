@@ -10,6 +10,8 @@ PROOF = re.compile(r"(?:\./)?proofs/(\S+)/(?:Answers|Invariants|Proof)\.antt:\d+
 SOURCE = re.compile(r"(?:\./)?((?:src|specs)/\S+?):(\d+):\d+: error(?:\[\S+\])?: (?:(`[^`]*`): )?(.*)")
 GOAL = re.compile(r"note: (?:\./)?src/\S+:\d+:\d+: .*(is not proved|found no proof)")
 VERDICT = re.compile(r"(?:fn|struct|enum|impl|trait) (\S+): (.*)")
+# The verdict of a function with no open goal of its own; one that was not tried has another.
+WAITS = re.compile(r"no proof: it calls `[^`]+`(?: and `[^`]+`)*, which (?:is|are) not proved")
 
 
 class Check:
@@ -52,6 +54,12 @@ class Check:
         head, _, name = function.rpartition("::")
         inside = (f"{head}::fn::{name}::", f"{function}::")
         return [line for it, lines in lists.items() if it == function or it.startswith(inside) for line in lines]
+
+    def is_met(self, function):
+        """Whether all goals of a function are proved, be what it calls proved or not."""
+        verdict = self.verdicts.get(function, "")
+        own = [line for it in (self.goals, self.gone) for line in self.of(it, function)]
+        return not own and bool(verdict == "proved" or WAITS.fullmatch(verdict))
 
     def last(self):
         return self.text.strip().split("\n")[-1]
