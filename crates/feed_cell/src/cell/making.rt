@@ -43,36 +43,29 @@ impl Cell {
         let Ok(shares) = share(alloc, table) else {
             return Err((NoMemory, subscriber));
         };
-        let Shares {
-            producer: table,
-            handle: for_handle,
-            task: for_task,
-            producer_spare: spare,
-            handle_spare,
-        } = shares;
-        let cell: &CellTable<B> = &table;
+        let cell: &CellTable<B> = &shares.producer;
         let mut running = cell.shared.split_seat::<RunnerApart>(&mut seat);
         let asking = cell.shared.split_seat::<HandleApart>(&mut seat);
         lodge(cell, &mut running, capacity, subscriber);
         let places = capacity as u64;
         let producer = Producer {
-            table,
-            spare: Some(spare),
+            table: shares.producer,
+            spare: Some(shares.producer_spare),
             seat,
             capacity: places,
             tail: 0,
             closing: None,
         };
         let handle = Handle {
-            table: for_handle,
-            spare: Some(handle_spare),
+            table: shares.handle,
+            spare: Some(shares.handle_spare),
             seat: asking,
             capacity: places,
             asked: 0,
             cancelled: false,
         };
         let task = Task {
-            table: for_task,
+            table: shares.task,
             seat: running,
             capacity: places,
             stage: Stage::Fresh,
@@ -108,6 +101,7 @@ fn empty_slots<B: Listener>(alloc: Global, count: usize) -> Result<Vec<Held<B>>,
 }
 
 /// The table, once for each party.
+#[derive(Drop)]
 struct Shares<B: Listener> {
     producer: Arc<CellTable<B>, Global>,
     handle: Arc<CellTable<B>, Global>,
