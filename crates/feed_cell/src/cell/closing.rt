@@ -27,8 +27,8 @@ use std::sync::Arc;
 /// back, not ready.
 ///
 /// A lane that doesn't run is settled: its subscriber was told all that its demand and its ending allow. One that runs has lost a
-/// task, or its own handle was never closed. The handle may be that of another subscription, whose own lane is closed later: so nothing
-/// is said of what this one requested. [`close_own`] says it.
+/// task, or its own handle was never closed. Since the handle may be that of another subscription, nothing is said of what this one's
+/// requested: [`close_own`] says it.
 pub fn close<B: Listener>(producer: Producer<B>, handle: Handle<B>) -> Result<Lane<B>, Producer<B>>
     ensures left { IfOk result (λ left. IsLeftOf B.told producer.end None left) }
     ensures back { IfErr result (λ back. back ≡ record producer { end = record producer.end { ready = false } }) }

@@ -40,8 +40,7 @@ impl<B: Listener> Model for Task<B> {
     ghost invariant = { λ t. ((arc_value t.table).shared.table_id ≡ t.seat.table_id) × HasFourWords t.seat.table_id × (0 < t.capacity) × IsRunner t.seat.me.0 × (t.seat.me.0.capacity ≡ t.capacity) × (t.seat.me.0.item ≡ []) × IsPaused B.told t.stage t.seat.me };
 }
 
-/// The seat of a task that is over. It can't be made but by the step with which the task went to rest or ended its subscription, it does
-/// nothing any more, and it has no bytes.
+/// The seat of a task that is over, as its last turn gives it back: what it showed last. It does nothing any more, and has no bytes.
 #[derive(Drop)]
 pub struct Spent<B: Listener> {
     pub(crate) seat: CellSeat<B>,
