@@ -1,8 +1,8 @@
 #!/usr/bin/env bash
 # Measures what the gate costs for each crate, in seconds of the clock and of processors: its proof, its tests (proved from
-# nothing, built and run), its must-fail edits, its wrong bodies (from nothing, over built crates below), and the native builds
-# of a program by both compilers, over kept work. One command runs at a time, with one job, in a copy of the repository in a
-# temporary folder, lowest crate first; so it takes longer by the clock than .ci/run, and sets no bounds.
+# nothing, built and run), its wrong bodies (from nothing, over built crates below), and the native builds of a program by both
+# compilers, over kept work. One command runs at a time, with one job, in a copy of the repository in a temporary folder, lowest
+# crate first; so it takes longer by the clock than .ci/run, and sets no bounds.
 # Usage: bench/gate.sh [NAME..]; without names all crates of crates.txt.
 set -u
 cd "$(dirname "${BASH_SOURCE[0]}")/.." || exit 1
@@ -38,11 +38,6 @@ from_nothing() {
     mv "$out/aside" "$out/incremental"
 }
 
-# has FOLDER: the crate has edits in it.
-has() {
-    compgen -G "crates/$crate/$1/*.edit" >/dev/null
-}
-
 # measure: one row, for $crate.
 measure() {
     row=$crate
@@ -53,8 +48,7 @@ measure() {
     else
         none
     fi
-    if has must-fail; then spent . rt must-fail "$crate"; else none; fi
-    if has wrong-bodies; then
+    if compgen -G "crates/$crate/wrong-bodies/*.edit" >/dev/null; then
         from_nothing . tests/wrong_bodies/try.py --jobs 1 --proved "$(tests/wrong_bodies/try.py --sum "$crate")" "$crate"
     else
         none
@@ -70,24 +64,24 @@ measure() {
 # table: the rows with their sums.
 table() {
     awk 'BEGIN {
-        printf "%-14s %15s %15s %15s %15s %15s %15s\n", "", "proof", "tests", "must-fail", "wrong bodies", "native builds", "whole"
+        printf "%-14s %15s %15s %15s %15s %15s\n", "", "proof", "tests", "wrong bodies", "native builds", "whole"
         printf "%-14s", "crate"
-        for (i = 0; i < 6; i++) printf " %7s %7s", "clock", "proc."
+        for (i = 0; i < 5; i++) printf " %7s %7s", "clock", "proc."
         print ""
     }
     function line(name) {
         printf "%-14s", name
-        for (i = 1; i <= 12; i++) printf " %7.0f", cell[i]
+        for (i = 1; i <= 10; i++) printf " %7.0f", cell[i]
         print ""
     }
     {
-        cell[11] = cell[12] = 0
-        for (i = 1; i <= 10; i++) { cell[i] = $(i + 1); cell[11 + (i + 1) % 2] += cell[i] }
-        for (i = 1; i <= 12; i++) sum[i] += cell[i]
+        cell[9] = cell[10] = 0
+        for (i = 1; i <= 8; i++) { cell[i] = $(i + 1); cell[9 + (i + 1) % 2] += cell[i] }
+        for (i = 1; i <= 10; i++) sum[i] += cell[i]
         line($1)
     }
     END {
-        for (i = 1; i <= 12; i++) cell[i] = sum[i]
+        for (i = 1; i <= 10; i++) cell[i] = sum[i]
         line("all")
     }'
 }

@@ -12,7 +12,7 @@ The form of the file. A section `## NAME` for a crate has tables with these five
   ghost and a name in backticks, of a ghost member of the impl, or of a ghost field of the struct.
 - Premise: the word none, where the function has no `requires`; or text, in which a name in backticks before a colon is
   that of a `requires` of the function.
-- Shown by: names in backticks, parted by `, ` or `; `. An edit is a file of must-fail/ or wrong-bodies/ of the section's crate,
+- Shown by: names in backticks, parted by `, ` or `; `. An edit is a file of wrong-bodies/ of the section's crate,
   without `.edit`. After the word test (or tests, up to the next `;`) stands the name of a test function of any crate, or a
   path from the top of the repository. A cell that begins with `no edit:` gives a reason, and may name tests after a `;`.
 
@@ -66,7 +66,7 @@ class Crate:
                 owner, trait = owner_in(heads[-1]) if heads else ("", "")
                 self.traits[owner] = trait
                 self.clauses.setdefault(f"{owner}::{it.name}" if owner else it.name, []).extend(it.clauses)
-        beside = [it for name in ("must-fail", "wrong-bodies") for it in glob.glob(f"{folder}/{name}/*")]
+        beside = glob.glob(f"{folder}/wrong-bodies/*")
         self.edits = {os.path.basename(it).removesuffix(".edit") for it in beside if it.endswith(".edit")}
         self.readme = "\n".join(text_of(it) for it in beside if it.endswith("README.md"))
 
