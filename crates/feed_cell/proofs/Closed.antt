@@ -8,8 +8,8 @@ use Rattle.atomic_table.specs.Table.{State, Final, Seen}
 use Rattle.feed_core.specs.Prelude.{Signal}
 use Rattle.feed_core.specs.declared.lane.Lane.{Lane}
 use Rattle.feed_core.specs.World.Table.{is_started, is_over, total_of, MayBegin}
-use Rattle.feed_core.proofs.Interleavings.Reaching.{reached_kept}
 use Rattle.feed_core.proofs.Interleavings.Signalling.{starts_nobody}
+use Rattle.feed_cell.proofs.Outlooks.{reached_kept}
 use Rattle.feed_cell.specs.Cell.{Cell}
 use Rattle.feed_cell.specs.Control.{MARK, number, marked}
 use Rattle.feed_cell.specs.Left.{OnGuest, lane_with, lane_without, IsLeftOf}

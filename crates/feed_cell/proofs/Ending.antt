@@ -1,18 +1,18 @@
 -- The task's end of the subscription.
-use Rattle.std.proofs.Common.{◌≡◌, ℕ, ◌+◌, true, false, List, [], ◌∷◌, length, set, Some, sym, refl, ap, ◌∙◌, subst, arith}
+use Rattle.std.proofs.Common.{◌≡◌, ℕ, ◌+◌, true, false, List, [], ◌∷◌, length, set, Some, sym, refl, ap, ◌∙◌, subst, arith, inr}
 use mathlib.Core.Option.{some}
 use Rattle.atomic_table.specs.Table.{gives, Allows}
 use Rattle.feed_core.specs.Cause.{with_cause_of}
 use Rattle.feed_core.specs.Prelude.{How, Item, Signal}
 use Rattle.feed_core.specs.World.Table.{MayEnd, after}
-use Rattle.feed_core.proofs.Interleavings.Reaching.{reached_more}
+use Rattle.feed_cell.proofs.Outlooks.{has_none, reached_end}
 use Rattle.feed_cell.proofs.Places.{lies_guest, changed}
 use Rattle.feed_cell.proofs.Reading.{or_true}
 use Rattle.feed_cell.proofs.Seats.{other, spent}
 use Rattle.feed_cell.proofs.Stages.{seated}
 use Rattle.feed_cell.specs.Cell.{Lies, Cell, IsToldBy}
 use Rattle.feed_cell.specs.Control.{Flags, MARK, causes_of, marked}
-use Rattle.feed_cell.specs.Plays.{IsEnd}
+use Rattle.feed_cell.specs.Plays.{outlook_by, IsEnd}
 use Rattle.feed_cell.specs.Types.{Causes, End}
 use Rattle.feed_cell.specs.Views.{IsRunner, has_put, has_ask, has_run}
 use Rattle.feed_cell.specs.declared.cell.Held.{Held}
@@ -41,13 +41,13 @@ module _ {B : Type 0} (told : B → List Signal) where
       let here : MayEnd how p.given p.runner = subst (MayEnd how p.given) k.stands (subst (λ (m : ℕ). MayEnd how m v.runner) same may) in
       let item_is : c.item ≡ [] = sym k.item_is ∙ none_out in
       let answers_there : with_cause_of how c.answers ≡ g.answers = ap (with_cause_of how) (sym know.answers_are) ∙ sym answers_are in
-      let w : View = record v { runs = false; away = false } in (
+      let w : View = record v { runs = false; away = false; outlook = outlook_by g.how } in (
         w,
         gives,
         tt,
         record {
           world = after (End how) p;
-          reached = reached_more (End how) c.reached here;
+          reached = reached_end how id v w c.reached here at (inr (inr is.2)) (ap outlook_by how_is) (has_none w is.0 is.1 refl) seat.over;
           log = c.log;
           taken = c.taken;
           item = c.item;

@@ -1,10 +1,11 @@
 -- The producer's seat takes in the handle's.
-use Rattle.std.proofs.Common.{◌≡◌, ℕ, true, false, Bool, List, set, sym, refl, ◌∙◌, subst, ⊎_elim}
+use Rattle.std.proofs.Common.{◌≡◌, ℕ, true, false, Bool, List, set, sym, refl, ◌∙◌, subst, ⊎_elim, inl, inr}
 use mathlib.Core.Option.{some}
 use lib.ListN.{get_elem?}
 use Rattle.atomic_table.proofs.Lists.{at_set}
 use Rattle.atomic_table.specs.Table.{Joins}
 use Rattle.feed_core.specs.Prelude.{Signal}
+use Rattle.feed_cell.proofs.Outlooks.{reached_too}
 use Rattle.feed_cell.proofs.Seats.{lacks, mine, other}
 use Rattle.feed_cell.specs.Cell.{Only, Cell}
 use Rattle.feed_cell.specs.Views.{has_put, has_ask, has_run, with_asking, no_part}
@@ -28,7 +29,7 @@ module _ {B : Type 0} (told : B → List Signal) where
       let was : get_elem? s.views from ≡ some w = ⊎_elim (λ here. absurd (apart here.0)) (λ else. else.1) (at_set s.views id from (with_asking v w) w later) in
       record {
         world = c.world;
-        reached = c.reached;
+        reached = reached_too from w no_part (reached_too id v (with_asking v w) c.reached at (inl puts) refl) later (inr (inl asks)) (sym (c.reached.goes from w was (inr (inl asks))));
         log = c.log;
         taken = c.taken;
         item = c.item;

@@ -7,11 +7,11 @@ use Rattle.atomic_table.specs.Table as Table
 use Rattle.atomic_table.specs.Table.{Splits}
 use Rattle.feed_core.specs.Prelude.{Signal}
 use Rattle.feed_core.specs.World.Table.{is_started, is_over}
-use Rattle.feed_core.specs.World.Runs.{IsReached}
-use Rattle.feed_core.proofs.Interleavings.Reaching.{reached_more, reached_lawful}
+use Rattle.feed_cell.proofs.Outlooks.{stays_on, reached_more, reached_with, reached_lawful}
 use Rattle.feed_cell.proofs.Seats.{mine, other, added, comes}
 use Rattle.feed_cell.specs.Cell.{Only, Cell, AsProducer, AsHandle, has_seat, may_hold, LodgesAt}
 use Rattle.feed_cell.specs.Control.{marked}
+use Rattle.feed_cell.specs.Outlooks.{IsReachedBy}
 use Rattle.feed_cell.specs.Types.{Hand, Producer, Handle, Producing, Free, Hands, Requesting, Idle, HandsOver, Runner, Coming, Ready}
 use Rattle.feed_cell.specs.Views.{IsProducer, IsHandle, has_put, has_ask, has_run, producer_handed, handle_handed, running_handed}
 use Rattle.feed_cell.specs.declared.cell.Held.{Held}
@@ -20,7 +20,7 @@ use Rattle.feed_cell.specs.declared.cell.View.{View}
 module _ {B : Type 0} (told : B → List Signal) (cap : ℕ) where
   -- the rule after a task was handed over, whichever side does it
   hand_kept : (s : Table.State (Held B) View) (c : Cell told cap s) (id : ℕ) (v left : View) (producer : Producing) (handle : Requesting) → c.world.runner ≡ Coming → v.capacity ≡ cap → has_run left ≡ false
-      → IsReached (record c.world { producer = producer; handle = handle; runner = Ready }) → (c.left ≡ true → handle ≡ Idle)
+      → IsReachedBy (set s.views id left ++ running_handed v ∷ []) (record c.world { producer = producer; handle = handle; runner = Ready }) → (c.left ≡ true → handle ≡ Idle)
       → Only has_put c.producer (AsProducer cap c.log c.world.given c.free false c.flags.closing c.flags.state producer) (set s.views id left)
       → Only has_ask c.handle (AsHandle cap c.world.asked c.flags.cancel c.flags.argument c.left handle) (set s.views id left)
       → Cell told cap (record { words = s.words; homes = s.homes; views = set s.views id left ++ running_handed v ∷ [] })
@@ -62,7 +62,8 @@ module _ {B : Type 0} (told : B → List Signal) (cap : ℕ) where
       let p = c.world in
       let hands : p.producer ≡ Hands = sym k.stands ∙ stage in
       let coming : p.runner ≡ Coming = (reached_lawful c.reached).coming.1 (inl hands) in
-      hand_kept s c id v (producer_handed v) Free p.handle coming k.sized is.2 (reached_more (Hand Producer) c.reached hands) c.shows.settled
+      hand_kept s c id v (producer_handed v) Free p.handle coming k.sized is.2
+      (reached_with (running_handed v) (reached_more (Hand Producer) id v (producer_handed v) c.reached hands at (inl is.0) refl (stays_on p.runner Ready (ap is_over coming) refl)) refl) c.shows.settled
       (mine has_put c.producer _ _ s.views id v (producer_handed v) c.producers at is.0 (record { sized = k.sized; put = k.put; seen = k.seen; places = k.places; over = λ e. (let never : true ≡ false = sym (k.over e) ∙ ap is_over coming in cc); closed = k.closed; doubled = k.doubled; stands = refl }))
       (other has_ask c.handle _ _ s.views id (producer_handed v) c.handles is.1 (λ d h. h))
 
@@ -73,7 +74,8 @@ module _ {B : Type 0} (told : B → List Signal) (cap : ℕ) where
       let p = c.world in
       let hands : p.handle ≡ HandsOver = sym k.stands ∙ stage in
       let coming : p.runner ≡ Coming = (reached_lawful c.reached).coming.1 (inr hands) in
-      hand_kept s c id v (handle_handed v) p.producer Idle coming k.sized is.2 (reached_more (Hand Handle) c.reached hands) (λ _. refl)
+      hand_kept s c id v (handle_handed v) p.producer Idle coming k.sized is.2
+      (reached_with (running_handed v) (reached_more (Hand Handle) id v (handle_handed v) c.reached hands at (inr (inl is.1)) refl (stays_on p.runner Ready (ap is_over coming) refl)) refl) (λ _. refl)
       (other has_put c.producer _ _ s.views id (handle_handed v) c.producers is.0 (λ d o. subst (λ (r : Runner). AsProducer cap c.log p.given c.free (is_over r) c.flags.closing c.flags.state p.producer d) coming o))
       (mine has_ask c.handle _ _ s.views id v (handle_handed v) c.handles at is.1 (record { sized = k.sized; total = k.total; cancels = k.cancels; bad = k.bad; leaves = k.leaves; stands = refl }))
 

@@ -9,7 +9,7 @@ use Rattle.feed_core.specs.Sound.{is_begun, loss_of, HasCause, IsAtRest, IsSound
 use Rattle.feed_core.specs.World.Table.{is_over, total_of, MayBegin}
 use Rattle.feed_core.proofs.DeskSteps.{no_cause}
 use Rattle.feed_core.proofs.FlowRules.{flow_kept, settled_some, settled_at_rest}
-use Rattle.feed_core.proofs.Interleavings.Reaching.{reached_kept, reached_lawful}
+use Rattle.feed_cell.proofs.Outlooks.{reached_kept, reached_lawful}
 use Rattle.feed_cell.specs.Cell.{Cell, Lodges, LodgesAt, IsToldAt, has_seat, may_hold, how_of, greeted}
 use Rattle.flow_rules.specs.Feed.{End}
 use Rattle.feed_cell.specs.Control.{Flags, causes_of}

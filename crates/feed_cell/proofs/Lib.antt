@@ -15,6 +15,7 @@ pub mod Marks
 pub mod MidTurn
 pub mod Moving
 pub mod Opening
+pub mod Outlooks
 pub mod Places
 pub mod Putting
 pub mod Reading

@@ -6,14 +6,14 @@ use lib.ListN.{get_elem?}
 use Rattle.atomic_table.specs.Table.{State, keeps, takes, Allows}
 use Rattle.feed_core.specs.Prelude.{Answer, Item, Signal, UNBOUNDED, total_after}
 use Rattle.feed_core.specs.World.Table.{MayLook, total_of, after}
-use Rattle.feed_core.specs.World.Runs.{IsReached}
-use Rattle.feed_core.proofs.Interleavings.Reaching.{reached_more, reached_kept}
+use Rattle.feed_cell.proofs.Outlooks.{stays_on, reached_more, reached_kept}
 use Rattle.feed_cell.proofs.Places.{lies_guest}
 use Rattle.feed_cell.proofs.Reading.{reads_look, or_true}
 use Rattle.feed_cell.proofs.Seats.{mine, other}
 use Rattle.feed_cell.proofs.Stages.{seated}
 use Rattle.feed_cell.specs.Cell.{Lies, Cell, AsProducer, AsRunner, LodgesAt, may_hold}
 use Rattle.feed_cell.specs.Control.{Flags, Reads, causes_of, marked}
+use Rattle.feed_cell.specs.Outlooks.{IsReachedBy}
 use Rattle.feed_cell.specs.Plays.{SeatOf, QUIET, after_causes, LooksOut, LooksFirst}
 use Rattle.feed_cell.specs.Turning.{own_after, answers_after}
 use Rattle.feed_cell.specs.Types.{Causes, Look, Runner, Ready, Looked, Parts}
@@ -47,7 +47,7 @@ none_held (Answer.Fail code) r may = absurd may
 module _ {B : Type 0} (told : B → List Signal) (cap : ℕ) where
   -- the rule after a look, with its subscriber or for the first time
   look_kept : (s : State (Held B) View) (c : Cell told cap s) (id : ℕ) (v w : View) (own : ℕ) (answers : Causes) (homes : List (slot.Option (Held B))) → get_elem? s.views id ≡ some v → IsRunner v → has_put w ≡ false → has_ask w ≡ false
-      → slice_index s.words 3 < 18446744073709551616 → may_hold c.world.runner ≡ false → IsReached (looked_with own (causes_of c.flags answers) c.world) → Lies cap c.log (length c.taken) (length c.taken + length c.item) c.free homes
+      → slice_index s.words 3 < 18446744073709551616 → may_hold c.world.runner ≡ false → IsReachedBy (set s.views id w) (looked_with own (causes_of c.flags answers) c.world) → Lies cap c.log (length c.taken) (length c.taken + length c.item) c.free homes
       → AsRunner cap (Looked (causes_of c.flags answers)) false (bit_and c.control QUIET) true c.taken c.item own answers w
       → Cell told cap (record { words = set s.words 3 (bit_and (slice_index s.words 3) QUIET); homes = homes; views = set s.views id w })
   look_kept s c id v w own answers homes at is puts asks small held reached lies knows =
@@ -102,11 +102,12 @@ module _ {B : Type 0} (told : B → List Signal) where
       let held = none_held answer p.runner here in
       let own_there : own_after answer p.own ≡ g.own = ap (own_after answer) (sym know.own_is) ∙ sym own_is in
       let answers_there : answers_after answer c.answers ≡ g.answers = ap (answers_after answer) (sym know.answers_are) ∙ sym answers_are in
-      let reached : IsReached (looked_with g.own (causes_of c.flags g.answers) p) =
-      subst IsReached (effect answer p c.flags c.answers c.shows.causes ∙ ap₂ (λ (a : ℕ) (b : Causes). looked_with a (causes_of c.flags b) p) own_there answers_there) (reached_more (Look answer) c.reached here) in
       let found : ℕ = slice_index s.words 3 in
       let found_is : found ≡ c.control = ap (λ ws. slice_index ws 3) c.words in
-      let w : View = after_causes v found c.flags g.own g.answers v.taken in (
+      let w : View = after_causes v found c.flags g.own g.answers v.taken in
+      let reached : IsReachedBy (set s.views id w) (looked_with g.own (causes_of c.flags g.answers) p) =
+      subst (IsReachedBy (set s.views id w)) (effect answer p c.flags c.answers c.shows.causes ∙ ap₂ (λ (a : ℕ) (b : Causes). looked_with a (causes_of c.flags b) p) own_there answers_there)
+      (reached_more (Look answer) id v w c.reached here at (inr (inr is.2)) refl (stays_on p.runner (after (Look answer) p).runner (seated p.runner k.seated).over refl)) in (
         w,
         keeps,
         tt,
@@ -127,11 +128,12 @@ module _ {B : Type 0} (told : B → List Signal) where
       let g = lodge.guest in
       let here : MayLook Answer.Go p.runner = inl stage in
       let held = none_held Answer.Go p.runner here in
-      let reached : IsReached (looked_with g.own (causes_of c.flags g.answers) p) =
-      subst IsReached (effect Answer.Go p c.flags c.answers c.shows.causes ∙ ap₂ (λ (a : ℕ) (b : Causes). looked_with a (causes_of c.flags b) p) (sym lodge.own_is) (sym lodge.answers_are)) (reached_more (Look Answer.Go) c.reached here) in
       let found : ℕ = slice_index s.words 3 in
       let found_is : found ≡ c.control = ap (λ ws. slice_index ws 3) c.words in
-      let w : View = after_causes v found c.flags g.own g.answers c.taken in (
+      let w : View = after_causes v found c.flags g.own g.answers c.taken in
+      let reached : IsReachedBy (set s.views id w) (looked_with g.own (causes_of c.flags g.answers) p) =
+      subst (IsReachedBy (set s.views id w)) (effect Answer.Go p c.flags c.answers c.shows.causes ∙ ap₂ (λ (a : ℕ) (b : Causes). looked_with a (causes_of c.flags b) p) (sym lodge.own_is) (sym lodge.answers_are))
+      (reached_more (Look Answer.Go) id v w c.reached here at (inr (inr is.2)) refl (stays_on p.runner (after (Look Answer.Go) p).runner (seated p.runner k.seated).over refl)) in (
         w,
         takes v.capacity (Held.Guest g),
         ap (λ (j : ℕ). get_elem? s.homes j) k.sized ∙ lodge.at,

@@ -8,7 +8,7 @@ use Rattle.feed_core.specs.declared.turn.outlook.Outlook.TheVariants.{Again, Res
 use Rattle.feed_cell.specs.Cell.{greeted, IsToldBy}
 use Rattle.feed_cell.specs.Parties.{IsFresh, IsGoing}
 use Rattle.feed_cell.specs.Paused.{told_out, IsPaused}
-use Rattle.feed_cell.specs.Plays.{SeatOf}
+use Rattle.feed_cell.specs.Plays.{SeatOf, how_out, outlook_by}
 use Rattle.feed_cell.specs.Running.{EndsThere, GoesOnThere, HasLooked, IsGranted, grant_of}
 use Rattle.feed_cell.specs.Serving.{EndsSo, GivesItem, IsLastGrant, MissesRest, RestsNow}
 use Rattle.feed_cell.specs.Types.{Nobody}
@@ -16,6 +16,7 @@ use Rattle.feed_cell.specs.Turned.{AreGivenOf, AreGranted, GoesOnAs, IsMidTurn, 
 use Rattle.feed_cell.specs.declared.cell.Grant.{Grant}
 use Rattle.feed_cell.specs.declared.cell.View.{View}
 use Rattle.feed_cell.specs.declared.cell.task.Stage.{Stage}
+use Rattle.feed_cell.proofs.Serving.{ending_outlook}
 use Rattle.feed_cell.proofs.Turned.{base_length, granted_more, whole_turn}
 
 module _ {B : Type 0} (told : B → List Signal) where
@@ -73,7 +74,7 @@ module _ {B : Type 0} (told : B → List Signal) where
         )
 
     -- that was its end
-    pub greeted_end : (how : How) (last : SeatOf B) → EndsThere told Subscribed how before after seen later → last ≡ (record after.0 { runs = false; away = false }, [])
+    pub greeted_end : (how : How) (last : SeatOf B) → EndsThere told Subscribed how before after seen later → last ≡ (record after.0 { runs = false; away = false; outlook = outlook_by (how_out after.1) }, [])
         → StopsAs before.0 last.0 (told_out told before.1) later.signals (Ended how) × MayEnd how (length last.0.taken) last.0.runner
     greeted_end how last ends left =
         let taken : after.0.taken ≡ [] = ap (λ (v : View). v.taken) ends.tells.view ∙ fresh.taken in
@@ -88,6 +89,7 @@ module _ {B : Type 0} (told : B → List Signal) where
             grants = ap (λ (m : SeatOf B). m.0.grants) left ∙ ap (λ (v : View). v.grants) ends.tells.view ∙ sym (append-nil before.0.grants);
             misses = ap (λ (m : SeatOf B). m.0.misses) left ∙ ap (λ (v : View). v.misses) ends.tells.view;
             runs = ap (λ (m : SeatOf B). m.0.runs) left;
+            shown = ap (λ (m : SeatOf B). m.0.outlook) left ∙ ending_outlook told how after ends.ending;
           },
           subst (λ (m : SeatOf B). MayEnd how (length m.0.taken) m.0.runner) (sym left) ends.ending.may,
         )
@@ -199,6 +201,7 @@ module _ {B : Type 0} (told : B → List Signal) where
             grants = rests.grants ∙ t.grants_are;
             misses = rests.misses ∙ t.misses;
             runs = rests.runs;
+            shown = rests.shown;
           }),
       rests.stage,
     )
@@ -245,6 +248,7 @@ module _ {B : Type 0} (told : B → List Signal) where
             grants = last.3;
             misses = ends.misses ∙ t.misses;
             runs = ends.runs;
+            shown = ends.shown;
           },
           ends.may,
         )

@@ -1,5 +1,5 @@
 -- How a subscription's table starts, how its maker's seat becomes three, and how the first task takes its subscriber with it.
-use Rattle.std.proofs.Common.{◌≡◌, ℕ, ◌+◌, ◌%◌, ◌<◌, ◌≤◌, true, false, List, [], ◌∷◌, length, map, replicate, slice_index, set, None, sym, refl, ap, ◌∙◌, subst, mod-lt, min, arith}
+use Rattle.std.proofs.Common.{◌≡◌, ℕ, ◌+◌, ◌%◌, ◌<◌, ◌≤◌, true, false, List, [], ◌∷◌, length, map, replicate, slice_index, set, None, sym, refl, ap, ◌∙◌, subst, mod-lt, min, arith, inl, inr}
 use Rattle.std.proofs.lemmas.List.{length-map, length-replicate}
 use mathlib.Core.Option.{some, none, some-ne-none}
 use lib.ListN.{get_elem?}
@@ -9,8 +9,8 @@ use Rattle.feed_core.specs.Cause.{no_causes}
 use Rattle.feed_core.specs.Prelude.{Signal}
 use Rattle.feed_core.specs.LaneCalls.{IsCapacity}
 use Rattle.feed_core.specs.World.Runs.{made}
-use Rattle.feed_core.proofs.Interleavings.Reaching.{reached_made}
 use Rattle.feed_cell.proofs.Lists.{at_replicate}
+use Rattle.feed_cell.proofs.Outlooks.{reached_made, reached_too, reached_with}
 use Rattle.feed_cell.proofs.Places.{lies_guest}
 use Rattle.feed_cell.proofs.Seats.{alone, mine, other, added, moved}
 use Rattle.feed_cell.specs.Cell.{Lies, Cell, AsProducer, AsHandle, AsRunner, LodgesAt}
@@ -69,7 +69,7 @@ module _ {B : Type 0} (told : B → List Signal) where
       let r = (c.runners id v at runs).1 in
       record {
         world = c.world;
-        reached = c.reached;
+        reached = reached_with (running_alone v) (reached_too id v (without_running v) c.reached at (inl puts) refl) (c.reached.goes id v at (inl puts));
         log = c.log;
         taken = c.taken;
         item = c.item;
@@ -103,7 +103,7 @@ module _ {B : Type 0} (told : B → List Signal) where
       let h = (c.handles id v at asks).1 in
       record {
         world = c.world;
-        reached = c.reached;
+        reached = reached_with (asking_alone v) (reached_too id v (without_asking v) c.reached at (inl puts) refl) (c.reached.goes id v at (inl puts));
         log = c.log;
         taken = c.taken;
         item = c.item;
@@ -144,7 +144,7 @@ module _ {B : Type 0} (told : B → List Signal) where
         ap (λ (j : ℕ). get_elem? s.homes j) k.sized ∙ vacant,
         record {
           world = c.world;
-          reached = c.reached;
+          reached = reached_too id v w c.reached at (inr (inr is.2)) refl;
           log = c.log;
           taken = c.taken;
           item = c.item;

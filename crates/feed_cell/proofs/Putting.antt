@@ -1,11 +1,11 @@
 -- The producer's store of tail.
-use Rattle.std.proofs.Common.{◌≡◌, ℕ, ◌+◌, ◌%◌, ◌≤◌, List, [], ◌∷◌, ◌++◌, length, set, None, sym, refl, ap, ap₂, ◌∙◌, subst, length-append, arith}
+use Rattle.std.proofs.Common.{◌≡◌, ℕ, ◌+◌, ◌%◌, ◌≤◌, List, [], ◌∷◌, ◌++◌, length, set, None, sym, refl, ap, ap₂, ◌∙◌, subst, length-append, arith, inl}
 use Rattle.std.proofs.lemmas.List.{take-append-le}
 use mathlib.Core.Option.{some}
 use Rattle.atomic_table.specs.Table.{gives, Allows, rest}
 use Rattle.feed_core.specs.Prelude.{Item, Signal}
 use Rattle.feed_core.specs.World.Table.{is_over, after}
-use Rattle.feed_core.proofs.Interleavings.Reaching.{reached_more}
+use Rattle.feed_cell.proofs.Outlooks.{stays_same, reached_more}
 use Rattle.feed_cell.proofs.Places.{lies_put, stays_home}
 use Rattle.feed_cell.proofs.Seats.{mine, other}
 use Rattle.feed_cell.proofs.Stages.{lodges_else}
@@ -41,7 +41,7 @@ module _ {B : Type 0} (told : B → List Signal) where
         tt,
         record {
           world = after Put p;
-          reached = reached_more Put c.reached (stage_is, closing_is);
+          reached = reached_more Put id v w c.reached (stage_is, closing_is) at (inl is.0) refl (stays_same p.runner);
           log = log;
           taken = c.taken;
           item = c.item;

@@ -1,9 +1,9 @@
 -- The handle's stores of asked.
-use Rattle.std.proofs.Common.{◌≡◌, ℕ, ◌+◌, ◌≤◌, true, false, true≢false, List, [], ◌∷◌, set, sym, refl, ap, ◌∙◌}
+use Rattle.std.proofs.Common.{◌≡◌, ℕ, ◌+◌, ◌≤◌, true, false, true≢false, List, [], ◌∷◌, set, sym, refl, ap, ◌∙◌, inl, inr}
 use Rattle.atomic_table.specs.Table.{keeps, Allows}
 use Rattle.feed_core.specs.Prelude.{Signal, total_after}
 use Rattle.feed_core.specs.World.Table.{is_over, after}
-use Rattle.feed_core.proofs.Interleavings.Reaching.{reached_more}
+use Rattle.feed_cell.proofs.Outlooks.{stays_same, reached_more, reached_too}
 use Rattle.feed_cell.proofs.Seats.{mine, other}
 use Rattle.feed_cell.specs.Cell.{Cell}
 use Rattle.feed_cell.specs.Control.{MARK, marked}
@@ -27,7 +27,7 @@ module _ {B : Type 0} (told : B → List Signal) where
         tt,
         record {
           world = after (Ask m) p;
-          reached = reached_more (Ask m) c.reached (sym k.stands ∙ idle, some);
+          reached = reached_more (Ask m) id v w c.reached (sym k.stands ∙ idle, some) at (inr (inl is.1)) refl (stays_same p.runner);
           log = c.log;
           taken = c.taken;
           item = c.item;
@@ -66,7 +66,7 @@ module _ {B : Type 0} (told : B → List Signal) where
         tt,
         record {
           world = p;
-          reached = c.reached;
+          reached = reached_too id v w c.reached at (inr (inl is.1)) refl;
           log = c.log;
           taken = c.taken;
           item = c.item;

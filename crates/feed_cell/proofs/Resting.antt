@@ -1,5 +1,5 @@
 -- The task's rest.
-use Rattle.std.proofs.Common.{◌≡◌, ℕ, ◌+◌, ◌<◌, ◌==◌, Bool, true, false, List, [], ◌∷◌, length, slice_index, set, bit_and, None, sym, refl, ap, ◌∙◌, subst, arith}
+use Rattle.std.proofs.Common.{◌≡◌, ℕ, ◌+◌, ◌<◌, ◌==◌, Bool, true, false, List, [], ◌∷◌, length, slice_index, set, bit_and, None, sym, refl, ap, ◌∙◌, subst, arith, inr}
 use mathlib.Core.Option.{some}
 use lib.ListN.{get_elem?}
 use prog.Atomic.{either}
@@ -7,16 +7,17 @@ use Rattle.std.specs.Int.{bit_at}
 use Rattle.atomic_table.proofs.Lists.{exchanged}
 use Rattle.atomic_table.specs.Table.{State, Act, keeps, gives, Valid, stepped, carried_after, Allows}
 use Rattle.feed_core.specs.Prelude.{Signal}
-use Rattle.feed_core.specs.World.Table.{MayRest, resting_after}
-use Rattle.feed_core.specs.World.Runs.{IsReached}
-use Rattle.feed_core.proofs.Interleavings.Reaching.{reached_more}
+use Rattle.feed_core.specs.declared.turn.outlook.Outlook.TheVariants.{Resting}
+use Rattle.feed_core.specs.World.Table.{MayRest, is_started, resting_after, after}
 use Rattle.feed_cell.proofs.Moving.{knows_too, move_kept}
+use Rattle.feed_cell.proofs.Outlooks.{stays_on, has_none, reached_more, reached_rest}
 use Rattle.feed_cell.proofs.Places.{lies_guest, changed}
 use Rattle.feed_cell.proofs.Reading.{reads_rest}
 use Rattle.feed_cell.proofs.Seats.{other, spent}
 use Rattle.feed_cell.proofs.Stages.{seated}
 use Rattle.feed_cell.specs.Cell.{Lies, Cell, AsProducer, greeted, has_looked}
 use Rattle.feed_cell.specs.Control.{Reads, number, marked}
+use Rattle.feed_cell.specs.Outlooks.{IsReachedBy}
 use Rattle.feed_cell.specs.Plays.{Rests}
 use Rattle.feed_cell.specs.Types.{Rest, Nobody, Ready}
 use Rattle.feed_cell.specs.Views.{IsRunner, has_put, has_ask, has_run}
@@ -54,8 +55,9 @@ module _ {B : Type 0} (told : B → List Signal) (cap : ℕ) (s : State (Held B)
       let look_here : look ≡ c.control = sym same ∙ found_is in
       let idle : p.active ≡ false = sym c.shows.new ∙ quiet_by c.flags.active c.control c.reads.active (ap (λ (m : ℕ). bit_at m 1) (sym look_here) ∙ quiet) in
       let item_is : c.item ≡ [] = sym k.item_is ∙ none_out in
-      let reached : IsReached (record p { runner = Nobody }) = subst IsReached (ap (λ b. record p { runner = resting_after b }) idle) (reached_more Rest c.reached there) in
-      let w : View = record v { runner = Nobody; runs = false; away = false } in (
+      let w : View = record v { runner = Nobody; runs = false; away = false; outlook = Resting } in
+      let reached : IsReachedBy (set s.views id w) (record p { runner = Nobody }) = subst (IsReachedBy (set s.views id w)) (ap (λ b. record p { runner = resting_after b }) idle)
+      (reached_rest id v w c.reached there at (inr (inr is.2)) refl (has_none w is.0 is.1 refl) seat.runs seat.over (ap (λ b. is_started (resting_after b)) idle)) in (
         w,
         gives,
         tt,
@@ -96,8 +98,9 @@ module _ {B : Type 0} (told : B → List Signal) (cap : ℕ) (s : State (Held B)
       let know = k.knows (sym k.out ∙ out) in
       let stage = there.3 in
       let busy : p.active ≡ true = by p.active refl in
-      let reached : IsReached (record p { runner = Ready }) = subst IsReached (ap (λ b. record p { runner = resting_after b }) busy) (reached_more Rest c.reached there) in
       let w : View = record v { runner = Ready; misses = v.misses + 1 } in
+      let reached : IsReachedBy (set s.views id w) (record p { runner = Ready }) = subst (IsReachedBy (set s.views id w)) (ap (λ b. record p { runner = resting_after b }) busy)
+      (reached_more Rest id v w c.reached there at (inr (inr is.2)) refl (stays_on p.runner (after Rest p).runner (seated p.runner k.seated).over (ap (λ b. is_started (resting_after b)) busy))) in
       let item_is : c.item ≡ [] = sym k.item_is ∙ none_out in (
         w,
         keeps,

@@ -3,9 +3,10 @@ use Rattle.std.proofs.Common.{◌≡◌, ℕ, ◌+◌, false, List, [], ◌∷�
 use Rattle.feed_core.specs.Prelude.{Answer, How, Item, Signal, Next}
 use Rattle.feed_core.specs.Seen.{SeenState}
 use Rattle.feed_core.specs.World.Table.{MayEnd}
+use Rattle.feed_core.specs.declared.turn.outlook.Outlook.TheVariants.{Resting, Ended}
 use Rattle.feed_cell.specs.Cell.{greeted, IsToldBy}
 use Rattle.feed_cell.specs.Paused.{told_out}
-use Rattle.feed_cell.specs.Plays.{SeatOf}
+use Rattle.feed_cell.specs.Plays.{SeatOf, how_out, outlook_by}
 use Rattle.feed_cell.specs.Running.{Carries, IsEnding, HasTaken, FindsNone, TakesNext, grant_of}
 use Rattle.feed_cell.specs.Serving.{MissesRest, RestsNow, Serves, Gives, Finishes, Concludes}
 use Rattle.feed_cell.specs.Types.{Nobody, Ready, Taken}
@@ -28,13 +29,14 @@ module _ {B : Type 0} (told : B → List Signal) where
   })
 
   -- a rest
-  pub rests_now : (before after : SeatOf B) → Carries told before → after ≡ (record before.0 { runner = Nobody; runs = false; away = false }, []) → RestsNow told before after
+  pub rests_now : (before after : SeatOf B) → Carries told before → after ≡ (record before.0 { runner = Nobody; runs = false; away = false; outlook = Resting }, []) → RestsNow told before after
   rests_now before after c e = record {
     text = ap (told_out told) c.slot ∙ c.text;
     taken = ap (λ (m : SeatOf B). m.0.taken) e;
     misses = ap (λ (m : SeatOf B). m.0.misses) e;
     grants = ap (λ (m : SeatOf B). m.0.grants) e;
     runs = ap (λ (m : SeatOf B). m.0.runs) e;
+    shown = ap (λ (m : SeatOf B). m.0.outlook) e;
     stage = ap (λ (m : SeatOf B). m.0.runner) e;
   }
 
@@ -51,6 +53,10 @@ module _ {B : Type 0} (told : B → List Signal) where
   -- the text of a seat that ends
   ending_text : (how : How) (me : SeatOf B) → IsEnding told how me → IsToldBy how me.0.taken (told_out told me.1)
   ending_text how me e = subst (λ t. IsToldBy how me.0.taken t) (sym (ap (told_out told) e.slot)) e.text
+
+  -- what its seat shows after its end
+  pub ending_outlook : (how : How) (me : SeatOf B) → IsEnding told how me → outlook_by (how_out me.1) ≡ Ended how
+  ending_outlook how me e = ap (λ l. outlook_by (how_out l)) e.slot ∙ ap outlook_by e.how_is
 
   -- an item was given
   pub serves_give : (x : Item) (result : Served) (before middle after : SeatOf B) (seen later : SeenState) → Carries told before → TakesNext x before middle → Gives told x result middle after seen later → Serves told result before after seen later
@@ -85,6 +91,7 @@ module _ {B : Type 0} (told : B → List Signal) where
         taken = ap (λ (m : SeatOf B). m.0.taken) g.2 ∙ taken;
         misses = ap (λ (m : SeatOf B). m.0.misses) g.2 ∙ ap (λ (v : View). v.misses) e.tells.view ∙ ap (λ (m : SeatOf B). m.0.misses) t.took;
         runs = ap (λ (m : SeatOf B). m.0.runs) g.2;
+        shown = ap (λ (m : SeatOf B). m.0.outlook) g.2 ∙ ending_outlook how g.0 e.ending;
         may = subst (λ (m : SeatOf B). MayEnd how (length m.0.taken) m.0.runner) (sym g.2) e.ending.may;
       }
 
@@ -107,6 +114,7 @@ module _ {B : Type 0} (told : B → List Signal) where
         taken = ap (λ (m : SeatOf B). m.0.taken) f.2 ∙ taken;
         misses = ap (λ (m : SeatOf B). m.0.misses) f.2 ∙ ap (λ (v : View). v.misses) e.tells.view ∙ same;
         runs = ap (λ (m : SeatOf B). m.0.runs) f.2;
+        shown = ap (λ (m : SeatOf B). m.0.outlook) f.2 ∙ ending_outlook how f.0 e.ending;
         may = subst (λ (m : SeatOf B). MayEnd how (length m.0.taken) m.0.runner) (sym f.2) e.ending.may;
       }
 
@@ -120,6 +128,7 @@ module _ {B : Type 0} (told : B → List Signal) where
       misses = t.0.misses ∙ ap (λ (m : SeatOf B). m.0.misses) f.found;
       grants = t.0.grants ∙ ap (λ (m : SeatOf B). m.0.grants) f.found;
       runs = t.0.runs;
+      shown = t.0.shown;
       stage = t.0.stage;
     },
     t.1,

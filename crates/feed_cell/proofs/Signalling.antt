@@ -4,13 +4,13 @@ use Rattle.std.specs.Int.{bit_at}
 use Rattle.atomic_table.specs.Table.{State, keeps, Allows}
 use Rattle.feed_core.specs.Prelude.{Item, Ending, Signal}
 use Rattle.feed_core.specs.World.Table.{MayBegin, ProducerMay, HandleMay, joined, is_started, is_over, producing_after, requesting_after, started}
-use Rattle.feed_core.specs.World.Runs.{IsReached}
-use Rattle.feed_core.proofs.Interleavings.Reaching.{reached_more}
+use Rattle.feed_cell.proofs.Outlooks.{stays_started, reached_more}
 use Rattle.feed_cell.proofs.Reading.{reads_or, adds, mask_error}
 use Rattle.feed_cell.proofs.Seats.{mine, other}
 use Rattle.feed_cell.proofs.Stages.{starts, lodges_started}
 use Rattle.feed_cell.specs.Cell.{Only, Cell, AsProducer, AsHandle}
 use Rattle.feed_cell.specs.Control.{Flags, number, Reads, signal_of, both, marked}
+use Rattle.feed_cell.specs.Outlooks.{IsReachedBy}
 use Rattle.feed_cell.specs.Plays.{SeatOf, sent, ProducerSignals, sent_by_handle, HandleSignals}
 use Rattle.feed_cell.specs.Types.{Cause, Cancel, Argument, State as Doubled, Closing, Signal as Signals, Producer, Handle, Producing, Requesting, Idle}
 use Rattle.feed_cell.specs.Views.{IsProducer, IsHandle, has_put, has_ask, has_run}
@@ -44,7 +44,7 @@ no_closing (Some (Closing ending)) h may = absurd may
 module _ {B : Type 0} (told : B → List Signal) (cap : ℕ) where
   -- the rule after a signal, whichever side makes it
   signal_kept : (s : State (Held B) View) (c : Cell told cap s) (cause : Option Cause) (mask : ℕ) (producer : Producing) (handle : Requesting) (id : ℕ) (w : View) → Reads mask (signal_of cause) → (c.flags.closing ≡ None) ⊎ ((signal_of cause).closing ≡ None)
-      → IsReached (record c.world { causes = joined cause c.world.causes; active = true; producer = producer; handle = handle; runner = started c.world.runner })
+      → IsReachedBy (set s.views id w) (record c.world { causes = joined cause c.world.causes; active = true; producer = producer; handle = handle; runner = started c.world.runner })
       → (c.left ≡ true → handle ≡ Idle) → has_run w ≡ false
       → Only has_put c.producer (AsProducer cap c.log c.world.given c.free (is_over (started c.world.runner)) (both (signal_of cause) c.flags).closing (both (signal_of cause) c.flags).state producer) (set s.views id w)
       → Only has_ask c.handle (AsHandle cap c.world.asked (both (signal_of cause) c.flags).cancel (both (signal_of cause) c.flags).argument c.left handle) (set s.views id w)
@@ -89,6 +89,13 @@ sent_kind (Some Argument) p v is = is
 sent_kind (Some Doubled) p v is = is
 sent_kind (Some (Closing ending)) p v is = is
 
+sent_outlook : (cause : Option Cause) (p : Producing) (v : View) → (sent cause p v).outlook ≡ v.outlook
+sent_outlook None p v = refl
+sent_outlook (Some Cancel) p v = refl
+sent_outlook (Some Argument) p v = refl
+sent_outlook (Some Doubled) p v = refl
+sent_outlook (Some (Closing ending)) p v = refl
+
 sent_knows : (cap : ℕ) (log : List Item) (given free : ℕ) (over : Bool) (f : Flags) (before p : Producing) (closing : Option Ending) (cause : Option Cause) (v : View) → ProducerMay cause before closing → AsProducer cap log given free over f.closing f.state before v
     → AsProducer cap log given free over (both (signal_of cause) f).closing (both (signal_of cause) f).state p (sent cause p v)
 sent_knows cap log given free over f before p closing None v may k = record { sized = k.sized; put = k.put; seen = k.seen; places = k.places; over = k.over; closed = k.closed; doubled = k.doubled; stands = refl }
@@ -113,6 +120,13 @@ sent_handle_kind (Some Cancel) p v is = is
 sent_handle_kind (Some Argument) p v is = is
 sent_handle_kind (Some Doubled) p v is = is
 sent_handle_kind (Some (Closing ending)) p v is = is
+
+sent_handle_outlook : (cause : Option Cause) (p : Requesting) (v : View) → (sent_by_handle cause p v).outlook ≡ v.outlook
+sent_handle_outlook None p v = refl
+sent_handle_outlook (Some Cancel) p v = refl
+sent_handle_outlook (Some Argument) p v = refl
+sent_handle_outlook (Some Doubled) p v = refl
+sent_handle_outlook (Some (Closing ending)) p v = refl
 
 sent_handle_knows : (cap asked : ℕ) (f : Flags) (left : Bool) (before h : Requesting) (cause : Option Cause) (v : View) → HandleMay cause before → AsHandle cap asked f.cancel f.argument left before v
     → AsHandle cap asked (both (signal_of cause) f).cancel (both (signal_of cause) f).argument left h (sent_by_handle cause h v)
@@ -150,7 +164,7 @@ module _ {B : Type 0} (told : B → List Signal) where
         keeps,
         tt,
         signal_kept told cap s c cause mask (producing_after (is_started p.runner)) p.handle id w sets (one_closing cause p.producer c.flags.closing here)
-            (reached_more (Signals Producer cause) c.reached there) c.shows.settled kind.2
+            (reached_more (Signals Producer cause) id v w c.reached there at (inl is.0) (sent_outlook cause (producing_after (is_started p.runner)) v) (stays_started p.runner)) c.shows.settled kind.2
             (mine has_put c.producer _ _ s.views id v w c.producers at is.0
             (sent_knows cap c.log p.given c.free (is_over (started p.runner)) c.flags p.producer (producing_after (is_started p.runner)) c.flags.closing cause v here
             (subst (λ b. AsProducer cap c.log p.given c.free b c.flags.closing c.flags.state p.producer v) (sym st.over) k)))
@@ -180,7 +194,7 @@ module _ {B : Type 0} (told : B → List Signal) where
         keeps,
         tt,
         signal_kept told cap s c cause mask p.producer (requesting_after (is_started p.runner)) id w sets (inr (no_closing cause p.handle here))
-            (reached_more (Signals Handle cause) c.reached here) (λ e. absurd (true≢false (sym e ∙ sym k.leaves ∙ stays))) kind.2
+            (reached_more (Signals Handle cause) id v w c.reached here at (inr (inl is.1)) (sent_handle_outlook cause (requesting_after (is_started p.runner)) v) (stays_started p.runner)) (λ e. absurd (true≢false (sym e ∙ sym k.leaves ∙ stays))) kind.2
             (other has_put c.producer _ _ s.views id w c.producers kind.0 (λ d o. producer_knows cap c.log p.given c.free (is_over (started p.runner)) c.flags p.producer p.handle cause d here
             (subst (λ b. AsProducer cap c.log p.given c.free b c.flags.closing c.flags.state p.producer d) (sym st.over) o)))
             (mine has_ask c.handle _ _ s.views id v w c.handles at is.1 (sent_handle_knows cap p.asked c.flags c.left p.handle (requesting_after (is_started p.runner)) cause v here k)),

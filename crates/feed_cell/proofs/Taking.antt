@@ -1,10 +1,10 @@
 -- The task's store of head.
-use Rattle.std.proofs.Common.{◌≡◌, ℕ, ◌+◌, ◌%◌, ◌≤◌, true, false, List, [], ◌∷◌, ◌++◌, length, take, set, sym, refl, ap, ◌∙◌, subst, length-append, append-nil, arith}
+use Rattle.std.proofs.Common.{◌≡◌, ℕ, ◌+◌, ◌%◌, ◌≤◌, true, false, List, [], ◌∷◌, ◌++◌, length, take, set, sym, refl, ap, ◌∙◌, subst, length-append, append-nil, arith, inr}
 use mathlib.Core.Option.{some}
 use Rattle.atomic_table.specs.Table.{gives, Allows}
 use Rattle.feed_core.specs.Prelude.{Item, Signal}
 use Rattle.feed_core.specs.World.Table.{MayTake, after}
-use Rattle.feed_core.proofs.Interleavings.Reaching.{reached_more}
+use Rattle.feed_cell.proofs.Outlooks.{stays_on, reached_more}
 use Rattle.feed_cell.proofs.Places.{lies_taken}
 use Rattle.feed_cell.proofs.Seats.{mine, other}
 use Rattle.feed_cell.proofs.Seeing.{lies_at}
@@ -45,7 +45,7 @@ module _ {B : Type 0} (told : B → List Signal) where
         tt,
         record {
           world = after Take p;
-          reached = reached_more Take c.reached here;
+          reached = reached_more Take id v w c.reached here at (inr (inr is.2)) refl (stays_on p.runner Taken seat.over refl);
           log = c.log;
           taken = taken;
           item = [];

@@ -7,12 +7,12 @@ use Rattle.atomic_table.specs.Table.{State}
 use Rattle.feed_core.specs.Prelude.{Item, Ending, How, Signal, Subscribed, Next, Complete, Error}
 use Rattle.feed_cell.specs.Types.{Causes, Producing, Requesting, Idle, Runner, Nobody, Coming, Fresh, Looked, Saw, Measured, Over, Parts}
 use Rattle.feed_core.specs.World.Table.{is_started, is_over}
-use Rattle.feed_core.specs.World.Runs.{IsReached}
 use Rattle.feed_cell.specs.declared.cell.Held.{Held}
 use Rattle.feed_cell.specs.declared.cell.Lodger.{Lodger}
 use Rattle.feed_cell.specs.declared.cell.View.{View}
 use Rattle.feed_cell.specs.Views.{has_put, has_ask, has_run}
 use Rattle.feed_cell.specs.Control.{Flags, Reads, causes_of, marked}
+use Rattle.feed_cell.specs.Outlooks.{IsReachedBy}
 
 -- what was put and taken, the item whose slot is out, if any, and the number from which on places are free and at home
 pub record Lists (capacity : ℕ) (log taken item : List Item) (free : ℕ) : Type 0 where
@@ -150,9 +150,9 @@ pub record AsRunner (capacity : ℕ) (runner : Runner) (active : Bool) (control 
 module _ {B : Type 0} (told : B → List Signal) where
   -- the rule of a subscription of this capacity
   pub record Cell (capacity : ℕ) (s : State (Held B) View) : Type 0 where
-    -- what there is, which some list of possible events leads to
+    -- what there is, which some list of possible events leads to; the seats show each rest and the end that are among these
     pub world : Parts
-    pub reached : IsReached world
+    pub reached : IsReachedBy s.views world
     pub log : List Item
     pub taken : List Item
     pub item : List Item

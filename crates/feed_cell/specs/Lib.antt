@@ -2,6 +2,7 @@ pub mod Cell
 pub mod Control
 pub mod Left
 pub mod Offering
+pub mod Outlooks
 pub mod Parties
 pub mod Paused
 pub mod Plays

@@ -2,8 +2,10 @@
 use Rattle.std.specs.Prelude.{◌≡◌, ◌≢◌, ◌⊎◌, ℕ, ◌+◌, ◌%◌, ◌<◌, ◌≤◌, Bool, true, false, List, [], ◌∷◌, ◌++◌, length, Option, Some, None, bit_and}
 use Rattle.std.specs.Int.{bit_at}
 use Rattle.atomic_table.specs.Table.{Me, rest}
-use Rattle.feed_core.specs.Prelude.{Item, Signal, UNBOUNDED, total_after}
+use Rattle.feed_core.specs.Prelude.{How, Item, Signal, UNBOUNDED, total_after}
 use Rattle.feed_core.specs.Cause.{no_causes}
+use Rattle.feed_core.specs.declared.turn.outlook.Outlook.{Outlook}
+use Rattle.feed_core.specs.declared.turn.outlook.Outlook.TheVariants.{Again, Resting, Ended}
 use Rattle.feed_cell.specs.Types.{Causes, Cause, Cancel, Argument, State, Closing, Producing, Free, HasRoom, HasPut, Hands, Requesting, Idle, HasAsked, HandsOver, Runner, Nobody, Ready, Looked, Measured, Taken}
 use Rattle.feed_core.specs.World.Table.{seeing, measuring}
 use Rattle.feed_cell.specs.declared.cell.Grant.{Grant}
@@ -41,6 +43,10 @@ module _ {B : Type 0} where
   answers_in (Held.Guest g) = g.answers
   answers_in _ = no_causes
 
+  abbrev pub how_in : Held B → Option How
+  how_in (Held.Guest g) = g.how
+  how_in _ = None
+
   abbrev pub own_out : List (ℕ × Held B) → ℕ
   own_out [] = 0
   own_out (slot ∷ more) = own_in slot.1
@@ -48,6 +54,10 @@ module _ {B : Type 0} where
   abbrev pub answers_out : List (ℕ × Held B) → Causes
   answers_out [] = no_causes
   answers_out (slot ∷ more) = answers_in slot.1
+
+  abbrev pub how_out : List (ℕ × Held B) → Option How
+  how_out [] = None
+  how_out (slot ∷ more) = how_in slot.1
 
 -- the producer after a look at head
 abbrev pub after_look : View → ℕ → Bool → Producing → ℕ → View
@@ -190,9 +200,14 @@ IsTake before after = after ≡ (record before.0 { taken = before.0.taken ++ bef
 
 -- the task rests where the word is the one after its look, and its subscriber is at home then; else something is new
 pub record Rests {B : Type 0} (look : ℕ) (before : SeatOf B) (found : ℕ) (after : SeatOf B) : Type 0 where
-  pub rested : found ≡ look → after ≡ (record before.0 { runner = Nobody; runs = false; away = false }, rest before.1)
+  pub rested : found ≡ look → after ≡ (record before.0 { runner = Nobody; runs = false; away = false; outlook = Resting }, rest before.1)
   pub missed : found ≢ look → after ≡ (record before.0 { runner = Ready; misses = before.0.misses + 1 }, before.1)
+
+-- what became of the task, by how its subscriber has ended
+abbrev pub outlook_by : Option How → Outlook
+outlook_by None = Again
+outlook_by (Some how) = Ended how
 
 -- the subscription has ended, and its subscriber is at home
 abbrev pub IsEnd : {B : Type 0} → SeatOf B → SeatOf B → Type 0
-IsEnd before after = after ≡ (record before.0 { runs = false; away = false }, rest before.1)
+IsEnd before after = after ≡ (record before.0 { runs = false; away = false; outlook = outlook_by (how_out before.1) }, rest before.1)

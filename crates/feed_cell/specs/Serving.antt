@@ -3,18 +3,19 @@ use Rattle.std.specs.Prelude.{◌≡◌, ◌+◌, ◌≤◌, ◌⊎◌, false, L
 use Rattle.feed_core.specs.Prelude.{How, Item, Signal, Next}
 use Rattle.feed_core.specs.Seen.{SeenState, seen_with}
 use Rattle.feed_core.specs.World.Table.{MayEnd}
+use Rattle.feed_core.specs.declared.turn.outlook.Outlook.TheVariants.{Resting, Ended}
 use Rattle.feed_cell.specs.declared.cell.serving.Served.{Served}
 use Rattle.feed_cell.specs.Cell.{greeted, IsToldBy}
 use Rattle.feed_cell.specs.Parties.{IsGoing}
 use Rattle.feed_cell.specs.Paused.{told_out}
-use Rattle.feed_cell.specs.Plays.{SeatOf}
+use Rattle.feed_cell.specs.Plays.{SeatOf, how_out, outlook_by}
 use Rattle.feed_cell.specs.Running.{IsGranted, grant_of, EndsThere, FinishesThere, GoesOnThere}
 use Rattle.feed_cell.specs.Types.{Nobody}
 use Rattle.feed_cell.specs.Views.{IsRunner}
 
 -- the seat after it ended the subscription
 abbrev pub HasLeft : {B : Type 0} → SeatOf B → SeatOf B → Type 0
-HasLeft ending after = after ≡ (record ending.0 { runs = false; away = false }, [])
+HasLeft ending after = after ≡ (record ending.0 { runs = false; away = false; outlook = outlook_by (how_out ending.1) }, [])
 
 -- the last item, if one was taken, and by what
 abbrev pub IsLastGrant : {B : Type 0} → SeatOf B → SeatOf B → List Item → Type 0
@@ -55,6 +56,7 @@ module _ {B : Type 0} (told : B → List Signal) where
     pub misses : after.0.misses ≡ before.0.misses
     pub grants : after.0.grants ≡ before.0.grants
     pub runs : after.0.runs ≡ false
+    pub shown : after.0.outlook ≡ Resting
     pub stage : after.0.runner ≡ Nobody
 
   -- it ended the subscription: these items were taken and these signals told before
@@ -68,6 +70,7 @@ module _ {B : Type 0} (told : B → List Signal) where
     pub taken : after.0.taken ≡ before.0.taken ++ took
     pub misses : after.0.misses ≡ before.0.misses
     pub runs : after.0.runs ≡ false
+    pub shown : after.0.outlook ≡ Ended how
     pub may : MayEnd how (length after.0.taken) after.0.runner
 
   -- what it did after a look

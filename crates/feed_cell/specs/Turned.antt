@@ -68,13 +68,15 @@ pub record GoesOnAs (old new : View) (known later seen : List Signal) : Type 0 w
   pub told_is : later ≡ turned.start ++ seen
   pub why : ((length (items_of seen) ≡ ITEMS_IN_A_TURN) × (new.misses ≡ old.misses)) ⊎ (new.misses ≡ old.misses + 1)
 
--- no turn is owed: the task rests or the subscription has ended, and its seat runs the task no more
+-- no turn is owed: the task rests or the subscription has ended, and its seat runs the task no more. The seat shows which, and the
+-- rule of the table counts that among the rests of its events, or has it as the end that is among them
 pub record StopsAs (old new : View) (known seen : List Signal) (outlook : Outlook) : Type 0 where
   pub turned : TurnsAs old known seen outlook
   pub taken : new.taken ≡ turned.base ++ turned.took
   pub grants : new.grants ≡ old.grants ++ turned.grants
   pub misses : new.misses ≡ old.misses
   pub runs : new.runs ≡ false
+  pub shown : new.outlook ≡ outlook
 
 module _ {B : Type 0} (told : B → List Signal) where
   -- a turn so far, after so many items: what its subscriber was told before, and since

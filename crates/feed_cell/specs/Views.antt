@@ -1,6 +1,7 @@
 -- What the parties of a subscription know: at first, and when seats are split.
 use Rattle.std.specs.Prelude.{◌≡◌, ℕ, Bool, true, false, None, []}
 use Rattle.feed_core.specs.Cause.{no_causes}
+use Rattle.feed_core.specs.declared.turn.outlook.Outlook.TheVariants.{Again}
 use Rattle.feed_cell.specs.Types.{Free, Idle, Fresh, Ready}
 use Rattle.feed_cell.specs.declared.cell.View.{View}
 
@@ -33,6 +34,7 @@ first_view capacity = record {
   own = 0;
   answers = no_causes;
   misses = 0;
+  outlook = Again;
 }
 
 -- which parts a seat has

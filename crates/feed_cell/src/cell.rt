@@ -17,7 +17,7 @@ pub mod telling;
 pub mod turning;
 
 use atomic_table::{Seat, Table, TableRule};
-use feed_core::{Causes, Producing, Requesting, Runner};
+use feed_core::{Causes, Outlook, Producing, Requesting, Runner};
 use flow_rules::{Ending, How, Item, Listener};
 use std::alloc::Global;
 use std::collections::LinkedList;
@@ -154,6 +154,8 @@ pub struct View {
     pub answers: Causes,
     /// How often it could not rest, since something was new.
     pub misses: u64,
+    /// What became of the task that it ran: it came to rest, or ended the subscription. Until then it goes on.
+    pub outlook: Outlook,
 }
 
 /// The table of a subscription: the four words, a slot for each place, and a slot for the subscriber.

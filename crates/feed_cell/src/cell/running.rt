@@ -5,9 +5,10 @@ ghost use Rattle.atomic_table.specs.Table.{rest};
 ghost use Rattle.feed_core.specs.Cause.{stops};
 ghost use Rattle.feed_core.specs.Prelude.{Item, How, UNBOUNDED};
 ghost use Rattle.feed_core.specs.World.Table.{MaySee, MayMeasure, MayTake, MayRest};
+ghost use Rattle.feed_core.specs.declared.turn.outlook.Outlook.TheVariants.{Resting};
 ghost use Rattle.feed_cell.specs.Control.{MARK};
 ghost use Rattle.feed_cell.specs.Parties.{IsGoing, IsHome};
-ghost use Rattle.feed_cell.specs.Plays.{Sees, Measures, MeasuresNone, QUIET, grants_by};
+ghost use Rattle.feed_cell.specs.Plays.{Sees, Measures, MeasuresNone, QUIET, grants_by, how_out, outlook_by};
 ghost use Rattle.feed_cell.specs.Running.{HasItem, Carries, HasLooked, IsEnding};
 ghost use Rattle.feed_cell.specs.Steps.{HasFourWords};
 ghost use Rattle.feed_cell.specs.Types.{Nobody, Ready, Taken};
@@ -106,7 +107,7 @@ pub(crate) fn try_rest<B: Listener>(table: &CellTable<B>, seat: &mut CellSeat<B>
     requires may { MayRest (length seat.old.me.0.taken) seat.old.me.0.runner }
     requires look { seat.old.me.0.look ≡ bit_and word QUIET }
     ensures table { (seat.new.table_id ≡ seat.old.table_id) × (seat.new.id ≡ seat.old.id) }
-    ensures rests { result ≡ true → seat.new.me ≡ (record seat.old.me.0 { runner = Nobody; runs = false; away = false }, []) }
+    ensures rests { result ≡ true → seat.new.me ≡ (record seat.old.me.0 { runner = Nobody; runs = false; away = false; outlook = Resting }, []) }
     ensures missed { result ≡ false → seat.new.me ≡ (record seat.old.me.0 { runner = Ready; misses = seat.old.me.0.misses + 1 }, seat.old.me.1) }
 {
     let look = word & QUIET;
@@ -122,7 +123,7 @@ pub(crate) fn end<B: Listener>(table: &CellTable<B>, seat: &mut CellSeat<B>, giv
     requires ending { (how : How) × IsEnding B.told how seat.old.me }
     requires counted { (length seat.old.me.0.taken ≡ given) × (given < MARK) }
     ensures table { (seat.new.table_id ≡ seat.old.table_id) × (seat.new.id ≡ seat.old.id) }
-    ensures ended { seat.new.me ≡ (record seat.old.me.0 { runs = false; away = false }, []) }
+    ensures ended { seat.new.me ≡ (record seat.old.me.0 { runs = false; away = false; outlook = outlook_by (how_out seat.old.me.1) }, []) }
 {
     table.shared.store::<End>(seat, HEAD, given + MARK);
 }

@@ -1,0 +1,173 @@
+-- What became of the task, by the seats that ran it, after each step.
+use Rattle.std.proofs.Common.{◌≡◌, ℕ, zero, suc, ◌+◌, Bool, true, false, None, List, [], ◌∷◌, ◌++◌, set, refl, sym, ap, ◌∙◌, subst, inl, inr, ⊎_elim, arith}
+use mathlib.Core.Option.{some, some-injective, some-ne-none}
+use lib.ListN.{get_elem?}
+use Rattle.atomic_table.proofs.Lists.{at_set}
+use Rattle.feed_core.specs.LaneCalls.{IsCapacity}
+use Rattle.feed_core.specs.Prelude.{How}
+use Rattle.feed_core.specs.declared.turn.outlook.Outlook.TheVariants.{Again, Resting, Ended}
+use Rattle.feed_core.specs.World.Table.{is_started, is_over, started, IsPossible, after}
+use Rattle.feed_core.specs.World.Runs.{WorldState, nothing, world_of, made, cut_after, Steps, Leads}
+use Rattle.feed_core.specs.World.Kept.{IsKept}
+use Rattle.feed_core.specs.World.Lawful.{IsLawful}
+use Rattle.feed_core.proofs.Interleavings.Reaching as Reaching
+use Rattle.feed_cell.proofs.Lists.{at_end}
+use Rattle.feed_cell.specs.Outlooks.{is_on, one_rest, rests_along, rest_in, rests_shown, HasPart, IsReachedBy}
+use Rattle.feed_cell.specs.Types.{Event, Make, Rest, End, Runner, Nobody, Coming, Fresh, Ready, Looked, Saw, Measured, Taken, Over, Parts}
+use Rattle.feed_cell.specs.Views.{first_view}
+use Rattle.feed_cell.specs.declared.cell.View.{View}
+
+-- the task did not come to rest, and an end stays
+pub record Stays (r later : Runner) : Type 0 where
+  pub none_more : one_rest (is_started r) (is_started later) ≡ 0
+  pub over : (how : How) → r ≡ Over how → later ≡ Over how
+
+none_where : (b : Bool) → one_rest b b ≡ 0
+none_where true = refl
+none_where false = refl
+
+none_on : (b : Bool) → one_rest b true ≡ 0
+none_on true = refl
+none_on false = refl
+
+pub stays_same : (r : Runner) → Stays r r
+stays_same r = record { none_more = none_where (is_started r); over = λ how e. e }
+
+pub stays_started : (r : Runner) → Stays r (started r)
+stays_started Nobody = record { none_more = refl; over = λ how e. (let clash : false ≡ true = ap is_over e in cc) }
+stays_started Coming = stays_same Coming
+stays_started Fresh = stays_same Fresh
+stays_started Ready = stays_same Ready
+stays_started (Looked c) = stays_same (Looked c)
+stays_started (Saw c t) = stays_same (Saw c t)
+stays_started (Measured c t a) = stays_same (Measured c t a)
+stays_started Taken = stays_same Taken
+stays_started (Over how) = stays_same (Over how)
+
+-- of a task that goes on
+pub stays_on : (r later : Runner) → is_over r ≡ false → is_started later ≡ true → Stays r later
+stays_on r later unended on = record { none_more = ap (one_rest (is_started r)) on ∙ none_on (is_started r); over = λ how e. (let clash : true ≡ false = sym (ap is_over e) ∙ unended in cc) }
+
+-- a seat with no part
+pub has_none : (v : View) → v.puts ≡ false → v.asks ≡ false → v.runs ≡ false → HasPart v → ⊥
+has_none v puts asks runs (inl e) = let clash : true ≡ false = sym e ∙ puts in cc
+has_none v puts asks runs (inr (inl e)) = let clash : true ≡ false = sym e ∙ asks in cc
+has_none v puts asks runs (inr (inr e)) = let clash : true ≡ false = sym e ∙ runs in cc
+
+-- one seat makes a step
+rests_set : (views : List View) (id : ℕ) (v new : View) → get_elem? views id ≡ some v → v.outlook ≡ Again → rests_shown (set views id new) ≡ rests_shown views + rest_in new.outlook
+rests_set [] id v new at goes = absurd (some-ne-none v (sym at))
+rests_set (x ∷ views) zero v new at goes = let none : rest_in x.outlook ≡ 0 = ap (λ (d : View). rest_in d.outlook) (some-injective x v at) ∙ ap rest_in goes in omega arith
+rests_set (x ∷ views) (suc id) v new at goes = let later = rests_set views id v new at goes in omega arith
+
+-- a seat comes
+rests_end : (views : List View) (new : View) → rests_shown (views ++ new ∷ []) ≡ rests_shown views + rest_in new.outlook
+rests_end [] new = omega arith
+rests_end (x ∷ views) new = let later = rests_end views new in omega arith
+
+-- one event more, and the rests by it
+leads_more : (old : WorldState) (events : List Event) (event : Event) (between new : WorldState) (leads : Leads old events between) → Steps event between new
+    → (more : Leads old (events ++ event ∷ []) new) × (rests_along old (events ++ event ∷ []) new more ≡ rests_along old events between leads + one_rest (is_on between.parts) (is_on new.parts))
+leads_more old [] event between new e step =
+    let same : one_rest (is_on between.parts) (is_on new.parts) ≡ one_rest (is_on old.parts) (is_on new.parts) = ap (λ (w : WorldState). one_rest (is_on w.parts) (is_on new.parts)) e in
+    ((new, subst (λ (w : WorldState). Steps event w new) e step, refl), omega arith)
+leads_more old (first ∷ events) event between new leads step =
+    let more = leads_more leads.0 events event between new leads.2 step in
+    let counted = more.1 in
+    ((leads.0, leads.1, more.0), omega arith)
+
+-- at first
+pub reached_made : (n : ℕ) → IsCapacity n → IsReachedBy (first_view n ∷ []) (made n)
+reached_made n sized = record { events = Make n ∷ []; cut = None; leads = (world_of (made n) None, inl (sized, refl), refl); rests = refl; ends = none_ends; goes = all_go }
+  where
+    none_ends : (j : ℕ) (d : View) (how : How) → get_elem? (first_view n ∷ []) j ≡ some d → d.outlook ≡ Ended how → (made n).runner ≡ Over how
+    none_ends zero d how at shows = let clash : Again ≡ Ended how = ap (λ (v : View). v.outlook) (some-injective (first_view n) d at) ∙ shows in cc
+    none_ends (suc j) d how at shows = absurd (some-ne-none d (sym at))
+
+    all_go : (j : ℕ) (d : View) → get_elem? (first_view n ∷ []) j ≡ some d → HasPart d → d.outlook ≡ Again
+    all_go zero d at part = ap (λ (v : View). v.outlook) (some-injective d (first_view n) (sym at))
+    all_go (suc j) d at part = absurd (some-ne-none d (sym at))
+
+-- an event, which is the step of a seat with a part
+reached_step : (event : Event) {w : Parts} {views : List View} (id : ℕ) (v new : View) → IsReachedBy views w → IsPossible event w → get_elem? views id ≡ some v → HasPart v
+    → one_rest (is_started w.runner) (is_started (after event w).runner) ≡ rest_in new.outlook → ((how : How) → new.outlook ≡ Ended how → (after event w).runner ≡ Over how)
+    → ((how : How) → w.runner ≡ Over how → (after event w).runner ≡ Over how) → (HasPart new → new.outlook ≡ Again) → IsReachedBy (set views id new) (after event w)
+reached_step event {w} {views} id v new r may at part counts ended over goes =
+    let more = leads_more nothing r.events event (world_of w r.cut) (world_of (after event w) (cut_after event w r.cut)) r.leads (inl (may, refl)) in
+    let counted = more.1 in
+    let before = r.rests in
+    let later = rests_set views id v new at (r.goes id v at part) in
+    record {
+      events = r.events ++ event ∷ [];
+      cut = cut_after event w r.cut;
+      leads = more.0;
+      rests = omega arith;
+      ends = λ j d how there shows. ⊎_elim
+          (λ here. ended how (ap (λ (x : View). x.outlook) here.1 ∙ shows))
+          (λ else. over how (r.ends j d how else.1 shows))
+          (at_set views id j new d there);
+      goes = λ j d there has. ⊎_elim
+          (λ here. subst (λ (x : View). HasPart x → x.outlook ≡ Again) here.1 goes has)
+          (λ else. r.goes j d else.1 has)
+          (at_set views id j new d there);
+    }
+
+-- a step after which nobody shows what nobody showed before
+pub reached_more : (event : Event) {w : Parts} {views : List View} (id : ℕ) (v new : View) → IsReachedBy views w → IsPossible event w → get_elem? views id ≡ some v → HasPart v
+    → new.outlook ≡ v.outlook → Stays w.runner (after event w).runner → IsReachedBy (set views id new) (after event w)
+reached_more event {w} id v new r may at part same stays =
+    let goes : new.outlook ≡ Again = same ∙ r.goes id v at part in
+    reached_step event id v new r may at part (stays.none_more ∙ sym (ap rest_in goes)) (λ how shows. (let clash : Again ≡ Ended how = sym goes ∙ shows in cc)) stays.over (λ _. goes)
+
+-- the task comes to rest, and its seat shows it
+pub reached_rest : {w : Parts} {views : List View} (id : ℕ) (v new : View) → IsReachedBy views w → IsPossible Rest w → get_elem? views id ≡ some v → HasPart v
+    → new.outlook ≡ Resting → (HasPart new → ⊥) → is_started w.runner ≡ true → is_over w.runner ≡ false → is_started (after Rest w).runner ≡ false → IsReachedBy (set views id new) (after Rest w)
+reached_rest {w} id v new r may at part shown none on unended off =
+    reached_step Rest id v new r may at part (ap (λ b. one_rest b (is_started (after Rest w).runner)) on ∙ ap (one_rest true) off ∙ sym (ap rest_in shown))
+    (λ how shows. (let clash : Resting ≡ Ended how = sym shown ∙ shows in cc)) (λ how e. (let clash : true ≡ false = sym (ap is_over e) ∙ unended in cc)) (λ has. absurd (none has))
+
+-- the task ends the subscription, and its seat shows it
+pub reached_end : (how : How) {w : Parts} {views : List View} (id : ℕ) (v new : View) → IsReachedBy views w → IsPossible (End how) w → get_elem? views id ≡ some v → HasPart v
+    → new.outlook ≡ Ended how → (HasPart new → ⊥) → is_over w.runner ≡ false → IsReachedBy (set views id new) (after (End how) w)
+reached_end how {w} id v new r may at part shown none unended =
+    reached_step (End how) id v new r may at part (none_on (is_started w.runner) ∙ sym (ap rest_in shown))
+    (λ other shows. (let same : Ended how ≡ Ended other = sym shown ∙ shows in same_end how other same)) (λ other e. (let clash : true ≡ false = sym (ap is_over e) ∙ unended in cc)) (λ has. absurd (none has))
+  where
+    same_end : (a b : How) → Ended a ≡ Ended b → Over a ≡ Over b
+    same_end a b e = cc
+
+-- the same events, and other seats that show as many rests
+reached_by : {w : Parts} {views later : List View} → IsReachedBy views w → rests_shown later ≡ rests_shown views → ((j : ℕ) (d : View) (how : How) → get_elem? later j ≡ some d → d.outlook ≡ Ended how → w.runner ≡ Over how)
+    → ((j : ℕ) (d : View) → get_elem? later j ≡ some d → HasPart d → d.outlook ≡ Again) → IsReachedBy later w
+reached_by r same ends goes = record { events = r.events; cut = r.cut; leads = r.leads; rests = r.rests ∙ sym same; ends = ends; goes = goes }
+
+-- a seat that goes on shows no end
+goes_unended : {C : Type 0} (new d : View) (how : How) → new.outlook ≡ Again → new ≡ d → d.outlook ≡ Ended how → C
+goes_unended new d how goes same shows = let clash : Again ≡ Ended how = sym goes ∙ ap (λ (x : View). x.outlook) same ∙ shows in cc
+
+-- a step that is no event
+pub reached_too : {w : Parts} {views : List View} (id : ℕ) (v new : View) → IsReachedBy views w → get_elem? views id ≡ some v → HasPart v → new.outlook ≡ v.outlook → IsReachedBy (set views id new) w
+reached_too {w} {views} id v new r at part same =
+    let went : v.outlook ≡ Again = r.goes id v at part in
+    let goes : new.outlook ≡ Again = same ∙ went in
+    let later = rests_set views id v new at went in
+    let none : rest_in new.outlook ≡ 0 = ap rest_in goes in
+    reached_by r (omega arith)
+    (λ j d how there shows. ⊎_elim (λ here. goes_unended new d how goes here.1 shows) (λ else. r.ends j d how else.1 shows) (at_set views id j new d there))
+    (λ j d there has. ⊎_elim (λ here. sym (ap (λ (x : View). x.outlook) here.1) ∙ goes) (λ else. r.goes j d else.1 has) (at_set views id j new d there))
+
+-- a seat comes
+pub reached_with : {w : Parts} {views : List View} (new : View) → IsReachedBy views w → new.outlook ≡ Again → IsReachedBy (views ++ new ∷ []) w
+reached_with {w} {views} new r goes =
+    let later = rests_end views new in
+    let none : rest_in new.outlook ≡ 0 = ap rest_in goes in
+    reached_by r (omega arith)
+    (λ j d how there shows. ⊎_elim (λ old. r.ends j d how old shows) (λ here. goes_unended new d how goes here.1 shows) (at_end views new d j there))
+    (λ j d there has. ⊎_elim (λ old. r.goes j d old has) (λ here. sym (ap (λ (x : View). x.outlook) here.1) ∙ goes) (at_end views new d j there))
+
+-- what follows of any list of events
+pub reached_kept : {w : Parts} {views : List View} → IsReachedBy views w → IsKept w
+reached_kept r = Reaching.reached_kept (record { events = r.events; cut = r.cut; leads = r.leads })
+
+pub reached_lawful : {w : Parts} {views : List View} → IsReachedBy views w → IsLawful w
+reached_lawful r = Reaching.reached_lawful (record { events = r.events; cut = r.cut; leads = r.leads })
