@@ -1,7 +1,8 @@
 //! The end of a publisher.
-ghost use Rattle.std.specs.Prelude.{◌≡◌, ◌<◌, ◌≤◌, ◌++◌, [], false, if◌then◌else◌, length, IfOk, replicate, vec_capacity, ◌∷◌};
+ghost use Rattle.std.specs.Prelude.{◌≡◌, ◌<◌, ◌≤◌, ◌++◌, [], false, if◌then◌else◌, length, true, IfOk, IsSome, replicate, vec_capacity, ◌∷◌};
+ghost use Rattle.std.specs.List.{list_all};
 ghost use Rattle.publisher.specs.declared.state.TheConstants.{PARTS};
-ghost use Rattle.publisher.specs.Outcome.{AreHandedIn, Finishes, IsOutcome, Judges, is_undone, outcome_of};
+ghost use Rattle.publisher.specs.Outcome.{AreHandedIn, Finishes, IsOutcome, Judges, has_end, is_undone, outcome_of};
 
 use super::State;
 use super::lanes::{Lost, mark_all, take_lanes};
@@ -61,14 +62,22 @@ impl<L: Ledger + Send, D: Ledger + Send, B: Listener + Send> State<L, D, B> {
     fn outcome(&self, lanes: Vec<NamedLane<B>>) -> Outcome<B>
         ensures lanes { result.lanes ≡ lanes }
         ensures published { result.published ≡ self.now.hub.next }
-        ensures drained { result.drained ≡ self.now.drained }
+        ensures drained { result.drained ≡ true → IsSome self.now.hub.ending × (list_all has_end result.lanes.items ≡ true) }
     {
+        let drained = self.drained && self.hub.ending().is_some() && have_ended(&lanes);
         Outcome {
             lanes,
             published: self.hub.next_serial(),
-            drained: self.drained,
+            drained,
         }
     }
+}
+
+/// Whether each of these subscriptions has ended.
+fn have_ended<B>(lanes: &[NamedLane<B>]) -> bool
+    ensures { result ≡ list_all has_end lanes.now }
+{
+    lanes.iter().all(|left| left.lane.ending.is_some())
 }
 
 /// Room for so many subscriptions.
