@@ -12,7 +12,7 @@ use Rattle.feed_core.specs.World.Kept.{IsKept}
 use Rattle.feed_core.specs.World.Lawful.{IsLawful}
 use Rattle.feed_core.proofs.Interleavings.Reaching as Reaching
 use Rattle.feed_cell.proofs.Lists.{at_end}
-use Rattle.feed_cell.specs.Outlooks.{is_on, one_rest, rests_along, rest_in, rests_shown, HasPart, IsReachedBy}
+use Rattle.feed_cell.specs.Outlooks.{is_started_in, one_rest, rests_along, rest_in, rests_shown, HasPart, IsReachedBy}
 use Rattle.feed_cell.specs.Types.{Event, Make, Rest, End, Runner, Nobody, Coming, Fresh, Ready, Looked, Saw, Measured, Taken, Over, Parts}
 use Rattle.feed_cell.specs.Views.{first_view}
 use Rattle.feed_cell.specs.declared.cell.View.{View}
@@ -67,9 +67,9 @@ rests_end (x ∷ views) new = let later = rests_end views new in omega arith
 
 -- one event more, and the rests by it
 leads_more : (old : WorldState) (events : List Event) (event : Event) (between new : WorldState) (leads : Leads old events between) → Steps event between new
-    → (more : Leads old (events ++ event ∷ []) new) × (rests_along old (events ++ event ∷ []) new more ≡ rests_along old events between leads + one_rest (is_on between.parts) (is_on new.parts))
+    → (more : Leads old (events ++ event ∷ []) new) × (rests_along old (events ++ event ∷ []) new more ≡ rests_along old events between leads + one_rest (is_started_in between.parts) (is_started_in new.parts))
 leads_more old [] event between new e step =
-    let same : one_rest (is_on between.parts) (is_on new.parts) ≡ one_rest (is_on old.parts) (is_on new.parts) = ap (λ (w : WorldState). one_rest (is_on w.parts) (is_on new.parts)) e in
+    let same : one_rest (is_started_in between.parts) (is_started_in new.parts) ≡ one_rest (is_started_in old.parts) (is_started_in new.parts) = ap (λ (w : WorldState). one_rest (is_started_in w.parts) (is_started_in new.parts)) e in
     ((new, subst (λ (w : WorldState). Steps event w new) e step, refl), omega arith)
 leads_more old (first ∷ events) event between new leads step =
     let more = leads_more leads.0 events event between new leads.2 step in

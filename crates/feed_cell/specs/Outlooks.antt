@@ -11,9 +11,9 @@ use Rattle.feed_cell.specs.Types.{Event, Over, Parts}
 use Rattle.feed_cell.specs.declared.cell.View.{View}
 
 -- whether a task was started, and is not at rest since
-abbrev pub is_on : Option Parts → Bool
-is_on None = false
-is_on (Some w) = is_started w.runner
+abbrev pub is_started_in : Option Parts → Bool
+is_started_in None = false
+is_started_in (Some w) = is_started w.runner
 
 -- one, where the task was started before an event and is at rest after it
 abbrev pub one_rest : Bool → Bool → ℕ
@@ -24,7 +24,7 @@ one_rest false _ = 0
 -- how often the task came to rest by the events that led from there
 abbrev pub rests_along : (old : WorldState) (events : List Event) (new : WorldState) → Leads old events new → ℕ
 rests_along old [] new leads = 0
-rests_along old (event ∷ events) new leads = one_rest (is_on old.parts) (is_on leads.0.parts) + rests_along leads.0 events new leads.2
+rests_along old (event ∷ events) new leads = one_rest (is_started_in old.parts) (is_started_in leads.0.parts) + rests_along leads.0 events new leads.2
 
 -- one, where a seat shows that its task came to rest
 abbrev pub rest_in : Outlook → ℕ
