@@ -1,5 +1,5 @@
 //! The end of a publisher.
-ghost use Rattle.std.specs.Prelude.{◌≡◌, ◌<◌, ◌≤◌, ◌++◌, [], false, if◌then◌else◌, length, true, IfOk, IsSome, replicate, vec_capacity, ◌∷◌};
+ghost use Rattle.std.specs.Prelude.{◌≡◌, ◌<◌, ◌≤◌, ◌++◌, [], false, if◌then◌else◌, length, ◌&&◌, is_some, IfOk, replicate, vec_capacity, ◌∷◌};
 ghost use Rattle.std.specs.List.{list_all};
 ghost use Rattle.publisher.specs.declared.state.TheConstants.{PARTS};
 ghost use Rattle.publisher.specs.Outcome.{AreHandedIn, Finishes, IsOutcome, Judges, has_end, is_undone, outcome_of};
@@ -62,7 +62,7 @@ impl<L: Ledger + Send, D: Ledger + Send, B: Listener + Send> State<L, D, B> {
     fn outcome(&self, lanes: Vec<NamedLane<B>>) -> Outcome<B>
         ensures lanes { result.lanes ≡ lanes }
         ensures published { result.published ≡ self.now.hub.next }
-        ensures drained { result.drained ≡ true → IsSome self.now.hub.ending × (list_all has_end result.lanes.items ≡ true) }
+        ensures drained { result.drained ≡ (self.now.drained && is_some self.now.hub.ending && list_all has_end result.lanes.items) }
     {
         let drained = self.drained && self.hub.ending().is_some() && have_ended(&lanes);
         Outcome {
