@@ -1,6 +1,5 @@
 -- What the end of a publisher leaves.
-use Rattle.std.proofs.Common.{◌≡◌, ◌⊎◌, inl, inr, ℕ, zero, suc, ◌<◌, ◌||◌, ◌&&◌, not, is_none, is_some, Bool, true, false, Option, None, Some, Result, Ok, Err, List, [], ◌∷◌, length, replicate, refl, sym, ap, subst, ◌∙◌, arith}
-use Rattle.std.specs.List.{list_all}
+use Rattle.std.proofs.Common.{◌≡◌, ◌⊎◌, inl, inr, ℕ, zero, suc, ◌<◌, ◌||◌, ◌&&◌, not, is_none, Bool, true, false, Option, None, Some, Result, Ok, Err, List, [], ◌∷◌, length, replicate, refl, sym, ap, subst, ◌∙◌, arith}
 use Rattle.std.specs.Prelude.{IsSome, slice_get}
 use Rattle.std.specs.Option.{option_or}
 use Rattle.std.proofs.lemmas.Option.{same_Some, slice_get_within}
@@ -14,8 +13,8 @@ use Rattle.publisher_hub.specs.declared.hub.Hub.{Hub}
 use Rattle.publisher_hub.proofs.Places.{there}
 use Rattle.publisher.specs.Handles.{SubmitterState, SubscriptionState}
 use Rattle.publisher.specs.Lanes.{AreFound, AreMarked, Gathers, IsHandedIn, IsLeftOf}
-use Rattle.publisher.specs.Outcome.{AnyKnows, AreDone, AreHandedIn, Finishes, IsMissing, IsOutcome, IsWhole, Judges, NamesUndone, has_end, is_undone, outcome_of}
-use Rattle.publisher.specs.State.{IsState, PublisherState, Sums}
+use Rattle.publisher.specs.Outcome.{AnyKnows, AreDone, AreHandedIn, Finishes, IsMissing, IsOutcome, IsWhole, Judges, NamesUndone, is_undone, outcome_of}
+use Rattle.publisher.specs.State.{IsState, Sums}
 use Rattle.publisher.specs.Together.{AreTogether, Audits}
 use Rattle.publisher.specs.declared.outcome.NamedLane.{NamedLane}
 use Rattle.publisher.specs.declared.outcome.Outcome.{Outcome}
@@ -52,8 +51,8 @@ module _ {B : Type 0} (told : B → List Signal) (subscriptions : List Subscript
   same_dropping : new.dropping ≡ old.dropping
   same_dropping = ap (λ (h : HubState). h.progress.dropping) gathers.rest
 
-  pub is_outcome_of : outcome.published ≡ new.next → (outcome.drained ≡ true → list_all has_end outcome.lanes.items ≡ true) → IsOutcome told outcome
-  is_outcome_of published drained = is_outcome told old handed (length handed) sound outcome gathers.left (published ∙ same_next) drained
+  pub is_outcome_of : outcome.published ≡ new.next → IsOutcome told outcome
+  is_outcome_of published = is_outcome told old handed (length handed) sound outcome gathers.left (published ∙ same_next)
 
   module _ (submitters : List SubmitterState) (published dropping parts drop_parts : ℕ) (sources : List Bool) (knows : Bool) (missing : Option (List ℕ))
       (are : AreTogether submitters [] published dropping parts drop_parts sources knows) (audits : Audits sources published dropping new.next new.dropping missing) where
@@ -143,15 +142,6 @@ handed_none subscriptions [] e = record { rising = λ i j left other at on less.
 handed_none subscriptions (left ∷ lanes) e = cc
 
 -- one that was handed in knows that the publisher is closed
--- where it is drained, all lanes have ended
-pub drained_ended : {B : Type 0} (s : PublisherState) (outcome : Outcome B) → outcome.drained ≡ (s.drained && is_some s.hub.ending && list_all has_end outcome.lanes.items)
-    → outcome.drained ≡ true → list_all has_end outcome.lanes.items ≡ true
-drained_ended s outcome is all = by s.drained (is_some s.hub.ending) (list_all has_end outcome.lanes.items) (sym is ∙ all) where
-  by : (a b c : Bool) → (a && b && c) ≡ true → c ≡ true
-  by true true c e = e
-  by true false c e = cc
-  by false b c e = cc
-
 pub closed_by : (submitters : List SubmitterState) (published dropping parts drop_parts : ℕ) (sources : List Bool) (knows also : Bool) → AreTogether submitters [] published dropping parts drop_parts sources knows
     → AnyKnows submitters → (knows || also) ≡ true
 closed_by submitters published dropping parts drop_parts sources knows also are any = by (are.knows_is any) where

@@ -1,7 +1,6 @@
 -- What is left of the subscriptions of a sound Hub keeps the rules of Flow, and agrees.
 use Rattle.std.proofs.Common.{◌≡◌, ℕ, ◌<◌, ◌≤◌, ◌||◌, Bool, true, false, is_some, Option, None, Some, option_map, List, ◌∷◌, map, refl, sym, ap, subst, ◌∙◌, arith}
 use Rattle.std.specs.Prelude.{IsSome, slice_get, Contains}
-use Rattle.std.specs.List.{list_all}
 use Rattle.std.proofs.lemmas.List.{length-map}
 use Rattle.std.proofs.lemmas.Option.{slice_get_within}
 use Rattle.feed_core.specs.Prelude.{Item, Signal, Subscribed, Next, Complete, How}
@@ -16,7 +15,7 @@ use Rattle.publisher_hub.specs.declared.hub.Hub.{Hub}
 use Rattle.publisher_hub.proofs.LiveRounds.{get_before_map, get_mapped}
 use Rattle.publisher_hub.proofs.Places.{there}
 use Rattle.publisher.specs.Lanes.{AreLeft, IsLeftOf}
-use Rattle.publisher.specs.Outcome.{IsLane, IsOutcome, TookPart, has_end}
+use Rattle.publisher.specs.Outcome.{IsLane, IsOutcome, TookPart}
 use Rattle.publisher.specs.declared.outcome.NamedLane.{NamedLane}
 use Rattle.publisher.specs.declared.outcome.Outcome.{Outcome}
 
@@ -83,8 +82,8 @@ module _ {B : Type 0} (told : B → List Signal) (hub : Hub DeskState) (handed :
     pub few_drops : left.dropped ≤ hub.dropping
     few_drops = let drops = (sound.entries left.entry (entry_of end_of is.entry) stands).drops in let same = is.left_is.dropped in omega arith
 
-  pub is_outcome : (outcome : Outcome B) → AreLeft told hub handed most outcome.lanes.items → outcome.published ≡ hub.next → (outcome.drained ≡ true → list_all has_end outcome.lanes.items ≡ true) → IsOutcome told outcome
-  is_outcome outcome are published drained = record {
+  pub is_outcome : (outcome : Outcome B) → AreLeft told hub handed most outcome.lanes.items → outcome.published ≡ hub.next → IsOutcome told outcome
+  is_outcome outcome are published = record {
     lanes = map lane_of_desk are.desks;
     as_many = length-map are.desks lane_of_desk ∙ are.as_many;
     each = λ i left lane at on.
@@ -99,5 +98,4 @@ module _ {B : Type 0} (told : B → List Signal) (hub : Hub DeskState) (handed :
         (accepts left.0 desk.0 (are.each i left.0 desk.0 left.1 desk.1.0) k x (ap (λ (l : LaneState). slice_get l.accepted k) desk.1.1 ∙ on))
         (accepts other_left.0 other_desk.0 (are.each j other_left.0 other_desk.0 other_left.1 other_desk.1.0) n y (ap (λ (l : LaneState). slice_get l.accepted n) other_desk.1.1 ∙ on_other))
         same;
-    drained = drained;
   }

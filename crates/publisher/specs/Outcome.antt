@@ -1,6 +1,5 @@
 -- What a publisher leaves: what its subscribers were told, and of what (`SubmissionPublisher` and `Flow`, Java SE 17; Reactive Streams 1.0).
-use Rattle.std.specs.Prelude.{◌≡◌, ◌⊎◌, ⊤, ℕ, ◌+◌, ◌<◌, ◌≤◌, ◌||◌, ◌&&◌, Bool, true, false, is_none, is_some, Option, None, Some, IsSome, Result, Ok, Err, List, [], ◌++◌, length, slice_get, sum_by, codes, decimal}
-use Rattle.std.specs.List.{list_all}
+use Rattle.std.specs.Prelude.{◌≡◌, ◌⊎◌, ⊤, ℕ, ◌+◌, ◌<◌, ◌≤◌, ◌||◌, ◌&&◌, Bool, true, false, is_none, Option, None, Some, IsSome, Result, Ok, Err, List, [], ◌++◌, length, slice_get, sum_by, codes, decimal}
 use Rattle.flow_rules.specs.declared.refusal.Refusal.{Refusal}
 use Rattle.feed_core.specs.Prelude.{Item, Signal, How}
 use Rattle.feed_core.specs.Lane.{LaneState, IsFlow, IsSettled}
@@ -47,17 +46,12 @@ AreAgreed lanes = (i j k n : ℕ) (one other : LaneState) (x y : Item)
     → slice_get lanes i ≡ Some one → slice_get one.accepted k ≡ Some x → slice_get lanes j ≡ Some other → slice_get other.accepted n ≡ Some y
     → x.serial ≡ y.serial → x ≡ y
 
--- it has ended
-abbrev pub has_end : {B : Type 0} → NamedLane B → Bool
-has_end left = is_some left.lane.ending
-
--- what a publisher leaves: each subscription was a lane, and these agree; it is drained only where all of these have ended
+-- what a publisher leaves: each subscription was a lane, and these agree
 pub record IsOutcome {B : Type 0} (told : B → List Signal) (outcome : Outcome B) : Type 0 where
   pub lanes : List LaneState
   pub as_many : length lanes ≡ length outcome.lanes.items
   pub each : (i : ℕ) (left : NamedLane B) (lane : LaneState) → slice_get outcome.lanes.items i ≡ Some left → slice_get lanes i ≡ Some lane → IsLane told outcome.published left lane
   pub agreed : AreAgreed lanes
-  pub drained : outcome.drained ≡ true → list_all has_end outcome.lanes.items ≡ true
 
 -- what is left, whatever the answer of `finish`
 abbrev pub outcome_of : {B : Type 0} → Result (Outcome B) (Refusal × Outcome B) → Outcome B

@@ -9,8 +9,7 @@ pub struct Outcome<B> {
     pub lanes: Vec<NamedLane<B>>,
     /// How many items were published.
     pub published: u64,
-    /// Whether the last ticket of the count was spent: the publisher was closed, and each subscription of before has ended. It is so only
-    /// where each of these lanes has an end, too.
+    /// Whether the last ticket of the count was spent: the publisher was closed, and each subscription of before has ended.
     pub drained: bool,
 }
 

@@ -1,8 +1,7 @@
 //! The end of a publisher.
-ghost use Rattle.std.specs.Prelude.{◌≡◌, ◌<◌, ◌≤◌, ◌++◌, [], false, if◌then◌else◌, length, ◌&&◌, is_some, IfOk, replicate, vec_capacity, ◌∷◌};
-ghost use Rattle.std.specs.List.{list_all};
+ghost use Rattle.std.specs.Prelude.{◌≡◌, ◌<◌, ◌≤◌, ◌++◌, [], false, if◌then◌else◌, length, IfOk, replicate, vec_capacity, ◌∷◌};
 ghost use Rattle.publisher.specs.declared.state.TheConstants.{PARTS};
-ghost use Rattle.publisher.specs.Outcome.{AreHandedIn, Finishes, IsOutcome, Judges, has_end, is_undone, outcome_of};
+ghost use Rattle.publisher.specs.Outcome.{AreHandedIn, Finishes, IsOutcome, Judges, is_undone, outcome_of};
 
 use super::State;
 use super::lanes::{Lost, mark_all, take_lanes};
@@ -62,22 +61,14 @@ impl<L: Ledger + Send, D: Ledger + Send, B: Listener + Send> State<L, D, B> {
     fn outcome(&self, lanes: Vec<NamedLane<B>>) -> Outcome<B>
         ensures lanes { result.lanes ≡ lanes }
         ensures published { result.published ≡ self.now.hub.next }
-        ensures drained { result.drained ≡ (self.now.drained && is_some self.now.hub.ending && list_all has_end result.lanes.items) }
+        ensures drained { result.drained ≡ self.now.drained }
     {
-        let drained = self.drained && self.hub.ending().is_some() && have_ended(&lanes);
         Outcome {
             lanes,
             published: self.hub.next_serial(),
-            drained,
+            drained: self.drained,
         }
     }
-}
-
-/// Whether each of these subscriptions has ended.
-fn have_ended<B>(lanes: &[NamedLane<B>]) -> bool
-    ensures { result ≡ list_all has_end lanes.now }
-{
-    lanes.iter().all(|left| left.lane.ending.is_some())
 }
 
 /// Room for so many subscriptions.

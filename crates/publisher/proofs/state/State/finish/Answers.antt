@@ -5,7 +5,7 @@ use Rattle.publisher.specs.Lanes.{AreMarked, Gathers}
 use Rattle.publisher.specs.Outcome.{AreHandedIn, IsMissing, IsOutcome, IsWhole}
 use Rattle.publisher.specs.State.{PublisherState}
 use Rattle.publisher.specs.Together.{Audits}
-use Rattle.publisher.proofs.Finishing.{all_found, closed_by, drained_ended, finishes, handed_in, handed_none, is_missing, is_outcome_of, is_there, is_whole, judged_same, state_gathered}
+use Rattle.publisher.proofs.Finishing.{all_found, closed_by, finishes, handed_in, handed_none, is_missing, is_outcome_of, is_there, is_whole, judged_same, state_gathered}
 use Rattle.publisher.proofs.LeftLanes.{going_none}
 use Rattle.publisher.proofs.Outcomes.{is_outcome}
 use Rattle.publisher.proofs.state.State.finish.Given.{Over}
@@ -16,7 +16,7 @@ pub returns-in_default-clause-outcome : goal.returns-in_default-clause-outcome
 returns-in_default-clause-outcome g c =
     let empty = ap (λ v. v.items) c.outcome.ensures.lanes ∙ c.new.ensures.items in
     let published = c.outcome.ensures.published ∙ ap (λ (s : PublisherState). s.hub.next) (sym c.self.view_is) in
-    is_outcome g.B.Listener.told c.self.inside.hub [] 0 c.self.invariant.sound c.outcome.result (going_none g.B.Listener.told c.self.inside.hub [] c.outcome.result.lanes.items empty c.self.invariant.sound).gathers.left published (drained_ended c.args.self.now c.outcome.result c.outcome.ensures.drained)
+    is_outcome g.B.Listener.told c.self.inside.hub [] 0 c.self.invariant.sound c.outcome.result (going_none g.B.Listener.told c.self.inside.hub [] c.outcome.result.lanes.items empty c.self.invariant.sound).gathers.left published
 
 pub returns-in_default-clause-handed : goal.returns-in_default-clause-handed
 returns-in_default-clause-handed g c = handed_none c.args.subscriptions.now c.outcome.result.lanes.items (ap (λ v. v.items) c.outcome.ensures.lanes ∙ c.new.ensures.items)
@@ -29,7 +29,7 @@ returns-then-gone-all-clause-outcome g c =
     let empty = ap (λ v. v.items) c.outcome-then-gone-all.ensures.lanes ∙ c.new-then-gone-all.ensures.items in
     let gathers = c.take_lanes-lost.ensures.gathers in
     let hub = c.take_lanes-lost.new.hub in
-    is_outcome g.B.Listener.told hub [] 0 gathers.sound c.outcome-then-gone-all.result (going_none g.B.Listener.told hub [] c.outcome-then-gone-all.result.lanes.items empty gathers.sound).gathers.left c.outcome-then-gone-all.ensures.published (drained_ended (record { hub = c.take_lanes-lost.new.hub; drained = c.self.inside.drained }) c.outcome-then-gone-all.result c.outcome-then-gone-all.ensures.drained)
+    is_outcome g.B.Listener.told hub [] 0 gathers.sound c.outcome-then-gone-all.result (going_none g.B.Listener.told hub [] c.outcome-then-gone-all.result.lanes.items empty gathers.sound).gathers.left c.outcome-then-gone-all.ensures.published
 
 pub returns-then-gone-all-clause-handed : goal.returns-then-gone-all-clause-handed
 returns-then-gone-all-clause-handed g c = handed_none c.args.subscriptions.now c.outcome-then-gone-all.result.lanes.items (ap (λ v. v.items) c.outcome-then-gone-all.ensures.lanes ∙ c.new-then-gone-all.ensures.items)
@@ -54,7 +54,7 @@ published : (g : Over) (c : After-outcome-outcome g) → c.outcome-outcome.resul
 published g c = c.outcome-outcome.ensures.published ∙ ap (λ (s : PublisherState). s.hub.next) (c.audit-missing.ensures.same ∙ c.put_together-together.ensures.same)
 
 outcome_is : (g : Over) (c : After-outcome-outcome g) → IsOutcome g.B.Listener.told c.outcome-outcome.result
-outcome_is g c = is_outcome_of g.B.Listener.told c.args.subscriptions.now c.self.inside.hub c.take_lanes-lost.new.hub c.self.inside.entries c.deref.result.now c.outcome-outcome.result c.take_lanes-lost.result.first c.take_lanes-lost.result.gone c.mark_all-all.result c.self.invariant.sound (marked g c) (gathered g c) (published g c) (drained_ended c.audit-missing.new.self c.outcome-outcome.result c.outcome-outcome.ensures.drained)
+outcome_is g c = is_outcome_of g.B.Listener.told c.args.subscriptions.now c.self.inside.hub c.take_lanes-lost.new.hub c.self.inside.entries c.deref.result.now c.outcome-outcome.result c.take_lanes-lost.result.first c.take_lanes-lost.result.gone c.mark_all-all.result c.self.invariant.sound (marked g c) (gathered g c) (published g c)
 
 handed_is : (g : Over) (c : After-outcome-outcome g) → AreHandedIn c.args.subscriptions.now c.outcome-outcome.result.lanes.items
 handed_is g c = handed_in g.B.Listener.told c.args.subscriptions.now c.self.inside.hub c.take_lanes-lost.new.hub c.self.inside.entries c.deref.result.now c.outcome-outcome.result c.take_lanes-lost.result.first c.take_lanes-lost.result.gone c.mark_all-all.result c.self.invariant.sound (marked g c) (gathered g c)
