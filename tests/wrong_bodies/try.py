@@ -6,9 +6,9 @@ that file. Contracts separate functions, so edits of different functions are tri
 function, each but the first in a copy of it, where it can be copied. Where proof files are copied, too, a copy with the
 function's own body has to have no open goal. It counts as a refusal only where the edited function itself has an open goal:
 a text that can't be read, a proof file that names what is gone, or a callee that is not proved is none. What is not refused
-so is tried alone before it is reported. An edit of several functions, or of anything but a body (a constant, a type, a
-clause, an invariant), is tried alone; of the last, any open goal of the crate counts. Where edits are of bodies alone, only
-those functions are checked, with what they call.
+so is tried without the others, and alone before it is reported. An edit of several functions, or of anything but a body (a
+constant, a type, a clause, an invariant), is tried alone; of the last, any open goal of the crate counts. Where edits are of
+bodies alone, only those functions are checked, with what they call.
 
 It works on a copy in a temporary folder. The crates are proved there first as they are, and those below others built. With
 --proved SUM that is left out where the copy has this sum: its sources were proved, and what is built of them in out/rlib is
@@ -110,10 +110,18 @@ class Crate:
             return
         known = check.verdicts
         doubted = [it for it in controls if not check.is_met(it.name_among(self.name, known))]
+        doubts = lambda changes: any(it.number and it.is_of(other) for it in changes for other in doubted)
+        left = []
         for edit, changes in tried:
             edit.is_refused, edit.why = check.judge([it.name_among(self.name, known) for it in changes])
-            is_doubted = any(it.number and it.is_of(other) for it in changes for other in doubted)
-            if (is_doubted or not edit.is_refused) and len(batch) > 1:
+            if doubts(changes) or not edit.is_refused:
+                left.append(edit)
+        if len(left) < len(batch):
+            # With nothing else edited, they may well be refused together.
+            for again in batches(left, self.folder):
+                self.try_batch(again)
+        elif len(batch) > 1:
+            for edit in left:
                 self.try_batch([edit])
 
     def try_all(self, base, room):

@@ -1,8 +1,9 @@
 -- What the end of a publisher leaves.
-use Rattle.std.proofs.Common.{◌≡◌, ◌⊎◌, inl, inr, ℕ, zero, suc, ◌<◌, ◌||◌, ◌&&◌, not, is_none, Bool, true, false, Option, None, Some, Result, Ok, Err, List, [], ◌∷◌, length, replicate, refl, sym, ap, subst, ◌∙◌, arith}
+use Rattle.std.proofs.Common.{◌≡◌, ◌⊎◌, inl, inr, ℕ, zero, suc, ◌<◌, ◌||◌, ◌&&◌, not, is_none, is_some, Bool, true, false, Option, None, Some, Result, Ok, Err, List, [], ◌∷◌, length, replicate, refl, sym, ap, subst, ◌∙◌, arith}
 use Rattle.std.specs.Prelude.{IsSome, slice_get}
 use Rattle.std.specs.Option.{option_or}
 use Rattle.std.proofs.lemmas.Option.{same_Some, slice_get_within}
+use Rattle.flow_rules.specs.declared.ending.Ending.{Ending}
 use Rattle.flow_rules.specs.declared.refusal.Refusal.{Refusal}
 use Rattle.feed_core.specs.Prelude.{How, Signal}
 use Rattle.feed_core.specs.Desk.{DeskState}
@@ -116,26 +117,28 @@ module _ {B : Type 0} (submitters : List SubmitterState) (subscriptions : List S
   judged_same (Err (Refusal.BadCommand, same)) judges = absurd judges
   judged_same (Err (Refusal.Exhausted, same)) judges = absurd judges
 
-  pub finishes : (result : Result (Outcome B) (Refusal × Outcome B)) → Judges outcome closed result → IsWhole submitters subscriptions outcome → (AnyKnows submitters → closed ≡ true) → Finishes submitters subscriptions result
-  finishes (Ok same) judges whole knows =
-      let done : AreDone submitters outcome.lanes.items = record {
+  pub finishes : (result : Result (Outcome B) (Refusal × Outcome B)) → Judges outcome closed result → IsWhole submitters subscriptions outcome → (AnyKnows submitters → closed ≡ true) → (outcome.drained ≡ true → closed ≡ true)
+      → Finishes submitters subscriptions result
+  finishes (Ok same) judges whole knows drained =
+      let done : AreDone submitters outcome = record {
         rests = λ i left at. rests left (judges.1 i left at);
         ended = λ any i left at. ends left (knows any) (judges.1 i left at);
+        drained = λ last i left at. ends left (drained last) (judges.1 i left at);
       } in
-      subst (λ (o : Outcome B). IsWhole submitters subscriptions o × AreDone submitters o.lanes.items) (sym judges.0) (whole, done)
-  finishes (Err (Refusal.Unsettled names, same)) judges whole knows = subst (λ (o : Outcome B). IsWhole submitters subscriptions o × NamesUndone names.items o.lanes.items) (sym judges.0) (whole, judges.1)
-  finishes (Err (Refusal.BadCapacity, same)) judges whole knows = absurd judges
-  finishes (Err (Refusal.Closed ending, same)) judges whole knows = absurd judges
-  finishes (Err (Refusal.Duplicate, same)) judges whole knows = absurd judges
-  finishes (Err (Refusal.TooMany, same)) judges whole knows = absurd judges
-  finishes (Err (Refusal.NoMemory, same)) judges whole knows = absurd judges
-  finishes (Err (Refusal.LineTooLong, same)) judges whole knows = absurd judges
-  finishes (Err (Refusal.BadWorkers, same)) judges whole knows = absurd judges
-  finishes (Err (Refusal.StillHeld name, same)) judges whole knows = absurd judges
-  finishes (Err (Refusal.Unknown, same)) judges whole knows = absurd judges
-  finishes (Err (Refusal.WouldWait, same)) judges whole knows = absurd judges
-  finishes (Err (Refusal.BadCommand, same)) judges whole knows = absurd judges
-  finishes (Err (Refusal.Exhausted, same)) judges whole knows = absurd judges
+      subst (λ (o : Outcome B). IsWhole submitters subscriptions o × AreDone submitters o) (sym judges.0) (whole, done)
+  finishes (Err (Refusal.Unsettled names, same)) judges whole knows drained = subst (λ (o : Outcome B). IsWhole submitters subscriptions o × NamesUndone names.items o.lanes.items) (sym judges.0) (whole, judges.1)
+  finishes (Err (Refusal.BadCapacity, same)) judges whole knows drained = absurd judges
+  finishes (Err (Refusal.Closed ending, same)) judges whole knows drained = absurd judges
+  finishes (Err (Refusal.Duplicate, same)) judges whole knows drained = absurd judges
+  finishes (Err (Refusal.TooMany, same)) judges whole knows drained = absurd judges
+  finishes (Err (Refusal.NoMemory, same)) judges whole knows drained = absurd judges
+  finishes (Err (Refusal.LineTooLong, same)) judges whole knows drained = absurd judges
+  finishes (Err (Refusal.BadWorkers, same)) judges whole knows drained = absurd judges
+  finishes (Err (Refusal.StillHeld name, same)) judges whole knows drained = absurd judges
+  finishes (Err (Refusal.Unknown, same)) judges whole knows drained = absurd judges
+  finishes (Err (Refusal.WouldWait, same)) judges whole knows drained = absurd judges
+  finishes (Err (Refusal.BadCommand, same)) judges whole knows drained = absurd judges
+  finishes (Err (Refusal.Exhausted, same)) judges whole knows drained = absurd judges
 
 pub handed_none : {B : Type 0} (subscriptions : List SubscriptionState) (lanes : List (NamedLane B)) → lanes ≡ [] → AreHandedIn subscriptions lanes
 handed_none subscriptions [] e = record { rising = λ i j left other at on less. cc; each = λ i left at. cc }
@@ -152,6 +155,14 @@ closed_by submitters published dropping parts drop_parts sources knows also are 
   by : (knows ≡ true) ⊎ AnyKnows [] → (knows || also) ≡ true
   by (inl known) = either knows known
   by (inr one) = let no = one.2.0 in cc
+
+-- the last ticket was spent, so the publisher is closed
+pub closed_if_drained : (hub : HubState) (sums : Sums) (knows closed drained : Bool) → IsState hub sums → drained ≡ sums.drained → closed ≡ is_some hub.progress.ending → drained ≡ true → (knows || closed) ≡ true
+closed_if_drained hub sums knows closed drained is same tells last = by knows closed hub.progress.ending tells (is.closed (sym same ∙ last)) where
+  by : (a b : Bool) (ending : Option Ending) → b ≡ is_some ending → IsSome ending → (a || b) ≡ true
+  by true b ending e some = refl
+  by false b (Some how) e some = e
+  by false b None e some = cc
 
 pub all_found : {B : Type 0} (handed : List Bool) (most : ℕ) (lanes : List (NamedLane B)) (lost missing : Option (List ℕ)) (gone : Bool) → option_or lost missing ≡ None → AreFound handed most lanes lost gone → length lanes ≡ most
 all_found handed most lanes None missing gone is found = found.many

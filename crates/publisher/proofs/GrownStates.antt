@@ -1,5 +1,5 @@
 -- What stands behind a publisher's lock after a publication, a close, or one more submitter or subscription.
-use Rattle.std.proofs.Common.{◌≡◌, ℕ, zero, suc, ◌+◌, Option, None, Some, Result, Ok, Err, List, length, map, refl, sym, ap, subst, ◌∙◌, arith}
+use Rattle.std.proofs.Common.{◌≡◌, ℕ, zero, suc, ◌+◌, Bool, true, false, ◌||◌, ◌&&◌, Option, None, Some, Result, Ok, Err, List, length, map, refl, sym, ap, subst, ◌∙◌, arith}
 use Rattle.std.specs.Prelude.{IfOk, IsSome, OnErr, OnOk}
 use Rattle.std.proofs.lemmas.List.{length-map, length-append}
 use Rattle.close_count.specs.declared.opening.Opening.{Opening}
@@ -39,6 +39,7 @@ state_offered v w x sums published dropping is sound offers one_more drops = rec
   none_dropped = is.none_dropped;
   sources_are = is.sources_are ∙ sym (ap (λ (h : HubState). h.sources) offers.rest);
   entries_are = is.entries_are ∙ sym offers.entries.as_long;
+  closed = λ drained. subst IsSome (sym (ap (λ (h : HubState). h.progress.ending) offers.rest)) (is.closed drained);
 }
 
 -- the answer to an offer tells whether any dropped
@@ -47,26 +48,11 @@ drop_is zero lag dropping = omega arith
 drop_is (suc n) lag dropping = refl
 
 -- the first close
-state_closed : (v w : HubState) (ending : Ending) (sums : Sums) → IsState v sums → IsSound w → IsClosed ending v w → IsState w sums
-state_closed v w ending sums is sound closed = record {
-  sound = sound;
-  sized = subst IsCapacity (sym (ap (λ (h : HubState). h.progress.capacity) closed.rest)) is.sized;
-  opened = λ none. let no : Some ending ≡ None = sym (ap (λ (h : HubState). h.progress.ending) closed.rest) ∙ none in cc;
-  published_is = is.published_is ∙ sym (ap (λ (h : HubState). h.progress.next) closed.rest);
-  dropping_is = is.dropping_is ∙ sym (ap (λ (h : HubState). h.progress.dropping) closed.rest);
-  parts_are = is.parts_are;
-  none_published = is.none_published;
-  drop_parts_are = is.drop_parts_are;
-  none_dropped = is.none_dropped;
-  sources_are = is.sources_are ∙ sym (ap (λ (h : HubState). h.sources) closed.rest);
-  entries_are = is.entries_are ∙ sym closed.entries.as_long;
-}
-
 looked_before : (v w : HubState) (ending : Ending) (closing : IsClosedLooking ending v w) → Stays v closing.middle
 looked_before v w ending closing = stays_looked v closing.middle closing.looked
 
-pub state_closed_looking : (v w : HubState) (ending : Ending) (sums : Sums) → IsState v sums → IsSound w → IsClosedLooking ending v w → IsState w sums
-state_closed_looking v w ending sums is sound closing =
+pub state_closed_looking : (v w : HubState) (ending : Ending) (sums : Sums) (drained : Bool) → IsState v sums → IsSound w → IsClosedLooking ending v w → IsState w (record sums { drained = drained })
+state_closed_looking v w ending sums drained is sound closing =
     let before = looked_before v w ending closing in
     let closed = closing.closed in
     record {
@@ -81,6 +67,7 @@ state_closed_looking v w ending sums is sound closing =
       none_dropped = is.none_dropped;
       sources_are = is.sources_are ∙ sym (ap (λ (h : HubState). h.sources) closed.rest ∙ before.sources);
       entries_are = is.entries_are ∙ sym (closed.entries.as_long ∙ before.many);
+      closed = λ last. subst IsSome (sym (ap (λ (h : HubState). h.progress.ending) closed.rest)) refl;
     }
 
 -- one more submitter, with its parts of the ledgers
@@ -99,11 +86,12 @@ state_with_source v w sums source parts amount drop_parts drop_amount is sound r
   none_dropped = let n = is.none_dropped in omega arith;
   sources_are = sym (ap (λ (h : HubState). h.sources) rest);
   entries_are = is.entries_are ∙ sym (ap (λ (h : HubState). length h.entries) rest);
+  closed = λ drained. subst IsSome (sym (ap (λ (h : HubState). h.progress.ending) rest)) (is.closed drained);
 }
 
 -- a new publisher
 pub state_at_start : (capacity : ℕ) (opening : Opening) (w : HubState) (parts drop_parts : ℕ) → w ≡ record (hub_at_start capacity 0) { opening = Some opening } → IsSound w → IsCapacity capacity → parts ≡ PARTS → drop_parts ≡ PARTS
-    → IsState w (record { published = 0; dropping = 0; parts = parts; amount = 0; drop_parts = drop_parts; drop_amount = 0; sources = 0; entries = 0 })
+    → IsState w (record { published = 0; dropping = 0; parts = parts; amount = 0; drop_parts = drop_parts; drop_amount = 0; sources = 0; entries = 0; drained = false })
 state_at_start capacity opening w parts drop_parts start sound sized some_parts some_drop_parts = record {
   sound = sound;
   sized = subst IsCapacity (sym (ap (λ (h : HubState). h.progress.capacity) start)) sized;
@@ -116,6 +104,7 @@ state_at_start capacity opening w parts drop_parts start sound sized some_parts 
   none_dropped = refl;
   sources_are = sym (ap (λ (h : HubState). h.sources) start);
   entries_are = sym (ap (λ (h : HubState). length h.entries) start);
+  closed = λ drained. cc;
 }
 
 -- one more subscription
@@ -138,15 +127,33 @@ state_admitted name feed ticket number due_before due_after old new sums is soun
       let added = length-map new.entries.items (entry_of end_of) ∙ ap length admits.entries ∙ length-append admits.middle.entries.items _ in
       let first = admits.is_next in
       omega arith;
+  closed = λ drained. subst IsSome (sym (ap (λ (h : HubState). h.progress.ending) admits.rest)) (is.closed drained);
 }
 
--- the first close, or a later one, which changes nothing
-pub state_ended : (old new : Hub DeskState) (ending : Ending) (sums : Sums) → IsState (hub_of end_of old) sums → IsSound (hub_of end_of new)
-    → (old.ending ≡ None → IsClosedLooking ending (hub_of end_of old) (hub_of end_of new)) → (IsSome old.ending → new ≡ old) → IsState (hub_of end_of new) sums
-state_ended old new ending sums is sound first later = by old.ending refl where
-  by : (was : Option Ending) → old.ending ≡ was → IsState (hub_of end_of new) sums
-  by None e = state_closed_looking (hub_of end_of old) (hub_of end_of new) ending sums is sound (first e)
-  by (Some known) e = subst (λ h. IsState (hub_of end_of h) sums) (sym (later (rw e refl))) is
+-- whether the last ticket was spent, where it is only once the publisher is closed
+state_drained : (v : HubState) (sums : Sums) (drained : Bool) → IsState v sums → (drained ≡ true → IsSome v.progress.ending) → IsState v (record sums { drained = drained })
+state_drained v sums drained is closed = record {
+  sound = is.sound;
+  sized = is.sized;
+  opened = is.opened;
+  published_is = is.published_is;
+  dropping_is = is.dropping_is;
+  parts_are = is.parts_are;
+  none_published = is.none_published;
+  drop_parts_are = is.drop_parts_are;
+  none_dropped = is.none_dropped;
+  sources_are = is.sources_are;
+  entries_are = is.entries_are;
+  closed = closed;
+}
+
+-- the first close, or a later one, which changes nothing in the Hub
+pub state_ended : (old new : Hub DeskState) (ending : Ending) (sums : Sums) (drained : Bool) → IsState (hub_of end_of old) sums → IsSound (hub_of end_of new)
+    → (old.ending ≡ None → IsClosedLooking ending (hub_of end_of old) (hub_of end_of new)) → (IsSome old.ending → new ≡ old) → IsState (hub_of end_of new) (record sums { drained = drained })
+state_ended old new ending sums drained is sound first later = by old.ending refl where
+  by : (was : Option Ending) → old.ending ≡ was → IsState (hub_of end_of new) (record sums { drained = drained })
+  by None e = state_closed_looking (hub_of end_of old) (hub_of end_of new) ending sums drained is sound (first e)
+  by (Some known) e = subst (λ h. IsState (hub_of end_of h) (record sums { drained = drained })) (sym (later (rw e refl))) (state_drained (hub_of end_of old) sums drained is (λ last. rw e refl))
 
 -- one more ticket
 pub opened_after : (result : Result (Option Ticket) Refusal) (old new : Hub DeskState) → IfOk result (λ ticket. AddsTicket ticket old.opening new.opening) → OnErr result (new ≡ old) → IsSome old.opening → IsSome new.opening
@@ -168,8 +175,17 @@ state_ticketed old new sums is sound rest opened = record {
   none_dropped = is.none_dropped;
   sources_are = is.sources_are ∙ sym (ap (λ (h : Hub DeskState). h.sources) rest);
   entries_are = is.entries_are ∙ sym (ap (λ (h : Hub DeskState). length (map (entry_of end_of) h.entries.items)) rest);
+  closed = λ drained. subst IsSome (sym (ap (λ (h : Hub DeskState). h.ending) rest)) (is.closed drained);
 }
 
 pub on_ok_all : {T E : Type 0} {P : Type 0} (r : Result T E) → P → OnOk r P
 on_ok_all (Ok x) p = p
 on_ok_all (Err x) p = cc
+
+-- a ticket was spent: it was the last only where the publisher is closed
+pub state_noted : (v : HubState) (sums : Sums) (is_last closed : Bool) → IsState v sums → (closed ≡ true → IsSome v.progress.ending) → IsState v (record sums { drained = sums.drained || (is_last && closed) })
+state_noted v sums is_last closed is shut = state_drained v sums (sums.drained || (is_last && closed)) is (by sums.drained is_last closed is.closed shut) where
+  by : (was last now : Bool) → (was ≡ true → IsSome v.progress.ending) → (now ≡ true → IsSome v.progress.ending) → (was || (last && now)) ≡ true → IsSome v.progress.ending
+  by true last now before here drained = before refl
+  by false true now before here drained = here drained
+  by false false now before here drained = cc

@@ -75,6 +75,7 @@ state_stays v w sums is sound stays = record {
   none_dropped = is.none_dropped;
   sources_are = is.sources_are ∙ sym stays.sources;
   entries_are = is.entries_are ∙ sym stays.many;
+  closed = λ drained. subst IsSome (sym (ap (λ (p : Progress). p.ending) stays.progress)) (is.closed drained);
 }
 
 pub state_all_looked : (old new : Hub DeskState) (glances : List (Option Standing)) (sums : Sums) → IsState (hub_of end_of old) sums → IsSound (hub_of end_of new)

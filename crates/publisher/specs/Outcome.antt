@@ -78,10 +78,11 @@ pub record IsWhole {B : Type 0} (submitters : List SubmitterState) (subscription
 abbrev pub AnyKnows : List SubmitterState → Type 0
 AnyKnows submitters = (i : ℕ) × (s : SubmitterState) × ((slice_get submitters i ≡ Some s) × IsSome s.known)
 
--- nothing runs, and all has ended where a submitter knows that the publisher is closed
-pub record AreDone {B : Type 0} (submitters : List SubmitterState) (lanes : List (NamedLane B)) : Type 0 where
-  pub rests : (i : ℕ) (left : NamedLane B) → slice_get lanes i ≡ Some left → left.lane.running ≡ false
-  pub ended : AnyKnows submitters → (i : ℕ) (left : NamedLane B) → slice_get lanes i ≡ Some left → IsSome left.lane.ending
+-- nothing runs, and all has ended where a submitter knows that the publisher is closed, or where the last ticket was spent
+pub record AreDone {B : Type 0} (submitters : List SubmitterState) (outcome : Outcome B) : Type 0 where
+  pub rests : (i : ℕ) (left : NamedLane B) → slice_get outcome.lanes.items i ≡ Some left → left.lane.running ≡ false
+  pub ended : AnyKnows submitters → (i : ℕ) (left : NamedLane B) → slice_get outcome.lanes.items i ≡ Some left → IsSome left.lane.ending
+  pub drained : outcome.drained ≡ true → (i : ℕ) (left : NamedLane B) → slice_get outcome.lanes.items i ≡ Some left → IsSome left.lane.ending
 
 -- it runs, or has not ended
 abbrev pub IsUndone : {B : Type 0} → NamedLane B → Type 0
@@ -114,7 +115,7 @@ IsMissing name submitters subscriptions lanes = IsLaneAway subscriptions lanes �
 
 -- the answers of `finish`, in the order of its refusals
 abbrev pub Finishes : {B : Type 0} → List SubmitterState → List SubscriptionState → Result (Outcome B) (Refusal × Outcome B) → Type 0
-Finishes submitters subscriptions (Ok outcome) = IsWhole submitters subscriptions outcome × AreDone submitters outcome.lanes.items
+Finishes submitters subscriptions (Ok outcome) = IsWhole submitters subscriptions outcome × AreDone submitters outcome
 Finishes submitters subscriptions (Err (Refusal.NoMemory, outcome)) = outcome.lanes.items ≡ []
 Finishes submitters subscriptions (Err (Refusal.StillHeld name, outcome)) = IsMissing name submitters subscriptions outcome.lanes.items
 Finishes submitters subscriptions (Err (Refusal.Unsettled names, outcome)) = IsWhole submitters subscriptions outcome × NamesUndone names.items outcome.lanes.items

@@ -1,5 +1,5 @@
 -- What stands behind a publisher's lock.
-use Rattle.std.specs.Prelude.{◌≡◌, ℕ, ◌+◌, Bool, None, IsSome, length}
+use Rattle.std.specs.Prelude.{◌≡◌, ℕ, ◌+◌, Bool, true, None, IsSome, length}
 use Rattle.feed_core.specs.Desk.{DeskState}
 use Rattle.feed_core.specs.LaneCalls.{IsCapacity}
 use Rattle.publisher_hub.specs.Hub.{HubState}
@@ -12,7 +12,8 @@ pub record PublisherState : Type 0 where
   pub hub : Hub DeskState
   pub drained : Bool
 
--- the totals of both ledgers, the parts and amounts of the shares that no submitter has, and how many submitters and subscriptions were made
+-- the totals of both ledgers; the parts and amounts of the shares that no submitter has; how many submitters and subscriptions were made; and
+-- whether the last ticket of the count was spent
 pub record Sums : Type 0 where
   pub published : ℕ
   pub dropping : ℕ
@@ -22,9 +23,10 @@ pub record Sums : Type 0 where
   pub drop_amount : ℕ
   pub sources : ℕ
   pub entries : ℕ
+  pub drained : Bool
 
 -- whenever the lock is free: the Hub is sound, and holds the opening ticket until it is closed; the totals are its numbers; and each submitter has
--- one part of each ledger, and the rest has no amount
+-- one part of each ledger, and the rest has no amount; and the last ticket is spent only once it is closed
 pub record IsState (hub : HubState) (sums : Sums) : Type 0 where
   pub sound : IsSound hub
   pub sized : IsCapacity hub.progress.capacity
@@ -37,3 +39,4 @@ pub record IsState (hub : HubState) (sums : Sums) : Type 0 where
   pub none_dropped : sums.drop_amount ≡ 0
   pub sources_are : sums.sources ≡ hub.sources
   pub entries_are : sums.entries ≡ length hub.entries
+  pub closed : sums.drained ≡ true → IsSome hub.progress.ending

@@ -1,5 +1,5 @@
 -- What one turn of a subscription does behind a publisher's lock.
-use Rattle.std.specs.Prelude.{◌≡◌, ℕ, Bool, true, false, Option, None, Some, List, slice_get}
+use Rattle.std.specs.Prelude.{◌≡◌, ℕ, ◌||◌, ◌&&◌, Bool, true, false, is_some, Option, None, Some, List, slice_get}
 use Rattle.close_count.specs.declared.ticket.Ticket.{Ticket}
 use Rattle.feed_core.specs.Prelude.{Signal}
 use Rattle.feed_core.specs.declared.turn.outlook.Outlook.{Outlook}
@@ -16,6 +16,10 @@ use Rattle.publisher.specs.State.{PublisherState}
 abbrev pub TurnsIfOwed : Option Outlook → List Signal → DeskState → DeskState → Type 0
 TurnsIfOwed None told old new = (owes old ≡ false) × (new ≡ old)
 TurnsIfOwed (Some outlook) told old new = (owes old ≡ true) × ((replies : List Reply) × TurnsAs old new told outlook replies)
+
+-- a ticket was spent, and noted is whether it was the last, which none is before the close
+abbrev pub NotesSpent : Bool → PublisherState → PublisherState → Type 0
+NotesSpent is_last old new = new ≡ record old { drained = old.drained || (is_last && is_some old.hub.ending) }
 
 -- the subscription of this number was asked for its ticket, and the ticket, if it came out, was spent
 pub record SpendsTicket (entry : ℕ) (old new : PublisherState) : Type 0 where

@@ -44,7 +44,7 @@ pub struct State<L: Ledger, D: Ledger, B: Listener> {
     /// saturates.
     loops: u32,
     waiting: u32,
-    /// Whether the last ticket of the count was spent.
+    /// Whether the last ticket of the count was spent. The opening is one until the close, so it is spent after that.
     drained: bool,
 }
 
@@ -66,6 +66,7 @@ impl<L: Ledger, D: Ledger, B: Listener> Model for State<L, D, B> {
       drop_amount = s.rest_of_drops.amount;
       sources = s.sources;
       entries = s.entries;
+      drained = s.drained;
     }) };
 }
 

@@ -34,7 +34,8 @@ impl<L: Ledger, D: Ledger, B: Listener> State<L, D, B> {
         match Desk::new(alloc, self.hub.capacity(), subscriber) {
             Ok(desk) => Ok(self.admit(name, desk, ticket, due)),
             Err((_, subscriber)) => {
-                self.drained |= spend(ticket);
+                let is_last = spend(ticket);
+                self.note_spent(is_last);
                 Err((Refusal::NoMemory, subscriber))
             }
         }

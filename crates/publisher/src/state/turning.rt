@@ -1,7 +1,7 @@
 //! One turn of a subscription.
 ghost use Rattle.std.specs.Prelude.{◌≡◌, ◌↔◌, None, Some, false, true};
 ghost use Rattle.feed_core.specs.declared.turn.outlook.Outlook.TheVariants.{Again};
-ghost use Rattle.publisher.specs.Turning.{GoesOnAfter, RunsTurn, TurnsIfOwed, SpendsTicket};
+ghost use Rattle.publisher.specs.Turning.{GoesOnAfter, NotesSpent, RunsTurn, TurnsIfOwed, SpendsTicket};
 
 use super::State;
 use close_count::Ticket;
@@ -42,7 +42,14 @@ impl<L: Ledger, D: Ledger, B: Listener> State<L, D, B> {
         ensures { SpendsTicket entry self.old self.new }
     {
         let is_last = spend(self.hub.ended(entry));
-        self.drained |= is_last;
+        self.note_spent(is_last);
+    }
+
+    /// Notes that a ticket was spent, and whether it was the last. None is before the close, since the opening is a ticket until then.
+    pub(super) fn note_spent(&mut self, is_last: bool)
+        ensures { NotesSpent is_last self.old self.new }
+    {
+        self.drained |= is_last & self.hub.ending().is_some();
     }
 }
 

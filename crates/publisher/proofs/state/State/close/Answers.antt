@@ -11,4 +11,4 @@ invariant_of-self g c =
     state_stays old new _ c.self.invariant c.end.ensures.sound (stays_looked old new c.in_err-end.ensures.looked)
 
 pub invariant_of-self-2 : goal.invariant_of-self-2
-invariant_of-self-2 g c = state_ended c.self.inside.hub c.end.new.self c.args.ending _ c.self.invariant c.end.ensures.sound c.in_ok-end.ensures.means (λ some. (c.end.ensures.later some).1.0)
+invariant_of-self-2 g c = state_ended c.self.inside.hub c.end.new.self c.args.ending _ _ c.self.invariant c.end.ensures.sound c.in_ok-end.ensures.means (λ some. (c.end.ensures.later some).1.0)

@@ -1,11 +1,13 @@
-use Rattle.std.proofs.Common.{◌≡◌, ◌∙◌, ℕ, List, [], length, replicate, None, Some, true, false, sym, ap, subst, arith}
+use Rattle.std.proofs.Common.{◌≡◌, ◌∙◌, ℕ, List, [], length, replicate, None, Some, is_some, true, false, sym, ap, subst, arith}
 use Rattle.std.specs.Option.{option_or}
 use Rattle.std.proofs.lemmas.List.{length-replicate, with_items_is}
+use Rattle.feed_core.specs.Feed.{end_of}
+use Rattle.publisher_hub.specs.Hub.{HubState, hub_of}
 use Rattle.publisher.specs.Lanes.{AreMarked, Gathers}
 use Rattle.publisher.specs.Outcome.{AreHandedIn, IsMissing, IsOutcome, IsWhole}
 use Rattle.publisher.specs.State.{PublisherState}
 use Rattle.publisher.specs.Together.{Audits}
-use Rattle.publisher.proofs.Finishing.{all_found, closed_by, finishes, handed_in, handed_none, is_missing, is_outcome_of, is_there, is_whole, judged_same, state_gathered}
+use Rattle.publisher.proofs.Finishing.{all_found, closed_by, closed_if_drained, finishes, handed_in, handed_none, is_missing, is_outcome_of, is_there, is_whole, judged_same, state_gathered}
 use Rattle.publisher.proofs.LeftLanes.{going_none}
 use Rattle.publisher.proofs.Outcomes.{is_outcome}
 use Rattle.publisher.proofs.state.State.finish.Given.{Over}
@@ -52,6 +54,14 @@ gathered g c = subst (λ lanes. Gathers g.B.Listener.told c.self.inside.hub c.ta
 
 published : (g : Over) (c : After-outcome-outcome g) → c.outcome-outcome.result.published ≡ c.take_lanes-lost.new.hub.next
 published g c = c.outcome-outcome.ensures.published ∙ ap (λ (s : PublisherState). s.hub.next) (c.audit-missing.ensures.same ∙ c.put_together-together.ensures.same)
+
+closed : (g : Over) (c : After-outcome-outcome g) → c.is_some.result ≡ is_some c.self.inside.hub.ending
+closed g c =
+    let same = c.ending.ensures ∙ ap (λ (s : PublisherState). s.hub.ending) (c.self-2.view_is ∙ c.put_together-together.ensures.same) ∙ ap (λ (h : HubState). h.progress.ending) c.take_lanes-lost.ensures.gathers.rest in
+    c.is_some.ensures ∙ ap is_some same
+
+drained : (g : Over) (c : After-outcome-outcome g) → c.outcome-outcome.result.drained ≡ c.self.inside.drained
+drained g c = c.outcome-outcome.ensures.drained ∙ ap (λ (s : PublisherState). s.drained) (c.audit-missing.ensures.same ∙ c.put_together-together.ensures.same)
 
 outcome_is : (g : Over) (c : After-outcome-outcome g) → IsOutcome g.B.Listener.told c.outcome-outcome.result
 outcome_is g c = is_outcome_of g.B.Listener.told c.args.subscriptions.now c.self.inside.hub c.take_lanes-lost.new.hub c.self.inside.entries c.deref.result.now c.outcome-outcome.result c.take_lanes-lost.result.first c.take_lanes-lost.result.gone c.mark_all-all.result c.self.invariant.sound (marked g c) (gathered g c) (published g c)
@@ -119,3 +129,4 @@ returns-clause-finishes g c =
     finishes c.args.submitters.items c.args.subscriptions.now c.outcome-outcome.result _ c.judge.result c.judge.ensures
     (whole_is g left (there g left).1 (sym c.or.ensures ∙ c.in-None.is))
     (closed_by c.args.submitters.items t.publications.amount t.drops.amount t.publications.parts t.drops.parts t.sources t.knows _ c.put_together-together.ensures.together)
+    (closed_if_drained (hub_of end_of c.self.inside.hub) _ t.knows c.is_some.result c.outcome-outcome.result.drained c.self.invariant (drained g left) (closed g left))
