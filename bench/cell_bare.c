@@ -25,12 +25,16 @@ typedef struct {
     Item item;
 } Held;
 
-/* Head, tail, asked and control lie side by side, and so do the slots, as in the table. */
+/* Head, tail, asked and control lie side by side, and so do the slots, as in the table. With -DAPART=8 each word
+   has a cache line of its own. */
+#ifndef APART
+#define APART 1
+#endif
 static _Atomic uint64_t *words;
 #define HEAD (words[0])
-#define TAIL (words[1])
-#define ASKED (words[2])
-#define CONTROL (words[3])
+#define TAIL (words[APART])
+#define ASKED (words[2 * APART])
+#define CONTROL (words[3 * APART])
 static char *slots;
 static uint64_t capacity, items, slot_bytes;
 static Item *all;
@@ -157,7 +161,7 @@ int main(int count, char **argument) {
     items = strtoull(argument[2], NULL, 10);
     slot_bytes = strtoull(argument[3], NULL, 10);
     if (!capacity || slot_bytes < sizeof(Held)) return 2;
-    words = calloc(4, sizeof *words);
+    words = calloc(3 * APART + 1, sizeof *words);
     slots = malloc((capacity + 1) * slot_bytes);
     all = malloc(items * sizeof *all);
     if (!words || !slots || !all) return 1;
