@@ -161,7 +161,7 @@ int main(int count, char **argument) {
     items = strtoull(argument[2], NULL, 10);
     slot_bytes = strtoull(argument[3], NULL, 10);
     if (!capacity || slot_bytes < sizeof(Held)) return 2;
-    words = calloc(3 * APART + 1, sizeof *words);
+    words = calloc(4 * APART, sizeof *words);
     slots = malloc((capacity + 1) * slot_bytes);
     all = malloc(items * sizeof *all);
     if (!words || !slots || !all) return 1;
