@@ -1,3 +1,4 @@
+pub mod Count
 pub mod Tickets
 pub mod Opening
 pub mod Ticket

@@ -1,11 +1,11 @@
 -- What callers see of a Spent, and what a seat knows that takes in the seats of others.
 use Rattle.std.specs.Prelude.{◌≡◌, ◌≤◌, ◌+◌, ℕ, Bool, List, length, count_by}
-use Rattle.atomic_table.specs.Seated.{TableId}
+use Rattle.close_count.specs.Count.{CountId}
 use Rattle.close_count.specs.declared.rule.View.{View}
 use Rattle.close_count.specs.declared.spent.Spent.{Spent}
 
 -- the count that a spent ticket was of
-abbrev pub count_of_spent : Spent → TableId
+abbrev pub count_of_spent : Spent → CountId
 count_of_spent s = s.seat.table_id
 
 -- its own step took the count from 1 to 0

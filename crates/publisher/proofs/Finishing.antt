@@ -1,26 +1,34 @@
 -- What the end of a publisher leaves.
-use Rattle.std.proofs.Common.{◌≡◌, ◌⊎◌, inl, inr, ℕ, zero, suc, ◌<◌, ◌||◌, ◌&&◌, not, is_none, is_some, Bool, true, false, Option, None, Some, Result, Ok, Err, List, [], ◌∷◌, length, replicate, refl, sym, ap, subst, ◌∙◌, arith}
+use Rattle.std.proofs.Common.{◌≡◌, ◌⊎◌, inl, inr, ℕ, zero, suc, ◌<◌, ◌||◌, ◌&&◌, not, is_none, is_some, Bool, true, false, Option, None, Some, Result, Ok, Err, List, [], ◌∷◌, length, map, option_map, replicate, refl, sym, ap, subst, ◌∙◌, arith}
 use Rattle.std.specs.Prelude.{IsSome, slice_get}
 use Rattle.std.specs.Option.{option_or}
+use Rattle.std.proofs.lemmas.List.{length-map}
 use Rattle.std.proofs.lemmas.Option.{same_Some, slice_get_within}
+use Rattle.close_count.specs.declared.spent.Spent.{Spent}
 use Rattle.flow_rules.specs.declared.ending.Ending.{Ending}
 use Rattle.flow_rules.specs.declared.refusal.Refusal.{Refusal}
 use Rattle.feed_core.specs.Prelude.{How, Signal}
 use Rattle.feed_core.specs.Desk.{DeskState}
 use Rattle.feed_core.specs.Feed.{end_of}
+use Rattle.publisher_hub.specs.Entry.{EntryState, entry_of}
 use Rattle.publisher_hub.specs.Hub.{HubState, hub_of}
+use Rattle.publisher_hub.specs.Lists.{Each}
 use Rattle.publisher_hub.specs.Sound.{IsSound}
+use Rattle.publisher_hub.specs.declared.entry.Entry.{Entry}
 use Rattle.publisher_hub.specs.declared.hub.Hub.{Hub}
+use Rattle.publisher_hub.proofs.LiveRounds.{get_before_map}
 use Rattle.publisher_hub.proofs.Places.{there}
 use Rattle.publisher.specs.Handles.{SubmitterState, SubscriptionState}
-use Rattle.publisher.specs.Lanes.{AreFound, AreMarked, Gathers, IsHandedIn, IsLeftOf}
+use Rattle.publisher.specs.Lanes.{AreFound, AreMarked, Gathers, IsHandedIn, IsLeftOf, IsSameOrLeft}
 use Rattle.publisher.specs.Outcome.{AnyKnows, AreDone, AreHandedIn, Finishes, IsMissing, IsOutcome, IsWhole, Judges, NamesUndone, is_undone, outcome_of}
 use Rattle.publisher.specs.State.{IsState, Sums}
+use Rattle.publisher.specs.Tickets.{AreOfOneCount, AreSpent, IsLate, IsOver}
 use Rattle.publisher.specs.Together.{AreTogether, Audits}
 use Rattle.publisher.specs.declared.outcome.NamedLane.{NamedLane}
 use Rattle.publisher.specs.declared.outcome.Outcome.{Outcome}
-use Rattle.publisher.proofs.KeptStates.{as_many, state_stays, stays_by}
-use Rattle.publisher.proofs.Outcomes.{few_drops, is_outcome}
+use Rattle.publisher.proofs.KeptStates.{state_stays, stays_by}
+use Rattle.publisher.proofs.Outcomes.{ended_or_late, few_drops, is_outcome}
+use Rattle.publisher.proofs.Ticketed.{AllKeep, KeepsTicket, keeps_over, keeps_same}
 
 -- where nothing is gone and each has a place
 pub is_there : (gone all : Bool) → (gone || not all) ≡ false → (gone ≡ false) × (all ≡ true)
@@ -52,8 +60,10 @@ module _ {B : Type 0} (told : B → List Signal) (subscriptions : List Subscript
   same_dropping : new.dropping ≡ old.dropping
   same_dropping = ap (λ (h : HubState). h.progress.dropping) gathers.rest
 
-  pub is_outcome_of : outcome.published ≡ new.next → IsOutcome told outcome
-  is_outcome_of published = is_outcome told old handed (length handed) sound outcome gathers.left (published ∙ same_next)
+  pub is_outcome_of : outcome.published ≡ new.next
+      → (outcome.drained ≡ true → (k : ℕ) (entry : EntryState) → slice_get (hub_of end_of old).entries k ≡ Some entry → IsOver entry ⊎ IsLate (hub_of end_of old).progress entry) → IsOutcome told outcome
+  is_outcome_of published spent = is_outcome told old handed (length handed) sound outcome gathers.left (published ∙ same_next)
+      (λ drained. ended_or_late told old handed (length handed) sound outcome.published outcome.lanes.items gathers.left (published ∙ same_next) (spent drained))
 
   module _ (submitters : List SubmitterState) (published dropping parts drop_parts : ℕ) (sources : List Bool) (knows : Bool) (missing : Option (List ℕ))
       (are : AreTogether submitters [] published dropping parts drop_parts sources knows) (audits : Audits sources published dropping new.next new.dropping missing) where
@@ -157,19 +167,44 @@ closed_by submitters published dropping parts drop_parts sources knows also are 
   by (inr one) = let no = one.2.0 in cc
 
 -- the last ticket was spent, so the publisher is closed
-pub closed_if_drained : (hub : HubState) (sums : Sums) (knows closed drained : Bool) → IsState hub sums → drained ≡ sums.drained → closed ≡ is_some hub.progress.ending → drained ≡ true → (knows || closed) ≡ true
-closed_if_drained hub sums knows closed drained is same tells last = by knows closed hub.progress.ending tells (is.closed (sym same ∙ last)) where
+pub closed_if_drained : (hub : HubState) (last : Option Spent) (knows closed drained : Bool) → AreOfOneCount hub last → drained ≡ is_some last → closed ≡ is_some hub.progress.ending → drained ≡ true → (knows || closed) ≡ true
+closed_if_drained hub last knows closed drained is same tells was = by knows closed hub.progress.ending tells (is.1.closed (is_left last (sym same ∙ was))) where
+  is_left : (spent : Option Spent) → is_some spent ≡ true → IsSome spent
+  is_left None e = cc
+  is_left (Some spent) e = refl
+
   by : (a b : Bool) (ending : Option Ending) → b ≡ is_some ending → IsSome ending → (a || b) ≡ true
   by true b ending e some = refl
   by false b (Some how) e some = e
   by false b None e some = cc
+
+-- so each subscription has ended or is late, since none has a ticket
+pub all_spent : (hub : HubState) (many : ℕ) (last : Option Spent) (drained : Bool) → AreOfOneCount hub last → many ≡ length hub.entries → (IsSome last → AreSpent many hub) → drained ≡ is_some last → drained ≡ true
+    → (k : ℕ) (entry : EntryState) → slice_get hub.entries k ≡ Some entry → IsOver entry ⊎ IsLate hub.progress entry
+all_spent hub many last drained is all spent same was k entry at = (is.1.entries k entry at).spent (spent (is_left last (sym same ∙ was)) k entry (subst (λ n. k < n) (sym all) (slice_get_within hub.entries k entry at)) at) where
+  is_left : (spent : Option Spent) → is_some spent ≡ true → IsSome spent
+  is_left None e = cc
+  is_left (Some spent) e = refl
 
 pub all_found : {B : Type 0} (handed : List Bool) (most : ℕ) (lanes : List (NamedLane B)) (lost missing : Option (List ℕ)) (gone : Bool) → option_or lost missing ≡ None → AreFound handed most lanes lost gone → length lanes ≡ most
 all_found handed most lanes None missing gone is found = found.many
 all_found handed most lanes (Some name) missing gone is found = cc
 
 -- what stands behind the lock stays where lanes are taken out
-pub state_gathered : {B : Type 0} (told : B → List Signal) (old new : Hub DeskState) {handed : List Bool} {most : ℕ} {lanes : List (NamedLane B)} {lost : Option (List ℕ)} {gone : Bool} (sums : Sums)
-    → IsState (hub_of end_of old) sums → Gathers told old new handed most lanes lost gone → IsState (hub_of end_of new) sums
-state_gathered told old new sums is gathers =
-    state_stays (hub_of end_of old) (hub_of end_of new) sums is gathers.sound (stays_by (hub_of end_of old) (hub_of end_of new) gathers.rest (as_many old.entries.items new.entries.items gathers.as_long))
+all_left : (xs ys : List (Entry DeskState)) → Each IsSameOrLeft xs ys → AllKeep (map (entry_of end_of) xs) (map (entry_of end_of) ys)
+all_left xs ys each = record {
+  as_long = length-map ys (entry_of end_of) ∙ each.as_long ∙ sym (length-map xs (entry_of end_of));
+  each = λ k x y at on.
+      let old = get_before_map (entry_of end_of) xs k x at in
+      let new = get_before_map (entry_of end_of) ys k y on in
+      subst (λ (entry : EntryState). KeepsTicket entry y) old.1.1 (subst (λ (entry : EntryState). KeepsTicket (entry_of end_of old.0) entry) new.1.1
+      (by old.0 new.0 (each.each k old.0 new.0 old.1.0 new.1.0)));
+} where
+  by : (old new : Entry DeskState) → IsSameOrLeft old new → KeepsTicket (entry_of end_of old) (entry_of end_of new)
+  by old new (inl same) = subst (λ (e : Entry DeskState). KeepsTicket (entry_of end_of old) (entry_of end_of e)) (sym same) (keeps_same (entry_of end_of old))
+  by old new (inr left) = keeps_over (entry_of end_of old) (entry_of end_of new) left.1 (λ e at. let no : None ≡ Some e = sym (ap (option_map end_of) left.0) ∙ at in cc)
+
+pub state_gathered : {B : Type 0} (told : B → List Signal) (old new : Hub DeskState) {handed : List Bool} {most : ℕ} {lanes : List (NamedLane B)} {lost : Option (List ℕ)} {gone : Bool} (was : HubState) (sums : Sums)
+    → IsState was sums → hub_of end_of old ≡ was → Gathers told old new handed most lanes lost gone → IsState (hub_of end_of new) sums
+state_gathered told old new was sums is same gathers =
+    state_stays (hub_of end_of old) (hub_of end_of new) sums (subst (λ hub. IsState hub sums) (sym same) is) gathers.sound (stays_by (hub_of end_of old) (hub_of end_of new) gathers.rest (all_left old.entries.items new.entries.items gathers.stays))

@@ -1,15 +1,19 @@
 -- What stands behind a publisher's lock after a publication, a close, or one more submitter or subscription.
-use Rattle.std.proofs.Common.{◌≡◌, ℕ, zero, suc, ◌+◌, Bool, true, false, ◌||◌, ◌&&◌, Option, None, Some, Result, Ok, Err, List, length, map, refl, sym, ap, subst, ◌∙◌, arith}
-use Rattle.std.specs.Prelude.{IfOk, IsSome, OnErr, OnOk}
+use Rattle.std.proofs.Common.{◌≡◌, ℕ, zero, suc, ◌+◌, true, Option, None, Some, Result, Ok, Err, List, length, map, refl, sym, ap, subst, ◌∙◌, arith}
+use Rattle.std.specs.Prelude.{IfOk, IsSome, OnErr, OnOk, slice_get}
 use Rattle.std.proofs.lemmas.List.{length-map, length-append}
+use Rattle.close_count.specs.Count.{CountId}
+use Rattle.close_count.specs.Opening.{count_of_opening}
+use Rattle.close_count.specs.Spent.{count_of_spent}
 use Rattle.close_count.specs.declared.opening.Opening.{Opening}
+use Rattle.close_count.specs.declared.spent.Spent.{Spent}
 use Rattle.close_count.specs.declared.ticket.Ticket.{Ticket}
 use Rattle.flow_rules.specs.declared.ending.Ending.{Ending}
 use Rattle.flow_rules.specs.declared.item.Item.{Item}
 use Rattle.feed_core.specs.Desk.{DeskState}
 use Rattle.feed_core.specs.Feed.{end_of, DoesCall}
 use Rattle.feed_core.specs.LaneCalls.{IsCapacity}
-use Rattle.publisher_hub.specs.Closing.{IsClosed, IsClosedLooking}
+use Rattle.publisher_hub.specs.Closing.{IsClosedLooking}
 use Rattle.publisher_hub.specs.Entry.{entry_of}
 use Rattle.publisher_hub.specs.Hub.{HubState, Progress, hub_at_start, hub_of}
 use Rattle.publisher_hub.specs.Offering.{Offers}
@@ -22,7 +26,16 @@ use Rattle.publisher_hub.specs.declared.hub.Hub.{Hub}
 use Rattle.publisher_hub.specs.declared.work.Work.{Work}
 use Rattle.publisher.specs.Publishing.{drop_of}
 use Rattle.publisher.specs.State.{IsState, PARTS, Sums}
+use Rattle.publisher.specs.Tickets.{AreOfOneCount, IsOfCount, IsTicketFor}
+use Rattle.publisher.specs.Turning.{last_after}
+use Rattle.publisher.proofs.Admitted.{tickets_admitted}
 use Rattle.publisher.proofs.KeptStates.{Stays, stays_looked}
+use Rattle.publisher.proofs.Ticketed.{AllKeep, all_closed, all_offered, all_same, all_then, of_count_after, of_count_still}
+use Rattle.publisher_hub.proofs.PartialRounds.{same_some}
+
+is_open : (ending : Option Ending) → ending ≡ None → IsSome ending → ⊥
+is_open None none some = cc
+is_open (Some how) none some = cc
 
 -- a publication: the totals grow as the Hub's numbers do
 pub state_offered : (v w : HubState) (x : Item) (sums : Sums) (published dropping : ℕ) → IsState v sums → IsSound w → Offers x v w
@@ -39,7 +52,11 @@ state_offered v w x sums published dropping is sound offers one_more drops = rec
   none_dropped = is.none_dropped;
   sources_are = is.sources_are ∙ sym (ap (λ (h : HubState). h.sources) offers.rest);
   entries_are = is.entries_are ∙ sym offers.entries.as_long;
-  closed = λ drained. subst IsSome (sym (ap (λ (h : HubState). h.progress.ending) offers.rest)) (is.closed drained);
+  tickets = (
+    is.tickets.0,
+    of_count_still is.tickets.0 v w sums.last is.tickets.1 (λ opening held. is.tickets.1.opening opening (sym (ap (λ (h : HubState). h.opening) offers.rest) ∙ held))
+        (λ closed. absurd (is_open v.progress.ending offers.next.unclosed closed)) (all_offered x v.entries w.entries offers.entries),
+  );
 }
 
 -- the answer to an offer tells whether any dropped
@@ -51,8 +68,17 @@ drop_is (suc n) lag dropping = refl
 looked_before : (v w : HubState) (ending : Ending) (closing : IsClosedLooking ending v w) → Stays v closing.middle
 looked_before v w ending closing = stays_looked v closing.middle closing.looked
 
-pub state_closed_looking : (v w : HubState) (ending : Ending) (sums : Sums) (drained : Bool) → IsState v sums → IsSound w → IsClosedLooking ending v w → IsState w (record sums { drained = drained })
-state_closed_looking v w ending sums drained is sound closing =
+tickets_closed : (count : CountId) (v w : HubState) (ending : Ending) (last : Option Spent) → IsOfCount count v last → IsClosedLooking ending v w → IsOfCount count w last
+tickets_closed count v w ending last is closing =
+    let before = looked_before v w ending closing in
+    let closed = closing.closed in
+    of_count_still count v w last is
+    (λ opening held. let no : None ≡ Some opening = sym (ap (λ (h : HubState). h.opening) closed.rest) ∙ held in cc)
+    (λ was. absurd (is_open v.progress.ending (sym (ap (λ (p : Progress). p.ending) before.progress) ∙ closed.unclosed) was))
+    (all_then v.entries closing.middle.entries w.entries before.keep (all_closed ending closing.middle.entries w.entries closed.entries))
+
+state_closed_looking : (v w : HubState) (ending : Ending) (sums : Sums) → IsState v sums → IsSound w → IsClosedLooking ending v w → IsState w sums
+state_closed_looking v w ending sums is sound closing =
     let before = looked_before v w ending closing in
     let closed = closing.closed in
     record {
@@ -66,8 +92,8 @@ state_closed_looking v w ending sums drained is sound closing =
       drop_parts_are = is.drop_parts_are;
       none_dropped = is.none_dropped;
       sources_are = is.sources_are ∙ sym (ap (λ (h : HubState). h.sources) closed.rest ∙ before.sources);
-      entries_are = is.entries_are ∙ sym (closed.entries.as_long ∙ before.many);
-      closed = λ last. subst IsSome (sym (ap (λ (h : HubState). h.progress.ending) closed.rest)) refl;
+      entries_are = is.entries_are ∙ sym (closed.entries.as_long ∙ before.keep.as_long);
+      tickets = (is.tickets.0, tickets_closed is.tickets.0 v w ending sums.last is.tickets.1 closing);
     }
 
 -- one more submitter, with its parts of the ledgers
@@ -86,12 +112,17 @@ state_with_source v w sums source parts amount drop_parts drop_amount is sound r
   none_dropped = let n = is.none_dropped in omega arith;
   sources_are = sym (ap (λ (h : HubState). h.sources) rest);
   entries_are = is.entries_are ∙ sym (ap (λ (h : HubState). length h.entries) rest);
-  closed = λ drained. subst IsSome (sym (ap (λ (h : HubState). h.progress.ending) rest)) (is.closed drained);
+  tickets = (
+    is.tickets.0,
+    of_count_still is.tickets.0 v w sums.last is.tickets.1 (λ opening held. is.tickets.1.opening opening (sym (ap (λ (h : HubState). h.opening) rest) ∙ held))
+        (λ closed. (subst IsSome (sym (ap (λ (h : HubState). h.progress.ending) rest)) closed, ap (λ (h : HubState). h.progress.next) rest))
+        (subst (λ entries. AllKeep v.entries entries) (sym (ap (λ (h : HubState). h.entries) rest)) (all_same v.entries)),
+  );
 }
 
 -- a new publisher
 pub state_at_start : (capacity : ℕ) (opening : Opening) (w : HubState) (parts drop_parts : ℕ) → w ≡ record (hub_at_start capacity 0) { opening = Some opening } → IsSound w → IsCapacity capacity → parts ≡ PARTS → drop_parts ≡ PARTS
-    → IsState w (record { published = 0; dropping = 0; parts = parts; amount = 0; drop_parts = drop_parts; drop_amount = 0; sources = 0; entries = 0; drained = false })
+    → IsState w (record { published = 0; dropping = 0; parts = parts; amount = 0; drop_parts = drop_parts; drop_amount = 0; sources = 0; entries = 0; last = None })
 state_at_start capacity opening w parts drop_parts start sound sized some_parts some_drop_parts = record {
   sound = sound;
   sized = subst IsCapacity (sym (ap (λ (h : HubState). h.progress.capacity) start)) sized;
@@ -104,14 +135,22 @@ state_at_start capacity opening w parts drop_parts start sound sized some_parts 
   none_dropped = refl;
   sources_are = sym (ap (λ (h : HubState). h.sources) start);
   entries_are = sym (ap (λ (h : HubState). length h.entries) start);
-  closed = λ drained. cc;
+  tickets = (
+    count_of_opening opening,
+    record {
+      opening = λ other held. ap count_of_opening (sym (same_some (sym (ap (λ (h : HubState). h.opening) start) ∙ held)));
+      entries = λ k entry at. let no : None ≡ Some entry = sym (ap (λ (h : HubState). slice_get h.entries k) start) ∙ at in cc;
+      last_is = λ spent none. cc;
+      closed = λ none. cc;
+    },
+  );
 }
 
 -- one more subscription
 pub state_admitted : (name : List ℕ) (feed : DeskState) (ticket : Option Ticket) (number : ℕ) (due_before due_after : List (Work Unit)) (old new : Hub DeskState) (sums : Sums)
-    → IsState (hub_of end_of old) sums → IsSound (hub_of end_of new) → Admits end_of DoesCall name feed ticket number due_before due_after old new
+    → IsState (hub_of end_of old) sums → IsSound (hub_of end_of new) → IsTicketFor old ticket → Admits end_of DoesCall name feed ticket number due_before due_after old new
     → IsState (hub_of end_of new) (record sums { entries = number + 1 })
-state_admitted name feed ticket number due_before due_after old new sums is sound admits = record {
+state_admitted name feed ticket number due_before due_after old new sums is sound for_it admits = record {
   sound = sound;
   sized = subst IsCapacity (sym (ap (λ (h : HubState). h.progress.capacity) admits.rest)) is.sized;
   opened = λ none. subst IsSome (sym (ap (λ (h : HubState). h.opening) admits.rest)) (is.opened (sym (ap (λ (h : HubState). h.progress.ending) admits.rest) ∙ none));
@@ -127,12 +166,12 @@ state_admitted name feed ticket number due_before due_after old new sums is soun
       let added = length-map new.entries.items (entry_of end_of) ∙ ap length admits.entries ∙ length-append admits.middle.entries.items _ in
       let first = admits.is_next in
       omega arith;
-  closed = λ drained. subst IsSome (sym (ap (λ (h : HubState). h.progress.ending) admits.rest)) (is.closed drained);
+  tickets = (is.tickets.0, tickets_admitted name feed ticket number due_before due_after old new is.tickets.0 sums.last is.tickets.1 for_it admits);
 }
 
--- whether the last ticket was spent, where it is only once the publisher is closed
-state_drained : (v : HubState) (sums : Sums) (drained : Bool) → IsState v sums → (drained ≡ true → IsSome v.progress.ending) → IsState v (record sums { drained = drained })
-state_drained v sums drained is closed = record {
+-- what is left of the last ticket, once that was spent
+pub state_with_last : (v : HubState) (sums : Sums) (last : Option Spent) → IsState v sums → AreOfOneCount v last → IsState v (record sums { last = last })
+state_with_last v sums last is tickets = record {
   sound = is.sound;
   sized = is.sized;
   opened = is.opened;
@@ -144,16 +183,35 @@ state_drained v sums drained is closed = record {
   none_dropped = is.none_dropped;
   sources_are = is.sources_are;
   entries_are = is.entries_are;
-  closed = closed;
+  tickets = tickets;
 }
 
--- the first close, or a later one, which changes nothing in the Hub
-pub state_ended : (old new : Hub DeskState) (ending : Ending) (sums : Sums) (drained : Bool) → IsState (hub_of end_of old) sums → IsSound (hub_of end_of new)
-    → (old.ending ≡ None → IsClosedLooking ending (hub_of end_of old) (hub_of end_of new)) → (IsSome old.ending → new ≡ old) → IsState (hub_of end_of new) (record sums { drained = drained })
-state_ended old new ending sums drained is sound first later = by old.ending refl where
-  by : (was : Option Ending) → old.ending ≡ was → IsState (hub_of end_of new) (record sums { drained = drained })
-  by None e = state_closed_looking (hub_of end_of old) (hub_of end_of new) ending sums drained is sound (first e)
-  by (Some known) e = subst (λ h. IsState (hub_of end_of h) (record sums { drained = drained })) (sym (later (rw e refl))) (state_drained (hub_of end_of old) sums drained is (λ last. rw e refl))
+none_came : (came : Option Opening) (opening : Opening) → came ≡ Some opening → ◌≡◌ {A = Result (Option Opening) Refusal} (Ok came) (Ok None) → ⊥
+none_came None opening some none = cc
+none_came (Some other) opening some none = cc
+
+-- the first close, which spends the opening, or a later one, which changes nothing in the Hub
+module _ (old new : Hub DeskState) (ending : Ending) (sums : Sums) (is : IsState (hub_of end_of old) sums) (sound : IsSound (hub_of end_of new))
+    (first : old.ending ≡ None → IsClosedLooking ending (hub_of end_of old) (hub_of end_of new)) (later : IsSome old.ending → new ≡ old) where
+  pub state_ended : IsState (hub_of end_of new) sums
+  state_ended = by old.ending refl where
+    by : (was : Option Ending) → old.ending ≡ was → IsState (hub_of end_of new) sums
+    by None e = state_closed_looking (hub_of end_of old) (hub_of end_of new) ending sums is sound (first e)
+    by (Some known) e = subst (λ h. IsState (hub_of end_of h) sums) (sym (later (rw e refl))) is
+
+  pub state_ended_spent : (came : Option Opening) (opening : Opening) (spent : Spent) → (old.ending ≡ None → came ≡ old.opening) → (IsSome old.ending → ◌≡◌ {A = Result (Option Opening) Refusal} (Ok came) (Ok None))
+      → came ≡ Some opening → count_of_spent spent ≡ count_of_opening opening → IsState (hub_of end_of new) (record sums { last = last_after spent true sums.last })
+  state_ended_spent came opening spent first_came later_came is_there same = by old.ending refl where
+    by : (was : Option Ending) → old.ending ≡ was → IsState (hub_of end_of new) (record sums { last = last_after spent true sums.last })
+    by None e =
+        let closing = first e in
+        let tickets = tickets_closed is.tickets.0 (hub_of end_of old) (hub_of end_of new) ending sums.last is.tickets.1 closing in
+        state_with_last (hub_of end_of new) sums (last_after spent true sums.last) state_ended (
+          is.tickets.0,
+          of_count_after is.tickets.0 (hub_of end_of new) spent true sums.last tickets (same ∙ is.tickets.1.opening opening (sym (first_came e) ∙ is_there))
+              (λ _. subst IsSome (sym (ap (λ (h : HubState). h.progress.ending) closing.closed.rest)) refl),
+        )
+    by (Some known) e = absurd (none_came came opening is_there (later_came (rw e refl)))
 
 -- one more ticket
 pub opened_after : (result : Result (Option Ticket) Refusal) (old new : Hub DeskState) → IfOk result (λ ticket. AddsTicket ticket old.opening new.opening) → OnErr result (new ≡ old) → IsSome old.opening → IsSome new.opening
@@ -161,9 +219,9 @@ opened_after (Ok None) old new adds same was = absurd adds
 opened_after (Ok (Some ticket)) old new adds same was = rw adds.now refl
 opened_after (Err refusal) old new adds same was = subst IsSome (sym (ap (λ (h : Hub DeskState). h.opening) same)) was
 
-pub state_ticketed : (old new : Hub DeskState) (sums : Sums) → IsState (hub_of end_of old) sums → IsSound (hub_of end_of new) → new ≡ record old { opening = new.opening } → (old.ending ≡ None → IsSome new.opening)
-    → IsState (hub_of end_of new) sums
-state_ticketed old new sums is sound rest opened = record {
+pub state_ticketed : (old new : Hub DeskState) (sums : Sums) (is : IsState (hub_of end_of old) sums) → IsSound (hub_of end_of new) → new ≡ record old { opening = new.opening } → (old.ending ≡ None → IsSome new.opening)
+    → ((opening : Opening) → new.opening ≡ Some opening → count_of_opening opening ≡ is.tickets.0) → IsState (hub_of end_of new) sums
+state_ticketed old new sums is sound rest opened same_count = record {
   sound = sound;
   sized = subst IsCapacity (sym (ap (λ (h : Hub DeskState). h.capacity) rest)) is.sized;
   opened = λ none. opened (sym (ap (λ (h : Hub DeskState). h.ending) rest) ∙ none);
@@ -175,17 +233,14 @@ state_ticketed old new sums is sound rest opened = record {
   none_dropped = is.none_dropped;
   sources_are = is.sources_are ∙ sym (ap (λ (h : Hub DeskState). h.sources) rest);
   entries_are = is.entries_are ∙ sym (ap (λ (h : Hub DeskState). length (map (entry_of end_of) h.entries.items)) rest);
-  closed = λ drained. subst IsSome (sym (ap (λ (h : Hub DeskState). h.ending) rest)) (is.closed drained);
+  tickets = (
+    is.tickets.0,
+    of_count_still is.tickets.0 (hub_of end_of old) (hub_of end_of new) sums.last is.tickets.1 same_count
+        (λ closed. (subst IsSome (sym (ap (λ (h : Hub DeskState). h.ending) rest)) closed, ap (λ (h : Hub DeskState). h.next) rest))
+        (subst (λ entries. AllKeep (hub_of end_of old).entries entries) (sym (ap (λ (h : Hub DeskState). (hub_of end_of h).entries) rest)) (all_same (hub_of end_of old).entries)),
+  );
 }
 
 pub on_ok_all : {T E : Type 0} {P : Type 0} (r : Result T E) → P → OnOk r P
 on_ok_all (Ok x) p = p
 on_ok_all (Err x) p = cc
-
--- a ticket was spent: it was the last only where the publisher is closed
-pub state_noted : (v : HubState) (sums : Sums) (is_last closed : Bool) → IsState v sums → (closed ≡ true → IsSome v.progress.ending) → IsState v (record sums { drained = sums.drained || (is_last && closed) })
-state_noted v sums is_last closed is shut = state_drained v sums (sums.drained || (is_last && closed)) is (by sums.drained is_last closed is.closed shut) where
-  by : (was last now : Bool) → (was ≡ true → IsSome v.progress.ending) → (now ≡ true → IsSome v.progress.ending) → (was || (last && now)) ≡ true → IsSome v.progress.ending
-  by true last now before here drained = before refl
-  by false true now before here drained = here drained
-  by false false now before here drained = cc

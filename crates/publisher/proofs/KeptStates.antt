@@ -1,7 +1,9 @@
 -- What stands behind a publisher's lock stays as it should, whatever is asked of its Hub.
-use Rattle.std.proofs.Common.{◌≡◌, ◌⊎◌, inl, inr, ℕ, Option, List, length, map, refl, sym, ap, subst, ◌∙◌}
+use Rattle.std.proofs.Common.{◌≡◌, ◌⊎◌, inl, inr, ℕ, Option, List, map, refl, sym, ap, subst, ◌∙◌}
 use Rattle.std.specs.Prelude.{IsSome}
-use Rattle.std.proofs.lemmas.List.{length-map, length-set}
+use Rattle.std.proofs.lemmas.List.{map-set}
+use Rattle.close_count.specs.Count.{CountId}
+use Rattle.close_count.specs.declared.spent.Spent.{Spent}
 use Rattle.flow_rules.specs.declared.feed.standing.Standing.{Standing}
 use Rattle.flow_rules.specs.declared.refusal.Refusal.{Refusal}
 use Rattle.feed_core.specs.Desk.{DeskState}
@@ -9,57 +11,65 @@ use Rattle.feed_core.specs.Feed.{end_of, DoesCall}
 use Rattle.feed_core.specs.LaneCalls.{IsCapacity}
 use Rattle.publisher_hub.specs.Entry.{entry_of}
 use Rattle.publisher_hub.specs.Hub.{HubState, Progress, hub_of}
-use Rattle.publisher_hub.specs.Looking.{IsLookedAt, LooksAtAll}
+use Rattle.publisher_hub.specs.Lists.{Each}
+use Rattle.publisher_hub.specs.Looking.{Glances, IsKept, IsLookedAt, LooksAtAll}
 use Rattle.publisher_hub.specs.Sound.{IsSound}
-use Rattle.publisher_hub.specs.Subscribing.{IsSeen, IsSeenInPart, Refuses, FindsNoPlace, TellsOne}
-use Rattle.publisher_hub.specs.declared.entry.Entry.{Entry}
+use Rattle.publisher_hub.specs.Subscribing.{IsSeen, IsSeenInPart, Refuses, FindsNoPlace, TellsAt, TellsOne}
 use Rattle.publisher_hub.specs.declared.hub.Hub.{Hub}
 use Rattle.publisher_hub.specs.declared.work.Work.{Work}
+use Rattle.publisher_hub.proofs.Kept.{each_mapped, glance_kept}
+use Rattle.publisher_hub.proofs.LiveRounds.{get_mapped}
+use Rattle.publisher_hub.proofs.Telling.{was_told}
 use Rattle.publisher.specs.State.{IsState, Sums}
+use Rattle.publisher.specs.Tickets.{IsOfCount}
+use Rattle.publisher.proofs.Ticketed.{AllKeep, all_looked, all_same, all_then, of_count_still, one_told}
 
 -- what a Hub's calls leave that neither publish nor add nor close
 pub record Stays (v w : HubState) : Type 0 where
   pub progress : w.progress ≡ v.progress
   pub sources : w.sources ≡ v.sources
   pub opening : w.opening ≡ v.opening
-  pub many : length w.entries ≡ length v.entries
+  pub keep : AllKeep v.entries w.entries
 
 pub stays_here : (v : HubState) → Stays v v
-stays_here v = record { progress = refl; sources = refl; opening = refl; many = refl }
+stays_here v = record { progress = refl; sources = refl; opening = refl; keep = all_same v.entries }
 
 pub stays_then : {v w u : HubState} → Stays v w → Stays w u → Stays v u
-stays_then one other = record {
+stays_then {v} {w} {u} one other = record {
   progress = other.progress ∙ one.progress;
   sources = other.sources ∙ one.sources;
   opening = other.opening ∙ one.opening;
-  many = other.many ∙ one.many;
+  keep = all_then v.entries w.entries u.entries one.keep other.keep;
 }
 
-pub stays_by : (v w : HubState) → w ≡ record v { entries = w.entries } → length w.entries ≡ length v.entries → Stays v w
-stays_by v w rest many = record {
+pub stays_by : (v w : HubState) → w ≡ record v { entries = w.entries } → AllKeep v.entries w.entries → Stays v w
+stays_by v w rest keep = record {
   progress = ap (λ (h : HubState). h.progress) rest;
   sources = ap (λ (h : HubState). h.sources) rest;
   opening = ap (λ (h : HubState). h.opening) rest;
-  many = many;
+  keep = keep;
 }
 
-pub stays_seen : (v w : HubState) → w ≡ record v { entries = w.entries; live = w.live } → length w.entries ≡ length v.entries → Stays v w
-stays_seen v w rest many = record {
+pub stays_seen : (v w : HubState) → w ≡ record v { entries = w.entries; live = w.live } → Each (IsKept v.progress.next) v.entries w.entries → Stays v w
+stays_seen v w rest kept = record {
   progress = ap (λ (h : HubState). h.progress) rest;
   sources = ap (λ (h : HubState). h.sources) rest;
   opening = ap (λ (h : HubState). h.opening) rest;
-  many = many;
+  keep = all_looked v.progress.next v.entries w.entries kept;
 }
 
 pub stays_looked : (v w : HubState) → IsLookedAt v w → Stays v w
-stays_looked v w looked = stays_by v w looked.rest looked.entries.as_long
-
--- lists of subscriptions that are as long
-pub as_many : (xs ys : List (Entry DeskState)) → length ys ≡ length xs → length (map (entry_of end_of) ys) ≡ length (map (entry_of end_of) xs)
-as_many xs ys same = length-map ys (entry_of end_of) ∙ same ∙ sym (length-map xs (entry_of end_of))
+stays_looked v w looked = stays_by v w looked.rest (all_looked v.progress.next v.entries w.entries looked.entries)
 
 pub stays_all_looked : (old new : Hub DeskState) (glances : List (Option Standing)) → LooksAtAll end_of DoesCall glances old new → Stays (hub_of end_of old) (hub_of end_of new)
-stays_all_looked old new glances looks = stays_by (hub_of end_of old) (hub_of end_of new) looks.rest (as_many old.entries.items new.entries.items looks.entries.as_long)
+stays_all_looked old new glances looks = stays_looked (hub_of end_of old) (hub_of end_of new) (record {
+  rest = looks.rest;
+  entries = each_mapped end_of (Glances end_of DoesCall old.next) (IsKept old.next) glances old.entries.items new.entries.items (glance_kept end_of DoesCall old.next) looks.entries;
+})
+
+pub tickets_stay : (count : CountId) (v w : HubState) (last : Option Spent) → IsOfCount count v last → Stays v w → IsOfCount count w last
+tickets_stay count v w last is stays = of_count_still count v w last is (λ opening held. is.opening opening (sym stays.opening ∙ held))
+    (λ closed. (subst IsSome (sym (ap (λ (p : Progress). p.ending) stays.progress)) closed, ap (λ (p : Progress). p.next) stays.progress)) stays.keep
 
 -- so what stands behind the lock stays
 pub state_stays : (v w : HubState) (sums : Sums) → IsState v sums → IsSound w → Stays v w → IsState w sums
@@ -74,27 +84,34 @@ state_stays v w sums is sound stays = record {
   drop_parts_are = is.drop_parts_are;
   none_dropped = is.none_dropped;
   sources_are = is.sources_are ∙ sym stays.sources;
-  entries_are = is.entries_are ∙ sym stays.many;
-  closed = λ drained. subst IsSome (sym (ap (λ (p : Progress). p.ending) stays.progress)) (is.closed drained);
+  entries_are = is.entries_are ∙ sym stays.keep.as_long;
+  tickets = (is.tickets.0, tickets_stay is.tickets.0 v w sums.last is.tickets.1 stays);
 }
 
 pub state_all_looked : (old new : Hub DeskState) (glances : List (Option Standing)) (sums : Sums) → IsState (hub_of end_of old) sums → IsSound (hub_of end_of new)
     → LooksAtAll end_of DoesCall glances old new → IsState (hub_of end_of new) sums
 state_all_looked old new glances sums is sound looks = state_stays (hub_of end_of old) (hub_of end_of new) sums is sound (stays_all_looked old new glances looks)
 
+-- one of the subscriptions was told of a second subscribing
+keep_told : (due_before due_after : List (Work Unit)) (number : ℕ) (old new : Hub DeskState) → TellsAt end_of DoesCall number due_before due_after old new → AllKeep (hub_of end_of old).entries (hub_of end_of new).entries
+keep_told due_before due_after number old new tells = subst (λ entries. AllKeep (hub_of end_of old).entries entries)
+    (sym (ap (map (entry_of end_of)) tells.entries ∙ map-set (entry_of end_of) old.entries.items number tells.after))
+    (one_told (hub_of end_of old).entries number (entry_of end_of tells.before) (entry_of end_of tells.after) (get_mapped (entry_of end_of) old.entries.items number tells.before tells.there)
+    (was_told end_of DoesCall tells.start tells.before tells.after tells.told))
+
 -- a subscribing that is refused
 module _ (name : List ℕ) (due_before due_after : List (Work Unit)) (old new : Hub DeskState) where
   stays_no_place : (refusal : Refusal) → FindsNoPlace end_of DoesCall name refusal old new → Stays (hub_of end_of old) (hub_of end_of new)
-  stays_no_place refusal finds = stays_seen (hub_of end_of old) (hub_of end_of new) finds.seen.rest finds.seen.kept.as_long
+  stays_no_place refusal finds = stays_seen (hub_of end_of old) (hub_of end_of new) finds.seen.rest finds.seen.kept
 
   stays_in_part : IsSeenInPart end_of DoesCall old new ⊎ FindsNoPlace end_of DoesCall name Refusal.NoMemory old new → Stays (hub_of end_of old) (hub_of end_of new)
-  stays_in_part (inl seen) = stays_by (hub_of end_of old) (hub_of end_of new) seen.rest seen.kept.as_long
+  stays_in_part (inl seen) = stays_looked (hub_of end_of old) (hub_of end_of new) (record { rest = seen.rest; entries = seen.kept })
   stays_in_part (inr finds) = stays_no_place Refusal.NoMemory finds
 
   stays_told : (middle : Hub DeskState) → IsSeen end_of DoesCall old middle → TellsOne end_of DoesCall name due_before due_after middle new → Stays (hub_of end_of old) (hub_of end_of new)
   stays_told middle seen tells = stays_then
-      (stays_seen (hub_of end_of old) (hub_of end_of middle) seen.rest seen.kept.as_long)
-      (stays_by (hub_of end_of middle) (hub_of end_of new) tells.tells.rest (as_many middle.entries.items new.entries.items (ap length tells.tells.entries ∙ length-set middle.entries.items tells.number tells.tells.after)))
+      (stays_seen (hub_of end_of old) (hub_of end_of middle) seen.rest seen.kept)
+      (stays_by (hub_of end_of middle) (hub_of end_of new) tells.tells.rest (keep_told due_before due_after tells.number middle new tells.tells))
 
   pub stays_refused : (refusal : Refusal) → Refuses end_of DoesCall name refusal due_before due_after old new → Stays (hub_of end_of old) (hub_of end_of new)
   stays_refused Refusal.Duplicate refuses = stays_told refuses.0 refuses.1.0 refuses.1.1

@@ -11,6 +11,7 @@ use Rattle.feed_core.specs.Lane.{IsFlow, IsSettled}
 use Rattle.feed_core.specs.LeftLane.{IsLaneOf}
 use Rattle.publisher_hub.specs.Entry.{EntryState, entry_of}
 use Rattle.publisher_hub.specs.Hub.{HubState, hub_of}
+use Rattle.publisher_hub.specs.Lists.{Each}
 use Rattle.publisher_hub.specs.Sound.{IsSound}
 use Rattle.publisher_hub.specs.Taking.{TakesOutAt, entry_without_feed}
 use Rattle.publisher_hub.specs.declared.entry.Entry.{Entry}
@@ -18,7 +19,8 @@ use Rattle.publisher_hub.specs.declared.hub.Hub.{Hub}
 use Rattle.publisher_hub.proofs.Grown.{get_elsewhere, get_grown}
 use Rattle.publisher_hub.proofs.LiveRounds.{get_mapped}
 use Rattle.publisher_hub.proofs.Places.{there}
-use Rattle.publisher.specs.Lanes.{AreAllLeft, AreFound, AreLeft, Gathers, IsLeftOf, IsLost, TakesIf, TakesLane}
+use Rattle.publisher_hub.proofs.Replaced.{set_or_stood}
+use Rattle.publisher.specs.Lanes.{AreAllLeft, AreFound, AreLeft, Gathers, IsLeftOf, IsLost, IsSameOrLeft, TakesIf, TakesLane}
 use Rattle.publisher.specs.declared.outcome.NamedLane.{NamedLane}
 
 left_false : (a b : Bool) → (a || b) ≡ false → a ≡ false
@@ -35,6 +37,16 @@ get_still [] x k y at = cc
 get_still (first ∷ xs) x zero y at = at
 get_still (first ∷ xs) x (suc k) y at = get_still xs x k y at
 
+-- one more of them was taken out
+left_set : (xs ys zs : List (Entry DeskState)) (number : ℕ) (entry : Entry DeskState) → zs ≡ slice_set ys number entry → (entry.feed ≡ None) × (entry.ticket ≡ None) → Each IsSameOrLeft xs ys → Each IsSameOrLeft xs zs
+left_set xs ys zs number entry set left are = record {
+  as_long = ap length set ∙ length-set ys number entry ∙ are.as_long;
+  each = λ k x z at on. by k x z at (set_or_stood ys number entry k z (sym (ap (λ es. slice_get es k) set) ∙ on));
+} where
+  by : (k : ℕ) (x z : Entry DeskState) → slice_get xs k ≡ Some x → ((number ≡ k) × (entry ≡ z)) ⊎ (slice_get ys k ≡ Some z) → IsSameOrLeft x z
+  by k x z at (inl now) = inr (subst (λ (e : Entry DeskState). (e.feed ≡ None) × (e.ticket ≡ None)) now.1 left)
+  by k x z at (inr before) = are.each k x z at before
+
 -- how far the taking out has come
 pub record Going {B : Type 0} (told : B → List Signal) (old new : Hub DeskState) (handed : List Bool) (most : ℕ) (lanes : List (NamedLane B)) (lost : Option (List ℕ)) (gone : Bool) : Type 0 where
   pub gathers : Gathers told old new handed most lanes lost gone
@@ -48,7 +60,7 @@ module _ {B : Type 0} (told : B → List Signal) (old : Hub DeskState) (handed :
       left = record { desks = []; as_many = refl; each = λ i left desk at on. cc; rising = λ i j left other at on less. cc };
       found = record { many = refl; numbered = λ i left at. cc };
       rest = refl;
-      as_long = refl;
+      stays = record { as_long = refl; each = λ k x y at on. inl (same_Some y x (sym on ∙ at)) };
       sound = sound;
     };
     ahead = λ k le. refl;
@@ -142,7 +154,7 @@ module _ {B : Type 0} (told : B → List Signal) (old : Hub DeskState) (handed :
             left = one_more most lanes left one.desk going.gathers.left is one.number_is;
             found = found_more most lanes left one.desk going.gathers.left is one.number_is lost gone going.gathers.found;
             rest = rest_later takes.rest;
-            as_long = ap length one.entries ∙ length-set new.entries.items most (entry_without_feed new.next one.entry) ∙ going.gathers.as_long;
+            stays = left_set old.entries.items new.entries.items later.entries.items most (entry_without_feed new.next one.entry) one.entries (refl, refl) going.gathers.stays;
             sound = sound;
           };
           ahead = ahead_set new later most (entry_without_feed new.next one.entry) one.entries going.ahead;
@@ -167,7 +179,7 @@ module _ {B : Type 0} (told : B → List Signal) (old : Hub DeskState) (handed :
         left = still_left most lanes going.gathers.left;
         found = found lost refl going.gathers.found;
         rest = rest_later takes.rest;
-        as_long = ap length takes.takes.entries ∙ going.gathers.as_long;
+        stays = subst (λ items. Each IsSameOrLeft old.entries.items items) (sym takes.takes.entries) going.gathers.stays;
         sound = sound;
       };
       ahead = λ k le. ap (λ es. slice_get es k) takes.takes.entries ∙ going.ahead k (omega arith);

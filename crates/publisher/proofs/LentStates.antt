@@ -1,36 +1,41 @@
 -- What stands behind a publisher's lock while the buffer of one subscription is lent, as to a request, a cancel or a turn.
-use Rattle.std.proofs.Common.{◌≡◌, ℕ, ℤ, pos, negsuc, zero, suc, Bool, true, false, if◌then◌else◌, Option, None, Some, refl, sym, ap, subst, ◌∙◌, arith, rules}
+use Rattle.std.proofs.Common.{◌≡◌, ℕ, ℤ, pos, negsuc, zero, suc, Bool, true, false, if◌then◌else◌, Option, None, Some, option_map, refl, sym, ap, subst, ◌∙◌, arith, rules}
 use Rattle.std.specs.Prelude.{IsSome, slice_get}
-use Rattle.std.proofs.lemmas.List.{length-set}
+use Rattle.std.specs.Option.{option_and_then}
+use Rattle.std.proofs.lemmas.List.{map-set}
 use Rattle.feed_core.specs.Desk.{DeskState, Owes, Rests, desk_after_cancel, desk_after_request, desk_after_signal}
 use Rattle.feed_core.specs.Feed.{end_of}
 use Rattle.feed_core.specs.LaneCalls.{lane_with_request}
+use Rattle.publisher_hub.specs.Entry.{entry_of}
 use Rattle.publisher_hub.specs.Hub.{hub_of}
 use Rattle.publisher_hub.specs.Lending.{MayBecome, feed_at, with_feed}
 use Rattle.publisher_hub.specs.declared.entry.Entry.{Entry}
 use Rattle.publisher_hub.specs.declared.hub.Hub.{Hub}
 use Rattle.publisher_hub.proofs.Lending.{sound_with_feed}
+use Rattle.publisher_hub.proofs.LiveRounds.{get_mapped}
 use Rattle.publisher.specs.Acting.{ActsOn}
 use Rattle.publisher.specs.State.{IsState, PublisherState, Sums}
-use Rattle.publisher.proofs.KeptStates.{Stays, as_many, state_stays, stays_by, stays_here}
+use Rattle.publisher.proofs.KeptStates.{Stays, state_stays, stays_by, stays_here}
+use Rattle.publisher.proofs.Ticketed.{AllKeep, all_but_one, keeps_ended}
 
 -- a Hub whose buffer of this number was left as this
 abbrev pub lent : Hub DeskState → ℕ → DeskState → Hub DeskState
 lent hub number after = with_feed hub number (slice_get hub.entries.items number) after
 
-stays_with : (hub : Hub DeskState) (number : ℕ) (entry : Option (Entry DeskState)) (after : DeskState) → Stays (hub_of end_of hub) (hub_of end_of (with_feed hub number entry after))
-stays_with hub number None after = stays_here (hub_of end_of hub)
-stays_with hub number (Some entry) after =
-    let there = record entry { feed = Some after } in
+stays_with : (hub : Hub DeskState) (number : ℕ) (desk after : DeskState) → MayBecome (end_of desk) (end_of after) → (entry : Option (Entry DeskState)) → slice_get hub.entries.items number ≡ entry
+    → option_and_then (λ (e : Entry DeskState). e.feed) entry ≡ Some desk → Stays (hub_of end_of hub) (hub_of end_of (with_feed hub number entry after))
+stays_with hub number desk after becomes None stands was = stays_here (hub_of end_of hub)
+stays_with hub number desk after becomes (Some entry) stands was =
+    let lent = record entry { feed = Some after } in
     stays_by (hub_of end_of hub) (hub_of end_of (with_feed hub number (Some entry) after)) refl
-    (as_many hub.entries.items (with_feed hub number (Some entry) after).entries.items (length-set hub.entries.items number there))
-
-pub stays_lent : (hub : Hub DeskState) (number : ℕ) (after : DeskState) → Stays (hub_of end_of hub) (hub_of end_of (lent hub number after))
-stays_lent hub number after = stays_with hub number (slice_get hub.entries.items number) after
+    (subst (λ entries. AllKeep (hub_of end_of hub).entries entries) (sym (map-set (entry_of end_of) hub.entries.items number lent))
+    (all_but_one (hub_of end_of hub).entries number (entry_of end_of entry) (entry_of end_of lent) (get_mapped (entry_of end_of) hub.entries.items number entry stands)
+    (keeps_ended (entry_of end_of entry) (entry_of end_of lent) (end_of desk) (end_of after) (ap (option_map end_of) was) refl refl refl becomes.over)))
 
 pub state_lent : (hub : Hub DeskState) (number : ℕ) (desk after : DeskState) (sums : Sums) → feed_at hub number ≡ Some desk → MayBecome (end_of desk) (end_of after)
     → IsState (hub_of end_of hub) sums → IsState (hub_of end_of (lent hub number after)) sums
-state_lent hub number desk after sums at becomes is = state_stays (hub_of end_of hub) (hub_of end_of (lent hub number after)) sums is (sound_with_feed end_of hub number desk after is.sound at becomes) (stays_lent hub number after)
+state_lent hub number desk after sums at becomes is = state_stays (hub_of end_of hub) (hub_of end_of (lent hub number after)) sums is (sound_with_feed end_of hub number desk after is.sound at becomes)
+    (stays_with hub number desk after becomes (slice_get hub.entries.items number) refl at)
 
 -- what an act of its owner makes of a buffer
 pub same_end : (desk : DeskState) → MayBecome (end_of desk) (end_of desk)

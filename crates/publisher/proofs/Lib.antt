@@ -1,3 +1,5 @@
+pub mod Admitted
+pub mod Compared
 pub mod Finishing
 pub mod GrownStates
 pub mod Judged
@@ -8,5 +10,6 @@ pub mod LentStates
 pub mod Marking
 pub mod Outcomes
 pub mod Refused
+pub mod Ticketed
 pub mod TogetherSums
 pub mod TurnedStates

@@ -1,5 +1,5 @@
 -- What is left of the subscriptions of a sound Hub keeps the rules of Flow, and agrees.
-use Rattle.std.proofs.Common.{◌≡◌, ℕ, ◌<◌, ◌≤◌, ◌||◌, Bool, true, false, is_some, Option, None, Some, option_map, List, ◌∷◌, map, refl, sym, ap, subst, ◌∙◌, arith}
+use Rattle.std.proofs.Common.{◌≡◌, ◌⊎◌, inl, inr, ℕ, ◌<◌, ◌≤◌, ◌||◌, Bool, true, false, is_some, Option, None, Some, option_map, List, ◌∷◌, map, refl, sym, ap, subst, ◌∙◌, arith}
 use Rattle.std.specs.Prelude.{IsSome, slice_get, Contains}
 use Rattle.std.proofs.lemmas.List.{length-map}
 use Rattle.std.proofs.lemmas.Option.{slice_get_within}
@@ -8,7 +8,7 @@ use Rattle.feed_core.specs.Desk.{DeskState}
 use Rattle.feed_core.specs.Feed.{end_of}
 use Rattle.feed_core.specs.Lane.{LaneState, IsSettled, IsSettledAs}
 use Rattle.feed_core.proofs.TurnLoop.{last_contained}
-use Rattle.publisher_hub.specs.Entry.{entry_of, until_of}
+use Rattle.publisher_hub.specs.Entry.{EntryState, entry_of, until_of}
 use Rattle.publisher_hub.specs.Hub.{hub_of}
 use Rattle.publisher_hub.specs.Sound.{IsAccepted, IsCounted, IsSound}
 use Rattle.publisher_hub.specs.declared.hub.Hub.{Hub}
@@ -16,6 +16,7 @@ use Rattle.publisher_hub.proofs.LiveRounds.{get_before_map, get_mapped}
 use Rattle.publisher_hub.proofs.Places.{there}
 use Rattle.publisher.specs.Lanes.{AreLeft, IsLeftOf}
 use Rattle.publisher.specs.Outcome.{IsLane, IsOutcome, TookPart}
+use Rattle.publisher.specs.Tickets.{IsLate, IsOver}
 use Rattle.publisher.specs.declared.outcome.NamedLane.{NamedLane}
 use Rattle.publisher.specs.declared.outcome.Outcome.{Outcome}
 
@@ -82,8 +83,26 @@ module _ {B : Type 0} (told : B → List Signal) (hub : Hub DeskState) (handed :
     pub few_drops : left.dropped ≤ hub.dropping
     few_drops = let drops = (sound.entries left.entry (entry_of end_of is.entry) stands).drops in let same = is.left_is.dropped in omega arith
 
-  pub is_outcome : (outcome : Outcome B) → AreLeft told hub handed most outcome.lanes.items → outcome.published ≡ hub.next → IsOutcome told outcome
-  is_outcome outcome are published = record {
+  -- it has ended, or is late
+  pub ended_or_late : (published : ℕ) (lanes : List (NamedLane B)) → AreLeft told hub handed most lanes → published ≡ hub.next
+      → ((k : ℕ) (entry : EntryState) → slice_get (hub_of end_of hub).entries k ≡ Some entry → IsOver entry ⊎ IsLate (hub_of end_of hub).progress entry)
+      → (i : ℕ) (left : NamedLane B) → slice_get lanes i ≡ Some left → IsSome left.lane.ending ⊎ (left.since ≡ published)
+  ended_or_late published lanes are now spent i left at =
+      let desk = there are.desks i (subst (λ m. i < m) (sym are.as_many) (slice_get_within lanes i left at)) in
+      by desk.0 (are.each i left desk.0 at desk.1) where
+        some_if : (how : Option How) → is_some how ≡ true → IsSome how
+        some_if None e = cc
+        some_if (Some how) e = refl
+
+        by : (desk : DeskState) → IsLeftOf told hub handed most left desk → IsSome left.lane.ending ⊎ (left.since ≡ published)
+        by desk is = told_so (spent left.entry (entry_of end_of is.entry) (stands left desk is)) where
+          told_so : IsOver (entry_of end_of is.entry) ⊎ IsLate (hub_of end_of hub).progress (entry_of end_of is.entry) → IsSome left.lane.ending ⊎ (left.since ≡ published)
+          told_so (inl over) = inl (subst IsSome (sym is.left_is.lane.ending) (some_if desk.lane.how (over (end_of desk) (feed left desk is))))
+          told_so (inr late) = inr (is.left_is.since ∙ late.1 ∙ sym now)
+
+  pub is_outcome : (outcome : Outcome B) → AreLeft told hub handed most outcome.lanes.items → outcome.published ≡ hub.next
+      → (outcome.drained ≡ true → (i : ℕ) (left : NamedLane B) → slice_get outcome.lanes.items i ≡ Some left → IsSome left.lane.ending ⊎ (left.since ≡ outcome.published)) → IsOutcome told outcome
+  is_outcome outcome are published drained = record {
     lanes = map lane_of_desk are.desks;
     as_many = length-map are.desks lane_of_desk ∙ are.as_many;
     each = λ i left lane at on.
@@ -98,4 +117,5 @@ module _ {B : Type 0} (told : B → List Signal) (hub : Hub DeskState) (handed :
         (accepts left.0 desk.0 (are.each i left.0 desk.0 left.1 desk.1.0) k x (ap (λ (l : LaneState). slice_get l.accepted k) desk.1.1 ∙ on))
         (accepts other_left.0 other_desk.0 (are.each j other_left.0 other_desk.0 other_left.1 other_desk.1.0) n y (ap (λ (l : LaneState). slice_get l.accepted n) other_desk.1.1 ∙ on_other))
         same;
+    drained = drained;
   }

@@ -7,6 +7,7 @@ use Rattle.feed_core.specs.Lane.{IsFlow, IsSettled}
 use Rattle.feed_core.specs.LeftLane.{IsLaneOf}
 use Rattle.publisher_hub.specs.Hub.{hub_of}
 use Rattle.publisher_hub.specs.Lending.{feed_at}
+use Rattle.publisher_hub.specs.Lists.{Each}
 use Rattle.publisher_hub.specs.Sound.{IsSound}
 use Rattle.publisher_hub.specs.Taking.{TakesOutAt, entry_without_feed}
 use Rattle.publisher_hub.specs.declared.entry.Entry.{Entry}
@@ -100,10 +101,14 @@ abbrev pub AreFound : {B : Type 0} → List Bool → ℕ → List (NamedLane B) 
 AreFound handed most lanes None gone = AreAllLeft most lanes
 AreFound handed most lanes (Some name) gone = IsLost handed most lanes gone
 
+-- a subscription as it was, or without its producer's end and its ticket
+abbrev pub IsSameOrLeft : Entry DeskState → Entry DeskState → Type 0
+IsSameOrLeft old new = (new ≡ old) ⊎ ((new.feed ≡ None) × (new.ticket ≡ None))
+
 -- the subscriptions of a Hub with a number below this that were handed in were taken out, in order
 pub record Gathers {B : Type 0} (told : B → List Signal) (old new : Hub DeskState) (handed : List Bool) (most : ℕ) (lanes : List (NamedLane B)) (lost : Option (List ℕ)) (gone : Bool) : Type 0 where
   pub left : AreLeft told old handed most lanes
   pub found : AreFound handed most lanes lost gone
   pub rest : hub_of end_of new ≡ record (hub_of end_of old) { entries = (hub_of end_of new).entries }
-  pub as_long : length new.entries.items ≡ length old.entries.items
+  pub stays : Each IsSameOrLeft old.entries.items new.entries.items
   pub sound : IsSound (hub_of end_of new)

@@ -5,5 +5,6 @@ pub mod Note
 pub mod Outcome
 pub mod Publishing
 pub mod State
+pub mod Tickets
 pub mod Together
 pub mod Turning

@@ -52,6 +52,8 @@ pub record IsOutcome {B : Type 0} (told : B → List Signal) (outcome : Outcome 
   pub as_many : length lanes ≡ length outcome.lanes.items
   pub each : (i : ℕ) (left : NamedLane B) (lane : LaneState) → slice_get outcome.lanes.items i ≡ Some left → slice_get lanes i ≡ Some lane → IsLane told outcome.published left lane
   pub agreed : AreAgreed lanes
+  -- once the last ticket was spent, each has ended but those since whose subscribing nothing was published, which may have come after the close
+  pub drained : outcome.drained ≡ true → (i : ℕ) (left : NamedLane B) → slice_get outcome.lanes.items i ≡ Some left → IsSome left.lane.ending ⊎ (left.since ≡ outcome.published)
 
 -- what is left, whatever the answer of `finish`
 abbrev pub outcome_of : {B : Type 0} → Result (Outcome B) (Refusal × Outcome B) → Outcome B

@@ -1,19 +1,21 @@
 -- What stands behind a publisher's lock.
-use Rattle.std.specs.Prelude.{◌≡◌, ℕ, ◌+◌, Bool, true, None, IsSome, length}
+use Rattle.std.specs.Prelude.{◌≡◌, ℕ, ◌+◌, Option, None, IsSome, length}
+use Rattle.close_count.specs.declared.spent.Spent.{Spent}
 use Rattle.feed_core.specs.Desk.{DeskState}
 use Rattle.feed_core.specs.LaneCalls.{IsCapacity}
 use Rattle.publisher_hub.specs.Hub.{HubState}
 use Rattle.publisher_hub.specs.Sound.{IsSound}
 use Rattle.publisher_hub.specs.declared.hub.Hub.{Hub}
+use Rattle.publisher.specs.Tickets.{AreOfOneCount}
 pub use Rattle.publisher.specs.declared.state.TheConstants.{PARTS}
 
--- the subscriptions and their buffers, and whether the last ticket of the count was spent
+-- the subscriptions and their buffers, and what is left of the last ticket of the count, once that was spent
 pub record PublisherState : Type 0 where
   pub hub : Hub DeskState
-  pub drained : Bool
+  pub last : Option Spent
 
 -- the totals of both ledgers; the parts and amounts of the shares that no submitter has; how many submitters and subscriptions were made; and
--- whether the last ticket of the count was spent
+-- what is left of the last ticket of the count, once that was spent
 pub record Sums : Type 0 where
   pub published : ℕ
   pub dropping : ℕ
@@ -23,10 +25,10 @@ pub record Sums : Type 0 where
   pub drop_amount : ℕ
   pub sources : ℕ
   pub entries : ℕ
-  pub drained : Bool
+  pub last : Option Spent
 
 -- whenever the lock is free: the Hub is sound, and holds the opening ticket until it is closed; the totals are its numbers; and each submitter has
--- one part of each ledger, and the rest has no amount; and the last ticket is spent only once it is closed
+-- one part of each ledger, and the rest has no amount; and each subscription has its ticket until it has ended
 pub record IsState (hub : HubState) (sums : Sums) : Type 0 where
   pub sound : IsSound hub
   pub sized : IsCapacity hub.progress.capacity
@@ -39,4 +41,4 @@ pub record IsState (hub : HubState) (sums : Sums) : Type 0 where
   pub none_dropped : sums.drop_amount ≡ 0
   pub sources_are : sums.sources ≡ hub.sources
   pub entries_are : sums.entries ≡ length hub.entries
-  pub closed : sums.drained ≡ true → IsSome hub.progress.ending
+  pub tickets : AreOfOneCount hub sums.last

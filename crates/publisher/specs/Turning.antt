@@ -1,5 +1,7 @@
 -- What one turn of a subscription does behind a publisher's lock.
-use Rattle.std.specs.Prelude.{◌≡◌, ℕ, ◌||◌, ◌&&◌, Bool, true, false, is_some, Option, None, Some, List, slice_get}
+use Rattle.std.specs.Prelude.{◌≡◌, ℕ, ◌&&◌, Bool, true, false, if◌then◌else◌, Option, None, Some, IsSome, List, slice_get}
+use Rattle.close_count.specs.Spent.{was_last}
+use Rattle.close_count.specs.declared.spent.Spent.{Spent}
 use Rattle.close_count.specs.declared.ticket.Ticket.{Ticket}
 use Rattle.feed_core.specs.Prelude.{Signal}
 use Rattle.feed_core.specs.declared.turn.outlook.Outlook.{Outlook}
@@ -17,16 +19,16 @@ abbrev pub TurnsIfOwed : Option Outlook → List Signal → DeskState → DeskSt
 TurnsIfOwed None told old new = (owes old ≡ false) × (new ≡ old)
 TurnsIfOwed (Some outlook) told old new = (owes old ≡ true) × ((replies : List Reply) × TurnsAs old new told outlook replies)
 
--- a ticket was spent, and noted is whether it was the last, which none is before the close
-abbrev pub NotesSpent : Bool → PublisherState → PublisherState → Type 0
-NotesSpent is_last old new = new ≡ record old { drained = old.drained || (is_last && is_some old.hub.ending) }
+-- a ticket was spent. What is left of it is kept where it was the last, and where the publisher is closed, as it is then
+abbrev pub last_after : Spent → Bool → Option Spent → Option Spent
+last_after spent closed last = if was_last spent && closed then Some spent else last
 
 -- the subscription of this number was asked for its ticket, and the ticket, if it came out, was spent
 pub record SpendsTicket (entry : ℕ) (old new : PublisherState) : Type 0 where
   pub ticket : Option Ticket
   pub asks : AsksForTicketAt end_of DoesCall entry ticket old.hub new.hub
-  pub drained : ticket ≡ None → new.drained ≡ old.drained
-  pub stays : old.drained ≡ true → new.drained ≡ true
+  pub none : ticket ≡ None → new.last ≡ old.last
+  pub stays : IsSome old.last → IsSome new.last
 
 -- what is done after a turn: where that ended the subscription, its ticket is spent
 abbrev pub GoesOnAfter : ℕ → Option Outlook → PublisherState → PublisherState → Type 0

@@ -9,8 +9,8 @@ pub struct Outcome<B> {
     pub lanes: Vec<NamedLane<B>>,
     /// How many items were published.
     pub published: u64,
-    /// Whether the last ticket of the count was spent: the publisher was closed, and each subscription of before has ended. After `Ok`
-    /// each lane has an end then.
+    /// Whether the last ticket of the count was spent: the publisher was closed, and each subscription of before has ended. Then each lane
+    /// has an end, but those since whose subscribing nothing was published; after `Ok` those have one, too.
     pub drained: bool,
 }
 

@@ -6,13 +6,14 @@ mod naming;
 mod publishing;
 mod shares;
 mod subscribing;
+mod tickets;
 mod turning;
 mod waiting;
 
 ghost use Rattle.std.specs.Prelude.{◌≡◌, ◌⊎◌, ◌<◌, ◌↔◌, zero, Err, IfErr, IfOk};
 ghost use Rattle.flow_rules.specs.declared.refusal.Refusal.TheVariants as Refusal;
 
-use close_count::Count;
+use close_count::{Count, Spent};
 use feed_core::Desk;
 use flow_rules::{Listener, Refusal, capacity};
 use publisher_hub::Hub;
@@ -44,8 +45,8 @@ pub struct State<L: Ledger, D: Ledger, B: Listener> {
     /// saturates.
     loops: u32,
     waiting: u32,
-    /// Whether the last ticket of the count was spent. The opening is one until the close, so it is spent after that.
-    drained: bool,
+    /// What is left of the last ticket of the count, once that was spent. The opening is one until the close, so that is after it.
+    last: Option<Spent>,
 }
 
 impl<L: Ledger, D: Ledger, B: Listener> Model for State<L, D, B> {
@@ -55,7 +56,7 @@ impl<L: Ledger, D: Ledger, B: Listener> Model for State<L, D, B> {
 
     ghost Value = { PublisherState };
 
-    ghost view = { λ s. record { hub = s.hub; drained = s.drained } };
+    ghost view = { λ s. record { hub = s.hub; last = s.last } };
 
     ghost invariant = { λ s. IsState (hub_of end_of s.hub) (record {
       published = s.published.total;
@@ -66,7 +67,7 @@ impl<L: Ledger, D: Ledger, B: Listener> Model for State<L, D, B> {
       drop_amount = s.rest_of_drops.amount;
       sources = s.sources;
       entries = s.entries;
-      drained = s.drained;
+      last = s.last;
     }) };
 }
 
@@ -100,7 +101,7 @@ impl<L: Ledger, D: Ledger, B: Listener> State<L, D, B> {
             entries: 0,
             loops: 0,
             waiting: 0,
-            drained: false,
+            last: None,
         })
     }
 

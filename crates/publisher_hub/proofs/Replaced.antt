@@ -114,7 +114,7 @@ set_same (first ∷ xs) zero x at = ap (λ y. y ∷ xs) (sym (same_some at))
 set_same (first ∷ xs) (suc k) x at = ap (λ ys. first ∷ ys) (set_same xs k x at)
 
 -- what stands in a list where one place was set
-set_or_stood : {X : Type 0} (xs : List X) (place : ℕ) (value : X) (i : ℕ) (y : X) → slice_get (set xs place value) i ≡ Some y → ((place ≡ i) × (value ≡ y)) ⊎ (slice_get xs i ≡ Some y)
+pub set_or_stood : {X : Type 0} (xs : List X) (place : ℕ) (value : X) (i : ℕ) (y : X) → slice_get (set xs place value) i ≡ Some y → ((place ≡ i) × (value ≡ y)) ⊎ (slice_get xs i ≡ Some y)
 set_or_stood [] place value i y at = inr at
 set_or_stood (first ∷ xs) zero value zero y at = inl (refl, same_some at)
 set_or_stood (first ∷ xs) zero value (suc i) y at = inr at

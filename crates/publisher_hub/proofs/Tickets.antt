@@ -1,4 +1,4 @@
--- A sound Hub stays sound where a subscription is asked for its ticket.
+-- A sound Hub stays sound where a subscription is asked for its ticket, or its ticket is taken out.
 use Rattle.std.proofs.Common.{◌≡◌, ◌||◌, ℕ, ◌≤◌, Bool, true, false, Option, None, Some, is_some, List, map, option_map, length, refl, ap, sym, subst, ◌∙◌, set, arith}
 use Rattle.std.specs.Prelude.{if◌then◌else◌, slice_get}
 use Rattle.std.specs.Vec.{with_item}
@@ -8,15 +8,15 @@ use Rattle.close_count.specs.declared.ticket.Ticket.{Ticket}
 use Rattle.flow_rules.specs.Call.{Call}
 use Rattle.flow_rules.specs.Feed.{End, Looked, is_gone}
 use Rattle.flow_rules.specs.declared.feed.standing.Standing.{Standing}
-use Rattle.publisher_hub.specs.Entry.{entry_of, until_of}
+use Rattle.publisher_hub.specs.Entry.{EntryState, entry_of, until_of}
 use Rattle.publisher_hub.specs.Hub.{HubState, Progress, hub_of}
-use Rattle.publisher_hub.specs.Sound.{IsEntry, IsSound}
-use Rattle.publisher_hub.specs.Tickets.{AsksForTicket, AsksForTicketAt, HandsOut}
+use Rattle.publisher_hub.specs.Sound.{IsCounted, IsEntry, IsSound}
+use Rattle.publisher_hub.specs.Tickets.{AsksForTicket, AsksForTicketAt, HandsOut, without_ticket}
 use Rattle.publisher_hub.specs.declared.entry.Entry.{Entry}
 use Rattle.publisher_hub.specs.declared.hub.Hub.{Hub}
 use Rattle.publisher_hub.proofs.LiveRounds.{get_mapped}
 use Rattle.publisher_hub.proofs.PartialRounds.{same_some}
-use Rattle.publisher_hub.proofs.Replaced.{Succeeds, set_same, sound_replaced}
+use Rattle.publisher_hub.proofs.Replaced.{Replaces, Succeeds, set_same, sound_replaced, sound_with}
 
 -- an end that took no more items before a look takes none after it
 gone_looked : (e f : End) → Looked e f → is_gone e ≡ true → is_gone f ≡ true
@@ -112,3 +112,38 @@ module _ {F T : Type 0} (meaning : F → End) (does : F → Call T → F → Typ
     by (Some before) at =
         let there = asks.there before at in
         subst (λ items. IsSound (with_items items)) (sym there.2.1) (asked before there.1 there.0 at there.2.0)
+
+-- a subscription without its ticket is counted as with it
+counted_without : (p : Progress) (entry : EntryState) (e : End) → IsCounted p entry e → IsCounted p (record entry { ticket = None }) e
+counted_without p entry e is = record {
+  capacity = is.capacity;
+  ordered = is.ordered;
+  items = λ i x at. let item = is.items i x at in record { since = item.since; until = item.until; seq = item.seq; source = item.source };
+  count = is.count;
+  until = is.until;
+  gone = is.gone;
+  closed = is.closed;
+  unclosed = is.unclosed;
+}
+
+replaces_ticketed : (p : Progress) (entry : EntryState) → Replaces p entry (record entry { ticket = None })
+replaces_ticketed p entry = record {
+  entry = λ is. record { here = is.here; counted = λ e was. counted_without p entry e (is.counted e was); drops = is.drops };
+  lives = λ lives. lives;
+  had = λ f is. (f, is, refl);
+}
+
+-- a sound Hub stays sound where a ticket is taken out
+pub sound_unticketed : {F : Type 0} (meaning : F → End) (hub : Hub F) (number : ℕ) (entry : Entry F) → IsSound (hub_of meaning hub) → slice_get hub.entries.items number ≡ Some entry
+    → IsSound (hub_of meaning (without_ticket hub number (Some entry)))
+sound_unticketed meaning hub number entry sound at =
+    let stored = entry_of meaning entry in
+    subst (λ entries. IsSound (record (hub_of meaning hub) { entries = entries })) (sym (map-set (entry_of meaning) hub.entries.items number (record entry { ticket = None })))
+    (sound_with (hub_of meaning hub) number stored (record stored { ticket = None }) sound (get_mapped (entry_of meaning) hub.entries.items number entry at) (replaces_ticketed (hub_of meaning hub).progress stored))
+
+-- where there was no ticket, what is stored stays
+pub unticketed_same : {F : Type 0} (meaning : F → End) (hub : Hub F) (number : ℕ) (entry : Entry F) → slice_get hub.entries.items number ≡ Some entry → entry.ticket ≡ None
+    → hub_of meaning (without_ticket hub number (Some entry)) ≡ hub_of meaning hub
+unticketed_same {F} meaning hub number entry at none =
+    ap (λ ticket. record (hub_of meaning hub) { entries = map (entry_of meaning) (set hub.entries.items number (record entry { ticket = ticket })) }) (sym none)
+    ∙ ap (λ items. record (hub_of meaning hub) { entries = map (entry_of meaning) items }) (set_same hub.entries.items number entry at)

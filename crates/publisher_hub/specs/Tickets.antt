@@ -1,5 +1,7 @@
--- What becomes of a subscription that is asked for its ticket.
+-- What becomes of a subscription that is asked for its ticket, or whose ticket is taken out.
 use Rattle.std.specs.Prelude.{◌≡◌, ℕ, true, false, if◌then◌else◌, Option, None, Some, slice_get, slice_set}
+use Rattle.std.specs.Option.{option_and_then}
+use Rattle.std.specs.Vec.{with_item}
 use Rattle.close_count.specs.declared.ticket.Ticket.{Ticket}
 use Rattle.flow_rules.specs.Call.{Call}
 use Rattle.flow_rules.specs.Feed.{End}
@@ -33,3 +35,12 @@ module _ {F T : Type 0} (meaning : F → End) (does : F → Call T → F → Typ
     pub none : slice_get old.entries.items number ≡ None → (ticket ≡ None) × (new.entries.items ≡ old.entries.items)
     pub there : (before : Entry F) → slice_get old.entries.items number ≡ Some before
         → (glance : Option Standing) × (after : Entry F) × (AsksForTicket old.next glance ticket before after × (new.entries.items ≡ slice_set old.entries.items number after))
+
+-- the ticket of the subscription of this number, where it is there
+abbrev pub ticket_at : {F : Type 0} → Hub F → ℕ → Option Ticket
+ticket_at {F} hub number = option_and_then (λ (entry : Entry F). entry.ticket) (slice_get hub.entries.items number)
+
+-- a Hub whose subscription of this number, if this one is there, has no ticket
+abbrev pub without_ticket : {F : Type 0} → Hub F → ℕ → Option (Entry F) → Hub F
+without_ticket hub number None = hub
+without_ticket hub number (Some entry) = record hub { entries = with_item hub.entries number (record entry { ticket = None }) }

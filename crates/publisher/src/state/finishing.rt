@@ -1,10 +1,11 @@
 //! The end of a publisher.
-ghost use Rattle.std.specs.Prelude.{◌≡◌, ◌<◌, ◌≤◌, ◌++◌, [], false, if◌then◌else◌, length, IfOk, replicate, vec_capacity, ◌∷◌};
+ghost use Rattle.std.specs.Prelude.{◌≡◌, ◌<◌, ◌≤◌, ◌++◌, [], false, if◌then◌else◌, is_some, length, IfOk, replicate, vec_capacity, ◌∷◌};
 ghost use Rattle.publisher.specs.declared.state.TheConstants.{PARTS};
 ghost use Rattle.publisher.specs.Outcome.{AreHandedIn, Finishes, IsOutcome, Judges, is_undone, outcome_of};
 
 use super::State;
 use super::lanes::{Lost, mark_all, take_lanes};
+use super::tickets::compare_tickets;
 use crate::outcome::{NamedLane, Outcome};
 use crate::submitter::Submitter;
 use crate::subscription::Subscription;
@@ -42,6 +43,7 @@ impl<L: Ledger + Send, D: Ledger + Send, B: Listener + Send> State<L, D, B> {
             unsettled,
         } = room;
         let all = mark_all(&mut handed, subscriptions);
+        compare_tickets(&mut self.hub, &mut self.last, self.entries);
         let Lost { first: lost, gone } = take_lanes(&mut self.hub, &handed, &mut lanes);
         // Each subscription of this publisher has its place; only another call of this takes buffers out, and a publisher is consumed by one.
         if gone | !all {
@@ -61,12 +63,12 @@ impl<L: Ledger + Send, D: Ledger + Send, B: Listener + Send> State<L, D, B> {
     fn outcome(&self, lanes: Vec<NamedLane<B>>) -> Outcome<B>
         ensures lanes { result.lanes ≡ lanes }
         ensures published { result.published ≡ self.now.hub.next }
-        ensures drained { result.drained ≡ self.now.drained }
+        ensures drained { result.drained ≡ is_some self.now.last }
     {
         Outcome {
             lanes,
             published: self.hub.next_serial(),
-            drained: self.drained,
+            drained: self.last.is_some(),
         }
     }
 }

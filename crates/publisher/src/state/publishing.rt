@@ -8,7 +8,7 @@ ghost use Rattle.publisher.specs.Handles.{IsHubReason, IsHubRefusal};
 ghost use Rattle.publisher.specs.Publishing.{drop_of};
 
 use super::State;
-use close_count::Opening;
+use super::turning::keep_last;
 use flow_rules::{DropHandler, Ending, Listener, Refusal, Text};
 use publisher_hub::{Unpublished, Work};
 use std::sync::ledger::{Book, Ledger, Share};
@@ -111,11 +111,12 @@ impl<L: Ledger, D: Ledger, B: Listener> State<L, D, B> {
         ensures closed { IfOk result (λ how. self.new.hub.ending ≡ Some how) }
         ensures first { self.old.hub.ending ≡ None → IfOk result (λ how. how ≡ ending) }
         ensures later { IsSome self.old.hub.ending → self.new ≡ self.old }
-        ensures err { OnErr result (self.new.drained ≡ self.old.drained) }
+        ensures err { OnErr result (self.new.last ≡ self.old.last) }
         ensures refusals { IfErr result (λ refusal. refusal ≡ Refusal.NoMemory) }
     {
-        let is_last = spend_opening(self.hub.end(ending, due)?);
-        self.drained |= is_last;
+        if let Some(opening) = self.hub.end(ending, due)? {
+            keep_last(&mut self.last, opening.spend(), true);
+        }
         Ok(self.hub.ending().unwrap_or(ending))
     }
 }
@@ -129,15 +130,5 @@ fn count_drop<D: Ledger>(dropping: &mut Book<D>, drops: &mut Share<D>, answer: i
 {
     if answer < 0 {
         dropping.add(drops, 1);
-    }
-}
-
-/// Spends the opening ticket, if there is one. The answer is whether it was the last of its count.
-fn spend_opening(opening: Option<Opening>) -> bool
-    ensures { opening ≡ None → result ≡ false }
-{
-    match opening {
-        Some(opening) => opening.try_complete(),
-        None => false,
     }
 }

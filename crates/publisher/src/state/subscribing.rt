@@ -1,12 +1,12 @@
 //! Subscribing, and what is asked of all subscriptions.
-ghost use Rattle.std.specs.Prelude.{◌≡◌, [], IfErr, List, OnOk};
+ghost use Rattle.std.specs.Prelude.{◌≡◌, [], IfErr, IfOk, List, OnOk};
 ghost use Rattle.feed_core.specs.Feed.{end_of};
 ghost use Rattle.publisher_hub.specs.Adding.{IsFresh};
 ghost use Rattle.publisher_hub.specs.Subscribing.{CanAdmit};
 ghost use Rattle.publisher.specs.Handles.{RefusesSubscribing};
+ghost use Rattle.publisher.specs.Tickets.{IsTicketFor};
 
 use super::State;
-use super::turning::spend;
 use close_count::Ticket;
 use feed_core::Desk;
 use flow_rules::{Listener, Name, Refusal};
@@ -34,8 +34,7 @@ impl<L: Ledger, D: Ledger, B: Listener> State<L, D, B> {
         match Desk::new(alloc, self.hub.capacity(), subscriber) {
             Ok(desk) => Ok(self.admit(name, desk, ticket, due)),
             Err((_, subscriber)) => {
-                let is_last = spend(ticket);
-                self.note_spent(is_last);
+                spend_unused(ticket);
                 Err((Refusal::NoMemory, subscriber))
             }
         }
@@ -44,6 +43,7 @@ impl<L: Ledger, D: Ledger, B: Listener> State<L, D, B> {
     /// Whether a subscriber of this name may subscribe now, and a ticket for it.
     fn prepare(&mut self, name: Name, due: &mut Vec<Work<()>>) -> Result<Option<Ticket>, Refusal>
         ensures can { OnOk result (CanAdmit end_of name self.new.hub due.new) }
+        ensures ticket { IfOk result (λ ticket. IsTicketFor self.new.hub ticket) }
         ensures refusals { IfErr result (λ refusal. RefusesSubscribing refusal) }
     {
         self.hub.may_subscribe(name, due)?;
@@ -59,6 +59,7 @@ impl<L: Ledger, D: Ledger, B: Listener> State<L, D, B> {
         due: &mut Vec<Work<()>>,
     ) -> u32
         requires can { CanAdmit end_of name self.old.hub due.old }
+        requires ticket { IsTicketFor self.old.hub ticket }
         requires fresh { IsFresh self.old.hub.capacity (end_of desk) }
     {
         let entry = self.hub.admit(name, desk, ticket, due).unwrap();
@@ -79,5 +80,12 @@ impl<L: Ledger, D: Ledger, B: Listener> State<L, D, B> {
     /// Whether a live subscription has this name.
     pub fn is_subscribed(&mut self, name: Name) -> bool {
         self.hub.is_subscribed(name)
+    }
+}
+
+/// Spends a ticket that no subscription got. It was made while the publisher was open, so it isn't the last: the opening is a ticket still.
+fn spend_unused(ticket: Option<Ticket>) {
+    if let Some(ticket) = ticket {
+        let _ = ticket.spend();
     }
 }

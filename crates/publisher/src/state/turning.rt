@@ -1,10 +1,10 @@
 //! One turn of a subscription.
-ghost use Rattle.std.specs.Prelude.{◌≡◌, ◌↔◌, None, Some, false, true};
+ghost use Rattle.std.specs.Prelude.{◌≡◌, ◌↔◌, Some, true};
 ghost use Rattle.feed_core.specs.declared.turn.outlook.Outlook.TheVariants.{Again};
-ghost use Rattle.publisher.specs.Turning.{GoesOnAfter, NotesSpent, RunsTurn, TurnsIfOwed, SpendsTicket};
+ghost use Rattle.publisher.specs.Turning.{GoesOnAfter, RunsTurn, SpendsTicket, TurnsIfOwed, last_after};
 
 use super::State;
-use close_count::Ticket;
+use close_count::Spent;
 use feed_core::{Desk, Outlook, Seen};
 use flow_rules::Listener;
 use std::sync::ledger::Ledger;
@@ -41,25 +41,19 @@ impl<L: Ledger, D: Ledger, B: Listener> State<L, D, B> {
     fn spend_ticket(&mut self, entry: u32)
         ensures { SpendsTicket entry self.old self.new }
     {
-        let is_last = spend(self.hub.ended(entry));
-        self.note_spent(is_last);
-    }
-
-    /// Notes that a ticket was spent, and whether it was the last. None is before the close, since the opening is a ticket until then.
-    pub(super) fn note_spent(&mut self, is_last: bool)
-        ensures { NotesSpent is_last self.old self.new }
-    {
-        self.drained |= is_last & self.hub.ending().is_some();
+        if let Some(ticket) = self.hub.ended(entry) {
+            let is_closed = self.hub.ending().is_some();
+            keep_last(&mut self.last, ticket.spend(), is_closed);
+        }
     }
 }
 
-/// Spends a ticket, if there is one. The answer is whether it was the last of its count.
-pub(super) fn spend(ticket: Option<Ticket>) -> bool
-    ensures { ticket ≡ None → result ≡ false }
+/// Keeps what is left of a ticket that was spent, if it was the last. None is before the close, since the opening is a ticket until then.
+pub(super) fn keep_last(last: &mut Option<Spent>, spent: Spent, is_closed: bool)
+    ensures { last.new ≡ last_after spent is_closed last.old }
 {
-    match ticket {
-        Some(ticket) => ticket.try_complete(),
-        None => false,
+    if spent.is_last() & is_closed {
+        *last = Some(spent);
     }
 }
 

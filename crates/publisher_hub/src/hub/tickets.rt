@@ -1,5 +1,5 @@
 //! The tickets of the count that finds a Hub's last subscription.
-ghost use Rattle.std.specs.Prelude.{◌≡◌, ◌⊎◌, ◌+◌, ℕ, None, Some, Ok, Err, IfErr, IfOk, IsSome, List, OnErr, Vec};
+ghost use Rattle.std.specs.Prelude.{◌≡◌, ◌⊎◌, ◌+◌, ℕ, None, Some, Ok, Err, IfErr, IfOk, IsSome, List, OnErr, Vec, slice_get};
 ghost use Rattle.std.specs.declared.alloc.Global.{Global};
 ghost use Rattle.close_count.specs.Opening.{count_of_opening, tickets_made};
 ghost use Rattle.close_count.specs.Ticket.{count_of_ticket};
@@ -10,6 +10,7 @@ ghost use Rattle.publisher_hub.specs.Hub.{hub_of};
 ghost use Rattle.publisher_hub.specs.Sound.{IsSound};
 ghost use Rattle.publisher_hub.specs.Subscribing.{CanAdmit};
 ghost use Rattle.publisher_hub.specs.OpeningTicket.{AddsTicket, RefusesTicket};
+ghost use Rattle.publisher_hub.specs.Tickets.{ticket_at, without_ticket};
 ghost use Rattle.publisher_hub.specs.declared.work.Work.{Work};
 
 use crate::hub::Hub;
@@ -50,5 +51,22 @@ impl<F: Feed> Hub<F> {
         ensures sound { IsSound (hub_of F.meaning self.new) }
     {
         self.opening = Some(opening);
+    }
+
+    /// Takes the ticket of the subscription of this number out, also where that goes on, and without a look. Who gets it has to spend it.
+    ///
+    /// `None` where it was taken out before or never was there, and where no subscription has the number; nothing has changed then.
+    #[must_use]
+    pub fn take_ticket(&mut self, entry: u32) -> Option<Ticket>
+        requires sound { IsSound (hub_of F.meaning self.old) }
+        ensures ticket { result ≡ ticket_at self.old entry }
+        ensures taken { self.new ≡ without_ticket self.old entry (slice_get self.old.entries.items entry) }
+        ensures none { result ≡ None → hub_of F.meaning self.new ≡ hub_of F.meaning self.old }
+        ensures sound { IsSound (hub_of F.meaning self.new) }
+    {
+        match self.entries.get_mut(entry as usize) {
+            Some(entry) => entry.ticket.take(),
+            None => None,
+        }
     }
 }

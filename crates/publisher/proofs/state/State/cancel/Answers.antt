@@ -18,9 +18,9 @@ pub returns : goal.returns
 returns g c = rw (← c.self.view_is) (elim c.match-feed_mut.branch [
   | in-Some w ↦
       let at : feed_at c.self.inside.hub c.args.entry ≡ Some w.in-Some.desk.now = sym c.feed_mut.ensures.value ∙ ap option_copied_mut w.in-Some.is in
-      rw (w.result-is, w.self-inside-is, w.cancel.ensures.cancelled) (acts_there c.args.entry desk_after_cancel w.cancel.result (record { hub = c.self.inside.hub; drained = c.self.inside.drained }) w.in-Some.desk.now at
+      rw (w.result-is, w.self-inside-is, w.cancel.ensures.cancelled) (acts_there c.args.entry desk_after_cancel w.cancel.result (record { hub = c.self.inside.hub; last = c.self.inside.last }) w.in-Some.desk.now at
       (λ some. let starts = w.cancel.ensures.starts.0 some in cancel_owes w.in-Some.desk.now starts.0 starts.1))
   | in-None w ↦
       let at : feed_at c.self.inside.hub c.args.entry ≡ None = sym c.feed_mut.ensures.value ∙ ap option_copied_mut w.in-None.is in
-      rw (w.result-is, w.self-inside-is) (acts_nowhere c.args.entry desk_after_cancel (record { hub = c.self.inside.hub; drained = c.self.inside.drained }) at)
+      rw (w.result-is, w.self-inside-is) (acts_nowhere c.args.entry desk_after_cancel (record { hub = c.self.inside.hub; last = c.self.inside.last }) at)
 ])

@@ -1,27 +1,26 @@
-use Rattle.std.proofs.Common.{◌≡◌, ◌||◌, ◌&&◌, is_some, Bool, true, false, refl, ap, ◌∙◌}
-use Rattle.feed_core.specs.Feed.{end_of}
-use Rattle.publisher_hub.specs.Hub.{hub_of}
-use Rattle.publisher.proofs.KeptStates.{state_stays}
-use Rattle.publisher.proofs.TurnedStates.{stays_asked}
+use Rattle.std.proofs.Common.{◌≡◌, Option, None, Some, is_some, true, refl, sym, ap, ◌∙◌}
+use Rattle.std.specs.Prelude.{IsSome}
+use Rattle.flow_rules.specs.declared.ending.Ending.{Ending}
+use Rattle.publisher.proofs.Ticketed.{last_stays}
+use Rattle.publisher.proofs.TurnedStates.{state_asked, state_spent}
 use Rattle.publisher.proofs.state.State.spend_ticket.Goals as goal
 
-or_false : (a b : Bool) → (a || (false && b)) ≡ a
-or_false true b = refl
-or_false false b = refl
-
-or_true : (a b : Bool) → a ≡ true → (a || b) ≡ true
-or_true true b e = refl
-or_true false b e = cc
+some_if : (ending : Option Ending) → is_some ending ≡ true → IsSome ending
+some_if None e = cc
+some_if (Some how) e = refl
 
 pub invariant_of-self : goal.invariant_of-self
-invariant_of-self g c = state_stays (hub_of end_of c.self.inside.hub) (hub_of end_of c.ended.new.self) _ c.self.invariant c.ended.ensures.sound (stays_asked c.self.inside.hub c.ended.new.self c.args.entry c.ended.result c.ended.ensures.looks)
+invariant_of-self g c = rw c.keep_last.ensures
+    (state_spent c.self.inside.hub c.ended.new.self c.args.entry c.ended.result c.ended.ensures.looks _ c.in-Some.ticket c.spend.result c.is_some-is_closed.result c.self.invariant c.ended.ensures.sound c.in-Some.is c.spend.ensures.count
+    (λ closed. some_if c.ended.new.self.ending (sym (c.is_some-is_closed.ensures ∙ ap is_some c.ending.ensures) ∙ closed)))
 
-pub returns : goal.returns
-returns g c =
-    let closed = is_some c.ended.new.self.ending in
-    rw (← c.self.view_is, c.note_spent.ensures) (record {
-      ticket = c.ended.result;
-      asks = c.ended.ensures.looks;
-      drained = λ none. ap (λ b. c.self.inside.drained || (b && closed)) (c.spend-is_last.ensures none) ∙ or_false c.self.inside.drained closed;
-      stays = λ drained. or_true c.self.inside.drained (c.spend-is_last.result && closed) drained;
-    })
+pub invariant_of-self-in_default : goal.invariant_of-self-in_default
+invariant_of-self-in_default g c = state_asked c.self.inside.hub c.ended.new.self c.args.entry c.ended.result c.ended.ensures.looks _ c.self.invariant c.ended.ensures.sound
+
+pub returns-in-Some : goal.returns-in-Some
+returns-in-Some g c = rw (← c.self.view_is) (record {
+  ticket = c.ended.result;
+  asks = c.ended.ensures.looks;
+  none = λ none. let no : None ≡ Some c.in-Some.ticket = sym none ∙ c.in-Some.is in cc;
+  stays = λ some. rw c.keep_last.ensures (last_stays c.spend.result c.is_some-is_closed.result c.self.inside.last some);
+})

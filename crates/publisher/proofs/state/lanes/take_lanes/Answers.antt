@@ -12,7 +12,7 @@ pub take_lane-requires-clause-sound : goal.take_lane-requires-clause-sound
 take_lane-requires-clause-sound g c = c.loop-entry.invariant.0.gathers.sound
 
 pub take_lane-requires-clause-there : goal.take_lane-requires-clause-there
-take_lane-requires-clause-there g c = let same = c.loop-entry.invariant.0.gathers.as_long in let all = c.requires.all in let less = c.loop-entry-test.true in omega arith
+take_lane-requires-clause-there g c = let same = c.loop-entry.invariant.0.gathers.stays.as_long in let all = c.requires.all in let less = c.loop-entry-test.true in omega arith
 
 pub push_reserved-requires : goal.push_reserved-requires
 push_reserved-requires g c = let few = c.loop-entry.invariant.0.few in let room = c.loop-entry.invariant.2 in let less = c.loop-entry-test.true in omega arith
