@@ -168,11 +168,7 @@ closed_by submitters published dropping parts drop_parts sources knows also are 
 
 -- the last ticket was spent, so the publisher is closed
 pub closed_if_drained : (hub : HubState) (last : Option Spent) (knows closed drained : Bool) → AreOfOneCount hub last → drained ≡ is_some last → closed ≡ is_some hub.progress.ending → drained ≡ true → (knows || closed) ≡ true
-closed_if_drained hub last knows closed drained is same tells was = by knows closed hub.progress.ending tells (is.1.closed (is_left last (sym same ∙ was))) where
-  is_left : (spent : Option Spent) → is_some spent ≡ true → IsSome spent
-  is_left None e = cc
-  is_left (Some spent) e = refl
-
+closed_if_drained hub last knows closed drained is same tells was = by knows closed hub.progress.ending tells (is.1.closed (sym same ∙ was)) where
   by : (a b : Bool) (ending : Option Ending) → b ≡ is_some ending → IsSome ending → (a || b) ≡ true
   by true b ending e some = refl
   by false b (Some how) e some = e
@@ -181,10 +177,7 @@ closed_if_drained hub last knows closed drained is same tells was = by knows clo
 -- so each subscription has ended or is late, since none has a ticket
 pub all_spent : (hub : HubState) (many : ℕ) (last : Option Spent) (drained : Bool) → AreOfOneCount hub last → many ≡ length hub.entries → (IsSome last → AreSpent many hub) → drained ≡ is_some last → drained ≡ true
     → (k : ℕ) (entry : EntryState) → slice_get hub.entries k ≡ Some entry → IsOver entry ⊎ IsLate hub.progress entry
-all_spent hub many last drained is all spent same was k entry at = (is.1.entries k entry at).spent (spent (is_left last (sym same ∙ was)) k entry (subst (λ n. k < n) (sym all) (slice_get_within hub.entries k entry at)) at) where
-  is_left : (spent : Option Spent) → is_some spent ≡ true → IsSome spent
-  is_left None e = cc
-  is_left (Some spent) e = refl
+all_spent hub many last drained is all spent same was k entry at = (is.1.entries k entry at).spent (spent (sym same ∙ was) k entry (subst (λ n. k < n) (sym all) (slice_get_within hub.entries k entry at)) at)
 
 pub all_found : {B : Type 0} (handed : List Bool) (most : ℕ) (lanes : List (NamedLane B)) (lost missing : Option (List ℕ)) (gone : Bool) → option_or lost missing ≡ None → AreFound handed most lanes lost gone → length lanes ≡ most
 all_found handed most lanes None missing gone is found = found.many

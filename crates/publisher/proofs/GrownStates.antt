@@ -64,10 +64,11 @@ pub drop_is : (n lag dropping : ℕ) → dropping_after n dropping ≡ dropping 
 drop_is zero lag dropping = omega arith
 drop_is (suc n) lag dropping = refl
 
--- the first close
+-- the looks before the first close
 looked_before : (v w : HubState) (ending : Ending) (closing : IsClosedLooking ending v w) → Stays v closing.middle
 looked_before v w ending closing = stays_looked v closing.middle closing.looked
 
+-- the first close
 tickets_closed : (count : CountId) (v w : HubState) (ending : Ending) (last : Option Spent) → IsOfCount count v last → IsClosedLooking ending v w → IsOfCount count w last
 tickets_closed count v w ending last is closing =
     let before = looked_before v w ending closing in

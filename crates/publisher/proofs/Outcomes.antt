@@ -97,7 +97,7 @@ module _ {B : Type 0} (told : B → List Signal) (hub : Hub DeskState) (handed :
         by : (desk : DeskState) → IsLeftOf told hub handed most left desk → IsSome left.lane.ending ⊎ (left.since ≡ published)
         by desk is = told_so (spent left.entry (entry_of end_of is.entry) (stands left desk is)) where
           told_so : IsOver (entry_of end_of is.entry) ⊎ IsLate (hub_of end_of hub).progress (entry_of end_of is.entry) → IsSome left.lane.ending ⊎ (left.since ≡ published)
-          told_so (inl over) = inl (subst IsSome (sym is.left_is.lane.ending) (some_if desk.lane.how (over (end_of desk) (feed left desk is))))
+          told_so (inl over) = inl (subst IsSome (sym is.left_is.lane.ending) (over (end_of desk) (feed left desk is)))
           told_so (inr late) = inr (is.left_is.since ∙ late.1 ∙ sym now)
 
   pub is_outcome : (outcome : Outcome B) → AreLeft told hub handed most outcome.lanes.items → outcome.published ≡ hub.next

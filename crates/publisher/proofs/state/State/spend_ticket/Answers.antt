@@ -1,18 +1,12 @@
-use Rattle.std.proofs.Common.{◌≡◌, Option, None, Some, is_some, true, refl, sym, ap, ◌∙◌}
-use Rattle.std.specs.Prelude.{IsSome}
-use Rattle.flow_rules.specs.declared.ending.Ending.{Ending}
+use Rattle.std.proofs.Common.{◌≡◌, None, Some, is_some, sym, ap, ◌∙◌}
 use Rattle.publisher.proofs.Ticketed.{last_stays}
 use Rattle.publisher.proofs.TurnedStates.{state_asked, state_spent}
 use Rattle.publisher.proofs.state.State.spend_ticket.Goals as goal
 
-some_if : (ending : Option Ending) → is_some ending ≡ true → IsSome ending
-some_if None e = cc
-some_if (Some how) e = refl
-
 pub invariant_of-self : goal.invariant_of-self
 invariant_of-self g c = rw c.keep_last.ensures
     (state_spent c.self.inside.hub c.ended.new.self c.args.entry c.ended.result c.ended.ensures.looks _ c.in-Some.ticket c.spend.result c.is_some-is_closed.result c.self.invariant c.ended.ensures.sound c.in-Some.is c.spend.ensures.count
-    (λ closed. some_if c.ended.new.self.ending (sym (c.is_some-is_closed.ensures ∙ ap is_some c.ending.ensures) ∙ closed)))
+    (λ closed. sym (c.is_some-is_closed.ensures ∙ ap is_some c.ending.ensures) ∙ closed))
 
 pub invariant_of-self-in_default : goal.invariant_of-self-in_default
 invariant_of-self-in_default g c = state_asked c.self.inside.hub c.ended.new.self c.args.entry c.ended.result c.ended.ensures.looks _ c.self.invariant c.ended.ensures.sound
