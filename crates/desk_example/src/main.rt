@@ -1,7 +1,7 @@
 //! One subscription with a subscriber of one's own, which knows its longest text and keeps nothing of what it is told.
 #![tactic(auto)]
 
-ghost use Rattle.std.specs.Prelude.{◌≡◌, [], true, IfOk};
+ghost use Rattle.std.specs.Prelude.{◌≡◌, []};
 ghost use Rattle.flow_rules.specs.Signals.{items_of};
 ghost use Rattle.desk_example.specs.Texts.{longest_of};
 
@@ -85,9 +85,7 @@ impl Listener for Longest {
 }
 
 /// A subscription with room for 4 items, whose subscriber requests 2.
-fn subscribed(alloc: Global) -> anyhow::Result<Desk<Longest>>
-    ensures { IfOk result (λ desk. desk.is_steady ≡ true) }
-{
+fn subscribed(alloc: Global) -> anyhow::Result<Desk<Longest>> {
     match Desk::new(alloc, capacity(3)?, Longest::new()) {
         Ok(mut desk) => {
             // Its first turn is owed already, so a request starts no task.
@@ -104,9 +102,7 @@ fn offer<B: Listener>(
     alloc: Global,
     number: u64,
     text: &[u8],
-) -> anyhow::Result<Option<u64>>
-    ensures { desk.new.is_steady ≡ desk.old.is_steady }
-{
+) -> anyhow::Result<Option<u64>> {
     if text.len() > Text::LONGEST || desk.accepted() >= PUBLICATIONS {
         return Ok(None);
     }
@@ -123,9 +119,7 @@ fn offer<B: Listener>(
 }
 
 /// Runs the task of a subscription, where a turn is owed: turns until it rests or has ended.
-fn run<B: Listener>(desk: &mut Desk<B>, seen: &mut Seen)
-    requires { desk.old.is_steady ≡ true }
-{
+fn run<B: Listener>(desk: &mut Desk<B>, seen: &mut Seen) {
     for _ in 0..u64::MAX {
         if !desk.owes() {
             return;

@@ -10,6 +10,7 @@ use Rattle.close_count.specs.declared.spent.Spent.{Spent}
 use Rattle.close_count.specs.declared.ticket.Ticket.{Ticket}
 use Rattle.flow_rules.specs.declared.ending.Ending.{Ending}
 use Rattle.flow_rules.specs.declared.item.Item.{Item}
+use Rattle.flow_rules.specs.declared.refusal.Refusal.{Refusal}
 use Rattle.feed_core.specs.Desk.{DeskState}
 use Rattle.feed_core.specs.Feed.{end_of, DoesCall}
 use Rattle.feed_core.specs.LaneCalls.{IsCapacity}
@@ -17,13 +18,13 @@ use Rattle.publisher_hub.specs.Closing.{IsClosedLooking}
 use Rattle.publisher_hub.specs.Entry.{entry_of}
 use Rattle.publisher_hub.specs.Hub.{HubState, Progress, hub_at_start, hub_of}
 use Rattle.publisher_hub.specs.Offering.{Offers}
-use Rattle.flow_rules.specs.declared.refusal.Refusal.{Refusal}
 use Rattle.publisher_hub.specs.OpeningTicket.{AddsTicket}
 use Rattle.publisher_hub.specs.Publishing.{dropping_after, offer_answer}
 use Rattle.publisher_hub.specs.Sound.{IsSound}
 use Rattle.publisher_hub.specs.Subscribing.{Admits}
 use Rattle.publisher_hub.specs.declared.hub.Hub.{Hub}
 use Rattle.publisher_hub.specs.declared.work.Work.{Work}
+use Rattle.publisher_hub.proofs.PartialRounds.{same_some}
 use Rattle.publisher.specs.Publishing.{drop_of}
 use Rattle.publisher.specs.State.{IsState, PARTS, Sums}
 use Rattle.publisher.specs.Tickets.{AreOfOneCount, IsOfCount, IsTicketFor}
@@ -31,7 +32,6 @@ use Rattle.publisher.specs.Turning.{last_after}
 use Rattle.publisher.proofs.Admitted.{tickets_admitted}
 use Rattle.publisher.proofs.KeptStates.{Stays, stays_looked}
 use Rattle.publisher.proofs.Ticketed.{AllKeep, all_closed, all_offered, all_same, all_then, of_count_after, of_count_still}
-use Rattle.publisher_hub.proofs.PartialRounds.{same_some}
 
 is_open : (ending : Option Ending) → ending ≡ None → IsSome ending → ⊥
 is_open None none some = cc

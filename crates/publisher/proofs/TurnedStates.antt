@@ -68,10 +68,10 @@ module _ (old new : Hub DeskState) (number : ℕ) (ticket : Option Ticket) (asks
     by None at = let no : None ≡ Some came = sym (asks.none at).0 ∙ some in cc
     by (Some before) at = let there = asks.there before at in asked before there.1 there.0 at there.2.0
 
-  -- and where it was spent, what is left of the last ticket is of that count
   pub state_asked : (sums : Sums) → IsState (hub_of end_of old) sums → IsSound (hub_of end_of new) → IsState (hub_of end_of new) sums
   state_asked sums is sound = state_stays (hub_of end_of old) (hub_of end_of new) sums is sound stays_asked
 
+  -- and where it was spent, what is left of the last ticket is of that count
   pub state_spent : (sums : Sums) (came : Ticket) (spent : Spent) (closed : Bool) → IsState (hub_of end_of old) sums → IsSound (hub_of end_of new) → ticket ≡ Some came → count_of_spent spent ≡ count_of_ticket came
       → (closed ≡ true → IsSome new.ending) → IsState (hub_of end_of new) (record sums { last = last_after spent closed sums.last })
   state_spent sums came spent closed is sound some same shut =

@@ -2,29 +2,30 @@
 //! one line and the items of the buffer, however many lines there are.
 #![tactic(auto)]
 
-ghost use Rattle.std.specs.Prelude.{◌≡◌, true, IfOk};
+ghost use Rattle.std.specs.Prelude.{◌≡◌, []};
+ghost use Rattle.feed_core.specs.LaneCalls.{IsCapacity};
 
 use anyhow::{bail, ensure};
 use feed_core::{Desk, Seen};
-use flow_rules::{Ending, Feed, GoesOn, Item, PUBLICATIONS, Printer, Put, Text, capacity};
+use flow_rules::{
+    Ending, Feed, Item, Listener, NoMemory, PUBLICATIONS, Printer, Put, Text, capacity,
+};
 use std::alloc::Global;
 use std::io;
 use std::io::{BufRead, BufReader, BufWriter, Read, Write};
 
-/// A subscription whose subscriber writes, and goes on after a write that failed.
-type Shipping<W> = Desk<GoesOn<Printer<W>>>;
-
-/// A subscription with room for 256 items, whose subscriber requests all that will ever come.
-fn subscribed<W: Write + Send + Drop>(alloc: Global, writer: W) -> anyhow::Result<Shipping<W>>
-    ensures { IfOk result (λ desk. desk.is_steady ≡ true) }
+/// A subscription whose subscriber requests all that will ever come.
+fn subscribed<B: Listener>(alloc: Global, room: usize, subscriber: B) -> Result<Desk<B>, NoMemory>
+    requires sized { IsCapacity room }
+    requires untold { B.told subscriber ≡ [] }
 {
-    match Desk::new(alloc, capacity(256)?, GoesOn(Printer::new(writer))) {
+    match Desk::new(alloc, room, subscriber) {
         Ok(mut desk) => {
             // Its first turn is owed already, so a request starts no task.
             let _ = desk.request(i64::MAX);
             Ok(desk)
         }
-        Err((refused, _)) => Err(refused.into()),
+        Err((refused, _)) => Err(refused),
     }
 }
 
@@ -42,14 +43,7 @@ fn read_line<R: BufRead>(reader: &mut R, line: &mut Vec<u8>) -> io::Result<bool>
 }
 
 /// Publishes a line, after a turn where the buffer is full.
-fn publish<W: Write + Send + Drop>(
-    desk: &mut Shipping<W>,
-    seen: &mut Seen,
-    item: Item,
-) -> anyhow::Result<()>
-    requires { desk.old.is_steady ≡ true }
-    ensures { desk.new.is_steady ≡ true }
-{
+fn publish<B: Listener>(desk: &mut Desk<B>, seen: &mut Seen, item: Item) -> anyhow::Result<()> {
     if desk.lag() == desk.capacity() as u64 && desk.owes() {
         let _ = desk.turn(seen);
     }
@@ -65,15 +59,12 @@ fn publish<W: Write + Send + Drop>(
 fn ship<R: BufRead, W: Write + Send + Drop>(
     alloc: Global,
     reader: &mut R,
-    desk: &mut Shipping<W>,
+    desk: &mut Desk<Printer<W>>,
     seen: &mut Seen,
-) -> anyhow::Result<()>
-    requires { desk.old.is_steady ≡ true }
-    ensures { desk.new.is_steady ≡ true }
-{
+) -> anyhow::Result<()> {
     let mut line = Vec::new(alloc);
     for number in 0..u64::MAX {
-        if desk.subscriber().0.has_failed() || !read_line(reader, &mut line)? {
+        if desk.subscriber().has_failed() || !read_line(reader, &mut line)? {
             break;
         }
         ensure!(
@@ -94,9 +85,7 @@ fn ship<R: BufRead, W: Write + Send + Drop>(
 }
 
 /// Ends a subscription, and tells its subscriber all that is left.
-fn end<W: Write + Send + Drop>(desk: &mut Shipping<W>, seen: &mut Seen)
-    requires { desk.old.is_steady ≡ true }
-{
+fn end<B: Listener>(desk: &mut Desk<B>, seen: &mut Seen) {
     let _ = desk.end(Ending::Normal);
     for _ in 0..u64::MAX {
         if !desk.owes() {
@@ -110,12 +99,13 @@ fn main(rt: HostRuntime) -> anyhow::Result<()> {
     let alloc = rt.alloc();
     let mut seen = Seen::new(alloc)?;
     let mut reader = BufReader::new(alloc, rt.reader())?;
-    let mut desk = subscribed(alloc, BufWriter::new(alloc, io::writer(&rt))?)?;
+    let printer = Printer::new(BufWriter::new(alloc, io::writer(&rt))?);
+    let mut desk = subscribed(alloc, capacity(256)?, printer)?;
     let shipped = ship(alloc, &mut reader, &mut desk, &mut seen);
     // The lines before a wrong one are shipped, too.
     end(&mut desk, &mut seen);
     ensure!(
-        !desk.into_subscriber().0.has_failed(),
+        !desk.into_subscriber().has_failed(),
         "a line could not be written"
     );
     shipped
