@@ -71,8 +71,8 @@ def functions_of(text):
     return found
 
 
-def owner_of(head):
-    """The words that rt joins to the name of an impl's or a trait's methods, and whether it is the impl of a trait."""
+def owner_of(head, left_out=("dyn", "mut", "const")):
+    """The words that rt joins to the name of an impl's or a trait's methods, but for these, and whether it is the impl of a trait."""
     head = re.split(r"\bwhere\b", re.sub(r"^.*?\b(?=(?:impl|trait)\b)", "", head))[0]
     if head.startswith("trait"):
         return re.findall(r"\w+", head)[1:2], False
@@ -86,7 +86,7 @@ def owner_of(head):
         head = head[end:]
     trait, _, kind = head.rpartition(" for ")
     words = re.findall(r"(?<!')\b[A-Za-z_]\w*\b(?!::)", f"{kind} {trait}")
-    words = [it for it in words if it not in (*parameters, "dyn", "mut", "const")]
+    words = [it for it in words if it not in (*parameters, *left_out)]
     return (words if trait else words[:1]), bool(trait)
 
 
@@ -111,9 +111,15 @@ def place_of(crate, file, function):
 
 
 def end_of(crate, file, function):
-    """The end of what rt calls the function; of one of a trait's impl its modules, and None where there is neither."""
+    """The end of what rt calls the function, or None where that isn't clear."""
     path, words, is_of_trait = place_of(crate, file, function) or ([], [], True)
-    return "::".join(path[1:]) or None if is_of_trait else "::".join([*(words or path), function.name])
+    if is_of_trait and not path:
+        return None
+    if is_of_trait:
+        # `impl Listener for Box<dyn Subscriber>` is BoxDynSubscriberListener.
+        head = next(it for it in function.around if re.search(r"\bimpl\b", it))
+        words = [*path, "".join(it[:1].upper() + it[1:] for it in owner_of(head, ("mut", "const"))[0])]
+    return "::".join([*(words or path), function.name])
 
 
 def path_of(crate, file, function, known):

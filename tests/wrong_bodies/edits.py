@@ -34,7 +34,7 @@ class Change:
         return path_of(crate, self.file, self.changed(), known)
 
     def end_of_name(self, crate):
-        """The end of what rt calls that function, or its modules; None where that isn't clear."""
+        """The end of what rt calls that function, or None where that isn't clear."""
         return end_of(crate, self.file, self.changed())
 
     def piece(self, text):

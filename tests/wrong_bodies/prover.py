@@ -16,8 +16,8 @@ def kit():
 
 
 def check_words(root, name, libraries, below):
-    """The command that checks a crate in its folder, over what is kept of it. `libraries` are those that crates.txt names, and
-    `below` the repository's crates among them and below those."""
+    """The command that checks a crate in its folder, over what is kept of it, if anything is. `libraries` are those that crates.txt
+    names, and `below` the repository's crates among them and below those."""
     rlibs = {it: f"{root}/crates/{it}/out/rlib" for it in below}
     top = "main" if os.path.isfile(f"{root}/crates/{name}/src/main.rt") else "lib"
     words = ["rattle", "check", "--crate-name", name, f"src/{top}.rt"]
@@ -26,4 +26,6 @@ def check_words(root, name, libraries, below):
     for folder in (f"{kit()}/rlibs", *rlibs.values()):
         words += ["-L", f"dependency={folder}"]
     logic = ["--antt-project", f"{kit()}/rattle/logic/antt-project.json", "--logic-built", f"{kit()}/logic_built"]
-    return [*words, *logic, "--incremental", "out/incremental"]
+    # To keep work that no other check takes would cost time.
+    kept = ["--incremental", "out/incremental"] * os.path.isdir(f"{root}/crates/{name}/out/incremental")
+    return [*words, *logic, *kept]

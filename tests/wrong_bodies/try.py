@@ -8,7 +8,8 @@ function's own body has to have no open goal. It counts as a refusal only where 
 a text that can't be read, a proof file that names what is gone, or a callee that is not proved is none. What is not refused
 so is tried without the others, and alone before it is reported. An edit of several functions, or of anything but a body (a
 constant, a type, a clause, an invariant), is tried alone; of the last, any open goal of the crate counts. Where edits are of
-bodies alone, only those functions are checked, with what they call.
+bodies alone, only those functions are checked, and the others have no bodies (left_out.py); what is not refused so, alone, is tried
+once more with all bodies before it is reported.
 
 It works on a copy in a temporary folder. The crates are proved there first as they are, and those below others built. With
 --proved SUM that is left out where the copy has this sum: its sources were proved, and what is built of them in out/rlib is
@@ -31,6 +32,7 @@ sys.dont_write_bytecode = True
 sys.path.append(f"{os.path.dirname(os.path.realpath(__file__))}/../lib")
 from edits import Edit, as_tried, batches, controls_of, named_by, together
 from prover import check_words
+from left_out import without_bodies, without_offers
 from verdicts import Check
 
 SOURCES = ("src", "specs", "proofs")
@@ -56,33 +58,33 @@ class Crate:
         self.checks, self.seconds, self.room = 0, 0.0, None
 
     def check(self, texts, functions):
-        """Checks the crate in its room with these texts in place of its own: these functions alone, where each has a name."""
+        """Checks the crate in its room with these texts in place of its own, where None is a file that is gone: these functions alone,
+        where each has a name."""
         folder = f"{self.room}/crates/{self.name}"
-        for file in texts:
+        for file, text in texts.items():
+            if text is None:
+                os.remove(f"{folder}/{file}")
+                continue
             os.makedirs(os.path.dirname(f"{folder}/{file}"), exist_ok=True)
             with open(f"{folder}/{file}", "w", encoding="utf-8") as it:
-                it.write(texts[file])
+                it.write(text)
         only = [] if None in functions else [word for it in functions for word in ("--only", it)]
         words = check_words(self.room, self.name, self.libraries, self.below)
         check = self.run(*words, *only)
         if only and not check.is_judged and not check.errors:
             # A name that fits several functions, or none.
             check = self.run(*words)
-        for file in texts:
-            if os.path.isfile(f"{self.folder}/{file}"):
-                shutil.copyfile(f"{self.folder}/{file}", f"{folder}/{file}")
-            else:
-                # The proofs of a copied function.
-                shutil.rmtree(os.path.dirname(f"{folder}/{file}"), ignore_errors=True)
-        self.take_back_kept()
+        self.take_back()
         return check
 
-    def take_back_kept(self):
-        """Puts what was kept of the crate as it is in the place of what was kept of edited texts."""
-        kept, here = (f"{it}/out/incremental" for it in (self.folder, f"{self.room}/crates/{self.name}"))
-        if os.path.isdir(kept):
-            shutil.rmtree(here, ignore_errors=True)
-            shutil.copytree(kept, here)
+    def take_back(self):
+        """Puts the crate as it is, and what was kept of it, in the place of edited texts and what was kept of them."""
+        for part in OF_CRATE:
+            own, here = (f"{it}/{part}" for it in (self.folder, f"{self.room}/crates/{self.name}"))
+            if part in SOURCES or os.path.isdir(own):
+                shutil.rmtree(here, ignore_errors=True)
+            if os.path.isdir(own):
+                shutil.copytree(own, here)
 
     def run(self, *words):
         """Runs this command, which proves the crate, in its room."""
@@ -92,13 +94,17 @@ class Crate:
         self.checks, self.seconds = self.checks + 1, self.seconds + time.monotonic() - start
         return Check(self.name, ran.stdout, ran.returncode)
 
-    def try_batch(self, batch):
-        """Tries edits in one check, and alone what is not refused there."""
+    def try_batch(self, batch, is_whole=False):
+        """Tries edits in one check, and alone what is not refused there; of one edit at last the crate whole, with all bodies."""
         tried = as_tried(batch)
         controls = controls_of(tried, self.folder)
         texts, places = together(tried, controls, self.folder)
-        functions = [it.end_of_name(self.name) for changes in (*(it for _, it in tried), controls) for it in changes]
-        check = self.check(texts, functions or [None])
+        edited = [it for _, changes in tried for it in changes]
+        functions = [it.end_of_name(self.name) for it in (*edited, *controls)]
+        left_out = {}
+        if functions and None not in functions and not is_whole:
+            left_out = without_bodies(self.folder, texts, [*edited, *controls]) | without_offers(self.folder, texts, edited)
+        check = self.check(texts | left_out, functions or [None])
         if len(batch) > 1 and not check.is_judged:
             # An edit that doesn't compile hides all others.
             wrong = named_by(check.places, texts, places)
@@ -123,6 +129,8 @@ class Crate:
         elif len(batch) > 1:
             for edit in left:
                 self.try_batch([edit])
+        elif left and left_out:
+            self.try_batch(batch, is_whole=True)
 
     def try_all(self, base, room):
         """Tries all edits in a room of the crate's own, and says what became of each."""

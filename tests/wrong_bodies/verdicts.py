@@ -2,6 +2,8 @@
 
 import re
 
+from left_out import LEFT_OUT
+
 # A proof file that names what an edit took away: it says nothing of the contract.
 GONE = re.compile(r"has no field|is not in scope|has no `|not admitted")
 # What was not checked because it cites what was refused, which has a line of its own.
@@ -39,6 +41,8 @@ class Check:
                 notes = []
 
     def read_error(self, line):
+        if LEFT_OUT in line:
+            return
         proof, source = PROOF.match(line), SOURCE.match(line)
         if proof and not CITES.match(proof[2]):
             name = "::".join([self.crate, *proof[1].split("/")])
