@@ -53,6 +53,8 @@ pub enum Ask<'a> {
     Subscribed(u8, bool),
     /// The subscription of this number has dropped so many items, or is not there.
     Dropped(u32, Option<u64>),
+    /// The ticket of the subscription of this number comes out, and is the last or not, or is not there.
+    TakesTicket(u32, Option<bool>),
     /// The producer's end of the subscription of this number comes out, or is not there.
     TakesFeed(u32, bool),
     /// The Hub is closed, and the opening comes out, which is the last ticket, or none comes out.
@@ -74,13 +76,15 @@ impl<F: Feed> Trial<F> {
         })
     }
 
-    /// Adds a subscription of this name.
+    /// Adds a subscription of this name, with a ticket.
     pub fn admit(&mut self, letter: u8, feed: F) -> Result<u32, Refusal>
         requires sound { IsSound (hub_of F.meaning self.old.hub) }
         requires fresh { IsFresh self.old.hub.capacity (F.meaning feed) }
         ensures sound { IsSound (hub_of F.meaning self.new.hub) }
     {
-        self.hub.admit(name_of(letter)?, feed, None, &mut self.due)
+        let ticket = self.hub.add_ticket()?;
+        self.hub
+            .admit(name_of(letter)?, feed, ticket, &mut self.due)
     }
 
     /// What an offer of an item answers.
@@ -105,6 +109,7 @@ impl<F: Feed> Trial<F> {
             Ask::Names(letters) => self.are_names(letters),
             Ask::Subscribed(letter, want) => Ok(self.hub.is_subscribed(name_of(letter)?) == want),
             Ask::Dropped(number, want) => Ok(self.hub.dropped(number) == want),
+            Ask::TakesTicket(number, want) => Ok(self.spend_ticket(number) == want),
             Ask::TakesFeed(number, want) => Ok(self.hub.take_feed(number).is_some() == want),
             Ask::Ends(want) => Ok(self.end()? == want),
         }
@@ -155,6 +160,15 @@ impl<F: Feed> Trial<F> {
             names.push(name).map_err(|_| Refusal::NoMemory)?;
         }
         Ok(self.hub.names(self.alloc)? == names)
+    }
+
+    /// Takes the ticket of a subscription out and spends it. Whether it is the last, where one comes out.
+    fn spend_ticket(&mut self, number: u32) -> Option<bool>
+        requires sound { IsSound (hub_of F.meaning self.old.hub) }
+        ensures sound { IsSound (hub_of F.meaning self.new.hub) }
+    {
+        let ticket = self.hub.take_ticket(number)?;
+        Some(ticket.try_complete())
     }
 
     /// Closes the Hub. Whether the opening comes out, and is the last ticket.

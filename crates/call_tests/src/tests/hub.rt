@@ -15,7 +15,7 @@ const LAST_ITEM: [Ask<'static>; 3] = [
     Ask::Offers(Err(Why::Number(13))),
 ];
 
-const WHOLE_LIFE: [Ask<'static>; 27] = [
+const WHOLE_LIFE: [Ask<'static>; 32] = [
     Ask::Names(b"abc"),
     Ask::Subscribed(b'b', true),
     Ask::Subscribed(b'd', false),
@@ -33,9 +33,14 @@ const WHOLE_LIFE: [Ask<'static>; 27] = [
     Ask::Dropped(0, Some(2)),
     Ask::Dropped(2, Some(2)),
     Ask::Dropped(3, None),
+    Ask::TakesTicket(0, Some(false)),
+    Ask::TakesTicket(0, None),
+    Ask::TakesTicket(3, None),
     Ask::TakesFeed(0, true),
     Ask::TakesFeed(0, false),
     Ask::TakesFeed(3, false),
+    Ask::TakesTicket(1, Some(false)),
+    Ask::TakesTicket(2, Some(false)),
     Ask::Names(b"bc"),
     Ask::Offers(Ok(-2)),
     Ask::Dropped(0, Some(2)),
