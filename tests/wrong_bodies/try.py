@@ -31,8 +31,8 @@ from concurrent.futures import ThreadPoolExecutor
 sys.dont_write_bytecode = True
 sys.path.append(f"{os.path.dirname(os.path.realpath(__file__))}/../lib")
 from edits import Edit, as_tried, batches, controls_of, named_by, together
-from prover import check_words
 from left_out import without_bodies, without_offers
+from prover import check_words
 from verdicts import Check
 
 SOURCES = ("src", "specs", "proofs")
