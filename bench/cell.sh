@@ -30,10 +30,10 @@ ghost use Rattle.feed_core.specs.LaneCalls.{IsCapacity};
 
 use crossbeam_queue::ArrayQueue;
 use feed_cell::{Cell, Producer, Task, Turn};
-use feed_core::{Causes, Seen};
+use feed_core::Seen;
 use flow_rules::{
-    Answer, Ending, Fault, Feed, How, Item, Listener, NoMemory, PUBLICATIONS, Put, Signal, Text,
-    Told, capacity,
+    Answer, Ending, Fault, Feed, Item, Listener, NoMemory, PUBLICATIONS, Put, Signal, Text, Told,
+    capacity,
 };
 use std::alloc::Global;
 use std::marker::Model;
@@ -104,17 +104,10 @@ impl Listener for InOrder {
 }
 
 // What a slot of a subscription's table is made of, to tell its size.
-struct Lodged {
-    _subscriber: InOrder,
-    _numbers: [u64; 2],
-    _answers: Causes,
-    _how: Option<How>,
-}
-
 enum Slot {
     _Empty,
     _Item(Item),
-    _Guest(Lodged),
+    _Guest(Box<InOrder>),
 }
 
 // A producer, with how often it tried.

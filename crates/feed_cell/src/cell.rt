@@ -16,12 +16,16 @@ pub mod task;
 pub mod telling;
 pub mod turning;
 
+ghost use Rattle.std.specs.Prelude.{◌≡◌};
+
 use atomic_table::{Seat, Table, TableRule};
+use crossbeam_utils::CachePadded;
 use feed_core::{Causes, Outlook, Producing, Requesting, Runner};
 use flow_rules::{Ending, How, Item, Listener};
 use std::alloc::Global;
 use std::collections::LinkedList;
-use std::marker::PhantomData;
+use std::marker::{Model, PhantomData};
+use std::sync::Arc;
 
 /// The word of the number of items taken. Bit 63 says that the subscription has ended.
 pub(crate) const HEAD: usize = 0;
@@ -81,6 +85,31 @@ pub struct Lodger<B> {
     pub how: Option<How>,
 }
 
+/// A lodger in a box of its own, so that no slot is the larger for a large subscriber.
+#[derive(Drop)]
+pub struct BoxedLodger<B> {
+    lodger: Box<Lodger<B>, Global>,
+}
+
+impl<B> Model for BoxedLodger<B> {
+    ghost use Rattle.feed_cell.specs.declared.cell.Lodger.{Lodger};
+
+    ghost Value = { Lodger B };
+
+    ghost view = { λ b. b.lodger.value };
+}
+
+impl<B> BoxedLodger<B> {
+    /// What lies beside the subscriber: how many items were taken, how many its answers requested, and the causes that they brought
+    /// about.
+    fn notes(&self) -> (u64, u64, Causes)
+        ensures { result ≡ (self.now.given, self.now.own, self.now.answers) }
+    {
+        let lodger: &Lodger<B> = &self.lodger;
+        (lodger.given, lodger.own, lodger.answers)
+    }
+}
+
 /// What a slot holds.
 #[derive(Drop)]
 pub enum Held<B> {
@@ -89,7 +118,7 @@ pub enum Held<B> {
     /// An item that was put and not taken.
     Item(Item),
     /// The subscriber.
-    Guest(Lodger<B>),
+    Guest(BoxedLodger<B>),
 }
 
 /// By what the task took an item: its own look before it, and its own measure after that. No value of it is made.
@@ -160,6 +189,9 @@ pub struct View {
 
 /// The table of a subscription: the four words, a slot for each place, and a slot for the subscriber.
 pub type CellTable<B> = Table<Held<B>, View, u64, InCell<B>, Global>;
+
+/// The table, as its parties share it. How many share it changes with each task, so that number stands in a cache line of its own.
+pub(crate) type SharedTable<B> = Arc<CachePadded<CellTable<B>>, Global>;
 
 /// A party's seat at that table.
 pub type CellSeat<B> = Seat<Held<B>, View>;

@@ -30,8 +30,8 @@
 //!
 //! # The slots
 //!
-//! There is one slot for each place of the buffer, and one for the subscriber. Item number k, from 0 on, lies in slot k modulo
-//! the capacity. A slot is at home, or out with one party, which alone may read and write it then.
+//! There is one slot for each place of the buffer, and one for the subscriber, which lies there in a box. Item number k, from 0 on,
+//! lies in slot k modulo the capacity. A slot is at home, or out with one party, which alone may read and write it then.
 //!
 //! - A put loads head. Where fewer items than the capacity were put and not taken, slot tail is free, and that load takes it out. The
 //!   producer places the item in it, and the store of tail + 1 gives it back, with the item.

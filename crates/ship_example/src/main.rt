@@ -14,7 +14,7 @@ use std::alloc::Global;
 use std::io;
 use std::io::{BufRead, BufReader, BufWriter, Read, Write};
 
-/// A subscription whose subscriber requests all that will ever come.
+/// A subscription with room for so many items, whose subscriber requests all that will ever come.
 fn subscribed<B: Listener>(alloc: Global, room: usize, subscriber: B) -> Result<Desk<B>, NoMemory>
     requires sized { IsCapacity room }
     requires untold { B.told subscriber ≡ [] }

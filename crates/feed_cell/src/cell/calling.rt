@@ -94,7 +94,7 @@ pub(crate) fn notes<B: Listener>(
     ensures notes { (result.0 ≡ length seat.old.me.0.taken) × (result.1 ≡ seat.old.me.0.own) × (result.2 ≡ seat.old.me.0.answers) }
 {
     match seat.slot_mut(&table.shared, slot) {
-        Held::Guest(guest) => (guest.given, guest.own, guest.answers),
+        Held::Guest(guest) => guest.notes(),
         _ => unreachable!(),
     }
 }

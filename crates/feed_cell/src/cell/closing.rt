@@ -90,7 +90,7 @@ fn unshared<B: Listener>(producer: Producer<B>) -> Result<(CellTable<B>, CellSea
     } = producer;
     drop(spare);
     match Arc::try_unwrap(table) {
-        Ok(table) => Ok((table, seat)),
+        Ok(table) => Ok((table.into_inner(), seat)),
         Err(table) => Err(Producer {
             table,
             spare: None,
@@ -126,22 +126,23 @@ fn lane_of<B: Listener>(head: u64, tail: u64, asked: u64, control: u64, last: He
     let requested = asked % MARK;
     let is_home = head >= MARK || control & RUN == 0;
     match last {
-        Held::Guest(
-            Lodger {
+        Held::Guest(guest) if is_home => {
+            let Lodger {
                 subscriber,
                 own,
                 how,
                 given: _,
                 answers: _,
-            },
-        ) if is_home => Lane {
-            subscriber: Some(subscriber),
-            accepted: tail,
-            given,
-            asked: requested.saturating_add(own).min(UNBOUNDED),
-            ending: how,
-            running: head < MARK && asked < MARK,
-        },
+            } = Box::into_inner(guest.lodger);
+            Lane {
+                subscriber: Some(subscriber),
+                accepted: tail,
+                given,
+                asked: requested.saturating_add(own).min(UNBOUNDED),
+                ending: how,
+                running: head < MARK && asked < MARK,
+            }
+        }
         _ => Lane {
             subscriber: None,
             accepted: tail,

@@ -5,18 +5,17 @@ ghost use Rattle.feed_cell.specs.Parties.{MayAsk, handle_after_request, IsStarte
 use super::producer::start;
 use super::requesting::{ask_more, signal_argument, signal_cancel, signal_request};
 use super::task::Task;
-use super::{CellSeat, CellTable};
+use super::{CellSeat, CellTable, SharedTable};
 use flow_rules::{Listener, NoMemory};
-use std::alloc::Global;
 use std::marker::Model;
 use std::sync::Arc;
 
 /// The handle of a subscription (`Flow.Subscription`, Java SE 17).
 #[derive(Drop)]
 pub struct Handle<B: Listener> {
-    pub(crate) table: Arc<CellTable<B>, Global>,
+    pub(crate) table: SharedTable<B>,
     /// What a started task gets, where it is there.
-    pub(crate) spare: Option<Arc<CellTable<B>, Global>>,
+    pub(crate) spare: Option<SharedTable<B>>,
     pub(crate) seat: CellSeat<B>,
     pub(crate) capacity: u64,
     /// The number of items requested, as in the word asked, which this end alone writes.
@@ -28,6 +27,7 @@ pub struct Handle<B: Listener> {
 impl<B: Listener> Model for Handle<B> {
     ghost use Rattle.std.specs.Prelude.{◌≡◌, ◌<◌, ◌≤◌, [], is_some, IfSome};
     ghost use Rattle.std.specs.Arc.{arc_value};
+    ghost use Rattle.crossbeam_utils.specs.Padded.{padded_value};
     ghost use Rattle.feed_core.specs.Prelude.{UNBOUNDED};
     ghost use Rattle.feed_cell.specs.Parties.{HandleState};
     ghost use Rattle.feed_cell.specs.Steps.{HasFourWords, MayRequest};
@@ -36,7 +36,7 @@ impl<B: Listener> Model for Handle<B> {
 
     ghost view = { λ h. record { ring = h.seat.table_id; capacity = h.capacity; asked = h.seat.me.0.asked; cancelled = h.seat.me.0.cancel; argument = h.seat.me.0.argument; ready = is_some h.spare } };
 
-    ghost invariant = { λ h. ((arc_value h.table).shared.table_id ≡ h.seat.table_id) × IfSome h.spare (λ spare. (arc_value spare).shared.table_id ≡ h.seat.table_id) × HasFourWords h.seat.table_id × (0 < h.capacity) × (h.seat.me.1 ≡ []) × MayRequest h.seat.me × (h.seat.me.0.capacity ≡ h.capacity) × (h.seat.me.0.asked ≡ h.asked) × (h.asked ≤ UNBOUNDED) × (h.seat.me.0.cancel ≡ h.cancelled) };
+    ghost invariant = { λ h. ((padded_value (arc_value h.table)).shared.table_id ≡ h.seat.table_id) × IfSome h.spare (λ spare. (padded_value (arc_value spare)).shared.table_id ≡ h.seat.table_id) × HasFourWords h.seat.table_id × (0 < h.capacity) × (h.seat.me.1 ≡ []) × MayRequest h.seat.me × (h.seat.me.0.capacity ≡ h.capacity) × (h.seat.me.0.asked ≡ h.asked) × (h.asked ≤ UNBOUNDED) × (h.seat.me.0.cancel ≡ h.cancelled) };
 }
 
 impl<B: Listener> Handle<B> {

@@ -1,6 +1,7 @@
 //! How a subscription is made.
 ghost use Rattle.std.specs.Prelude.{◌≡◌, ◌+◌, [], ◌∷◌, replicate, IfOk, IfErr, None, true};
 ghost use Rattle.std.specs.Arc.{arc_value};
+ghost use Rattle.crossbeam_utils.specs.Padded.{padded_value};
 ghost use Rattle.feed_core.specs.Cause.{no_causes};
 ghost use Rattle.feed_core.specs.LaneCalls.{IsCapacity};
 ghost use Rattle.feed_cell.specs.Parties.{new_producer, new_handle, IsNewTask};
@@ -13,7 +14,8 @@ use super::plays::Enter;
 use super::producer::Producer;
 use super::splits::{HandleApart, RunnerApart};
 use super::task::{Stage, Task};
-use super::{CONTROL, CellSeat, CellTable, FIRST_WORDS, Held, Lodger};
+use super::{BoxedLodger, CONTROL, CellSeat, CellTable, FIRST_WORDS, Held, Lodger, SharedTable};
+use crossbeam_utils::CachePadded;
 use feed_core::Causes;
 use flow_rules::{Listener, NoMemory};
 use std::alloc::Global;
@@ -43,10 +45,11 @@ impl Cell {
         let Ok(shares) = share(alloc, table) else {
             return Err((NoMemory, subscriber));
         };
+        let guest = lodger(alloc, subscriber)?;
         let cell: &CellTable<B> = &shares.producer;
         let mut running = cell.shared.split_seat::<RunnerApart>(&mut seat);
         let asking = cell.shared.split_seat::<HandleApart>(&mut seat);
-        lodge(cell, &mut running, capacity, subscriber);
+        lodge(cell, &mut running, capacity, guest);
         let places = capacity as u64;
         let producer = Producer {
             table: shares.producer,
@@ -103,19 +106,19 @@ fn empty_slots<B: Listener>(alloc: Global, count: usize) -> Result<Vec<Held<B>>,
 /// The table, once for each party.
 #[derive(Drop)]
 struct Shares<B: Listener> {
-    producer: Arc<CellTable<B>, Global>,
-    handle: Arc<CellTable<B>, Global>,
-    task: Arc<CellTable<B>, Global>,
+    producer: SharedTable<B>,
+    handle: SharedTable<B>,
+    task: SharedTable<B>,
     /// Once more for each of the two ends, which may start a task.
-    producer_spare: Arc<CellTable<B>, Global>,
-    handle_spare: Arc<CellTable<B>, Global>,
+    producer_spare: SharedTable<B>,
+    handle_spare: SharedTable<B>,
 }
 
 /// The table, shared by all who need it.
 fn share<B: Listener>(alloc: Global, table: CellTable<B>) -> Result<Shares<B>, NoMemory>
-    ensures { IfOk result (λ shares. (arc_value shares.producer ≡ table) × (arc_value shares.handle ≡ table) × (arc_value shares.task ≡ table) × (arc_value shares.producer_spare ≡ table) × (arc_value shares.handle_spare ≡ table)) }
+    ensures { IfOk result (λ shares. (padded_value (arc_value shares.producer) ≡ table) × (padded_value (arc_value shares.handle) ≡ table) × (padded_value (arc_value shares.task) ≡ table) × (padded_value (arc_value shares.producer_spare) ≡ table) × (padded_value (arc_value shares.handle_spare) ≡ table)) }
 {
-    let Ok(producer) = Arc::new(alloc, table) else {
+    let Ok(producer) = Arc::new(alloc, CachePadded::new(table)) else {
         return Err(NoMemory);
     };
     Ok(Shares {
@@ -127,21 +130,37 @@ fn share<B: Listener>(alloc: Global, table: CellTable<B>) -> Result<Shares<B>, N
     })
 }
 
-/// Takes the subscriber's slot out with the task, and places the subscriber there.
-fn lodge<B: Listener>(table: &CellTable<B>, seat: &mut CellSeat<B>, capacity: usize, subscriber: B)
-    requires table { (seat.old.table_id ≡ table.now.shared.table_id) × HasFourWords seat.old.table_id }
-    requires fresh { IsUnlodged capacity seat.old.me }
-    ensures table { (seat.new.table_id ≡ seat.old.table_id) × (seat.new.id ≡ seat.old.id) }
-    ensures lodged { seat.new.me ≡ (record seat.old.me.0 { away = true }, (capacity, Held.Guest (record { subscriber = subscriber; given = 0; own = 0; answers = no_causes; how = None })) ∷ []) }
+/// The subscriber before its first turn, boxed. Where memory is refused, it comes back.
+fn lodger<B: Listener>(alloc: Global, subscriber: B) -> Result<BoxedLodger<B>, (NoMemory, B)>
+    ensures new { IfOk result (λ guest. guest ≡ record { subscriber = subscriber; given = 0; own = 0; answers = no_causes; how = None }) }
+    ensures err { IfErr result (λ refused. refused.1 ≡ subscriber) }
 {
-    let _ = table.shared.load::<Enter>(seat, CONTROL);
-    let guest = Lodger {
+    let lodger = Lodger {
         subscriber,
         given: 0,
         own: 0,
         answers: Causes::none(),
         how: None,
     };
+    match Box::new(alloc, lodger) {
+        Ok(lodger) => Ok(BoxedLodger { lodger }),
+        Err(refused) => Err((NoMemory, refused.value.subscriber)),
+    }
+}
+
+/// Takes the subscriber's slot out with the task, and places the subscriber there.
+fn lodge<B: Listener>(
+    table: &CellTable<B>,
+    seat: &mut CellSeat<B>,
+    capacity: usize,
+    guest: BoxedLodger<B>,
+)
+    requires table { (seat.old.table_id ≡ table.now.shared.table_id) × HasFourWords seat.old.table_id }
+    requires fresh { IsUnlodged capacity seat.old.me }
+    ensures table { (seat.new.table_id ≡ seat.old.table_id) × (seat.new.id ≡ seat.old.id) }
+    ensures lodged { seat.new.me ≡ (record seat.old.me.0 { away = true }, (capacity, Held.Guest guest) ∷ []) }
+{
+    let _ = table.shared.load::<Enter>(seat, CONTROL);
     let nothing = table.shared.exchange(seat, capacity, Held::Guest(guest));
     drop(nothing);
 }

@@ -7,6 +7,7 @@ ghost use Rattle.feed_cell.specs.Plays.{FindsRoom, Stands, sent};
 ghost use Rattle.feed_cell.specs.Steps.{HasFourWords, MayOffer, HasPlace, IsHanded};
 ghost use Rattle.feed_cell.specs.Types.{State, Closing, Free, HasPut, Hands};
 ghost use Rattle.feed_cell.specs.Views.{IsProducer, producer_handed, running_handed};
+ghost use Rattle.feed_cell.specs.declared.cell.Held.TheVariants as Held;
 
 use super::plays::{Put, Room, SignalComplete, SignalError, SignalItem, SignalState, Stand};
 use super::splits::ProducerHands;
@@ -14,6 +15,7 @@ use super::{
     COMPLETE, CONTROL, CellSeat, CellTable, ERROR, ERRORS, HEAD, Held, ITEM, RUN, STATE, TAIL,
 };
 use flow_rules::{Item, Listener};
+use std::mem::ManuallyDrop;
 
 /// Loads head, and takes the slot of the next item out where there is room.
 pub(crate) fn look_for_room<B: Listener>(table: &CellTable<B>, seat: &mut CellSeat<B>) -> u64
@@ -50,8 +52,15 @@ pub(crate) fn place<B: Listener>(
 {
     let slot = (tail % capacity) as usize;
     let nothing = table.shared.exchange(seat, slot, Held::Item(item));
-    drop(nothing);
+    leave(nothing);
     table.shared.store::<Put>(seat, TAIL, tail + 1);
+}
+
+/// Leaves what an empty slot held. To drop it would be to read it, which would fetch the slot from the task's cache once more.
+fn leave<B: Listener>(nothing: Held<B>)
+    requires empty { nothing ≡ Held.Empty }
+{
+    let _ = ManuallyDrop::new(nothing);
 }
 
 /// Signals an item that was put. Where the task was at rest, its seat comes back.

@@ -1,6 +1,7 @@
 //! The producer's end of a subscription, which its publisher has.
 ghost use Rattle.std.specs.Prelude.{◌≡◌, ◌<◌, IfSome, IfNone, IsSome, None, []};
 ghost use Rattle.std.specs.Arc.{arc_value};
+ghost use Rattle.crossbeam_utils.specs.Padded.{padded_value};
 ghost use Rattle.feed_cell.specs.Parties.{IsStarted};
 ghost use Rattle.feed_cell.specs.Steps.{HasFourWords};
 ghost use Rattle.feed_cell.specs.Views.{running_handed};
@@ -10,18 +11,17 @@ use super::offering::{
     look, look_for_room, place, signal_complete, signal_error, signal_item, signal_state,
 };
 use super::task::{Stage, Task};
-use super::{CellSeat, CellTable, MARK};
+use super::{CellSeat, CellTable, MARK, SharedTable};
 use flow_rules::{Ending, Feed, Item, Listener, NoMemory, Put, Standing};
-use std::alloc::Global;
 use std::marker::Model;
 use std::sync::Arc;
 
 /// The producer's end of a subscription.
 #[derive(Drop)]
 pub struct Producer<B: Listener> {
-    pub(crate) table: Arc<CellTable<B>, Global>,
+    pub(crate) table: SharedTable<B>,
     /// What a started task gets, where it is there.
-    pub(crate) spare: Option<Arc<CellTable<B>, Global>>,
+    pub(crate) spare: Option<SharedTable<B>>,
     pub(crate) seat: CellSeat<B>,
     pub(crate) capacity: u64,
     /// The number of items put, as in the word tail, which this end alone writes.
@@ -33,6 +33,7 @@ pub struct Producer<B: Listener> {
 impl<B: Listener> Model for Producer<B> {
     ghost use Rattle.std.specs.Prelude.{◌≡◌, ◌<◌, [], length, is_some, IfSome};
     ghost use Rattle.std.specs.Arc.{arc_value};
+    ghost use Rattle.crossbeam_utils.specs.Padded.{padded_value};
     ghost use Rattle.feed_cell.specs.Parties.{ProducerState, end_of};
     ghost use Rattle.feed_cell.specs.Steps.{HasFourWords, MayOffer};
 
@@ -40,7 +41,7 @@ impl<B: Listener> Model for Producer<B> {
 
     ghost view = { λ p. record { ring = p.seat.table_id; end = end_of p.capacity p.seat.me.0 (is_some p.spare) } };
 
-    ghost invariant = { λ p. ((arc_value p.table).shared.table_id ≡ p.seat.table_id) × IfSome p.spare (λ spare. (arc_value spare).shared.table_id ≡ p.seat.table_id) × HasFourWords p.seat.table_id × (0 < p.capacity) × (p.seat.me.1 ≡ []) × MayOffer p.seat.me × (p.seat.me.0.capacity ≡ p.capacity) × (p.seat.me.0.closing ≡ p.closing) × (length p.seat.me.0.put ≡ p.tail) };
+    ghost invariant = { λ p. ((padded_value (arc_value p.table)).shared.table_id ≡ p.seat.table_id) × IfSome p.spare (λ spare. (padded_value (arc_value spare)).shared.table_id ≡ p.seat.table_id) × HasFourWords p.seat.table_id × (0 < p.capacity) × (p.seat.me.1 ≡ []) × MayOffer p.seat.me × (p.seat.me.0.capacity ≡ p.capacity) × (p.seat.me.0.closing ≡ p.closing) × (length p.seat.me.0.put ≡ p.tail) };
 }
 
 impl<B: Listener> Feed for Producer<B> {
@@ -118,12 +119,12 @@ impl<B: Listener> Feed for Producer<B> {
 
 /// The task that a signal started, if it did: what was spare is spent for it.
 pub(crate) fn start<B: Listener>(
-    spare: &mut Option<Arc<CellTable<B>, Global>>,
+    spare: &mut Option<SharedTable<B>>,
     seat: Option<CellSeat<B>>,
     capacity: u64,
 ) -> Option<Task<B>>
     requires ready { IsSome spare.old }
-    requires fits { IfSome seat (λ seat. IfSome spare.old (λ spare. (arc_value spare).shared.table_id ≡ seat.table_id) × HasFourWords seat.table_id) }
+    requires fits { IfSome seat (λ seat. IfSome spare.old (λ spare. (padded_value (arc_value spare)).shared.table_id ≡ seat.table_id) × HasFourWords seat.table_id) }
     requires handed { IfSome seat (λ seat. (view : View) × (view.capacity ≡ capacity) × (seat.me ≡ (running_handed view, []))) }
     requires sized { 0 < capacity }
     ensures none { IfNone result ((seat ≡ None) × (spare.new ≡ spare.old)) }

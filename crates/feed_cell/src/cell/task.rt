@@ -1,9 +1,7 @@
 //! The task of a subscription, which whoever runs it has.
-use super::{CellSeat, CellTable};
+use super::{CellSeat, SharedTable};
 use flow_rules::Listener;
-use std::alloc::Global;
 use std::marker::Model;
-use std::sync::Arc;
 
 /// Where a task stands between two turns.
 #[derive(Clone, Copy, Debug, PartialEq, Eq)]
@@ -19,7 +17,7 @@ pub enum Stage {
 /// The task of a subscription. It has to be run until it is at rest or has ended.
 #[derive(Drop)]
 pub struct Task<B: Listener> {
-    pub(crate) table: Arc<CellTable<B>, Global>,
+    pub(crate) table: SharedTable<B>,
     pub(crate) seat: CellSeat<B>,
     pub(crate) capacity: u64,
     pub(crate) stage: Stage,
@@ -28,6 +26,7 @@ pub struct Task<B: Listener> {
 impl<B: Listener> Model for Task<B> {
     ghost use Rattle.std.specs.Prelude.{◌≡◌, ◌<◌, []};
     ghost use Rattle.std.specs.Arc.{arc_value};
+    ghost use Rattle.crossbeam_utils.specs.Padded.{padded_value};
     ghost use Rattle.feed_cell.specs.Parties.{TaskState};
     ghost use Rattle.feed_cell.specs.Paused.{told_out, IsPaused};
     ghost use Rattle.feed_cell.specs.Steps.{HasFourWords};
@@ -37,7 +36,7 @@ impl<B: Listener> Model for Task<B> {
 
     ghost view = { λ t. record { ring = t.seat.table_id; seat = t.seat.id; knows = t.seat.me.0; told = told_out B.told t.seat.me.1 } };
 
-    ghost invariant = { λ t. ((arc_value t.table).shared.table_id ≡ t.seat.table_id) × HasFourWords t.seat.table_id × (0 < t.capacity) × IsRunner t.seat.me.0 × (t.seat.me.0.capacity ≡ t.capacity) × (t.seat.me.0.item ≡ []) × IsPaused B.told t.stage t.seat.me };
+    ghost invariant = { λ t. ((padded_value (arc_value t.table)).shared.table_id ≡ t.seat.table_id) × HasFourWords t.seat.table_id × (0 < t.capacity) × IsRunner t.seat.me.0 × (t.seat.me.0.capacity ≡ t.capacity) × (t.seat.me.0.item ≡ []) × IsPaused B.told t.stage t.seat.me };
 }
 
 /// The seat of a task that is over, as its last turn gives it back: what it showed last. It does nothing any more, and has no bytes.

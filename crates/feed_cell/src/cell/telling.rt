@@ -6,16 +6,17 @@ ghost use Rattle.feed_core.specs.declared.turn.TheConstants.{SIGNALS_IN_A_TURN};
 ghost use Rattle.feed_cell.specs.Running.{IsGoOn, IsQuietEnd, GoesOnWith, EndsWith, FinishesWith};
 ghost use Rattle.feed_cell.specs.Turning.{own_after, answers_after};
 
-use super::Lodger;
+use super::{BoxedLodger, Lodger};
 use feed_core::{Seen, tell_next, tell_subscribed, tell_terminal};
 use flow_rules::{Answer, How, Item, Listener, NoMemory, UNBOUNDED};
 
 /// Tells `onSubscribe`, and does what its answer asks for: the end, if it does.
-pub(crate) fn greet<B: Listener>(guest: &mut Lodger<B>, seen: &mut Seen) -> Option<How>
+pub(crate) fn greet<B: Listener>(guest: &mut BoxedLodger<B>, seen: &mut Seen) -> Option<How>
     requires room { length seen.old.signals < SIGNALS_IN_A_TURN }
     ensures goes { IfNone result (GoesOnWith B.told Subscribed 0 guest.old guest.new seen.old seen.new) }
     ensures ends { IfSome result (λ how. EndsWith B.told Subscribed 0 how guest.old guest.new seen.old seen.new) }
 {
+    let guest: &mut Lodger<B> = &mut guest.lodger;
     match tell_subscribed(&mut guest.subscriber, seen) {
         Ok(answer) => obey(guest, answer),
         Err(NoMemory) => Some(end_as(guest, How::OutOfMemory)),
@@ -23,12 +24,17 @@ pub(crate) fn greet<B: Listener>(guest: &mut Lodger<B>, seen: &mut Seen) -> Opti
 }
 
 /// Tells an item that was taken, and does what the answer asks for: the end, if it does.
-pub(crate) fn give<B: Listener>(guest: &mut Lodger<B>, item: Item, seen: &mut Seen) -> Option<How>
+pub(crate) fn give<B: Listener>(
+    guest: &mut BoxedLodger<B>,
+    item: Item,
+    seen: &mut Seen,
+) -> Option<How>
     requires room { length seen.old.signals < SIGNALS_IN_A_TURN }
     requires few { guest.old.given < UNBOUNDED }
     ensures goes { IfNone result (GoesOnWith B.told (Next item) 1 guest.old guest.new seen.old seen.new) }
     ensures ends { IfSome result (λ how. EndsWith B.told (Next item) 1 how guest.old guest.new seen.old seen.new) }
 {
+    let guest: &mut Lodger<B> = &mut guest.lodger;
     guest.given += 1;
     match tell_next(&mut guest.subscriber, item, seen) {
         Ok(answer) => obey(guest, answer),
@@ -37,10 +43,11 @@ pub(crate) fn give<B: Listener>(guest: &mut Lodger<B>, item: Item, seen: &mut Se
 }
 
 /// Tells the end that is due, where it has a signal. Answers the end that it is.
-pub(crate) fn finish<B: Listener>(guest: &mut Lodger<B>, due: How, seen: &mut Seen) -> How
+pub(crate) fn finish<B: Listener>(guest: &mut BoxedLodger<B>, due: How, seen: &mut Seen) -> How
     requires room { length seen.old.signals < SIGNALS_IN_A_TURN }
     ensures { FinishesWith B.told due result guest.old guest.new seen.old seen.new }
 {
+    let guest: &mut Lodger<B> = &mut guest.lodger;
     match tell_terminal(&mut guest.subscriber, due, seen) {
         Ok(()) => end_as(guest, due),
         Err(NoMemory) => end_as(guest, How::OutOfMemory),
