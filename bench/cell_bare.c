@@ -39,8 +39,11 @@ static char *slots;
 static uint64_t capacity, items, slot_bytes;
 static Item *all;
 
-/* How many parties share the table, and how many items share the text. */
-static _Atomic uint64_t owners = 4, text;
+/* How many parties share the table, and how many items share the text. Both change all the time, so each has a cache line of its own. */
+static struct {
+    _Alignas(128) _Atomic uint64_t owners;
+    _Alignas(128) _Atomic uint64_t text;
+} shares = {4, 0};
 
 /* A queue of one place: a stamp tells whether the place is full, and the round. */
 static struct {
@@ -81,7 +84,7 @@ static Held *slot(uint64_t number) { return (Held *)(slots + number % capacity *
 /* Sets marks; a task that this starts is handed over, with one more owner of the table. */
 static void signal_with(uint64_t marks) {
     if (atomic_fetch_or(&CONTROL, marks) & RUN) return;
-    atomic_fetch_add(&owners, 1);
+    atomic_fetch_add(&shares.owners, 1);
     while (!post(1)) {}
 }
 
@@ -144,7 +147,7 @@ static void run_all(void) {
         if (!pick(&task)) continue;
         int found = 1;
         while (found == 1) found = turn();
-        atomic_fetch_sub(&owners, 1);
+        atomic_fetch_sub(&shares.owners, 1);
         if (found < 0) return;
     }
 }
@@ -166,8 +169,8 @@ int main(int count, char **argument) {
     all = malloc(items * sizeof *all);
     if (!words || !slots || !all) return 1;
     memset(slots, 0, (capacity + 1) * slot_bytes);
-    for (uint64_t i = 0; i < items; i++) all[i] = (Item){0, i, i, &text};
-    text = items + 1;
+    for (uint64_t i = 0; i < items; i++) all[i] = (Item){0, i, i, &shares.text};
+    shares.text = items + 1;
     ASKED = items;
     CONTROL = RUN;
     post(1);
