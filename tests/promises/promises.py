@@ -15,6 +15,8 @@ The form of the file. A section `## NAME` for a crate has tables with these five
 - Shown by: names in backticks, parted by `, ` or `; `. An edit is a file of wrong-bodies/ of the section's crate,
   without `.edit`. After the word test (or tests, up to the next `;`) stands the name of a test function of any crate, or a
   path from the top of the repository. A cell that begins with `no edit:` gives a reason, and may name tests after a `;`.
+  An edit of the row's own function has to say that it is refused at the row's clause, or at a goal before it; that it is
+  refused there, tests/wrong_bodies sees.
 
 The other way round, each edit is named in a row of its crate's section, or in a README.md beside the crate's edits.
 """
@@ -26,7 +28,8 @@ import sys
 
 sys.dont_write_bytecode = True
 HERE = os.path.dirname(os.path.realpath(__file__))
-sys.path.append(f"{HERE}/../lib")
+sys.path += [f"{HERE}/../lib", f"{HERE}/../wrong_bodies"]
+from edits import Edit
 from functions import functions_of, owner_of, without_texts
 
 TESTED = re.compile(r"#\[test\]\s*(?:#\[[^\]]*\]\s*)*fn (\w+)")
@@ -52,6 +55,16 @@ def owner_in(head):
     return plain(f"<{kind} as {trait}>"), plain(trait.partition("<")[0])
 
 
+def changed_by(edit):
+    """How rows may name the functions that an edit changes: a method of the impl of a trait also as the trait's."""
+    names = set()
+    for function in (it.function for it in edit.changes):
+        heads = [head for head in function.around if re.search(r"\b(impl|trait)\b", head)]
+        owners = owner_in(heads[-1]) if heads else ("", "")
+        names |= {f"{owner}::{function.name}" if owner else function.name for owner in owners[: 1 + bool(owners[1])]}
+    return names
+
+
 class Crate:
     """The clauses of the functions, the ghost members, the edits and the tests of a crate."""
 
@@ -67,8 +80,10 @@ class Crate:
                 self.traits[owner] = trait
                 self.clauses.setdefault(f"{owner}::{it.name}" if owner else it.name, []).extend(it.clauses)
         beside = glob.glob(f"{folder}/wrong-bodies/*")
-        self.edits = {os.path.basename(it).removesuffix(".edit") for it in beside if it.endswith(".edit")}
+        self.edits = {it.name: it for it in (Edit(file, folder) for file in beside if file.endswith(".edit"))}
         self.readme = "\n".join(text_of(it) for it in beside if it.endswith("README.md"))
+        for it in self.edits.values():
+            it.place(folder)
 
     def read_ghosts(self, code):
         """Notes the ghost members of each impl, and the ghost fields of each struct."""
@@ -129,7 +144,9 @@ class Promises:
             else:
                 self.check_clause(name, [it for kind, it in clauses if kind == "ensures"], named[1] if named else "")
                 self.check_premise(name, [it for kind, it in clauses if kind == "requires"], premise)
-        self.check_shown(shown)
+        edits = self.check_shown(shown)
+        if not ghost:
+            self.check_refused({plain(it) if it.startswith("<") else it for it in names}, named[1] if named else clause, edits)
 
     def check_ghost(self, name, ghost):
         owners = [plain(name), plain(name.rpartition("::")[0])]
@@ -150,6 +167,8 @@ class Promises:
                 self.fault(f"`{name}` has no `requires {it}`")
 
     def check_shown(self, shown):
+        """The edits that a cell names, where they are there."""
+        edits = []
         if not re.search(r"`|^no edit:", shown):
             self.fault(f"Shown by names nothing: {shown}")
         for part in shown.split(";"):
@@ -159,6 +178,8 @@ class Promises:
             for text, name in re.findall(r"([^`]*)`([^`]+)`", part):
                 is_test = is_test or bool(re.search(r"\btests?\b", text))
                 self.check_name(name, is_test)
+                edits += [] if is_test or name not in self.crate.edits else [self.crate.edits[name]]
+        return edits
 
     def check_name(self, name, is_test):
         if not is_test and name in self.crate.edits:
@@ -170,10 +191,16 @@ class Promises:
         elif "/" not in name and name not in self.tests:
             self.fault(f"there is no test `{name}`")
 
+    def check_refused(self, functions, clause, edits):
+        """Each of these edits that is of one of these functions says that it is refused at this clause, or at a goal before it."""
+        for edit in (it for it in edits if changed_by(it) & functions):
+            if clause not in edit.clauses and not edit.goals:
+                self.fault(f"the edit `{edit.name}` names no clause `{clause}` that it breaks, and no goal before")
+
     def check_edits(self):
         """Each edit is named by a row of its crate, or in the README beside it."""
         for name, crate in self.crates.items():
-            for edit in sorted(crate.edits - self.named[name]):
+            for edit in sorted(crate.edits.keys() - self.named[name]):
                 if not re.search(rf"\b{re.escape(edit)}\b", crate.readme):
                     self.faults.append(f"crates/{name}: the edit {edit} is named in no row")
 

@@ -45,11 +45,13 @@ class Change:
 
 
 class Edit:
-    """A wrong body: the texts of the files that it changes, and its changes where they all stand in functions' bodies."""
+    """A wrong body: the texts of the files that it changes, its changes where they all stand in functions' bodies, and where it has
+    to be refused: the clauses that it breaks, and goals before them."""
 
     def __init__(self, file, folder):
         self.name = os.path.basename(file).removesuffix(".edit")
         self.texts, self.changes, self.is_refused, self.why = {}, [], False, None
+        self.clauses, self.goals = [], []
         if not file.endswith(".edit"):
             self.why = "its name doesn't end in .edit"
             return
@@ -75,11 +77,15 @@ class Edit:
                     return
                 self.texts[file] = now.replace(old, rest)
                 old, pairs = None, pairs + 1
+            elif word in ("clause", "goal") and pairs and old is None and rest:
+                (self.clauses if word == "clause" else self.goals).append(rest.strip())
             else:
                 self.why = f"this line is not in its place: {line}"
                 return
         if not pairs or old is not None:
             self.why = "it has no pair of `old:` and `new:`, or half of one"
+        elif not self.clauses and not self.goals:
+            self.why = "it has no line `clause:` or `goal:`, so nothing says where it has to be refused"
 
     def place(self, folder):
         """Finds the functions in whose bodies all of the edit stands; there are none where any of it stands elsewhere."""

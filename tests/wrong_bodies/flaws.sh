@@ -43,6 +43,13 @@ pub fn least_again(a: u8, b: u8) -> u8
     least(a, b)
 }
 
+pub fn greatest(a: u8, b: u8) -> u8
+    ensures first { a ≤ result }
+    ensures second { b ≤ result }
+{
+    if a > b { a } else { b }
+}
+
 pub fn bounded(a: u8) -> u8
     ensures { result ≤ 200 }
 {
@@ -84,10 +91,13 @@ pub again : {A : Type 1} → statement A → statement A
 again it = it
 END
 
-# edit NAME LINE..
+# edit NAME LINE..: an edit that says where it is refused by its last line, or else by the clause with no name.
 edit() {
     name=$1
     shift
+    case ${!#} in
+    new:*) set -- "$@" 'clause: its only one' ;;
+    esac
     printf '%s\n' 'file: src/lib.rt' "$@" >"$crate/wrong-bodies/$name.edit"
 }
 
@@ -125,10 +135,14 @@ edit no_bug_with_answers 'old: least(low, c)' 'new: (least(low, c))'
 edit one_bug_more 'old: if a < b { a }' 'new: if a < b { b }'
 edit one_more_with_answers 'old: least(low, c)' 'new: least(low, b)'
 edit only_its_callee_is_wrong 'old:     least(a, b)' 'new:     least(b, a)'
+edit the_first_clause 'old: if a > b { a }' 'new: if a > b { b }' 'clause: first'
+edit another_clause 'old: if a > b { a } else { b }' 'new: if a > b { a } else { a }' 'clause: first'
+edit another_goal 'old: if a > b { a }' 'new: if b > b { a }' 'goal: least-requires'
 edit no_such_name 'old: a.min(MOST)' 'new: a.min(LEAST)'
 edit no_single_place 'old: least(' 'new: most('
 edit no_line 'old: a.min(MOST)' 'now: a'
 edit half_a_pair 'old: a.min(MOST)'
+printf '%s\n' 'file: src/lib.rt' 'old: a.min(MOST)' 'new: a' >"$crate/wrong-bodies/no_clause.edit"
 touch "$crate/wrong-bodies/another_end.txt"
 sum=$("$here/try.py" --root "$work" --sum)
 try --proved "$sum"
@@ -145,12 +159,16 @@ said 'tiny/no_bug_with_answers: LET THROUGH'
 said 'tiny/one_bug_more: refused: note: src/lib.rt:'
 said 'tiny/one_more_with_answers: refused: ./proofs/least_of_three_again_2/Answers.antt:'
 said 'tiny/only_its_callee_is_wrong: LET THROUGH'
+said 'tiny/the_first_clause: refused: note: src/lib.rt:'
+said 'tiny/another_clause: refused, but not at first: note: src/lib.rt:'
+said 'tiny/another_goal: refused, but not at least-requires: note: src/lib.rt:'
+said 'tiny/no_clause: it has no line `clause:` or `goal:`'
 said "tiny/no_such_name: it doesn't compile"
 said 'tiny/no_single_place: an `old:` text is in src/lib.rt 6 times'
 said 'tiny/no_line: this line is not in its place: now: a'
 said 'tiny/half_a_pair: it has no pair'
 said "tiny/another_end.txt: its name doesn't end in .edit"
-said '7 passed, 10 failed'
+said '8 passed, 13 failed'
 
 try tiny/no_such_edit
 [ "$status" -eq 1 ]
@@ -179,7 +197,7 @@ pub fn least_of_two(a: u8, b: u8) -> u8
     least(a, b)
 }
 END
-printf '%s\n' 'file: src/lib.rt' 'old: least(a, b)' 'new: least(a, a)' >"$above/wrong-bodies/a_bug.edit"
+printf '%s\n' 'file: src/lib.rt' 'old: least(a, b)' 'new: least(a, a)' 'clause: its only one' >"$above/wrong-bodies/a_bug.edit"
 sum=$("$here/try.py" --root "$work" --sum above)
 try --proved "$sum" above
 [ "$status" -eq 0 ]

@@ -12,8 +12,25 @@ PROOF = re.compile(r"(?:\./)?proofs/(\S+)/(?:Answers|Invariants|Proof)\.antt:\d+
 SOURCE = re.compile(r"(?:\./)?((?:src|specs)/\S+?):(\d+):\d+: error(?:\[\S+\])?: (?:(`[^`]*`): )?(.*)")
 GOAL = re.compile(r"note: (?:\./)?src/\S+:\d+:\d+: .*(is not proved|found no proof)")
 VERDICT = re.compile(r"(?:fn|struct|enum|impl|trait) (\S+): (.*)")
+# What rt calls an open goal.
+NAME = re.compile(r"\(`([^`]+)`\)|error: `([^`]+)`:")
 # The verdict of a function with no open goal of its own; one that was not tried has another.
 WAITS = re.compile(r"no proof: it calls `[^`]+`(?: and `[^`]+`)*, which (?:is|are) not proved")
+# How docs/PROMISES.md names the clause of a function that has one with no name.
+ONLY_ONE = "its only one"
+
+
+def is_of_clause(goal, clause):
+    """Whether a goal of this name is that this clause holds where the function returns. Its name has the clause's, where there are
+    several and each is a goal of its own."""
+    return goal.startswith("returns") and ("-clause-" not in goal or clause != ONLY_ONE and goal.endswith(f"-clause-{clause}"))
+
+
+def not_among(lines, clauses, goals):
+    """Those of these clauses and goals that none of these lines of open goals names."""
+    names = ["".join(found) for line in lines for found in NAME.findall(line)[-1:]]
+    missed = [it for it in clauses if not any(is_of_clause(name, it) for name in names)]
+    return [*missed, *(it for it in goals if it not in names)]
 
 
 class Check:
@@ -68,18 +85,22 @@ class Check:
     def last(self):
         return self.text.strip().split("\n")[-1]
 
-    def judge(self, functions):
-        """Whether one of the functions (of all, where none is named) has an open goal of its own; and that goal, or why not."""
+    def judge(self, functions, clauses=(), goals=()):
+        """Whether one of the functions (of all, where none is named) has an open goal of its own, among them one of each of these
+        clauses, and these; and its first open goal, or why not."""
         if not self.is_judged or self.errors:
             return False, f"it doesn't compile, so no contract was tried: {(self.errors or [self.last()])[0]}"
         if None in functions:
             return False, "the check prints no line of the function, or it can't be told which"
-        goals = [line for it in functions for line in self.of(self.goals, it)]
+        found = [line for it in functions for line in self.of(self.goals, it)]
         if not functions:
-            goals = [line for lines in self.goals.values() for line in lines]
+            found = [line for lines in self.goals.values() for line in lines]
         gone = [line for it in functions or self.gone for line in self.of(self.gone, it)]
-        if goals:
-            return True, goals[0] + " (names are gone from a proof file, too)" * bool(gone)
+        missed = not_among(found, clauses, goals)
+        if found and missed:
+            return False, f"refused, but not at {', '.join(missed)}: {found[0]}"
+        if found:
+            return True, found[0] + " (names are gone from a proof file, too)" * bool(gone)
         if gone:
             return False, f"refused only by names that are gone from a proof file, which says nothing of the contract: {gone[0]}"
         said = [f"{it}: {self.verdicts.get(it, 'no line')}" for it in functions]
