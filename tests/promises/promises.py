@@ -60,8 +60,8 @@ def changed_by(edit):
     names = set()
     for function in (it.function for it in edit.changes):
         heads = [head for head in function.around if re.search(r"\b(impl|trait)\b", head)]
-        owners = owner_in(heads[-1]) if heads else ("", "")
-        names |= {f"{owner}::{function.name}" if owner else function.name for owner in owners[: 1 + bool(owners[1])]}
+        owner, trait = owner_in(heads[-1]) if heads else ("", "")
+        names |= {f"{it}::{function.name}" if it else function.name for it in (owner, trait or owner)}
     return names
 
 
@@ -178,7 +178,8 @@ class Promises:
             for text, name in re.findall(r"([^`]*)`([^`]+)`", part):
                 is_test = is_test or bool(re.search(r"\btests?\b", text))
                 self.check_name(name, is_test)
-                edits += [] if is_test or name not in self.crate.edits else [self.crate.edits[name]]
+                if not is_test and name in self.crate.edits:
+                    edits.append(self.crate.edits[name])
         return edits
 
     def check_name(self, name, is_test):

@@ -86,8 +86,8 @@ class Check:
         return self.text.strip().split("\n")[-1]
 
     def judge(self, functions, clauses=(), goals=()):
-        """Whether one of the functions (of all, where none is named) has an open goal of its own, among them one of each of these
-        clauses, and these; and its first open goal, or why not."""
+        """Whether the functions (all, where none is named) have open goals of their own, among them one of each of these clauses and
+        all of these goals; and the first open goal, or why not."""
         if not self.is_judged or self.errors:
             return False, f"it doesn't compile, so no contract was tried: {(self.errors or [self.last()])[0]}"
         if None in functions:
