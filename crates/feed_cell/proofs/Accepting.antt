@@ -3,27 +3,29 @@ use Rattle.std.proofs.Common.{◌≡◌, ℕ, ◌+◌, ◌-◌, ◌<◌, Bool, t
 use Rattle.flow_rules.specs.Feed.{End, LookedIfOpen, TakesItem}
 use Rattle.feed_core.specs.Prelude.{Ending, Item}
 use Rattle.feed_cell.specs.Control.{MARK, marked}
+use Rattle.feed_cell.specs.Offering.{SaysOf}
 use Rattle.feed_cell.specs.Parties.{end_of}
 use Rattle.feed_cell.specs.Plays.{SeatOf, FindsRoom, after_look, sent}
 use Rattle.feed_cell.specs.Types.{Free, HasRoom, HasPut}
 use Rattle.feed_cell.specs.declared.cell.View.{View}
+use Rattle.feed_cell.specs.declared.cell.offering.Found.{Found}
 
 -- a small head has no mark
 pub unmarked : (ended : Bool) (head found : ℕ) → found ≡ marked ended head → found < MARK → (ended ≡ false) × (found ≡ head)
 unmarked false head found is small = (refl, is)
 unmarked true head found is small = absurd (omega arith)
 
-module _ {B T : Type 0} (capacity tail found : ℕ) (before looked placed after : SeatOf B) (item : Item) (start : Option T) (ready later : Bool) (finds : FindsRoom before found looked) (small : found < MARK) (counted : length before.0.put ≡ tail)
-    (sized : before.0.capacity ≡ capacity) (unclosed : before.0.closing ≡ None) (room : tail - found < capacity)
+module _ {B T : Type 0} (capacity tail found held : ℕ) (before looked placed after : SeatOf B) (item : Item) (start : Option T) (ready later : Bool) (finds : FindsRoom before found looked) (says : SaysOf capacity tail found (Found.Room held)) (counted : length before.0.put ≡ tail)
+    (sized : before.0.capacity ≡ capacity) (unclosed : before.0.closing ≡ None)
     (put : placed ≡ (record looked.0 { put = looked.0.put ++ item ∷ []; producing = HasPut; places = 0 }, [])) (signalled : after ≡ (sent None Free placed.0, placed.1)) (keeps : start ≡ None → later ≡ ready) where
   ends : finds.ended ≡ false
-  ends = (unmarked finds.ended finds.head found finds.found_is small).0
+  ends = (unmarked finds.ended finds.head found finds.found_is says.0).0
 
   head_is : found ≡ finds.head
-  head_is = (unmarked finds.ended finds.head found finds.found_is small).1
+  head_is = (unmarked finds.ended finds.head found finds.found_is says.0).1
 
   within : length before.0.put < finds.head + before.0.capacity
-  within = let h = head_is in let p = finds.put in let f = finds.fits in omega arith
+  within = let h = head_is in let p = finds.put in let f = finds.fits in let room : tail - found < capacity = says.1 in omega arith
 
   abbrev seen : View
   seen = after_look before.0 finds.head finds.ended HasRoom 1
@@ -31,12 +33,14 @@ module _ {B T : Type 0} (capacity tail found : ℕ) (before looked placed after 
   view_is : after.0 ≡ record seen { put = before.0.put ++ item ∷ []; producing = Free; places = 0 }
   view_is = ap (λ (m : SeatOf B). m.0) signalled ∙ ap (λ (m : SeatOf B). sent None Free m.0) put ∙ ap (λ (m : SeatOf B). record m.0 { put = m.0.put ++ item ∷ []; producing = Free; places = 0 }) (finds.room ends within)
 
-  pub accepted : (m : End) × LookedIfOpen (end_of capacity before.0 ready) m × TakesItem m item (tail + 1 - found) start (end_of capacity after.0 later)
+  pub accepted : (m : End) × LookedIfOpen (end_of capacity before.0 ready) m × TakesItem m item (held + 1) start (end_of capacity after.0 later)
   accepted =
       let h = head_is in
       let p = finds.put in
       let f = finds.fits in
-      let lag : tail + 1 - found ≡ length (before.0.put ++ item ∷ []) - finds.head = (let longer : length (before.0.put ++ item ∷ []) ≡ length before.0.put + 1 = length-append before.0.put (item ∷ []) in omega arith) in
+      let room : tail - found < capacity = says.1 in
+      let count : held ≡ tail - found = says.2 in
+      let lag : held + 1 ≡ length (before.0.put ++ item ∷ []) - finds.head = (let longer : length (before.0.put ++ item ∷ []) ≡ length before.0.put + 1 = length-append before.0.put (item ∷ []) in omega arith) in
       let longer : length (before.0.put ++ item ∷ []) ≡ length before.0.put + 1 = length-append before.0.put (item ∷ []) in (
         end_of capacity seen ready,
         record {

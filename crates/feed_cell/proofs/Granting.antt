@@ -2,12 +2,30 @@
 use Rattle.std.proofs.Common.{◌≡◌, ℕ, ◌<◌, [], ◌∷◌, ◌++◌, length, ap, sym, ◌∙◌, subst}
 use Rattle.atomic_table.specs.Table.{rest}
 use Rattle.feed_core.specs.Prelude.{Item, UNBOUNDED, total_after}
-use Rattle.feed_core.specs.World.Table.{MaySee, seeing, measuring}
+use Rattle.feed_core.specs.World.Table.{MaySee, MayTake, seeing, measuring}
 use Rattle.feed_cell.specs.Plays.{SeatOf, Sees, Measures, grants_by}
 use Rattle.feed_cell.specs.Running.{TakesNext}
 use Rattle.feed_cell.specs.Types.{Runner, Taken}
 
 module _ {B : Type 0} where
+  -- it saw an item, and measured that more were requested than were taken
+  pub may_take : (before there measured : SeatOf B) (found word : ℕ) → MaySee before.0.runner → length before.0.taken < found → Sees before found there → (m : Measures there word measured) → length before.0.taken < total_after m.asked before.0.own
+      → MayTake (length measured.0.taken) measured.0.runner
+  may_take before there measured found word may more s m wanted =
+      let saw = s.waits more in
+      let total : ℕ = total_after m.asked there.0.own in
+      let same : total ≡ total_after m.asked before.0.own = ap (λ (t : SeatOf B). total_after m.asked t.0.own) saw.1 in
+      let enough : length before.0.taken < total = subst (λ (n : ℕ). length before.0.taken < n) (sym same) wanted in
+      let after = m.wanted (subst (λ (t : SeatOf B). length t.0.taken < total) (sym saw.1) enough) in
+      let taken : length measured.0.taken ≡ length before.0.taken = ap (λ (t : SeatOf B). length t.0.taken) after ∙ ap (λ (t : SeatOf B). length t.0.taken) saw.1 in (
+        may.0,
+        found,
+        total,
+        ap (λ (t : SeatOf B). t.0.runner) after ∙ ap (λ (t : SeatOf B). measuring total t.0.runner) saw.1 ∙ ap (λ (r : Runner). measuring total (seeing found r)) may.1,
+        subst (λ (n : ℕ). n < found) (sym taken) more,
+        subst (λ (n : ℕ). n < total) (sym taken) enough,
+      )
+
   -- it saw an item, measured that more were requested than were taken, and took it
   pub takes_next : (before there measured after : SeatOf B) (x : Item) (found word : ℕ) → MaySee before.0.runner → length before.0.taken < found → length before.0.taken < UNBOUNDED
       → Sees before found there → (m : Measures there word measured) → length before.0.taken < total_after m.asked before.0.own

@@ -1,8 +1,21 @@
--- What a call of the producer's end does beside what its meaning tells.
-use Rattle.std.specs.Prelude.{◌≡◌, false, Option, None, IfSome, IsSome}
+-- What a producer finds when it looks for room, and what a call of its end does beside what its meaning tells.
+use Rattle.std.specs.Prelude.{◌≡◌, ℕ, ◌-◌, ◌<◌, ◌≤◌, false, Option, None, IfSome, IsSome}
 use Rattle.flow_rules.specs.Call.{Call}
 use Rattle.flow_rules.specs.declared.feed.put.Put.TheVariants.{Accepted, Full, Gone}
+use Rattle.feed_cell.specs.Control.{MARK}
 use Rattle.feed_cell.specs.Parties.{ProducerState, TaskState, IsStarted}
+use Rattle.feed_cell.specs.Plays.{SeatOf, FindsRoom}
+use Rattle.feed_cell.specs.declared.cell.offering.Found.{Found}
+
+-- what this head says to a producer that has put as many items as tail
+abbrev pub SaysOf : ℕ → ℕ → ℕ → Found → Type 0
+SaysOf capacity tail head Found.Ended = MARK ≤ head
+SaysOf capacity tail head Found.Full = (head < MARK) × (tail - head ≡ capacity)
+SaysOf capacity tail head (Found.Room held) = (head < MARK) × (tail - head < capacity) × (held ≡ tail - head)
+
+-- a look for room showed some head, which says this
+abbrev pub Finds : {B : Type 0} → ℕ → ℕ → Found → SeatOf B → SeatOf B → Type 0
+Finds capacity tail found before after = (head : ℕ) × FindsRoom before head after × SaysOf capacity tail head found
 
 -- the task that a call started, if it did
 abbrev pub started_in : Call TaskState → Option TaskState

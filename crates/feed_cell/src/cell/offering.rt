@@ -1,8 +1,9 @@
 //! The steps of the producer.
-ghost use Rattle.std.specs.Prelude.{◌≡◌, ◌+◌, ◌*◌, [], ◌∷◌, ◌++◌, Some, None, IfSome, IfNone};
+ghost use Rattle.std.specs.Prelude.{◌≡◌, ◌+◌, ◌*◌, [], ◌∷◌, ◌++◌, Some, None, IfSome, IfNone, length};
 ghost use Rattle.std.specs.Int.{bit_at};
 ghost use Rattle.feed_core.specs.Prelude.{Ending};
 ghost use Rattle.feed_core.specs.World.Table.{MayBegin, ProducerMay};
+ghost use Rattle.feed_cell.specs.Offering.{Finds};
 ghost use Rattle.feed_cell.specs.Plays.{FindsRoom, Stands, sent};
 ghost use Rattle.feed_cell.specs.Steps.{HasFourWords, MayOffer, HasPlace, IsHanded};
 ghost use Rattle.feed_cell.specs.Types.{State, Closing, Free, HasPut, Hands};
@@ -12,13 +13,48 @@ ghost use Rattle.feed_cell.specs.declared.cell.Held.TheVariants as Held;
 use super::plays::{Put, Room, SignalComplete, SignalError, SignalItem, SignalState, Stand};
 use super::splits::ProducerHands;
 use super::{
-    COMPLETE, CONTROL, CellSeat, CellTable, ERROR, ERRORS, HEAD, Held, ITEM, RUN, STATE, TAIL,
+    COMPLETE, CONTROL, CellSeat, CellTable, ERROR, ERRORS, HEAD, Held, ITEM, MARK, RUN, STATE, TAIL,
 };
 use flow_rules::{Item, Listener};
 use std::mem::ManuallyDrop;
 
+/// What a put finds when it looks for room.
+#[derive(Clone, Copy)]
+pub(crate) enum Found {
+    /// The subscription has ended.
+    Ended,
+    /// The buffer holds as many items as its capacity.
+    Full,
+    /// There is room, and so many items are held. The slot of the next item is out.
+    Room(u64),
+}
+
+/// Looks for room, for a producer that has put so many items.
+pub(crate) fn find_room<B: Listener>(
+    table: &CellTable<B>,
+    seat: &mut CellSeat<B>,
+    capacity: u64,
+    tail: u64,
+) -> Found
+    requires table { (seat.old.table_id ≡ table.now.shared.table_id) × HasFourWords seat.old.table_id }
+    requires may { MayOffer seat.old.me }
+    requires counted { (length seat.old.me.0.put ≡ tail) × (seat.old.me.0.capacity ≡ capacity) }
+    ensures table { (seat.new.table_id ≡ seat.old.table_id) × (seat.new.id ≡ seat.old.id) }
+    ensures finds { Finds capacity tail result seat.old.me seat.new.me }
+{
+    let head = look_for_room(table, seat);
+    if head >= MARK {
+        return Found::Ended;
+    }
+    let held = tail - head;
+    if held == capacity {
+        return Found::Full;
+    }
+    Found::Room(held)
+}
+
 /// Loads head, and takes the slot of the next item out where there is room.
-pub(crate) fn look_for_room<B: Listener>(table: &CellTable<B>, seat: &mut CellSeat<B>) -> u64
+fn look_for_room<B: Listener>(table: &CellTable<B>, seat: &mut CellSeat<B>) -> u64
     requires table { (seat.old.table_id ≡ table.now.shared.table_id) × HasFourWords seat.old.table_id }
     requires may { MayOffer seat.old.me }
     ensures table { (seat.new.table_id ≡ seat.old.table_id) × (seat.new.id ≡ seat.old.id) }

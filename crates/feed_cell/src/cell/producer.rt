@@ -8,7 +8,7 @@ ghost use Rattle.feed_cell.specs.Views.{running_handed};
 ghost use Rattle.feed_cell.specs.declared.cell.View.{View};
 
 use super::offering::{
-    look, look_for_room, place, signal_complete, signal_error, signal_item, signal_state,
+    Found, find_room, look, place, signal_complete, signal_error, signal_item, signal_state,
 };
 use super::task::{Stage, Task};
 use super::{CellSeat, CellTable, MARK, SharedTable};
@@ -65,18 +65,16 @@ impl<B: Listener> Feed for Producer<B> {
             return Put::Gone(item);
         }
         let table: &CellTable<B> = &self.table;
-        let head = look_for_room(table, &mut self.seat);
-        if head >= MARK {
-            return Put::Gone(item);
-        }
-        if self.tail - head == self.capacity {
-            return Put::Full(item);
-        }
+        let held = match find_room(table, &mut self.seat, self.capacity, self.tail) {
+            Found::Ended => return Put::Gone(item),
+            Found::Full => return Put::Full(item),
+            Found::Room(held) => held,
+        };
         place(table, &mut self.seat, self.capacity, self.tail, item);
         let task = signal_item(table, &mut self.seat);
         self.tail += 1;
         Put::Accepted {
-            lag: self.tail - head,
+            lag: held + 1,
             start: start(&mut self.spare, task, self.capacity),
         }
     }
