@@ -11,3 +11,16 @@ returns-in_err-reserve_due-clause-err g c = on_err c.from_residual.result _ (rec
   kept = (not_looked_at (hub_of g.F.Feed.meaning c.args.self.now) c.requires.sound).entries;
   rest = refl;
 })
+
+pub returns-clause-seen : goal.returns-clause-seen
+returns-clause-seen g c =
+    let looks = c.in_ok-prepare_live.ensures.ok in
+    let left = c.leave_out_retired.ensures in
+    record {
+      glances = looks.0;
+      prepared = rw left.rest looks.1.0;
+      left = rw (left.rest, left.left, c.prepare_live.ensures.rest) refl;
+      kept = rw left.rest c.prepare_live.ensures.looked.entries;
+      all_live = rw left.rest left.all_live;
+      rest = rw (left.rest, c.prepare_live.ensures.rest) refl;
+    }
