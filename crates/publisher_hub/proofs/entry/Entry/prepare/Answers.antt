@@ -6,6 +6,7 @@ on_err : {A E : Type 0} (r : Result A E) (P : Type 0) → P → OnErr r P
 on_err (Ok x) P p = _
 on_err (Err e) P p = p
 
+-- what the test of a look shows
 off : (ended : Bool) → not ended ≡ true → ended ≡ false
 off true on = cc
 off false on = refl

@@ -1,5 +1,5 @@
 -- A subscription is added to a Hub that was looked at.
-use Rattle.std.proofs.Common.{refl, ◌≡◌, ◌++◌, ◌∷◌, [], ◌<◌, Option, length, sym, ap, subst, ◌∙◌, arith}
+use Rattle.std.proofs.Common.{◌≡◌, ◌++◌, ◌∷◌, [], ◌<◌, Option, length, refl, sym, ap, subst, ◌∙◌, arith}
 use Rattle.flow_rules.specs.declared.ending.Ending.{Ending}
 use Rattle.publisher_hub.specs.Offering.{work_of}
 use Rattle.publisher_hub.specs.Subscribing.{ClosesNew, first_entry}
@@ -35,6 +35,7 @@ returns-clause-ok g c =
       rest = rest_seen g.F.Feed.meaning g.F.Feed.does old middle c.add.new.self seen c.add.ensures.rest;
     }
 
+-- what is added is not refused
 pub returns-clause-err : goal.returns-clause-err
 returns-clause-err g c = tt
 
