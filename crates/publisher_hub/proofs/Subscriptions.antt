@@ -12,7 +12,7 @@ use Rattle.publisher_hub.specs.Adding.{AreAllLive, goes_on, live_of}
 use Rattle.publisher_hub.specs.Entry.{EntryState, entry_of}
 use Rattle.publisher_hub.specs.Hub.{HubState, hub_of}
 use Rattle.publisher_hub.specs.Lists.{Each, EachBy}
-use Rattle.publisher_hub.specs.Looking.{IsKept, Prepares}
+use Rattle.publisher_hub.specs.Looking.{IsKept, IsLookedAt, Prepares}
 use Rattle.publisher_hub.specs.Readiness.{AreReady}
 use Rattle.publisher_hub.specs.Subscribing.{CanAdmit, HasNoPlace, HasPlace, IsLiveAt, IsNamed, IsNotNamed, IsSeen, IsUnnamed, Refuses}
 use Rattle.publisher_hub.specs.declared.entry.Entry.{Entry}
@@ -107,6 +107,19 @@ module _ {F T : Type 0} (meaning : F → End) (does : F → Call T → F → Typ
       → hub_of meaning new ≡ record (hub_of meaning old) { entries = (hub_of meaning new).entries; live = new.live.items }
   rest_seen old middle new seen rest = ap (λ (hub : Hub F). hub_of meaning hub) rest
       ∙ ap (λ (hub : HubState). record hub { entries = (hub_of meaning new).entries; live = new.live.items }) seen.rest
+
+  -- a Hub that was looked at, where then the numbers of the retired ones were left out
+  pub seen_left : (old middle new : Hub F) (glances : List (Option Standing)) → EachBy (Prepares meaning does old.next) glances old.entries.items middle.entries.items
+      → IsLookedAt (hub_of meaning old) (hub_of meaning middle) → new ≡ record middle { live = new.live } → new.live.items ≡ live_of (hub_of meaning middle).entries middle.live.items
+      → AreAllLive new.live.items (hub_of meaning middle).entries → IsSeen meaning does old new
+  seen_left old middle new glances prepared looked rest left are = subst (λ (hub : Hub F). IsSeen meaning does old hub) (sym rest) (record {
+    glances = glances;
+    prepared = prepared;
+    left = left ∙ ap (λ (hub : HubState). live_of (hub_of meaning middle).entries hub.live) looked.rest;
+    kept = looked.entries;
+    all_live = are;
+    rest = ap (λ (hub : HubState). record hub { live = new.live.items }) looked.rest;
+  })
 
   -- with a place, a subscription of a name that no live one has may be added
   pub can_admit : (name : List ℕ) (result : Result Unit Refusal) (middle new : Hub F) (due : Vec (Work T) Global) → OnOk result (HasPlace new) → vec_len due < vec_capacity due

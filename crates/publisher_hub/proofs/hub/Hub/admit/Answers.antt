@@ -1,5 +1,5 @@
 -- A subscription is added to a Hub that was looked at.
-use Rattle.std.proofs.Common.{◌≡◌, ◌++◌, ◌∷◌, [], ◌<◌, Option, length, sym, ap, subst, ◌∙◌, arith}
+use Rattle.std.proofs.Common.{◌≡◌, ◌++◌, ◌∷◌, [], ◌<◌, Option, length, refl, sym, ap, subst, ◌∙◌, arith}
 use Rattle.flow_rules.specs.declared.ending.Ending.{Ending}
 use Rattle.publisher_hub.specs.Offering.{work_of}
 use Rattle.publisher_hub.specs.Subscribing.{ClosesNew, first_entry}
@@ -34,3 +34,10 @@ returns-clause-ok g c =
       live = c.add.ensures.live ∙ ap (λ n. middle.live.items ++ n ∷ []) (sym (number ∙ long));
       rest = rest_seen g.F.Feed.meaning g.F.Feed.does old middle c.add.new.self seen c.add.ensures.rest;
     }
+
+-- what is added is not refused
+pub returns-clause-err : goal.returns-clause-err
+returns-clause-err g c = tt
+
+pub returns-clause-stays : goal.returns-clause-stays
+returns-clause-stays g c can = refl

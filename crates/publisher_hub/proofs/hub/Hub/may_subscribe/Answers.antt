@@ -59,3 +59,13 @@ returns-clause-err g c = refused_place g.F.Feed.meaning g.F.Feed.does c.args.nam
 pub returns-clause-stays : goal.returns-clause-stays
 returns-clause-stays g c can = c.make_place.ensures.stays (still_place g.F.Feed.meaning g.F.Feed.does c.args.self.now c.see_all.new.self c.in_ok-see_all.ensures.seen
     c.see_all.ensures.entry_places c.see_all.ensures.number_places can.place)
+
+-- a refusal says nothing of a yes
+pub returns-in-Some-clause-can : goal.returns-in-Some-clause-can
+returns-in-Some-clause-can g c = tt
+
+pub returns-in-Some-clause-seen : goal.returns-in-Some-clause-seen
+returns-in-Some-clause-seen g c = tt
+
+pub returns-in-Some-clause-nothing_due : goal.returns-in-Some-clause-nothing_due
+returns-in-Some-clause-nothing_due g c = tt

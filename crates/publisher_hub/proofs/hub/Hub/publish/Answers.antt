@@ -1,5 +1,5 @@
 -- An item that is published comes after all that were.
-use Rattle.std.proofs.Common.{◌∙◌, ap, refl}
+use Rattle.std.proofs.Common.{rules, ◌∙◌, ap, refl}
 use Rattle.publisher_hub.specs.Hub.{hub_of}
 use Rattle.publisher_hub.specs.Publishing.{Publishes}
 use Rattle.publisher_hub.specs.Sound.{IsSound}
@@ -34,3 +34,9 @@ returns-clause-sound g c = (whole g c).0
 
 pub returns-clause-ok : goal.returns-clause-ok
 returns-clause-ok g c = (whole g c).1
+
+pub returns-then-not-room-clause-err : goal.returns-then-not-room-clause-err
+returns-then-not-room-clause-err g c = record { unchanged = c.prepare.ensures.looked; why = search rules }
+
+pub returns-then-not-room-clause-sound : goal.returns-then-not-room-clause-sound
+returns-then-not-room-clause-sound g c = c.prepare.ensures.sound

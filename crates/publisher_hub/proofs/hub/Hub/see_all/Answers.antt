@@ -3,6 +3,7 @@ use Rattle.std.proofs.Common.{refl, sym, ◌∙◌, inl}
 use Rattle.publisher_hub.specs.Hub.{hub_of}
 use Rattle.publisher_hub.proofs.PartialRounds.{same_some}
 use Rattle.publisher_hub.proofs.Readying.{not_looked_at, on_err}
+use Rattle.publisher_hub.proofs.Subscriptions.{seen_left}
 use Rattle.publisher_hub.proofs.hub.Hub.see_all.Goals as goal
 
 pub returns-in_err-reserve_due-clause-err : goal.returns-in_err-reserve_due-clause-err
@@ -11,3 +12,16 @@ returns-in_err-reserve_due-clause-err g c = on_err c.from_residual.result _ (rec
   kept = (not_looked_at (hub_of g.F.Feed.meaning c.args.self.now) c.requires.sound).entries;
   rest = refl;
 })
+
+pub returns-in_err-prepare_live-clause-err : goal.returns-in_err-prepare_live-clause-err
+returns-in_err-prepare_live-clause-err g c = on_err c.from_residual-in_err-prepare_live.result _ (record {
+  prepared = c.in_err-prepare_live.ensures.err;
+  kept = c.prepare_live.ensures.looked.entries;
+  rest = c.prepare_live.ensures.looked.rest;
+})
+
+pub returns-clause-seen : goal.returns-clause-seen
+returns-clause-seen g c =
+    let looks = c.in_ok-prepare_live.ensures.ok in
+    let left = c.leave_out_retired.ensures in
+    seen_left g.F.Feed.meaning g.F.Feed.does c.args.self.now c.prepare_live.new.self c.leave_out_retired.new.self looks.0 looks.1.0 c.prepare_live.ensures.looked left.rest left.left left.all_live

@@ -21,3 +21,6 @@ returns-clause-none g c is i number at =
     let within : i < length c.args.live.now = slice_get_within c.args.live.now i number at in
     let done : c.loop-number.number-index ≡ length c.args.live.now = search rules in
     c.loop-number.invariant i number (omega arith) at
+
+pub returns-then-is_named-clause-none : goal.returns-then-is_named-clause-none
+returns-then-is_named-clause-none g c is = cc

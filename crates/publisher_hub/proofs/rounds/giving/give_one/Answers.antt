@@ -24,3 +24,12 @@ returns-clause-given g c =
         },
       ),
     )
+
+pub give-answer-requires-clause-take : goal.give-answer-requires-clause-take
+give-answer-requires-clause-take g c = c.requires.can.take
+
+pub give-answer-requires-clause-few : goal.give-answer-requires-clause-few
+give-answer-requires-clause-few g c = c.requires.can.few
+
+pub give-answer-requires-clause-few_drops : goal.give-answer-requires-clause-few_drops
+give-answer-requires-clause-few_drops g c = c.requires.can.few_drops
