@@ -4,10 +4,12 @@ use Rattle.flow_rules.specs.declared.ending.Ending.{Ending}
 use Rattle.publisher.proofs.publisher.Publisher.closed_with.Goals as goal
 use Rattle.publisher.proofs.publisher.Publisher.closed_with.Goals.{then-is_none, else-is_none}
 
+-- a note that knew nothing has nothing to keep
 asks : (known : Option Ending) (P : Ending → Type 0) → is_some known ≡ false → IfSome known P
 asks None P none = record {}
 asks (Some ending) P none = cc
 
+-- a note that did not ask knows what it knew
 keeps : (known : Option Ending) → IfSome known (λ ending. known ≡ Some ending)
 keeps None = record {}
 keeps (Some ending) = refl

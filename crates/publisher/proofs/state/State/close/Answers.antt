@@ -33,6 +33,7 @@ closed_after old new ending first later = by old.ending refl where
   by None e = subst IsSome (sym (ap (λ (h : HubState). h.progress.ending) (first e).closed.rest)) refl
   by (Some known) e = let some : IsSome old.ending = rw e refl in subst (λ (h : Hub DeskState). IsSome h.ending) (sym (later some)) some
 
+-- the answer is the ending that the publisher has
 answers : (ending found : Option Ending) (other how : Ending) → IsSome ending → found ≡ ending → how ≡ unwrap_or found other → ending ≡ Some how
 answers None found other how some same is = cc
 answers (Some known) found other how some same is = ap Some (sym (is ∙ ap (λ e. unwrap_or e other) same))

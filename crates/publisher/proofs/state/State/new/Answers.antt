@@ -13,6 +13,7 @@ use Rattle.publisher.proofs.state.State.new.Goals as goal
 opened : (capacity : ℕ) (opening : Opening) (hub new : Hub DeskState) → new ≡ record hub { opening = Some opening } → hub_of end_of hub ≡ hub_at_start capacity 0 → hub_of end_of new ≡ record (hub_at_start capacity 0) { opening = Some opening }
 opened capacity opening hub new set start = ap (hub_of end_of) set ∙ ap (λ (h : HubState). record h { opening = Some opening }) start
 
+-- a capacity that was not refused is not 0
 is_some_number : (n : ℕ) → (n ≡ 0 → ⊥) → 0 < n
 is_some_number n never = omega arith
 

@@ -5,6 +5,7 @@ use Rattle.close_count.specs.declared.spent.Spent.{Spent}
 use Rattle.publisher.specs.Turning.{last_after}
 use Rattle.publisher.proofs.state.turning.keep_last.Goals as goal
 
+-- the last ticket is kept where the publisher is closed
 is_kept : (spent : Spent) (closed : Bool) (last : Option Spent) (found : Bool) → found ≡ was_last spent → (found && closed) ≡ true → Some spent ≡ last_after spent closed last
 is_kept spent closed last found is both = sym (ap (λ b. if b then Some spent else last) (ap (λ b. b && closed) (sym is) ∙ both))
 

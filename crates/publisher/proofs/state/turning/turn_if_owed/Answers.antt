@@ -2,6 +2,7 @@ use Rattle.std.proofs.Common.{◌≡◌, ◌&&◌, Bool, true, false, Option, No
 use Rattle.flow_rules.specs.declared.how.How.{How}
 use Rattle.publisher.proofs.state.turning.turn_if_owed.Goals as goal
 
+-- what has not started or has ended owes no turn
 not_owed : (started : Bool) (how : Option How) → ((started ≡ true) × (how ≡ None) → ⊥) → (started && is_none how) ≡ false
 not_owed false how never = refl
 not_owed true None never = absurd (never (refl, refl))

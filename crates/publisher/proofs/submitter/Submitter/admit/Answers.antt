@@ -4,6 +4,7 @@ use Rattle.flow_rules.specs.declared.ending.Ending.{Ending}
 use Rattle.publisher.specs.Handles.{SubmitterState}
 use Rattle.publisher.proofs.submitter.Submitter.admit.Goals as goal
 
+-- a submitter that knows of no close is not refused for one
 unknown : (known : Option Ending) (P : Ending → Type 0) → known ≡ None → IfSome known P
 unknown None P none = record {}
 unknown (Some ending) P none = cc
