@@ -17,3 +17,6 @@ compare-requires-2-clause-whole g c =
     let all = marks_all c.args.together.sources c.self.inside.sources (subst (FindsMissing c.args.together.sources c.self.inside.sources) c.in_default.is c.first_missing.ensures) in
     let marked = c.requires.drop_parts in
     omega arith
+
+pub returns-in-Some-clause-audits : goal.returns-in-Some-clause-audits
+returns-in-Some-clause-audits g c = (c.in-Some.source, (c.source_name.ensures, c.in-Some.ensures.1))

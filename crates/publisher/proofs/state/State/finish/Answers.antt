@@ -122,12 +122,12 @@ returns-in-Some-clause-handed g c = handed_is g (goal.at.returns-in-Some-clause-
 pub returns-in-Some-clause-finishes : goal.returns-in-Some-clause-finishes
 returns-in-Some-clause-finishes g c =
     let left = (goal.at.returns-in-Some-clause-finishes g c).After-outcome-outcome in
-    missing_is g left c.in-Some.name (there g left).0 (sym c.or.ensures ∙ c.in-Some.is)
+    missing_is g left c.in-Some.name (there g left).0 (◌∙◌ {a = option_or c.take_lanes-lost.result.first c.audit-missing.result} (sym c.or.ensures) c.in-Some.is)
 
 pub judge-requires-clause-room : goal.judge-requires-clause-room
 judge-requires-clause-room g c =
     let left = (goal.at.judge-requires-clause-room g c).After-outcome-outcome in
-    let many = all_found c.deref.result.now (length c.deref.result.now) c.outcome-outcome.result.lanes.items c.take_lanes-lost.result.first c.audit-missing.result c.take_lanes-lost.result.gone (sym c.or.ensures ∙ c.in-None.is) (gathered g left).found in
+    let many = all_found c.deref.result.now (length c.deref.result.now) c.outcome-outcome.result.lanes.items c.take_lanes-lost.result.first c.audit-missing.result c.take_lanes-lost.result.gone (◌∙◌ {a = option_or c.take_lanes-lost.result.first c.audit-missing.result} (sym c.or.ensures) c.in-None.is) (gathered g left).found in
     let long = (marked g left).as_long ∙ length-replicate c.self.inside.entries _ in
     let room = c.in-Ok.ensures.unsettled.1 in
     omega arith
@@ -147,6 +147,6 @@ returns-clause-finishes g c =
     let left = (goal.at.returns-clause-finishes g c).After-outcome-outcome in
     let t = c.put_together-together.result in
     finishes c.args.submitters.items c.args.subscriptions.now c.outcome-outcome.result _ c.judge.result c.judge.ensures
-    (whole_is g left (there g left).1 (sym c.or.ensures ∙ c.in-None.is))
+    (whole_is g left (there g left).1 (◌∙◌ {a = option_or c.take_lanes-lost.result.first c.audit-missing.result} (sym c.or.ensures) c.in-None.is))
     (closed_by c.args.submitters.items t.publications.amount t.drops.amount t.publications.parts t.drops.parts t.sources t.knows _ c.put_together-together.ensures.together)
     (closed_if_drained (hub_of end_of c.self.inside.hub) c.self.inside.last t.knows c.is_some.result c.outcome-outcome.result.drained c.self.invariant.tickets (drained g left) (closed g left))

@@ -26,3 +26,6 @@ invariant_of-self-2 g c =
     let counted = c.count_drop.ensures.total ∙ ap (λ a. c.self.inside.dropping.total + drop_of a) same ∙ ap (λ a. c.self.inside.dropping.total + drop_of a) offered.answers
     ∙ ap (λ d. d + drop_of (offer_answer n lag)) c.self.invariant.dropping_is ∙ sym (drop_is n lag c.self.inside.hub.dropping) ∙ sym offered.counted in
     state_offered (hub_of end_of c.self.inside.hub) (hub_of end_of c.offer.new.self) offered.item _ c.add.new.self.total c.count_drop.new.dropping.total c.self.invariant c.offer.ensures.sound offered.offers c.add.ensures.total counted
+
+pub returns-clause-one_more : goal.returns-clause-one_more
+returns-clause-one_more g c = c.add.ensures.amount

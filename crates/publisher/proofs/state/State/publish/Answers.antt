@@ -1,4 +1,4 @@
-use Rattle.std.proofs.Common.{sym, ◌∙◌}
+use Rattle.std.proofs.Common.{sym, ◌∙◌, refl}
 use Rattle.feed_core.specs.Feed.{end_of}
 use Rattle.publisher_hub.specs.Hub.{hub_of}
 use Rattle.publisher.proofs.GrownStates.{state_offered}
@@ -15,3 +15,6 @@ pub invariant_of-self-2 : goal.invariant_of-self-2
 invariant_of-self-2 g c =
     let published = c.in_ok-lag.ensures.ok in
     state_offered (hub_of end_of c.self.inside.hub) (hub_of end_of c.publish.new.self) published.item _ c.add.new.self.total c.self.inside.dropping.total c.self.invariant c.publish.ensures.sound published.offers c.add.ensures.total (c.self.invariant.dropping_is ∙ sym published.no_dropping)
+
+pub returns-clause-drops : goal.returns-clause-drops
+returns-clause-drops g c = refl

@@ -1,4 +1,4 @@
-use Rattle.std.proofs.Common.{sym, subst, arith}
+use Rattle.std.proofs.Common.{sym, subst, arith, refl}
 use Rattle.publisher_hub.specs.Sound.{IsSound}
 use Rattle.publisher.proofs.Compared.{is_beside, one_compared}
 use Rattle.publisher.proofs.state.tickets.compare_tickets.Goals as goal
@@ -13,3 +13,6 @@ pub loop-entry-preserved : goal.loop-entry-preserved
 loop-entry-preserved g c =
     let e = c.compare_ticket.ensures in
     (one_compared c.args.hub.now c.loop-entry.hub c.compare_ticket.new.hub c.args.last.now c.loop-entry.last c.compare_ticket.new.last c.loop-entry.entry c.loop-entry.invariant.0 e.hub e.last e.none, omega arith)
+
+pub loop-entry-init : goal.loop-entry-init
+loop-entry-init g c = (record { hub = refl; last_is = refl; none = λ some k entry less at. absurd (omega arith) }, omega arith)
