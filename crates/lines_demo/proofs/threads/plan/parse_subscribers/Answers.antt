@@ -1,4 +1,4 @@
-use Rattle.std.proofs.Common.{◌≡◌, ◌∙◌, [], ◌∷◌, ◌++◌, refl, sym, ap, inr, rules}
+use Rattle.std.proofs.Common.{◌≡◌, ◌∙◌, [], ◌∷◌, ◌++◌, refl, sym, ap, inl, inr, rules}
 use Rattle.lines_demo.specs.Threads.Plan.{spelled_subscriber}
 use Rattle.lines_demo.proofs.PlannedSubscribers.{reads_none, reads_more, reads_wrong, reads_all, texts_from, texts_past}
 use Rattle.lines_demo.proofs.threads.plan.parse_subscribers.Goals as goal
@@ -19,3 +19,6 @@ loop-word-preserved c =
 
 pub returns-clause-ok : goal.returns-clause-ok
 returns-clause-ok c = reads_all _ _ _ c.loop-word.invariant (texts_past _ _ c.loop-word-test.false)
+
+pub returns-then-is_err-clause-err : goal.returns-then-is_err-clause-err
+returns-then-is_err-clause-err c = inl refl

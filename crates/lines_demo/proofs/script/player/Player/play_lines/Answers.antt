@@ -25,3 +25,6 @@ pub returns : goal.returns
 returns g c =
     let none : c.loop-rest.rest.now ≡ [] = empty_is _ c.loop-rest-test.ensures in
     lines_end _ _ _ _ _ c.loop-rest.invariant none
+
+pub loop-rest-smaller : goal.loop-rest-smaller
+loop-rest-smaller g c = c.split_line.ensures.shorter

@@ -24,3 +24,9 @@ returns-clause-turns g c = running_end _ _ _ _ c.loop-self.invariant (sym c.loop
 
 pub returns-clause-settled : goal.returns-clause-settled
 returns-clause-settled g c = c.loop-self-test.ensures.settled
+
+pub play_turn-requires : goal.play_turn-requires
+play_turn-requires g c = sym c.loop-self-test.ensures.value
+
+pub returns-clause-rests : goal.returns-clause-rests
+returns-clause-rests g c = sym c.loop-self-test.ensures.value

@@ -1,0 +1,16 @@
+use Rattle.std.proofs.Common.{◌≡◌, true, false, Some, codes, refl, rules}
+use Rattle.lines_demo.specs.Script.Command.{command_of}
+use Rattle.lines_demo.specs.Word.{is_word, first_word, after_space, spelled_text}
+use Rattle.lines_demo.proofs.script.command.Command.parse.Goals as goal
+
+pub returns-then-eq-6-clause-value : goal.returns-then-eq-6-clause-value
+unfolding command_of
+returns-then-eq-6-clause-value c =
+    let run : is_word c.args.line.now (codes "run") ≡ false = search rules in
+    let close : is_word c.args.line.now (codes "close") ≡ false = search rules in
+    let fail : is_word (first_word c.args.line.now) (codes "fail") ≡ false = search rules in
+    let offer : is_word (first_word c.args.line.now) (codes "offer") ≡ false = search rules in
+    let retry : is_word (first_word c.args.line.now) (codes "retry") ≡ false = search rules in
+    let is : is_word (first_word c.args.line.now) (codes "submit") ≡ true = search rules in
+    let text : spelled_text (after_space c.args.line.now) ≡ Some c.in_ok-parse_text-3.field-0 = search rules in
+    rw (run, close, fail, offer, retry, is, text) refl
