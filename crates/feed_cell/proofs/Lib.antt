@@ -8,6 +8,7 @@ pub mod Flagging
 pub mod Gathering
 pub mod Granting
 pub mod Handing
+pub mod Joining
 pub mod Leaving
 pub mod Lists
 pub mod Looking

@@ -3,6 +3,7 @@ pub mod calling;
 pub mod causes;
 pub mod closing;
 pub mod handle;
+pub mod joining;
 pub mod making;
 pub mod offering;
 pub mod plays;
