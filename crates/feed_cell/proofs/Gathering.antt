@@ -1,15 +1,23 @@
 -- The producer's seat takes in the handle's.
-use Rattle.std.proofs.Common.{◌≡◌, ℕ, true, false, Bool, List, set, sym, refl, ◌∙◌, subst, ⊎_elim, inl, inr}
+use Rattle.std.proofs.Common.{◌≡◌, ◌⊎◌, ℕ, true, false, Bool, List, set, sym, refl, ◌∙◌, subst, ⊎_elim, inl, inr}
 use mathlib.Core.Option.{some}
 use lib.ListN.{get_elem?}
 use Rattle.atomic_table.proofs.Lists.{at_set}
-use Rattle.atomic_table.specs.Table.{Joins}
+use Rattle.atomic_table.specs.Table.{Me, Joins}
 use Rattle.feed_core.specs.Prelude.{Signal}
 use Rattle.feed_cell.proofs.Outlooks.{reached_too}
 use Rattle.feed_cell.proofs.Seats.{lacks, mine, other}
 use Rattle.feed_cell.specs.Cell.{Only, Cell}
 use Rattle.feed_cell.specs.Views.{has_put, has_ask, has_run, with_asking, no_part}
 use Rattle.feed_cell.specs.declared.cell.View.{View}
+
+-- of a seat that took in another where φ holds: what it had and has still, and what it has where it did
+module _ {S φ : Type 0} (v : Me S View) (w : View) (me : Me S View) (joined : (φ × (me ≡ (with_asking v.0 w, v.1))) ⊎ ((¬ φ) × (me ≡ v))) (P : View → Type 0) where
+  pub still : P v.0 → P (with_asking v.0 w) → P me.0
+  still before after = ⊎_elim (λ here. subst (λ (m : Me S View). P m.0) (sym here.1) after) (λ else. subst (λ (m : Me S View). P m.0) (sym else.1) before) joined
+
+  pub in_it : φ → P (with_asking v.0 w) → P me.0
+  in_it same after = ⊎_elim (λ here. subst (λ (m : Me S View). P m.0) (sym here.1) after) (λ else. absurd (else.0 same)) joined
 
 -- a part goes from one seat to another
 taken_in : (part : View → Bool) (seat : ℕ) (Knows Later : View → Type 0) (views : List View) (id from : ℕ) (both w spent : View) → Only part seat Knows views → get_elem? views from ≡ some w → part w ≡ true

@@ -61,7 +61,7 @@
 
 mod cell;
 
-pub use cell::closing::{close, close_own};
+pub use cell::closing::close;
 pub use cell::handle::Handle;
 pub use cell::making::Cell;
 pub use cell::producer::Producer;

@@ -12,10 +12,11 @@ ghost use Rattle.feed_cell.specs.Parties.{HandleState, KnowsHandle, end_of};
 ghost use Rattle.feed_cell.specs.Steps.{HasFourWords, MayOffer};
 
 use super::handle::Handle;
+use super::joining::join_where_one;
 use super::producer::Producer;
 use super::requesting::leave;
 use super::splits::Gather;
-use super::{ASKED, CONTROL, CellSeat, CellTable, HEAD, Held, Lodger, MARK, RUN, TAIL};
+use super::{ASKED, CONTROL, CellSeat, CellTable, HEAD, Held, InCell, Lodger, MARK, RUN, TAIL, View};
 use atomic_table::Closed;
 use feed_core::Lane;
 use flow_rules::{Listener, UNBOUNDED};
@@ -27,30 +28,18 @@ use std::sync::Arc;
 /// back, not ready.
 ///
 /// A lane that doesn't run is settled: its subscriber was told all that its demand and its ending allow. One that runs has lost a
-/// task, or its own handle was never closed. Since the handle may be that of another subscription, nothing is said of what this one's
-/// requested: [`close_own`] says it.
+/// task, or its own handle was never closed.
+///
+/// With the subscription's own handle, what that requested is part of the total, and its cancel and its bad requests are among the causes.
+/// With the handle of another, nothing is said of what this one's requested.
 pub fn close<B: Listener>(producer: Producer<B>, handle: Handle<B>) -> Result<Lane<B>, Producer<B>>
     ensures left { IfOk result (λ left. IsLeftOf B.told producer.end None left) }
+    ensures own { IfOk result (λ left. handle.ring ≡ producer.ring → IsLeftOf B.told producer.end (Some handle) left) }
     ensures back { IfErr result (λ back. back ≡ record producer { end = record producer.end { ready = false } }) }
 {
-    drop(step_out(handle));
-    let (table, seat) = unshared(producer)?;
-    Ok(take_apart(table, seat))
-}
-
-/// The same, with the subscription's own handle: what that requested is part of the total, and its cancel and its bad requests are
-/// among the causes. It makes one step more, a load.
-pub fn close_own<B: Listener>(
-    producer: Producer<B>,
-    handle: Handle<B>,
-) -> Result<Lane<B>, Producer<B>>
-    requires own { handle.ring ≡ producer.ring }
-    ensures left { IfOk result (λ left. IsLeftOf B.told producer.end (Some handle) left) }
-    ensures back { IfErr result (λ back. back ≡ record producer { end = record producer.end { ready = false } }) }
-{
-    let asking = step_out(handle);
+    let mut asking = step_out(handle);
     let (table, mut seat) = unshared(producer)?;
-    table.shared.join_seat::<Gather>(&mut seat, asking);
+    join_where_one::<Held<B>, View, u64, InCell<B>, Gather>(&table.shared, &mut seat, &mut asking);
     Ok(take_apart(table, seat))
 }
 
