@@ -17,7 +17,7 @@ use denote.RawPtr.{Ptr, block_ptr}
 use denote.Steps.{nothing}
 use Rattle.std.specs.Sync.RawAtomic.{Shift, rests, opens, shuts, enters, leaves, along, found, back, if_none, asks, always}
 use Rattle.atomic_table.specs.Table.{State, Me, Joins}
-use Rattle.atomic_table.specs.Seated.{word, row, seen, roster, carried, shelf, TableId, age, place, names, standing, inner, common, mine}
+use Rattle.atomic_table.specs.Seated.{word, seen, roster, TableId, age, standing, inner, common, mine}
 use Rattle.atomic_table.proofs.Roster.{Moved, moves, apart}
 
 same_names : (xs ys : List ℕ) → Dec (xs ≡ ys)
@@ -90,7 +90,6 @@ module _ {M : Type 1} {𝓤 : Ura M} (𝓛 : Logic 𝓤) where
   infix 26 ◌⊢◌
   infixr 35 ◌∗◌
   infixr 30 ◌-∗◌
-
   abbrev ⟦◌⟧ : Fml → Pr
   ⟦ P ⟧ = sem 𝓛 P
 

@@ -16,7 +16,7 @@ use super::joining::join_where_one;
 use super::producer::Producer;
 use super::requesting::leave;
 use super::splits::Gather;
-use super::{ASKED, CONTROL, CellSeat, CellTable, HEAD, Held, InCell, Lodger, MARK, RUN, TAIL, View};
+use super::{ASKED, CONTROL, CellSeat, CellTable, HEAD, Held, Lodger, MARK, RUN, TAIL};
 use atomic_table::Closed;
 use feed_core::Lane;
 use flow_rules::{Listener, UNBOUNDED};
@@ -39,7 +39,7 @@ pub fn close<B: Listener>(producer: Producer<B>, handle: Handle<B>) -> Result<La
 {
     let mut asking = step_out(handle);
     let (table, mut seat) = unshared(producer)?;
-    join_where_one::<Held<B>, View, u64, InCell<B>, Gather>(&table.shared, &mut seat, &mut asking);
+    join_where_one::<_, _, _, _, Gather>(&table.shared, &mut seat, &mut asking);
     Ok(take_apart(table, seat))
 }
 

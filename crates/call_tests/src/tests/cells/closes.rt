@@ -4,7 +4,7 @@ ghost use Rattle.std.specs.Prelude.{◌≡◌, IfOk};
 use super::parties::Parties;
 use super::{Left, numbers};
 use crate::Row;
-use feed_cell::{Cell, Handle, Producer, Task, Turn, close, close_own};
+use feed_cell::{Cell, Handle, Producer, Task, Turn, close};
 use feed_core::{Lane, Outlook, Seen};
 use flow_rules::{Collector, Feed, How, NoMemory, Shown, Signal, Subscriber, capacity};
 use std::alloc::Global;
@@ -117,11 +117,11 @@ fn its_own_handle_counts(rt: HostRuntime) -> Result<(), Fail> {
     let alloc = rt.alloc();
     let (one, of_one, alive) = cancelled(&rt, alloc)?;
     let (other, of_other, task) = cancelled(&rt, alloc)?;
-    assert!(rt; close_own(one, of_one).is_err());
+    assert!(rt; close(one, of_one).is_err());
     drop(alive);
     let mut seen = Seen::new(alloc)?;
     assert!(rt; matches!(task.turn(&mut seen), Turn::Ended(How::Cancelled, _)));
-    let Ok(lane) = close_own(other, of_other) else {
+    let Ok(lane) = close(other, of_other) else {
         return Err(Fail::new("it is still shared"));
     };
     assert!(rt; numbers(&lane) == (0, 0, 2, Some(How::Cancelled), false));

@@ -2,7 +2,6 @@
 use Rattle.std.proofs.Common.{◌≡◌, true, ap, sym, ◌∙◌, None, Some}
 use Rattle.feed_cell.proofs.Gathering.{gathers, still, in_it}
 use Rattle.feed_cell.specs.Parties.{KnowsHandle, end_of}
-use Rattle.feed_cell.specs.Steps.{MayOffer}
 use Rattle.feed_core.specs.World.Table.{MayBegin}
 use Rattle.feed_cell.proofs.cell.closing.close.Goals as goal
 
