@@ -12,7 +12,7 @@ ghost use Rattle.feed_cell.specs.Parties.{HandleState, KnowsHandle, end_of};
 ghost use Rattle.feed_cell.specs.Steps.{HasFourWords, MayOffer};
 
 use super::handle::Handle;
-use super::joining::join_where_one;
+use super::joining::join_if_of_one_table;
 use super::producer::Producer;
 use super::requesting::leave;
 use super::splits::Gather;
@@ -39,7 +39,7 @@ pub fn close<B: Listener>(producer: Producer<B>, handle: Handle<B>) -> Result<La
 {
     let mut asking = step_out(handle);
     let (table, mut seat) = unshared(producer)?;
-    join_where_one::<_, _, _, _, Gather>(&table.shared, &mut seat, &mut asking);
+    join_if_of_one_table::<_, _, _, _, Gather>(&table.shared, &mut seat, &mut asking);
     Ok(take_apart(table, seat))
 }
 

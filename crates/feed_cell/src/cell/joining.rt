@@ -9,9 +9,9 @@ use std::sync::atomic::raw;
 
 /// Where the other seat is of the table too, the seat takes it in. Else neither of the two changes.
 ///
-/// No program can tell which of the two it is, and none need: what a seat knows is for the proof alone. The load, of a word of its own, is for
-/// the proof alone too: the rule of the table may be looked at only beside a step on some word.
-pub(crate) fn join_where_one<S, V, K, P: TableRule<S, V, K>, M: Join<V>>(
+/// No program can tell which of the two it is, and none needs to: a seat has no bytes, and what it knows is for the proof alone. So is the
+/// load, of a word of its own: a proof may open the rule of a table only beside a step on some word.
+pub(crate) fn join_if_of_one_table<S, V, K, P: TableRule<S, V, K>, M: Join<V>>(
     table: &Shared<S, V, K, P>,
     seat: &mut Seat<S, V>,
     other: &mut Seat<S, V>,

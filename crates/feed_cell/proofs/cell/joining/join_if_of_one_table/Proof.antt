@@ -1,4 +1,4 @@
--- `join_where_one` is a load of a word of its own, beside which one seat takes in another's view if both are of one table.
+-- `join_if_of_one_table` is a load of a word of its own, beside which one seat takes in another's view if both are of one table.
 use Rattle.atomic_table.proofs.Names.{◌≡◌, ℕ, List, [], ◌∷◌, sym, refl, lit<, a_type, dcons, dnil, named, Val, vunit, vptr, inst_fn, SProp, emp, via, Lft, Fml, fsep, flft, ftrue, ‵, raw, ◌⊛◌, given, mean, at_ret, ◌$◌, ◌∵◌, !, qed, by, move, keep, drop, split, split3, join, fsplit, fsplit3, fjoin, fjoin3, learn, use0, use1, use3, rewrite, feq_i, stop, addr, lit, unit_lit, of_opd, no_more, and_then, first, blocks, exec, Calls-last, returns, enter, alloc_all, pass_all, free_all, look_at, get, sets, lands_last, env, agg, tables, yes, RattleType, owns, types_at, plain, Ptr, block_ptr, nothing, param, bounded, Stays, stay_dropped, walk_of, Goes-dropped, fact, fact_i, Coded, RefOf, mut_vals, mut_Tells, shr_vals, shr_Tells, opens, closes, stay_ref, Goes-ref, unhide, hidden_shr, lent_out, Tuple, shr_bor-open, obor_close, tokens_halve}
 use types.Run.{from}
 use types.ByLocal.{take_at, give_at}
@@ -12,14 +12,14 @@ use Rattle.atomic_table.specs.contracts.shared.Seat as seat
 use Rattle.atomic_table.proofs.Fields.{HandData}
 use Rattle.atomic_table.proofs.Calls.{fm, seq_cst, found, finds, loads}
 use Rattle.feed_cell.proofs.Joining.{same_table, which_one, me_after, it_after, joined, takes_in}
-use Rattle.feed_cell.specs.contracts.cell.joining.join_where_one.{ended, clauses}
-use Rattle.feed_cell.specs.contracts.cell.joining.join_where_one.Key.{name as #self}
-use Rattle.feed_cell.proofs.cell.joining.join_where_one.Statement.{statement}
-use Rattle.feed_cell.proofs.cell.joining.join_where_one.Code as code
+use Rattle.feed_cell.specs.contracts.cell.joining.join_if_of_one_table.{ended, clauses}
+use Rattle.feed_cell.specs.contracts.cell.joining.join_if_of_one_table.Key.{name as #self}
+use Rattle.feed_cell.proofs.cell.joining.join_if_of_one_table.Statement.{statement}
+use Rattle.feed_cell.proofs.cell.joining.join_if_of_one_table.Code as code
 
-pub join_where_one_spec : {M : Type 1} → statement M
+pub join_if_of_one_table_spec : {M : Type 1} → statement M
 unfolding Rattle.atomic_table.specs.Seated.seal
-join_where_one_spec 𝓤 𝓛 𝓜 𝓡 wired T U Q P Mv _ _ _ _ _ g d g' d' _ _ =
+join_if_of_one_table_spec 𝓤 𝓛 𝓜 𝓡 wired T U Q P Mv _ _ _ _ _ g d g' d' _ _ =
     let H = 𝓛.H in let 𝓣 = tables 𝓤 H 𝓜 𝓡 𝓡.env in let R : RattleType = param 0 T in let W : RattleType = param 1 U in let X : RattleType = param 2 Q in let Y : RattleType = param 3 P in let En = ended T U Q P Mv g d g' d' in
     let inst = bounded (a_type ∷ a_type ∷ a_type ∷ a_type ∷ a_type ∷ []) (T, (U, (Q, (P, (Mv, tt))))) (dcons d (dcons d' dnil)) in let fn = inst_fn inst code.function in
     let Row : RattleType = table.the_row R W X Y g in let Sr : RattleType = seat.the_row R W in let D : RattleType = HandData R W X Y g in let self = RefOf (0 ∷ []) tt (plain (λ _. Row)) (λ _. tt) in let sitter = plain (λ _. Sr) in
