@@ -2,7 +2,7 @@
 //! one line and the items of the buffer, however many lines there are.
 #![tactic(auto)]
 
-ghost use Rattle.std.specs.Prelude.{◌≡◌, []};
+ghost use Rattle.std.specs.Prelude.{◌≡◌, ◌+◌, ◌^◌, ◌<◌, []};
 ghost use Rattle.feed_core.specs.LaneCalls.{IsCapacity};
 
 use anyhow::{bail, ensure};
@@ -55,8 +55,26 @@ fn publish<B: Listener>(desk: &mut Desk<B>, seen: &mut Seen, item: Item) -> anyh
     }
 }
 
+/// The item of a line, numbered from 0, which is refused where it has more bytes than a text may have.
+fn item_of(alloc: Global, number: u64, line: &[u8]) -> anyhow::Result<Item>
+    requires { number + 1 < 2 ^ 64 }
+{
+    ensure!(
+        line.len() <= Text::LONGEST,
+        "line {} has more than {} bytes",
+        number + 1,
+        Text::LONGEST
+    );
+    Ok(Item {
+        source: 0,
+        seq: number,
+        serial: number,
+        text: Text::new(alloc, line)?,
+    })
+}
+
 /// Publishes each line, until there are no more or one could not be written.
-fn ship<R: BufRead, W: Write + Send + Drop>(
+fn publish_each<R: BufRead, W: Write + Send + Drop>(
     alloc: Global,
     reader: &mut R,
     desk: &mut Desk<Printer<W>>,
@@ -67,19 +85,7 @@ fn ship<R: BufRead, W: Write + Send + Drop>(
         if desk.subscriber().has_failed() || !read_line(reader, &mut line)? {
             break;
         }
-        ensure!(
-            line.len() <= Text::LONGEST,
-            "line {} has more than {} bytes",
-            number + 1,
-            Text::LONGEST
-        );
-        let item = Item {
-            source: 0,
-            seq: number,
-            serial: number,
-            text: Text::new(alloc, line.as_slice())?,
-        };
-        publish(desk, seen, item)?;
+        publish(desk, seen, item_of(alloc, number, line.as_slice())?)?;
     }
     Ok(())
 }
@@ -95,18 +101,26 @@ fn end<B: Listener>(desk: &mut Desk<B>, seen: &mut Seen) {
     }
 }
 
-fn main(rt: HostRuntime) -> anyhow::Result<()> {
-    let alloc = rt.alloc();
+/// Ships each line of a reader to a writer. The lines before a wrong one are shipped, too.
+fn ship<R: BufRead, W: Write + Send + Drop>(
+    alloc: Global,
+    reader: &mut R,
+    writer: W,
+) -> anyhow::Result<()> {
     let mut seen = Seen::new(alloc)?;
-    let mut reader = BufReader::new(alloc, rt.reader())?;
-    let printer = Printer::new(BufWriter::new(alloc, io::writer(&rt))?);
-    let mut desk = subscribed(alloc, capacity(256)?, printer)?;
-    let shipped = ship(alloc, &mut reader, &mut desk, &mut seen);
-    // The lines before a wrong one are shipped, too.
+    let mut desk = subscribed(alloc, capacity(256)?, Printer::new(writer))?;
+    let published = publish_each(alloc, reader, &mut desk, &mut seen);
     end(&mut desk, &mut seen);
     ensure!(
         !desk.into_subscriber().has_failed(),
         "a line could not be written"
     );
-    shipped
+    published
+}
+
+fn main(rt: HostRuntime) -> anyhow::Result<()> {
+    let alloc = rt.alloc();
+    let mut reader = BufReader::new(alloc, rt.reader())?;
+    let writer = BufWriter::new(alloc, io::writer(&rt))?;
+    ship(alloc, &mut reader, writer)
 }
