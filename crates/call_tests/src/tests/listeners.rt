@@ -13,6 +13,15 @@ type Answers = [Result<Answer, NoMemory>; 5];
 
 const GOES: Answers = [Ok(Answer::Go); 5];
 
+/// Answers of which the first so many are `Go`, and the others this one.
+fn going(callbacks: usize, then: Result<Answer, NoMemory>) -> Answers {
+    let mut answers = [then; 5];
+    for place in 0..callbacks.min(5) {
+        answers[place] = Ok(Answer::Go);
+    }
+    answers
+}
+
 /// What each callback answers, when they are called in turn, `on_next` with two items.
 fn call_each<B: Listener>(alloc: Global, listener: &mut B) -> Result<Answers, NoMemory> {
     let one = item_with(alloc, b"x")?;
@@ -69,12 +78,7 @@ fn each_answer_is_given(rt: HostRuntime) -> Result<(), Fail> {
 
 /// Whether one that is refused memory after so many callbacks answers so many, and has told what these letters write.
 fn is_refused(alloc: Global, callbacks: u32, told: &[u8]) -> Result<bool, NoMemory> {
-    let mut wanted: Answers = [Err(NoMemory); 5];
-    for place in 0..5 {
-        if place < callbacks as usize {
-            wanted[place] = Ok(Answer::Go);
-        }
-    }
+    let wanted = going(callbacks as usize, Err(NoMemory));
     let mut refused = Refused::after(Collector::new(alloc), callbacks);
     Ok(call_each(alloc, &mut refused)? == wanted && was_told(alloc, refused.listener(), told)?)
 }
@@ -120,20 +124,14 @@ impl Write for Failing {
     }
 }
 
-/// Whether a printer whose writer takes so many writes answers `Go` to so many callbacks and then `Cancel`, and writes this.
-fn prints(alloc: Global, writes: u32, going: usize, written: &[u8]) -> Result<bool, NoMemory> {
-    let mut wanted: Answers = [Ok(Answer::Cancel); 5];
-    for place in 0..5 {
-        if place < going {
-            wanted[place] = Ok(Answer::Go);
-        }
-    }
+/// Whether a printer whose writer takes so many writes answers `Go` to the first so many callbacks and then `Cancel`, and writes this.
+fn prints(alloc: Global, writes: u32, callbacks: usize, written: &[u8]) -> Result<bool, NoMemory> {
     let taken = Vec::new(alloc);
     let mut printer = Printer::new(Failing { taken, writes });
-    let is_answered = call_each(alloc, &mut printer)? == wanted;
+    let is_answered = call_each(alloc, &mut printer)? == going(callbacks, Ok(Answer::Cancel));
     let has_failed = printer.has_failed();
     let is_written = printer.into_writer().taken.as_slice() == written;
-    Ok(is_answered && is_written && has_failed == (going < 5))
+    Ok(is_answered && is_written && has_failed == (callbacks < 5))
 }
 
 /// The writes that are taken, the callbacks that are answered `Go`, and what is written.
@@ -147,9 +145,9 @@ const PRINTED: [(u32, usize, &[u8]); 5] = [
 
 #[test]
 fn a_printer_writes_lines_until_a_write_fails(rt: HostRuntime) -> Result<(), Fail> {
-    for (writes, going, written) in PRINTED {
+    for (writes, callbacks, written) in PRINTED {
         assert!(rt;
-            prints(rt.alloc(), writes, going, written)?,
+            prints(rt.alloc(), writes, callbacks, written)?,
             "{writes} writes"
         );
     }
