@@ -1,6 +1,4 @@
-//! A close of a subscription that is still shared, or with the handle of another one, or with one that is known to be its own.
-ghost use Rattle.std.specs.Prelude.{◌≡◌, IfOk};
-
+//! Closes: of a subscription that is still shared, with its own handle, and with the handle of another.
 use super::parties::Parties;
 use super::{Left, numbers};
 use crate::Row;
@@ -99,9 +97,7 @@ fn a_lost_handle_leaves_it_running(rt: HostRuntime) -> Result<(), Fail> {
 fn cancelled(
     rt: &impl Abort,
     alloc: Global,
-) -> Result<(Producer<Told>, Handle<Told>, Task<Told>), Fail>
-    ensures { IfOk result (λ parties. parties.1.ring ≡ parties.0.ring) }
-{
+) -> Result<(Producer<Told>, Handle<Told>, Task<Told>), Fail> {
     let made = Cell::new(alloc, capacity(1)?, Shown(Collector::new(alloc)));
     let Ok((producer, mut handle, task)) = made else {
         return Err(Fail::new("there is no memory"));
