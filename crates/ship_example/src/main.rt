@@ -5,7 +5,7 @@
 ghost use Rattle.std.specs.Prelude.{◌≡◌, ◌+◌, ◌^◌, ◌<◌, []};
 ghost use Rattle.feed_core.specs.LaneCalls.{IsCapacity};
 
-use anyhow::{bail, ensure};
+use anyhow::ensure;
 use feed_core::{Desk, Seen};
 use flow_rules::{
     Ending, Feed, Item, Listener, NoMemory, PUBLICATIONS, Printer, Put, Text, capacity,
@@ -42,17 +42,12 @@ fn read_line<R: BufRead>(reader: &mut R, line: &mut Vec<u8>) -> io::Result<bool>
     Ok(true)
 }
 
-/// Publishes a line, after a turn where the buffer is full.
-fn publish<B: Listener>(desk: &mut Desk<B>, seen: &mut Seen, item: Item) -> anyhow::Result<()> {
+/// Whether an item is taken, after a turn where the buffer is full.
+fn publish<B: Listener>(desk: &mut Desk<B>, seen: &mut Seen, item: Item) -> bool {
     if desk.lag() == desk.capacity() as u64 && desk.owes() {
         let _ = desk.turn(seen);
     }
-    ensure!(desk.accepted() < PUBLICATIONS, "too many lines");
-    match desk.put(item) {
-        Put::Accepted { .. } => Ok(()),
-        Put::Full(_) => bail!("no room for a line"),
-        Put::Gone(_) => bail!("nobody takes a line"),
-    }
+    desk.accepted() < PUBLICATIONS && matches!(desk.put(item), Put::Accepted { .. })
 }
 
 /// The item of a line, numbered from 0, which is refused where it has more bytes than a text may have.
@@ -85,7 +80,12 @@ fn publish_each<R: BufRead, W: Write + Send + Drop>(
         if desk.subscriber().has_failed() || !read_line(reader, &mut line)? {
             break;
         }
-        publish(desk, seen, item_of(alloc, number, line.as_slice())?)?;
+        let item = item_of(alloc, number, line.as_slice())?;
+        ensure!(
+            publish(desk, seen, item),
+            "line {} is not taken",
+            number + 1
+        );
     }
     Ok(())
 }
