@@ -1,5 +1,5 @@
 -- How a started task gets its seat.
-use Rattle.std.proofs.Common.{◌≡◌, ℕ, true, false, List, [], ◌∷◌, ◌++◌, length, set, bit_and, Option, Some, None, IfSome, IfNone, sym, refl, ap, ◌∙◌, subst, inl, inr}
+use Rattle.std.proofs.Common.{◌≡◌, ◌≢◌, ℕ, true, false, List, [], ◌∷◌, ◌++◌, length, set, bit_and, Option, Some, None, IfSome, IfNone, sym, refl, ap, ◌∙◌, subst, inl, inr, arith}
 use Rattle.std.specs.Int.{bit_at}
 use Rattle.std.proofs.lemmas.Nat.Bits.{bit_at_lowest}
 use lib.Bits.{and_mask}
@@ -82,6 +82,9 @@ module _ {B : Type 0} (told : B → List Signal) (cap : ℕ) where
 -- what is left of the mark of the task, by the word that was found
 pub low_bit : (word : ℕ) → bit_and word 1 ≡ bit_at word 0
 low_bit word = and_mask word 1 ∙ sym (bit_at_lowest word)
+
+pub low_set : (word : ℕ) → bit_and word 1 ≢ 0 → bit_at word 0 ≡ 1
+low_set word some = let lowest = bit_at_lowest word in let is_one : bit_at word 0 ≢ 0 = λ none. some (low_bit word ∙ none) in omega arith
 
 -- a fact of what is there, if anything is, and one where nothing is
 pub on_some : {A : Type 0} {P Q : A → Type 0} (r : Option A) → ((x : A) → P x → Q x) → IfSome r P → IfSome r Q
