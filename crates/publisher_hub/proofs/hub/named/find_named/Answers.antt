@@ -24,3 +24,15 @@ returns-clause-none g c is i number at =
 
 pub returns-then-is_named-clause-none : goal.returns-then-is_named-clause-none
 returns-then-is_named-clause-none g c is = cc
+
+pub returns-then-is_named-clause-found : goal.returns-then-is_named-clause-found
+returns-then-is_named-clause-found g c = (
+  c.loop-number.number-index,
+  (number_at c.args.live.now c.loop-number.number-index c.loop-number-test.true, c.is_named.ensures.yes c.if-is_named.true),
+)
+
+pub returns-clause-found : goal.returns-clause-found
+returns-clause-found g c = tt
+
+pub loop-number-init : goal.loop-number-init
+loop-number-init g c i number before at = absurd (omega arith)

@@ -1,5 +1,5 @@
 -- The share that was offered is the item, and one that came back is a share again.
-use Rattle.std.proofs.Common.{rules, subst}
+use Rattle.std.proofs.Common.{arith, rules, subst}
 use Rattle.flow_rules.specs.declared.item.Item.{Item}
 use Rattle.publisher_hub.specs.Offering.{Gives}
 use Rattle.publisher_hub.proofs.Shares.{shares_back}
@@ -24,6 +24,9 @@ returns-clause-given g c =
         },
       ),
     )
+
+pub take_share-share-requires : goal.take_share-share-requires
+take_share-share-requires g c = let room = c.requires.room.1.shares in omega arith
 
 pub give-answer-requires-clause-take : goal.give-answer-requires-clause-take
 give-answer-requires-clause-take g c = c.requires.can.take
