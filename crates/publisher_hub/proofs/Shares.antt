@@ -1,5 +1,5 @@
 -- The shares that a round has left.
-use Rattle.std.proofs.Common.{◌≡◌, ◌⊎◌, Option, None, Some, List, [], ◌∷◌, ◌++◌, length, sym, ◌∙◌, inl, inr}
+use Rattle.std.proofs.Common.{◌≡◌, ◌⊎◌, ℕ, ◌+◌, ◌≤◌, Option, None, Some, List, [], ◌∷◌, ◌++◌, length, refl, sym, ◌∙◌, inl, inr, arith}
 use Rattle.std.specs.Prelude.{slice_get}
 use Rattle.flow_rules.specs.Call.{Call}
 use Rattle.flow_rules.specs.Feed.{End}
@@ -7,7 +7,7 @@ use Rattle.flow_rules.specs.declared.feed.put.Put.{Put}
 use Rattle.flow_rules.specs.declared.feed.put.Put.TheVariants.{Accepted, Full, Gone}
 use Rattle.flow_rules.specs.declared.item.Item.{Item}
 use Rattle.publisher_hub.specs.Giving.{AreShares, back_by}
-use Rattle.publisher_hub.specs.Offering.{Gives}
+use Rattle.publisher_hub.specs.Offering.{Gives, missed_by, started_by}
 use Rattle.publisher_hub.specs.declared.entry.Entry.{Entry}
 use Rattle.publisher_hub.proofs.Grown.{get_grown}
 
@@ -25,3 +25,11 @@ shares_back meaning does item None old new shares gives are = rw (Rattle.std.pro
 shares_back meaning does item (Some (Accepted lag start)) old new shares gives are = rw (Rattle.std.proofs.lemmas.List.append-nil shares) are
 shares_back meaning does item (Some (Full back)) old new shares gives are = share_added item back shares gives.means.2.same are
 shares_back meaning does item (Some (Gone back)) old new shares gives are = rw (Rattle.std.proofs.lemmas.List.append-nil shares) are
+
+-- one answer starts a task, or gives a share back with the number of its subscription, or neither
+pub takes_a_place : {T : Type 0} (number : ℕ) (answer : Option (Put T)) → (length (started_by number answer) + length (missed_by number answer) ≤ 1) × (length (back_by answer) ≡ length (missed_by number answer))
+takes_a_place number None = (omega arith, refl)
+takes_a_place number (Some (Accepted lag None)) = (omega arith, refl)
+takes_a_place number (Some (Accepted lag (Some task))) = (omega arith, refl)
+takes_a_place number (Some (Full back)) = (omega arith, refl)
+takes_a_place number (Some (Gone back)) = (omega arith, refl)

@@ -1,5 +1,5 @@
 //! How a Hub is closed.
-ghost use Rattle.std.specs.Prelude.{◌≡◌, ◌+◌, ◌≤◌, None, Ok, Err, IsOk, IsSome, List, OnErr, OnOk, IfOk, length, vec_len};
+ghost use Rattle.std.specs.Prelude.{◌≡◌, ◌+◌, ◌≤◌, None, Some, Ok, Err, IsOk, IsSome, List, OnErr, OnOk, IfOk, length, vec_len};
 ghost use Rattle.std.specs.Vec.{vec_capacity};
 ghost use Rattle.flow_rules.specs.declared.refusal.Refusal.TheVariants as Refusal;
 ghost use Rattle.publisher_hub.specs.Closing.{ClosesAll, ClosesLive, IsClosedLooking};
@@ -40,11 +40,38 @@ impl<F: Feed> Hub<F> {
         if self.ending.is_some() {
             return Ok(None);
         }
+        self.close(ending, due)
+    }
+
+    /// Closes an open Hub: each of its live subscriptions, and then itself. The answer is the opening ticket, where there is one.
+    fn close(
+        &mut self,
+        ending: Ending,
+        due: &mut Vec<Work<F::Task>>,
+    ) -> Result<Option<Opening>, Refusal>
+        requires sound { IsSound (hub_of F.meaning self.old) }
+        requires unclosed { self.old.ending ≡ None }
+        ensures closes { IfOk result (λ opening. (opening ≡ self.old.opening) × ClosesAll F.meaning F.does ending due.old.items due.new.items self.old self.new) }
+        ensures means { OnOk result (IsClosedLooking ending (hub_of F.meaning self.old) (hub_of F.meaning self.new)) }
+        ensures err { OnErr result (result ≡ Err Refusal.NoMemory) }
+        ensures looked { OnErr result (IsLookedAt (hub_of F.meaning self.old) (hub_of F.meaning self.new)) }
+        ensures exact { OnErr result (Each (MayPrepare F.meaning F.does self.old.next) self.old.entries.items self.new.entries.items) }
+        ensures due { OnErr result (due.new.items ≡ due.old.items) }
+        ensures sound { IsSound (hub_of F.meaning self.new) }
+    {
         reserve_due(due, self.live.len())?;
         self.prepare_live()?;
         self.end_live(ending, due);
+        Ok(self.set_ending(ending))
+    }
+
+    /// Sets the ending. The answer is the opening ticket, where there is one, and the Hub holds none then.
+    fn set_ending(&mut self, ending: Ending) -> Option<Opening>
+        ensures opening { result ≡ self.old.opening }
+        ensures rest { self.new ≡ record self.old { ending = Some ending; opening = None } }
+    {
         self.ending = Some(ending);
-        Ok(self.opening.take())
+        self.opening.take()
     }
 
     /// Closes the live subscriptions, which are ready. The tasks that this starts are due.

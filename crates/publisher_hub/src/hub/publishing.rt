@@ -12,6 +12,7 @@ ghost use Rattle.publisher_hub.specs.Offering.{Gives, IsNextItem, progress_after
 ghost use Rattle.publisher_hub.specs.Publishing.{CanPublish, IsRefused, Publishes, RefusesItem};
 ghost use Rattle.publisher_hub.specs.Sound.{IsSound};
 ghost use Rattle.publisher_hub.specs.Steps.{CanAllGive};
+ghost use Rattle.publisher_hub.specs.declared.hub.publishing.Unpublished.TheVariants.{NoRoom};
 
 use super::{Hub, SOURCES};
 use crate::rounds::give_all;
@@ -57,13 +58,23 @@ impl<F: Feed> Hub<F> {
             return Err(Unpublished::Refused(refusal));
         }
         if !room {
-            self.giving.drop_shares();
-            return Err(Unpublished::NoRoom(item.text));
+            return Err(self.no_room(item));
         }
         self.give(&item, due);
         self.giving.drop_shares();
         self.count(&item);
         Ok(self.giving.lag)
+    }
+
+    /// Gives an item up for which a live subscription has no room.
+    fn no_room(&mut self, item: Item) -> Unpublished
+        ensures text { result ≡ NoRoom item.text }
+        ensures no_share { self.new.giving.shares.items ≡ [] }
+        ensures rest { self.new ≡ record self.old { giving = self.new.giving } }
+    {
+        let text = item.text;
+        self.giving.drop_shares();
+        Unpublished::NoRoom(text)
     }
 
     /// The next item of a source.

@@ -36,10 +36,7 @@ impl<F: Feed> Hub<F> {
         if self.ending.is_some() {
             return Ok(None);
         }
-        match &mut self.opening {
-            Some(opening) => Ok(Some(opening.add()?)),
-            None => Err(Refusal::Exhausted),
-        }
+        one_more(&mut self.opening)
     }
 
     /// Holds the opening ticket of the count that finds the last subscription, until [`end`](Hub::end) takes it out.
@@ -68,5 +65,17 @@ impl<F: Feed> Hub<F> {
             Some(entry) => entry.ticket.take(),
             None => None,
         }
+    }
+}
+
+/// One more ticket of the count of an opening ticket, where one is held.
+fn one_more(opening: &mut Option<Opening>) -> Result<Option<Ticket>, Refusal>
+    ensures ok { IfOk result (λ ticket. AddsTicket ticket opening.old opening.new) }
+    ensures err { IfErr result (λ refusal. RefusesTicket refusal opening.old) }
+    ensures unchanged { OnErr result (opening.new ≡ opening.old) }
+{
+    match opening {
+        Some(opening) => Ok(Some(opening.add()?)),
+        None => Err(Refusal::Exhausted),
     }
 }

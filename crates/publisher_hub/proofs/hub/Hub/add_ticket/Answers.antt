@@ -1,6 +1,12 @@
--- A closed Hub answers no ticket; an open one without an opening refuses.
-use Rattle.std.proofs.Common.{refl}
+-- A closed Hub answers no ticket; what an open one answers is of its opening ticket.
+use Rattle.std.proofs.Common.{Result, Ok, Err, OnErr, Option, ap, refl}
+use Rattle.close_count.specs.declared.opening.Opening.{Opening}
 use Rattle.publisher_hub.proofs.hub.Hub.add_ticket.Goals as goal
+
+-- what is so after a refusal, where something else is
+refused : {A E : Type 0} {P Q : Type 0} (r : Result A E) → (P → Q) → OnErr r P → OnErr r Q
+refused (Ok x) more so = tt
+refused (Err e) more so = more so
 
 pub returns-then-is_some-clause-closed : goal.returns-then-is_some-clause-closed
 returns-then-is_some-clause-closed g c closed = (refl, refl)
@@ -8,5 +14,31 @@ returns-then-is_some-clause-closed g c closed = (refl, refl)
 pub returns-then-is_some-clause-err : goal.returns-then-is_some-clause-err
 returns-then-is_some-clause-err g c = tt
 
-pub returns-in-None-clause-ok : goal.returns-in-None-clause-ok
-returns-in-None-clause-ok g c unclosed = tt
+pub returns-then-is_some-clause-rest : goal.returns-then-is_some-clause-rest
+returns-then-is_some-clause-rest g c = refl
+
+pub returns-then-is_some-clause-sound : goal.returns-then-is_some-clause-sound
+returns-then-is_some-clause-sound g c = c.requires.sound
+
+pub returns-then-is_some-clause-keeps : goal.returns-then-is_some-clause-keeps
+returns-then-is_some-clause-keeps g c name due can = can
+
+pub returns-clause-ok : goal.returns-clause-ok
+returns-clause-ok g c unclosed = c.one_more.ensures.ok
+
+pub returns-clause-err : goal.returns-clause-err
+returns-clause-err g c = c.one_more.ensures.err
+
+pub returns-clause-unchanged : goal.returns-clause-unchanged
+returns-clause-unchanged g c = refused c.one_more.result (λ same. ap (λ (opening : Option Opening). record c.args.self.now { opening = opening }) same) c.one_more.ensures.unchanged
+
+pub returns-clause-rest : goal.returns-clause-rest
+returns-clause-rest g c = refl
+
+pub returns-clause-keeps : goal.returns-clause-keeps
+returns-clause-keeps g c name due can = record {
+  due_place = can.due_place;
+  place = record { entry_place = can.place.entry_place; number_place = can.place.number_place; few_live = can.place.few_live; few_entries = can.place.few_entries };
+  ready = can.ready;
+  unnamed = can.unnamed;
+}

@@ -85,3 +85,21 @@ returns-clause-ok g c =
     c.args.due.now c.prepare.new.due c.give.new.due c.try_again.new.due looks.0 given.0 passes.0 c.requires.sound c.requires.source item.source item.text item.serial item.seq c.prepare.ensures.looked
     looks.1.0 c.prepare.ensures.due c.in_default.ensures given.1.0 given.1.1 c.give.ensures.rest passes.1 c.try_again.ensures.rest c.count_drops.ensures c.count.ensures.rest c.count.ensures.entries
     (ap (λ (g : Giving). g.lag) c.count.ensures.giving ∙ c.drop_shares-2.ensures.lag) (ap (λ (g : Giving). g.drops) c.count.ensures.giving ∙ c.drop_shares-2.ensures.drops)).1)
+
+pub returns-in_err-prepare-clause-sound : goal.returns-in_err-prepare-clause-sound
+returns-in_err-prepare-clause-sound g c = c.prepare.ensures.sound
+
+pub returns-in-Some-clause-sound : goal.returns-in-Some-clause-sound
+returns-in-Some-clause-sound g c = c.prepare.ensures.sound
+
+pub returns-clause-no_share : goal.returns-clause-no_share
+returns-clause-no_share g c = rw c.count.ensures.giving c.drop_shares-2.ensures.shares
+
+pub returns-clause-err : goal.returns-clause-err
+returns-clause-err g c = tt
+
+pub returns-clause-nothing_due : goal.returns-clause-nothing_due
+returns-clause-nothing_due g c = tt
+
+pub give-requires-clause-ready : goal.give-requires-clause-ready
+give-requires-clause-ready g c = c.in_ok-prepare.ensures.ready

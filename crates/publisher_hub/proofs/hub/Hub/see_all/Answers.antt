@@ -25,3 +25,18 @@ returns-clause-seen g c =
     let looks = c.in_ok-prepare_live.ensures.ok in
     let left = c.leave_out_retired.ensures in
     seen_left g.F.Feed.meaning g.F.Feed.does c.args.self.now c.prepare_live.new.self c.leave_out_retired.new.self looks.0 looks.1.0 c.prepare_live.ensures.looked left.rest left.left left.all_live
+
+pub returns-in_err-reserve_due-clause-sound : goal.returns-in_err-reserve_due-clause-sound
+returns-in_err-reserve_due-clause-sound g c = c.requires.sound
+
+pub returns-in_err-prepare_live-clause-sound : goal.returns-in_err-prepare_live-clause-sound
+returns-in_err-prepare_live-clause-sound g c = c.prepare_live.ensures.sound
+
+pub returns-clause-sound : goal.returns-clause-sound
+returns-clause-sound g c = c.leave_out_retired.ensures.sound
+
+pub returns-clause-rest : goal.returns-clause-rest
+returns-clause-rest g c = rw (c.leave_out_retired.ensures.rest, c.prepare_live.ensures.rest) refl
+
+pub returns-clause-due : goal.returns-clause-due
+returns-clause-due g c = c.reserve_due.ensures.items

@@ -1,5 +1,5 @@
 -- No number before has the name.
-use Rattle.std.proofs.Common.{rules, ◌≡◌, ◌⊎◌, ◌<◌, Some, length, sym, subst, ◌∙◌, inl, inr, arith, slice_index_or}
+use Rattle.std.proofs.Common.{◌≡◌, ◌⊎◌, ◌<◌, Some, length, sym, subst, ◌∙◌, inl, inr, arith, slice_index_or}
 use Rattle.std.specs.Prelude.{slice_get}
 use Rattle.std.proofs.lemmas.Option.{slice_get_within}
 use Rattle.publisher_hub.specs.Subscribing.{IsNotNamed}
@@ -19,8 +19,20 @@ loop-number-preserved g c i number before at = by (below_or_last i c.loop-number
 pub returns-clause-none : goal.returns-clause-none
 returns-clause-none g c is i number at =
     let within : i < length c.args.live.now = slice_get_within c.args.live.now i number at in
-    let done : c.loop-number.number-index ≡ length c.args.live.now = search rules in
+    let done : c.loop-number.number-index ≡ length c.args.live.now = omega arith in
     c.loop-number.invariant i number (omega arith) at
 
 pub returns-then-is_named-clause-none : goal.returns-then-is_named-clause-none
 returns-then-is_named-clause-none g c is = cc
+
+pub returns-then-is_named-clause-found : goal.returns-then-is_named-clause-found
+returns-then-is_named-clause-found g c = (
+  c.loop-number.number-index,
+  (number_at c.args.live.now c.loop-number.number-index c.loop-number-test.true, c.is_named.ensures.yes c.if-is_named.true),
+)
+
+pub returns-clause-found : goal.returns-clause-found
+returns-clause-found g c = tt
+
+pub loop-number-init : goal.loop-number-init
+loop-number-init g c i number before at = absurd (omega arith)

@@ -1,5 +1,5 @@
 -- Each of the live subscriptions is closed once.
-use Rattle.std.proofs.Common.{rules, ◌≡◌, ◌<◌, None, refl, subst, length, slice_index_or}
+use Rattle.std.proofs.Common.{rules, ◌≡◌, ◌<◌, None, refl, subst, length, slice_index_or, arith}
 use Rattle.publisher_hub.specs.Closing.{Closes}
 use Rattle.publisher_hub.specs.Entry.{entry_of}
 use Rattle.publisher_hub.proofs.ClosingRounds.{closing_next, closing_none}
@@ -41,7 +41,7 @@ loop-number-preserved g c =
 
 pub returns : goal.returns
 returns g c =
-    let done : c.loop-number.number-index ≡ length c.args.live.now = search rules in
+    let done : c.loop-number.number-index ≡ length c.args.live.now = omega arith in
     let so_far = c.loop-number.invariant in (
       so_far.answers,
       (

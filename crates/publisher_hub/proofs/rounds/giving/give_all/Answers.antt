@@ -54,7 +54,7 @@ loop-number-preserved g c =
 
 pub returns-clause-given : goal.returns-clause-given
 returns-clause-given g c =
-    let done : c.loop-number.number-index ≡ length c.args.live.now = search rules in
+    let done : c.loop-number.number-index ≡ length c.args.live.now = omega arith in
     let so_far = c.loop-number.invariant.given in (
       so_far.puts,
       (

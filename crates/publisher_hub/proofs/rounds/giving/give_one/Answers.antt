@@ -1,8 +1,9 @@
 -- The share that was offered is the item, and one that came back is a share again.
-use Rattle.std.proofs.Common.{rules, subst}
+use Rattle.std.proofs.Common.{◌≡◌, ◌+◌, ◌∙◌, ap, arith, length, length-append, rules, subst}
 use Rattle.flow_rules.specs.declared.item.Item.{Item}
-use Rattle.publisher_hub.specs.Offering.{Gives}
-use Rattle.publisher_hub.proofs.Shares.{shares_back}
+use Rattle.publisher_hub.specs.Giving.{back_by}
+use Rattle.publisher_hub.specs.Offering.{Gives, missed_by, started_by}
+use Rattle.publisher_hub.proofs.Shares.{shares_back, takes_a_place}
 use Rattle.publisher_hub.proofs.rounds.giving.give_one.Goals as goal
 
 pub returns-clause-given : goal.returns-clause-given
@@ -25,6 +26,9 @@ returns-clause-given g c =
       ),
     )
 
+pub take_share-share-requires : goal.take_share-share-requires
+take_share-share-requires g c = let room = c.requires.room.1.shares in omega arith
+
 pub give-answer-requires-clause-take : goal.give-answer-requires-clause-take
 give-answer-requires-clause-take g c = c.requires.can.take
 
@@ -33,3 +37,25 @@ give-answer-requires-clause-few g c = c.requires.can.few
 
 pub give-answer-requires-clause-few_drops : goal.give-answer-requires-clause-few_drops
 give-answer-requires-clause-few_drops g c = c.requires.can.few_drops
+
+pub returns-clause-room : goal.returns-clause-room
+returns-clause-room g c many room =
+    let answer = c.give-answer.result in
+    let taken = c.take_share-share in
+    let noted = c.note in
+    let place = takes_a_place c.args.number answer in
+    let due : length noted.new.due.items ≡ length c.args.due.now.items + length (started_by c.args.number answer) =
+    ap length noted.ensures.due ∙ length-append c.args.due.now.items (started_by c.args.number answer) in
+    let missed : length noted.new.self.missed.items ≡ length taken.new.self.missed.items + length (missed_by c.args.number answer) =
+    ap length noted.ensures.missed ∙ length-append taken.new.self.missed.items (missed_by c.args.number answer) in
+    let shares : length noted.new.self.shares.items ≡ length taken.new.self.shares.items + length (back_by answer) =
+    ap length noted.ensures.shares ∙ length-append taken.new.self.shares.items (back_by answer) in
+    let numbers : length taken.new.self.missed.items ≡ length c.args.giving.now.missed.items = ap (λ v. length v.items) taken.ensures.missed in
+    let places : taken.new.self.missed.cap ≡ c.args.giving.now.missed.cap = ap (λ v. v.cap) taken.ensures.missed in
+    let due_long = noted.new.due.ok.0 in
+    let due_was = c.args.due.now.ok.0 in
+    let missed_long = noted.new.self.missed.ok.0 in
+    let missed_was = c.args.giving.now.missed.ok.0 in
+    let shares_long = noted.new.self.shares.ok.0 in
+    let shares_were = taken.new.self.shares.ok.0 in
+    record { due_places = omega arith; missed_places = omega arith; shares = omega arith }

@@ -1,5 +1,5 @@
 -- One is found by its name, or none of the live subscriptions has it.
-use Rattle.std.proofs.Common.{rules, ◌≡◌, map, length, refl, arith}
+use Rattle.std.proofs.Common.{◌≡◌, map, length, refl, arith}
 use Rattle.publisher_hub.specs.Entry.{entry_of}
 use Rattle.publisher_hub.proofs.LiveRounds.{number_at}
 use Rattle.publisher_hub.proofs.Naming.{entry_next, none_at_all, none_more, number_inside, other_names, same_names}
@@ -32,7 +32,7 @@ loop-number-preserved g c =
 
 pub returns : goal.returns
 returns g c =
-    let done : c.loop-number.number-index ≡ length c.args.live.now = search rules in (
+    let done : c.loop-number.number-index ≡ length c.args.live.now = omega arith in (
       λ e. cc,
       λ is. absurd (none_at_all c.args.live.now (map (entry_of g.F.Feed.meaning) c.args.entries.now) c.requires.live c.args.name c.loop-number.number-index done c.loop-number.invariant is),
     )

@@ -1,5 +1,5 @@
 -- Each of the live subscriptions that isn't retired is named once.
-use Rattle.std.proofs.Common.{rules, ◌≡◌, map, length, arith}
+use Rattle.std.proofs.Common.{◌≡◌, map, length, arith}
 use Rattle.publisher_hub.specs.Entry.{entry_of}
 use Rattle.publisher_hub.proofs.LiveRounds.{number_at}
 use Rattle.publisher_hub.proofs.Naming.{entry_next, named_all, named_less, named_more, named_none, number_inside}
@@ -28,5 +28,5 @@ loop-number-preserved g c =
 
 pub returns : goal.returns
 returns g c =
-    let done : c.loop-number.number-index ≡ length c.args.live.now = search rules in
+    let done : c.loop-number.number-index ≡ length c.args.live.now = omega arith in
     record { ok = named_all c.args.live.now (map (entry_of g.F.Feed.meaning) c.args.entries.now) c.requires.live c.loop-number.number-index c.loop-number.names.items done c.loop-number.invariant }

@@ -1,5 +1,5 @@
 -- Each of the live subscriptions is prepared once.
-use Rattle.std.proofs.Common.{rules, ◌≡◌, ◌<◌, Result, Ok, Err, OnErr, None, refl, subst, length, slice_index_or}
+use Rattle.std.proofs.Common.{rules, ◌≡◌, ◌<◌, Result, Ok, Err, OnErr, None, refl, subst, length, slice_index_or, arith}
 use Rattle.publisher_hub.specs.Entry.{entry_of}
 use Rattle.publisher_hub.specs.Looking.{Prepares}
 use Rattle.publisher_hub.proofs.LiveRounds.{get_mapped, next_stood, number_at, number_within, numbers_of, others_retired}
@@ -53,7 +53,7 @@ loop-number-preserved g c =
 
 pub returns-clause-ok : goal.returns-clause-ok
 returns-clause-ok g c =
-    let done : c.loop-number.number-index ≡ length c.args.live.now = search rules in
+    let done : c.loop-number.number-index ≡ length c.args.live.now = omega arith in
     let so_far = c.loop-number.invariant in (
       so_far.glances,
       (

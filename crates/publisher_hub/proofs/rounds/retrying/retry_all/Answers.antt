@@ -18,7 +18,7 @@ loop-place-init g c = record {
 pub offset_bounds-entries-number : goal.offset_bounds-entries-number
 offset_bounds-entries-number g c =
     let missed = c.args.giving.now.missed.items in
-    let here : c.loop-place.place < length missed = search rules in
+    let here : c.loop-place.place < length missed = omega arith in
     let at = number_read missed c.loop-place.giving.missed.items c.loop-place.place c.index-number.result.now (ap (λ v. v.items) c.loop-place.invariant.missed) here c.index-number.ensures in
     let inside : c.index-number.result.now < length c.args.entries.now = c.requires.numbers.within c.loop-place.place _ at in
     search rules
@@ -26,7 +26,7 @@ offset_bounds-entries-number g c =
 pub bounds-entries-number : goal.bounds-entries-number
 bounds-entries-number g c =
     let missed = c.args.giving.now.missed.items in
-    let here : c.loop-place.place < length missed = search rules in
+    let here : c.loop-place.place < length missed = omega arith in
     let at = number_read missed c.loop-place.giving.missed.items c.loop-place.place c.index-number.result.now (ap (λ v. v.items) c.loop-place.invariant.missed) here c.index-number.ensures in
     within_now (IsAsked g.F.Feed.meaning g.F.Feed.does c.args.item.now missed) None missed c.loop-place.place c.index-number.result.now c.loop-place.invariant.given.seconds c.args.entries.now c.loop-place.entries
     c.requires.numbers at c.loop-place.invariant.given.upto
@@ -34,7 +34,7 @@ bounds-entries-number g c =
 pub retry_one-requires-clause-can : goal.retry_one-requires-clause-can
 retry_one-requires-clause-can g c =
     let missed = c.args.giving.now.missed.items in
-    let here : c.loop-place.place < length missed = search rules in
+    let here : c.loop-place.place < length missed = omega arith in
     let at = number_read missed c.loop-place.giving.missed.items c.loop-place.place c.index-number.result.now (ap (λ v. v.items) c.loop-place.invariant.missed) here c.index-number.ensures in
     let stood = stood_at_number (IsAsked g.F.Feed.meaning g.F.Feed.does c.args.item.now missed) None missed c.loop-place.place c.index-number.result.now c.loop-place.invariant.given.seconds c.args.entries.now
     c.loop-place.entries c.requires.numbers at c.loop-place.invariant.given.upto c.index-entries-number.result in
@@ -48,7 +48,7 @@ retry_one-requires-clause-room g c =
 pub loop-place-preserved : goal.loop-place-preserved
 loop-place-preserved g c =
     let missed = c.args.giving.now.missed.items in
-    let here : c.loop-place.place < length missed = search rules in
+    let here : c.loop-place.place < length missed = omega arith in
     let within = c.loop-place-test.true in
     let at = number_read missed c.loop-place.giving.missed.items c.loop-place.place c.index-number.result.now (ap (λ v. v.items) c.loop-place.invariant.missed) here c.index-number.ensures in
     let so_far = c.loop-place.invariant.given in
@@ -70,7 +70,7 @@ pub returns : goal.returns
 returns g c =
     let missed = c.args.giving.now.missed.items in
     let so_far = c.loop-place.invariant.given in
-    let done : c.loop-place.place ≡ length missed = search rules in
+    let done : c.loop-place.place ≡ length missed = omega arith in
     record {
       given = (
         so_far.seconds,
