@@ -7,7 +7,7 @@ use std::marker::Brand;
 use std::sync::atomic::Ordering::SeqCst;
 use std::sync::atomic::raw;
 
-/// Where the other seat is of the table too, the seat takes it in. Else neither of the two changes.
+/// Where the other seat is of the table too, the seat takes it in. Else it stays as it was.
 ///
 /// No program can tell which of the two it is, and none needs to: a seat has no bytes, and what it knows is for the proof alone. So is the
 /// load, of a word of its own: a proof may open the rule of a table only beside a step on some word.
