@@ -27,14 +27,15 @@ same() {
     cmp "$1" "$2" >"$work/cmp" 2>&1 || fault "$3: $(cat "$work/cmp")"
 }
 
-# ships NAME: ships $work/in. It must write $work/want, nothing on standard error, and end with status 0.
+# ships NAME LONGEST: ships $work/in. It must write $work/want, the length of the longest line on standard error, and end with status 0.
 ships() {
     row=$1
     status=0
     "$program" <"$work/in" >"$work/out" 2>"$work/err" || status=$?
     [ "$status" -eq 0 ] || fault "status $status"
     same "$work/want" "$work/out" 'standard output'
-    [ ! -s "$work/err" ] || fault "standard error: $(cat "$work/err")"
+    printf 'the longest line has %s bytes\n' "$2" >"$work/said"
+    same "$work/said" "$work/err" 'standard error'
 }
 
 # ended NAME LINE: a run that has ended with $status was to end with status 1, and this line alone on standard error.
@@ -54,7 +55,7 @@ bytes() {
 median() {
     run=0
     while [ "$run" -lt "$RUNS" ]; do
-        "$work/peak" "$work/KiB" "$program" <"$1" >"$work/out" || echo 0
+        "$work/peak" "$work/KiB" "$program" <"$1" >"$work/out" 2>"$work/err" || echo 0
         cat "$work/KiB"
         run=$((run + 1))
     done | sort -n | sed -n "$(((RUNS + 1) / 2))p"
@@ -63,7 +64,7 @@ median() {
 # Many lines, and the memory that they take.
 seq 1000000 >"$work/in"
 cp "$work/in" "$work/want"
-ships '1,000,000 lines'
+ships '1,000,000 lines' 7
 seq 10000 >"$work/few"
 few=$(median "$work/few")
 many=$(median "$work/in")
@@ -74,20 +75,20 @@ row='memory at the peak'
 # Few lines, and their bytes.
 : >"$work/in"
 : >"$work/want"
-ships 'no line'
+ships 'no line' 0
 printf 'x\ny' >"$work/in"
 printf 'x\ny\n' >"$work/want"
-ships 'no line feed at the end'
+ships 'no line feed at the end' 1
 printf '\n\n \000\r\n\377\n' >"$work/in"
 cp "$work/in" "$work/want"
-ships 'empty lines, and bytes that are no text'
+ships 'empty lines, and bytes that are no text' 3
 {
     printf 'x\n' && bytes 4096 && printf '\n' && bytes 4096
 } >"$work/in"
 {
     cat "$work/in" && printf '\n'
 } >"$work/want"
-ships 'lines of 4,096 bytes'
+ships 'lines of 4,096 bytes' 4096
 
 # A line that is too long is named, and those before it are shipped.
 for count in 4097 4098 100000; do

@@ -1,5 +1,5 @@
-//! Ships lines: publishes each line of standard input on a subscription, whose subscriber writes it to standard output. It holds
-//! one line and the items of the buffer, however many lines there are.
+//! Ships lines: publishes each line of standard input on a subscription, whose subscriber writes it to standard output and knows the
+//! longest. It holds one line and the items of the buffer, however many lines there are.
 #![tactic(auto)]
 
 ghost use Rattle.std.specs.Prelude.{◌≡◌, ◌+◌, ◌^◌, ◌<◌, []};
@@ -7,12 +7,13 @@ ghost use Rattle.feed_core.specs.LaneCalls.{IsCapacity};
 
 use anyhow::ensure;
 use feed_core::{Desk, Seen};
-use flow_rules::{
-    Ending, Feed, Item, Listener, NoMemory, PUBLICATIONS, Printer, Put, Text, capacity,
-};
+use flow_rules::{Ending, Feed, Item, Listener, NoMemory, PUBLICATIONS, Put, Text, capacity};
+use shipper::Shipper;
 use std::alloc::Global;
 use std::io;
 use std::io::{BufRead, BufReader, BufWriter, Read, Write};
+
+mod shipper;
 
 /// A subscription with room for so many items, whose subscriber requests all that will ever come.
 fn subscribed<B: Listener>(alloc: Global, room: usize, subscriber: B) -> Result<Desk<B>, NoMemory>
@@ -72,7 +73,7 @@ fn item_of(alloc: Global, number: u64, line: &[u8]) -> anyhow::Result<Item>
 fn publish_each<R: BufRead, W: Write + Send + Drop>(
     alloc: Global,
     reader: &mut R,
-    desk: &mut Desk<Printer<W>>,
+    desk: &mut Desk<Shipper<W>>,
     seen: &mut Seen,
 ) -> anyhow::Result<()> {
     let mut line = Vec::new(alloc);
@@ -101,26 +102,27 @@ fn end<B: Listener>(desk: &mut Desk<B>, seen: &mut Seen) {
     }
 }
 
-/// Ships each line of a reader to a writer. The lines before a wrong one are shipped, too.
+/// Ships each line of a reader to a writer, and answers the subscriber that wrote them. The lines before a wrong one are shipped, too.
 fn ship<R: BufRead, W: Write + Send + Drop>(
     alloc: Global,
     reader: &mut R,
     writer: W,
-) -> anyhow::Result<()> {
+) -> anyhow::Result<Shipper<W>> {
     let mut seen = Seen::new(alloc)?;
-    let mut desk = subscribed(alloc, capacity(256)?, Printer::new(writer))?;
+    let mut desk = subscribed(alloc, capacity(256)?, Shipper::new(writer))?;
     let published = publish_each(alloc, reader, &mut desk, &mut seen);
     end(&mut desk, &mut seen);
-    ensure!(
-        !desk.into_subscriber().has_failed(),
-        "a line could not be written"
-    );
-    published
+    let shipper = desk.into_subscriber();
+    ensure!(!shipper.has_failed(), "a line could not be written");
+    published?;
+    Ok(shipper)
 }
 
 fn main(rt: HostRuntime) -> anyhow::Result<()> {
     let alloc = rt.alloc();
     let mut reader = BufReader::new(alloc, rt.reader())?;
     let writer = BufWriter::new(alloc, io::writer(&rt))?;
-    ship(alloc, &mut reader, writer)
+    let shipper = ship(alloc, &mut reader, writer)?;
+    eprintln!(rt; "the longest line has {} bytes", shipper.longest())?;
+    Ok(())
 }

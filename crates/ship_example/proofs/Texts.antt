@@ -5,7 +5,7 @@ use Rattle.flow_rules.specs.declared.item.Item.{Item}
 use Rattle.flow_rules.specs.declared.signal.Signal.{Signal}
 use Rattle.flow_rules.specs.declared.signal.Signal.TheVariants.{Next}
 use Rattle.flow_rules.specs.Signals.{items_of}
-use Rattle.desk_example.specs.Texts.{longest_of}
+use Rattle.ship_example.specs.Texts.{longest_of}
 
 -- the longest text of one item more
 pub one_item_more : (told : List Signal) (item : Item) → longest_of (items_of (told ++ Next item ∷ [])) ≡ max (longest_of (items_of told)) (length item.text)
