@@ -1,11 +1,11 @@
--- By what the task takes an item: the causes of its look, and the total of its measure.
-use Rattle.std.proofs.Common.{◌≡◌, ℕ, ◌<◌, [], ◌∷◌, ◌++◌, length, ap, sym, ◌∙◌, subst}
+-- By what the task takes an item, or finds none to give: the causes of its look, and the total of its measure.
+use Rattle.std.proofs.Common.{◌≡◌, ℕ, ◌<◌, ◌≤◌, List, [], ◌∷◌, ◌++◌, length, ap, sym, ◌∙◌, subst, inl, inr, arith}
 use Rattle.atomic_table.specs.Table.{rest}
 use Rattle.feed_core.specs.Prelude.{Item, UNBOUNDED, total_after}
 use Rattle.feed_core.specs.World.Table.{MaySee, MayTake, seeing, measuring}
-use Rattle.feed_cell.specs.Plays.{SeatOf, Sees, Measures, grants_by}
-use Rattle.feed_cell.specs.Running.{TakesNext}
-use Rattle.feed_cell.specs.Types.{Runner, Taken}
+use Rattle.feed_cell.specs.Plays.{SeatOf, Sees, Measures, MeasuresNone, grants_by}
+use Rattle.feed_cell.specs.Running.{FindsNone, TakesNext}
+use Rattle.feed_cell.specs.Types.{Runner, Measured, Taken}
 
 module _ {B : Type 0} where
   -- it saw an item, and measured that more were requested than were taken
@@ -43,4 +43,42 @@ module _ {B : Type 0} where
             ∙ ap (λ (t : SeatOf B). (record t.0 { taken = t.0.taken ++ x ∷ []; item = []; grants = t.0.grants ++ grants_by t.0.runner; runner = Taken }, rest t.1)) (m.wanted (subst (λ (t : SeatOf B). length t.0.taken < total) (sym saw.1) enough))
             ∙ ap (λ (t : SeatOf B). (record t.0 { taken = t.0.taken ++ x ∷ []; item = []; grants = t.0.grants ++ grants_by (measuring total t.0.runner); runner = Taken }, rest t.1)) saw.1
             ∙ ap (λ (r : Runner). (record before.0 { taken = before.0.taken ++ x ∷ []; item = []; grants = before.0.grants ++ grants_by (measuring total (seeing found r)); runner = Taken }, before.1)) may.1;
+      }
+
+  -- it saw no item that it did not take, and measured
+  pub finds_none : (before there after : SeatOf B) (found word : ℕ) → MaySee before.0.runner → before.0.item ≡ [] → found ≡ length before.0.taken → Sees before found there → MeasuresNone there word after → FindsNone found before after
+  finds_none before there after found word may none_out all s m =
+      let total : ℕ = total_after m.asked there.0.own in
+      record {
+        causes = may.0;
+        asked = total;
+        stage = may.1;
+        runs_on = may.2;
+        why = inl all;
+        put = s.put;
+        found = m.measured
+            ∙ ap (λ (t : SeatOf B). (record t.0 { runner = measuring total t.0.runner }, t.1)) (s.empty all)
+            ∙ ap (λ (r : Runner). (record before.0 { runner = measuring total (seeing found r) }, before.1)) may.1
+            ∙ ap (λ (l : List Item). (record before.0 { runner = Measured may.0 found total; item = l }, before.1)) none_out;
+      }
+
+  -- it saw an item, and measured that no more were requested than were taken
+  pub finds_no_demand : (before there after : SeatOf B) (found word : ℕ) → MaySee before.0.runner → length before.0.taken < found → Sees before found there → (m : Measures there word after) → total_after m.asked before.0.own ≤ length before.0.taken → FindsNone found before after
+  finds_no_demand before there after found word may more s m few =
+      let saw = s.waits more in
+      let total : ℕ = total_after m.asked there.0.own in
+      let same : total ≡ total_after m.asked before.0.own = ap (λ (t : SeatOf B). total_after m.asked t.0.own) saw.1 in
+      let taken : length there.0.taken ≡ length before.0.taken = ap (λ (t : SeatOf B). length t.0.taken) saw.1 in
+      let met : length there.0.taken ≤ total = m.met in
+      let all : length there.0.taken ≡ total = omega arith in
+      record {
+        causes = may.0;
+        asked = total;
+        stage = may.1;
+        runs_on = may.2;
+        why = inr (sym all ∙ taken);
+        put = s.put;
+        found = m.enough all
+            ∙ ap (λ (t : SeatOf B). (record t.0 { runner = measuring total t.0.runner; item = [] }, rest t.1)) saw.1
+            ∙ ap (λ (r : Runner). (record before.0 { runner = measuring total (seeing found r); item = [] }, before.1)) may.1;
       }

@@ -100,3 +100,8 @@ some_of P r x is p = subst (λ o. IfSome o P) is p
 
 pub none_of : {A P : Type 0} (r : Option A) → r ≡ None → IfNone r P → P
 none_of {A} {P} r is p = subst (λ o. IfNone o P) is p
+
+-- what holds anyway holds where nothing is there
+pub if_none : {A P : Type 0} (r : Option A) → P → IfNone r P
+if_none None p = p
+if_none (Some x) p = tt

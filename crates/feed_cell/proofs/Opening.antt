@@ -6,7 +6,7 @@ use lib.ListN.{get_elem?}
 use Rattle.atomic_table.proofs.Lists.{at_map}
 use Rattle.atomic_table.specs.Table.{opening, takes, Allows, Splits}
 use Rattle.feed_core.specs.Cause.{no_causes}
-use Rattle.feed_core.specs.Prelude.{Signal}
+use Rattle.feed_core.specs.Prelude.{Signal, UNBOUNDED}
 use Rattle.feed_core.specs.LaneCalls.{IsCapacity}
 use Rattle.feed_core.specs.World.Runs.{made}
 use Rattle.feed_cell.proofs.Lists.{at_replicate}
@@ -16,18 +16,24 @@ use Rattle.feed_cell.proofs.Seats.{alone, mine, other, added, moved}
 use Rattle.feed_cell.specs.Cell.{Lies, Cell, AsProducer, AsHandle, AsRunner, LodgesAt}
 use Rattle.feed_cell.specs.Parties.{IsFresh}
 use Rattle.feed_cell.specs.Plays.{SeatOf, Enters}
+use Rattle.feed_cell.specs.Steps.{MayOffer, MayRequest}
 use Rattle.feed_cell.specs.Types.{Free, Idle, Runner, Fresh}
 use Rattle.feed_cell.specs.Views.{IsRunner, first_view, has_put, has_ask, has_run, without_asking, asking_alone, without_running, running_alone}
 use Rattle.feed_cell.specs.declared.cell.Held.{Held}
 use Rattle.feed_cell.specs.declared.cell.View.{View}
 
+-- a capacity is positive
+pub holds_one : (cap : ℕ) → IsCapacity cap → 0 < cap
+holds_one cap capacity =
+    let positive : 0 < capacity.0 = capacity.1 in
+    let covers : min capacity.0 65536 ≤ cap = capacity.2.covers in
+    omega arith
+
 module _ {B : Type 0} (told : B → List Signal) where
   -- the table at the start
   pub opens : (cap : ℕ) → IsCapacity cap → Cell told cap (opening (0 ∷ 0 ∷ 0 ∷ 1 ∷ []) (replicate (cap + 1) Held.Empty) (first_view cap))
   opens cap capacity =
-      let positive : 0 < capacity.0 = capacity.1 in
-      let covers : min capacity.0 65536 ≤ cap = capacity.2.covers in
-      let sized : 0 < cap = (omega arith) in
+      let sized : 0 < cap = holds_one cap capacity in
       let slots : List (Held B) = replicate (cap + 1) Held.Empty in
       let home : (k : ℕ) → k < cap + 1 → get_elem? (map some slots) k ≡ some (some Held.Empty) = λ k within. at_map some slots k Held.Empty (at_replicate (cap + 1) Held.Empty k within) in
       record {
@@ -187,3 +193,41 @@ module _ {B : Type 0} (told : B → List Signal) where
     answers = sym answers;
     how = refl;
   })
+
+  -- the producer's seat at first
+  pub producer_first : (capacity : ℕ) (maker left me : SeatOf B) → maker ≡ (first_view capacity, []) → left ≡ (without_running maker.0, maker.1) → me ≡ (without_asking left.0, left.1)
+      → (me.1 ≡ []) × MayOffer me × (me.0.capacity ≡ capacity) × (me.0.closing ≡ None) × (length me.0.put ≡ 0)
+  producer_first capacity maker left me made left_is me_is =
+      let is : me ≡ (without_asking (without_running (first_view capacity)), []) = me_is ∙ ap (λ (m : SeatOf B). (without_asking m.0, m.1)) left_is ∙ ap (λ (m : SeatOf B). (without_asking (without_running m.0), m.1)) made in (
+        ap (λ (m : SeatOf B). m.1) is,
+        subst (λ (m : SeatOf B). MayOffer m) (sym is) (record { is = (refl, refl, refl); none_out = refl; begins = inl refl }),
+        ap (λ (m : SeatOf B). m.0.capacity) is,
+        ap (λ (m : SeatOf B). m.0.closing) is,
+        ap (λ (m : SeatOf B). length m.0.put) is,
+      )
+
+  -- the handle's seat at first
+  pub handle_first : (capacity : ℕ) (maker left me : SeatOf B) → maker ≡ (first_view capacity, []) → left ≡ (without_running maker.0, maker.1) → me ≡ (asking_alone left.0, [])
+      → (me.1 ≡ []) × MayRequest me × (me.0.capacity ≡ capacity) × (me.0.asked ≡ 0) × (0 ≤ UNBOUNDED) × (me.0.cancel ≡ false)
+  handle_first capacity maker left me made left_is me_is =
+      let is : me ≡ (asking_alone (without_running (first_view capacity)), []) = me_is ∙ ap (λ (m : SeatOf B). (asking_alone m.0, [])) left_is ∙ ap (λ (m : SeatOf B). (asking_alone (without_running m.0), [])) made in (
+        ap (λ (m : SeatOf B). m.1) is,
+        subst (λ (m : SeatOf B). MayRequest m) (sym is) (record { is = (refl, refl, refl); idle = refl; stays = refl }),
+        ap (λ (m : SeatOf B). m.0.capacity) is,
+        ap (λ (m : SeatOf B). m.0.asked) is,
+        omega arith,
+        ap (λ (m : SeatOf B). m.0.cancel) is,
+      )
+
+  -- the seat of the first task, with its subscriber placed in the slot
+  pub task_first : (capacity : ℕ) (b : B) (maker run me : SeatOf B) → maker ≡ (first_view capacity, []) → run ≡ (running_alone maker.0, []) → told b ≡ []
+      → me ≡ (record run.0 { away = true }, (capacity, Held.Guest (record { subscriber = b; given = 0; own = 0; answers = no_causes; how = None })) ∷ [])
+      → IsRunner me.0 × (me.0.capacity ≡ capacity) × (me.0.item ≡ []) × IsFresh told me
+  task_first capacity b maker run me made run_is untold me_is =
+      let is : run ≡ (running_alone (first_view capacity), []) = run_is ∙ ap (λ (m : SeatOf B). (running_alone m.0, [])) made in
+      let view : me.0 ≡ record (running_alone (first_view capacity)) { away = true } = ap (λ (m : SeatOf B). m.0) me_is ∙ ap (λ (m : SeatOf B). record m.0 { away = true }) is in (
+        subst (λ (v : View). IsRunner v) (sym view) (refl, refl, refl),
+        ap (λ (v : View). v.capacity) view,
+        ap (λ (v : View). v.item) view,
+        lodged capacity run.0 b me (ap (λ (m : SeatOf B). m.0.capacity) is) (ap (λ (m : SeatOf B). m.0.runner) is) (ap (λ (m : SeatOf B). m.0.taken) is) (ap (λ (m : SeatOf B). m.0.own) is) (ap (λ (m : SeatOf B). m.0.answers) is) untold me_is,
+      )

@@ -1,5 +1,7 @@
-use Rattle.std.proofs.Common.{rules}
-use Rattle.feed_cell.proofs.Opening.{splits_handle, splits_runner, lodged}
+-- The maker's seat is split twice, and what each party knows at first is what the maker knew.
+use Rattle.std.proofs.Common.{rules, ap, ◌∙◌}
+use Rattle.atomic_table.specs.Seated.{TableId}
+use Rattle.feed_cell.proofs.Opening.{holds_one, splits_handle, splits_runner, producer_first, handle_first, task_first}
 use Rattle.feed_cell.proofs.cell.making.Cell.new.Goals as goal
 
 pub split_seat-running-requires : goal.split_seat-running-requires
@@ -8,13 +10,19 @@ split_seat-running-requires g c = (search rules, search rules, splits_runner g.B
 pub split_seat-asking-requires : goal.split_seat-asking-requires
 split_seat-asking-requires g c = (search rules, search rules, splits_handle g.B.Listener.told _ _ _ (search rules) (search rules) (search rules))
 
+pub invariant_of-producer : goal.invariant_of-producer
+invariant_of-producer g c =
+    let words = ap (λ (r : TableId). r.words) (c.split_seat-asking.ensures.0 ∙ c.split_seat-running.ensures.0) ∙ c.in-Ok.ensures.1 in
+    let first = producer_first g.B.Listener.told c.args.capacity c.in-Ok.seat.me c.split_seat-running.new.seat.me c.split_seat-asking.new.seat.me c.in-Ok.ensures.2 c.split_seat-running.ensures.2 c.split_seat-asking.ensures.2 in
+    (search rules, search rules, words, holds_one c.args.capacity c.requires.capacity, first.0, first.1, first.2, first.3, first.4)
+
+pub invariant_of-handle : goal.invariant_of-handle
+invariant_of-handle g c =
+    let words = ap (λ (r : TableId). r.words) (c.split_seat-asking.ensures.3 ∙ c.split_seat-running.ensures.0) ∙ c.in-Ok.ensures.1 in
+    let first = handle_first g.B.Listener.told c.args.capacity c.in-Ok.seat.me c.split_seat-running.new.seat.me c.split_seat-asking.result.me c.in-Ok.ensures.2 c.split_seat-running.ensures.2 c.split_seat-asking.ensures.4 in
+    (search rules, search rules, words, holds_one c.args.capacity c.requires.capacity, first.0, first.1, first.2, first.3, first.4, first.5)
+
 pub invariant_of-task : goal.invariant_of-task
-invariant_of-task g c = (
-  search rules,
-  search rules,
-  search rules,
-  search rules,
-  search rules,
-  search rules,
-  lodged g.B.Listener.told c.args.capacity c.split_seat-running.result.me.0 c.args.subscriber c.lodge.new.seat.me (search rules) (search rules) (search rules) (search rules) (search rules) c.requires.untold (search rules),
-)
+invariant_of-task g c =
+    let first = task_first g.B.Listener.told c.args.capacity c.args.subscriber c.in-Ok.seat.me c.split_seat-running.result.me c.lodge.new.seat.me c.in-Ok.ensures.2 c.split_seat-running.ensures.4 c.requires.untold (search rules) in
+    (search rules, search rules, holds_one c.args.capacity c.requires.capacity, first.0, first.1, first.2, first.3)
