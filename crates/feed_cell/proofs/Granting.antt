@@ -1,8 +1,10 @@
 -- By what the task takes an item, or finds none to give: the causes of its look, and the total of its measure.
-use Rattle.std.proofs.Common.{◌≡◌, ℕ, ◌<◌, ◌≤◌, List, [], ◌∷◌, ◌++◌, length, ap, sym, ◌∙◌, subst, inl, inr, arith}
+use Rattle.std.proofs.Common.{◌≡◌, ℕ, ◌<◌, ◌≤◌, ◌%◌, List, [], ◌∷◌, ◌++◌, length, ap, sym, ◌∙◌, subst, inl, inr, arith}
 use Rattle.atomic_table.specs.Table.{rest}
 use Rattle.feed_core.specs.Prelude.{Item, UNBOUNDED, total_after}
 use Rattle.feed_core.specs.World.Table.{MaySee, MayTake, seeing, measuring}
+use Rattle.feed_cell.proofs.Marks.{unmark}
+use Rattle.feed_cell.specs.Control.{MARK}
 use Rattle.feed_cell.specs.Plays.{SeatOf, Sees, Measures, MeasuresNone, grants_by}
 use Rattle.feed_cell.specs.Running.{FindsNone, TakesNext}
 use Rattle.feed_cell.specs.Types.{Runner, Measured, Taken}
@@ -44,6 +46,12 @@ module _ {B : Type 0} where
             ∙ ap (λ (t : SeatOf B). (record t.0 { taken = t.0.taken ++ x ∷ []; item = []; grants = t.0.grants ++ grants_by (measuring total t.0.runner); runner = Taken }, rest t.1)) saw.1
             ∙ ap (λ (r : Runner). (record before.0 { taken = before.0.taken ++ x ∷ []; item = []; grants = before.0.grants ++ grants_by (measuring total (seeing found r)); runner = Taken }, before.1)) may.1;
       }
+
+  -- what a measure finds, without its mark, is what was requested
+  pub measured_is : (there after : SeatOf B) (word : ℕ) (m : Measures there word after) → word % MARK ≡ m.asked
+  measured_is there after word m =
+      let bounded : m.asked ≤ UNBOUNDED = m.bounded in
+      ap (λ n. n % MARK) m.found_is ∙ unmark m.left m.asked (omega arith)
 
   -- it saw no item that it did not take, and measured
   pub finds_none : (before there after : SeatOf B) (found word : ℕ) → MaySee before.0.runner → before.0.item ≡ [] → found ≡ length before.0.taken → Sees before found there → MeasuresNone there word after → FindsNone found before after
