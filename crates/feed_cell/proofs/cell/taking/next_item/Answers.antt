@@ -6,10 +6,13 @@ use Rattle.feed_cell.proofs.cell.taking.next_item.Goals as goal
 pub take-requires-clause-may : goal.take-requires-clause-may
 take-requires-clause-may g c =
     let m = c.measure-asked.ensures.measures in
-    let asked = measured_is c.see-tail.new.seat.me c.measure-asked.new.seat.me c.measure-asked.result m in
-    (search rules, search rules, may_take c.args.seat.now.me c.see-tail.new.seat.me c.measure-asked.new.seat.me c.see-tail.result c.measure-asked.result c.requires.stage
-    (omega (arith, c.see-tail.ensures.sees.put, c.requires.counted.0, c.if-tail-given.false)) c.see-tail.ensures.sees m
-    (omega (arith, asked, c.requires.counted.0, c.requires.counted.1, c.min.ensures, c.saturating_add.ensures, c.if-min-given.false)))
+    let asked = measured_is c.see-tail.new.seat.me c.measure-asked.new.seat.me c.measure-asked.result m in (
+      search rules,
+      search rules,
+      may_take c.args.seat.now.me c.see-tail.new.seat.me c.measure-asked.new.seat.me c.see-tail.result c.measure-asked.result c.requires.stage
+          (omega (arith, c.see-tail.ensures.sees.put, c.requires.counted.0, c.if-tail-given.false)) c.see-tail.ensures.sees m
+          (omega (arith, asked, c.requires.counted.0, c.requires.counted.1, c.min.ensures, c.saturating_add.ensures, c.if-min-given.false)),
+    )
 
 pub take-requires-clause-counted : goal.take-requires-clause-counted
 take-requires-clause-counted g c =
