@@ -45,14 +45,21 @@ def folder_of(folder, change):
     return None if len(names) > 1 else (names or [""])[0]
 
 
-def has_files(folder, change):
-    """Whether proof files may be the function's: in its folder, or in another with its name."""
-    return bool(glob.glob(f"{folder}/proofs/**/{change.function.name}/", recursive=True))
-
-
 def paths_of(crate, name):
     """What fits the paths by which a proof file names the goals or the contract of the function with this folder of proofs."""
     return re.compile(rf"\b(Rattle\.{crate}\.(?:proofs|specs\.contracts)\.{re.escape(name.replace('/', '.'))})(?![\w-])")
+
+
+def is_like_its_copy(folder, change):
+    """Whether a copy of the function is sure to have the same open goals as the function, for it differs by its name alone: its proof
+    files, if there are any, name the function only by the paths that are written anew for the copy."""
+    name, own = folder_of(folder, change), change.function.name
+    if not name:
+        # There may be some in another folder.
+        return not glob.glob(f"{folder}/proofs/**/{own}/", recursive=True)
+    paths, word = paths_of(os.path.basename(folder), name), re.compile(rf"(?<![\w-]){re.escape(own)}(?![\w-])")
+    files = os.listdir(f"{folder}/proofs/{name}")
+    return not any(word.search(paths.sub("", text_of(f"{folder}/proofs/{name}/{it}"))) for it in files)
 
 
 def may_be_copied(folder, change):

@@ -4,7 +4,7 @@ import os
 import re
 from dataclasses import replace
 
-from copies import has_files, may_be_copied, name_of_copy, proofs_of_copy, text_of, text_of_copy
+from copies import is_like_its_copy, may_be_copied, name_of_copy, proofs_of_copy, text_of, text_of_copy
 from functions import end_of, functions_of, path_of
 
 
@@ -133,10 +133,11 @@ def as_tried(batch):
 
 
 def controls_of(tried, folder):
-    """Of each function that is copied and may have proof files a copy more, with its own body: that has to have no open goal."""
+    """Of each function that is copied, and whose copy may differ by more than its name, a copy more, with its own body: that has to have
+    no open goal."""
     last = {(it.file, it.start): it for _, changes in tried for it in changes if it.number}
     own = lambda it: text_of(f"{folder}/{it.file}")[it.start : it.end]
-    return [Change(it.function, it.file, own(it), it.number + 1) for it in last.values() if has_files(folder, it)]
+    return [Change(it.function, it.file, own(it), it.number + 1) for it in last.values() if not is_like_its_copy(folder, it)]
 
 
 def together(tried, controls, folder):

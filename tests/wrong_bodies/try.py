@@ -1,17 +1,17 @@
 #!/usr/bin/env python3
 """Tries the wrong bodies crates/NAME/wrong-bodies/*.edit: the prover has to refuse each at the function that it changes.
 
-An edit is a file with a line `file: src/x.rt` and then pairs of lines `old: TEXT` and `new: TEXT`, each old text once in
-that file. Then it says where it is refused, by lines `clause: NAME`, a clause of the function (`its only one`, where it has no
-name), or, where the prover comes to another goal before, `goal: NAME`, as rt calls that. Contracts separate functions, so edits of
+An edit is a file with a line `file: src/x.rt` and then pairs of lines `old: TEXT` and `new: TEXT`, each old text once in that
+file. Then it says where it is refused, by lines `clause: NAME`, a clause of the function (`its only one`, where it has no name),
+or, where the prover comes to another goal before, `goal: NAME`, as rt calls that. Contracts separate functions, so edits of
 different functions are tried in one check; so are several of one function, each but the first in a copy of it, where it can be
-copied. Where proof files are copied, too, a copy with the function's own body has to have no open goal. It counts as a refusal
-only where the edited function itself has open goals, and all that the edit names are among them: a text that can't be read, a
-proof file that names what is gone, or a callee that is not proved is none. What is not refused so is tried without the others,
-and alone before it is reported. An edit of several functions, or of anything but a body (a constant, a type, a clause, an
-invariant), is tried alone; of the last, any open goal of the crate counts. Where edits are of bodies alone, only those functions
-are checked, and the others have no bodies (left_out.py); what is not refused so, alone, is tried once more with all bodies before
-it is reported.
+copied. Where its proof files name the function in another way than a copy of them can, a copy with its own body has to have no
+open goal. It counts as a refusal only where the edited function itself has open goals, and all that the edit names are among
+them: a text that can't be read, a proof file that names what is gone, or a callee that is not proved is none. What is not refused
+so is tried without the others, and alone before it is reported. An edit of several functions, or of anything but a body (a
+constant, a type, a clause, an invariant), is tried alone; of the last, any open goal of the crate counts. Where edits are of
+bodies alone, only those functions are checked, and the others have no bodies (left_out.py); what is not refused so, alone, is
+tried once more with all bodies before it is reported.
 
 It works on a copy in a temporary folder. The crates are proved there first as they are, and those below others built. With
 --proved SUM that is left out where the copy has this sum: its sources were proved, and what is built of them in out/rlib is
