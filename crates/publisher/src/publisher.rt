@@ -1,5 +1,5 @@
 //! The publisher.
-ghost use Rattle.std.specs.Prelude.{◌≡◌, ◌↔◌, ◌⊎◌, ◌<◌, [], zero, is_some, Err, IfErr, IfOk, IfSome, IsSome, OnErr, OnOk, Some};
+ghost use Rattle.std.specs.Prelude.{◌≡◌, ◌↔◌, ◌⊎◌, ◌<◌, [], true, zero, is_some, Err, IfErr, IfOk, IfSome, IsSome, OnErr, OnOk, Some};
 ghost use Rattle.std.specs.Arc.{arc_value};
 ghost use Rattle.flow_rules.specs.declared.refusal.Refusal.TheVariants as Refusal;
 ghost use Rattle.async_pool.specs.Crew.{IsWorkerCount};
@@ -52,7 +52,7 @@ impl<
         ensures bad_capacity { IsWorkerCount workers → (result ≡ Err Refusal.BadCapacity) ↔ (capacity ≡ 0) }
         ensures refusals { IfErr result (λ refusal. (refusal ≡ Refusal.BadWorkers) ⊎ ((refusal ≡ Refusal.BadCapacity) ⊎ (refusal ≡ Refusal.NoMemory))) }
     {
-        if workers == 0 || workers > MOST_WORKERS {
+        if !is_worker_count(workers) {
             return Err(Refusal::BadWorkers);
         }
         let state = State::new(alloc, capacity, publications, drops)?;
@@ -284,6 +284,13 @@ impl<L: Ledger + Send, D: Ledger + Send, B: Listener + Send> Publisher<L, D, B> 
             }
         }
     }
+}
+
+/// Whether a publisher may have so many workers.
+fn is_worker_count(workers: usize) -> bool
+    ensures { (result ≡ true) ↔ IsWorkerCount workers }
+{
+    workers != 0 && workers <= MOST_WORKERS
 }
 
 /// The loop of a worker has ended.
