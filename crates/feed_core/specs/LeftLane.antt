@@ -1,17 +1,19 @@
 -- What is left of a subscription.
-use Rattle.std.specs.Prelude.{◌≡◌, ◌↔◌, true, Some, List, length}
+use Rattle.std.specs.Prelude.{◌≡◌, ◌≤◌, false, None, IfSome, IsSome, List, length}
 use Rattle.feed_core.specs.Prelude.{Signal}
-use Rattle.feed_core.specs.Desk.{DeskState, Owes}
+use Rattle.feed_core.specs.Lane.{LaneState, IsFlow, IsSettled}
 use Rattle.feed_core.specs.declared.lane.Lane.{Lane}
 
--- what is left of this subscription: its subscriber, who was told what its lane says, the numbers of the lane, how it ended, and whether
--- a turn is owed
-pub record IsLaneOf {B : Type 0} (told : B → List Signal) (desk : DeskState) (left : Lane B) : Type 0 where
-  pub subscriber : B
-  pub there : left.subscriber ≡ Some subscriber
-  pub told_is : told subscriber ≡ desk.lane.told
-  pub accepted : left.accepted ≡ length desk.lane.accepted
-  pub given : left.given ≡ desk.lane.given
-  pub asked : left.asked ≡ desk.lane.asked
-  pub ending : left.ending ≡ desk.lane.how
-  pub running : (left.running ≡ true) ↔ Owes desk
+-- what is left of a subscription that had this lane: the numbers of the lane, how it ended, and its subscriber, who was told what the
+-- lane says; the subscriber is missing if a task that was never run to its end has it
+pub record IsLeftLane {B : Type 0} (told : B → List Signal) (lane : LaneState) (left : Lane B) : Type 0 where
+  pub accepted : left.accepted ≡ length lane.accepted
+  pub given : left.given ≡ lane.given
+  pub taken : lane.given ≤ length lane.accepted
+  pub ending : left.ending ≡ lane.how
+  -- the Flow rules hold of a lane whose subscriber is there
+  pub flow : IfSome left.subscriber (λ b. (told b ≡ lane.told) × (left.asked ≡ lane.asked) × IsFlow lane)
+  -- nothing is forgotten in a lane that doesn't run
+  pub settled : left.running ≡ false → IsSome left.subscriber × IsSettled lane
+  -- a subscription whose subscriber is missing has not ended
+  pub lost : left.subscriber ≡ None → left.ending ≡ None

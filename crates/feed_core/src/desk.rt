@@ -75,9 +75,9 @@ impl<B: Listener> Model for Desk<B> {
 }
 
 impl<B: Listener> Desk<B> {
-    ghost use Rattle.std.specs.Prelude.{◌≡◌, ◌≤◌, ◌+◌, ◌↔◌, [], true, length, IfOk, IfErr, false};
+    ghost use Rattle.std.specs.Prelude.{◌≡◌, ◌≤◌, ◌+◌, ◌↔◌, [], true, length, IfOk, IfErr, IsSome, false};
     ghost use Rattle.feed_core.specs.Desk.{IsNew, Owes};
-    ghost use Rattle.feed_core.specs.LeftLane.{IsLaneOf};
+    ghost use Rattle.feed_core.specs.LeftLane.{IsLeftLane};
     ghost use Rattle.feed_core.specs.LaneCalls.{IsCapacity, lag_of};
     ghost use Rattle.feed_core.specs.Prelude.{UNBOUNDED};
     ghost use Rattle.feed_core.specs.Lane.{IsFlow, IsSettled};
@@ -166,9 +166,9 @@ impl<B: Listener> Desk<B> {
 
     /// Takes the subscription apart, with its subscriber. Items that were not told are dropped.
     pub fn into_lane(self) -> Lane<B>
-        ensures left { IsLaneOf B.told self result }
-        ensures flow { IsFlow self.lane }
-        ensures settled { result.running ≡ false → IsSettled self.lane }
+        ensures left { IsLeftLane B.told self.lane result }
+        ensures there { IsSome result.subscriber }
+        ensures running { (result.running ≡ true) ↔ Owes self }
     {
         let running = self.owes();
         Lane {
