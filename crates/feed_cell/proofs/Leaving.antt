@@ -1,5 +1,5 @@
 -- What is left of a subscription keeps the Flow rules, and is settled where its task is at rest or has ended.
-use Rattle.std.proofs.Common.{◌≡◌, ℕ, ◌+◌, ◌≤◌, ◌⊎◌, min, Bool, true, false, ◌||◌, List, [], ◌∷◌, ◌++◌, length, drop, Option, IfSome, is_some, sym, refl, ap, ◌∙◌, subst, inl, inr, ⊎_elim, append-nil, length-append, take-append-drop, append_assoc, arith}
+use Rattle.std.proofs.Common.{◌≡◌, ℕ, ◌+◌, ◌≤◌, ◌⊎◌, min, Bool, true, false, ◌||◌, List, [], ◌∷◌, ◌++◌, length, drop, Option, None, Some, IfSome, IsSome, is_some, sym, refl, ap, ◌∙◌, subst, inl, inr, ⊎_elim, append-nil, length-append, take-append-drop, append_assoc, arith}
 use mathlib.Core.Option.{some}
 use lib.ListN.{get_elem?}
 use Rattle.atomic_table.specs.Table.{State}
@@ -164,13 +164,18 @@ module _ {B : Type 0} (told : B → List Signal) (cap : ℕ) (s : State (Held B)
         let below : c.free ≤ length c.taken + cap = c.lists.below in
         omega arith
 
+    -- with its seat known, the handle has left
+    left_by : (handle : Option HandleState) → IfSome handle (λ h. KnowsHandle h v) → IsSome handle → c.left ≡ true
+    left_by None known own = cc
+    left_by (Some h) known own = sym (c.handles id v at known.is).1.leaves ∙ known.left
+
     may : MayBegin c.world.producer
     may = subst MayBegin (c.producers id v at puts).1.stands begins
 
     -- its subscriber is at home
-    pub left_there : (safe : IsSafe) (running : Bool) → (running ≡ false → (is_over c.world.runner ≡ true) ⊎ (c.left ≡ true))
+    pub left_there : (safe : IsSafe) (running : Bool) → (running ≡ false → (is_over c.world.runner ≡ true) ⊎ (c.left ≡ true)) → (running ≡ true → c.left ≡ true → ⊥)
         → IsLeftOf told end handle (lane_with (lodges_safe safe).guest c.world.given c.world.accepted c.world.asked running)
-    left_there safe running settles =
+    left_there safe running settles stays =
         let g = lodges_safe safe in
         let held = safe_held safe in
         let text = told g.guest.subscriber in
@@ -179,18 +184,22 @@ module _ {B : Type 0} (told : B → List Signal) (cap : ℕ) (s : State (Held B)
         let accepted : c.world.accepted ≡ length c.log = c.shows.accepted in
         record {
           lane = lane_told_so text;
+          is = record {
+            accepted = accepted;
+            given = refl;
+            taken = omega arith;
+            ending = g.how_is;
+            flow = (refl, ap (total_after c.world.asked) g.own_is, flow_kept sound);
+            settled = λ rests. (refl, settles_by (settles rests) safe);
+            lost = λ e. cc;
+          };
           accepted = sym put_is;
           closing = ap (λ z. z.closing) c.shows.causes ∙ sym closing_is;
           state = ap (λ z. z.state) c.shows.causes ∙ sym state_is;
-          counted = accepted;
-          given = refl;
-          taken = omega arith;
           room = room_kept;
           handled = on_some handle (λ h known. counts end h id v at known state_is closing_is (total_after c.world.asked g.guest.own) g.guest.own refl) knows;
-          ending = g.how_is;
-          flow = (refl, ap (total_after c.world.asked) g.own_is, flow_kept sound);
-          settled = λ rests. (refl, settles_by (settles rests) safe);
           over = λ over. ap is_some g.how_is ∙ has_ended c.world.runner (over_is over);
+          runs = λ own runs. absurd (stays runs (left_by handle knows own));
         }
       where
         settles_by : (is_over c.world.runner ≡ true) ⊎ (c.left ≡ true) → IsSafe → IsSettled (lane_told_so (told (lodges_safe safe).guest.subscriber))
@@ -206,16 +215,20 @@ module _ {B : Type 0} (told : B → List Signal) (cap : ℕ) (s : State (Held B)
         let accepted : c.world.accepted ≡ length c.log = c.shows.accepted in
         record {
           lane = lane_told_so [];
+          is = record {
+            accepted = accepted;
+            given = refl;
+            taken = omega arith;
+            ending = sym (goes_on c.world.runner goes);
+            flow = tt;
+            settled = λ e. cc;
+            lost = λ _. refl;
+          };
           accepted = sym put_is;
           closing = ap (λ z. z.closing) c.shows.causes ∙ sym closing_is;
           state = ap (λ z. z.state) c.shows.causes ∙ sym state_is;
-          counted = accepted;
-          given = refl;
-          taken = omega arith;
           room = room_kept;
           handled = on_some handle (λ h known. counts end h id v at known state_is closing_is c.world.asked 0 (let bounded = (reached_kept c.reached).asked_bounded in whole_total c.world.asked bounded)) knows;
-          ending = sym (goes_on c.world.runner goes);
-          flow = tt;
-          settled = λ e. cc;
           over = λ over. (let never : true ≡ false = sym (over_is over) ∙ goes in cc);
+          runs = λ _ _. refl;
         }

@@ -1,6 +1,7 @@
 -- What is left of a subscription that is closed for good.
-use Rattle.std.specs.Prelude.{◌≡◌, ℕ, ◌+◌, ◌≤◌, Bool, true, false, ◌||◌, Option, Some, None, IfSome, IsSome, List, length}
-use Rattle.feed_core.specs.Lane.{LaneState, IsFlow, IsSettled}
+use Rattle.std.specs.Prelude.{◌≡◌, ℕ, ◌+◌, ◌≤◌, Bool, true, ◌||◌, Option, Some, None, IfSome, IsSome, List, length}
+use Rattle.feed_core.specs.Lane.{LaneState}
+use Rattle.feed_core.specs.LeftLane.{IsLeftLane}
 use Rattle.feed_core.specs.Prelude.{Signal, total_after}
 use Rattle.feed_core.specs.declared.lane.Lane.{Lane}
 use Rattle.flow_rules.specs.Feed.{End}
@@ -30,25 +31,20 @@ pub record CountsHandle (end : End) (handle : HandleState) (total : ℕ) (causes
   pub total_is : total ≡ total_after handle.asked own
   pub causes_are : causes ≡ causes_left end handle answers
 
--- what is left of a subscription, by what its publisher and its handle, where that is known, knew of it: the lane of its items and
--- causes, and the subscriber, where that is there, who was told what the lane says
+-- what is left of a subscription, by what its publisher knew of it, and its own handle, if that was given back, too
 pub record IsLeftOf {B : Type 0} (told : B → List Signal) (end : End) (handle : Option HandleState) (left : Lane B) : Type 0 where
+  -- its lane, which has the publisher's items and causes
   pub lane : LaneState
+  pub is : IsLeftLane told lane left
   pub accepted : lane.accepted ≡ end.accepted
   pub closing : lane.causes.closing ≡ end.closing
   pub state : lane.causes.state ≡ end.state
-  pub counted : left.accepted ≡ length lane.accepted
-  pub given : left.given ≡ lane.given
-  pub taken : lane.given ≤ length lane.accepted
   pub room : length lane.accepted ≤ lane.given + end.capacity
   pub handled : IfSome handle (λ handle. CountsHandle end handle left.asked lane.causes)
-  pub ending : left.ending ≡ lane.how
-  -- the Flow rules hold of a lane whose subscriber is there
-  pub flow : IfSome left.subscriber (λ b. (told b ≡ lane.told) × (left.asked ≡ lane.asked) × IsFlow lane)
-  -- and nothing is forgotten in one that doesn't run
-  pub settled : left.running ≡ false → IsSome left.subscriber × IsSettled lane
-  -- a subscription whose publisher has seen its end has one
+  -- a subscription whose publisher has seen its end has ended
   pub over : end.over ≡ true → IsSome left.ending
+  -- with its own handle given back, it runs only if a task was lost, and its subscriber with that
+  pub runs : IsSome handle → left.running ≡ true → left.subscriber ≡ None
 
 -- of the subscriber in a slot, if one is there
 abbrev pub OnGuest : {B : Type 0} → Held B → (Lodger B → Type 0) → Type 0

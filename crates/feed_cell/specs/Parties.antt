@@ -70,9 +70,10 @@ pub record IsStarted (ring : TableId) (capacity : ℕ) (task : TaskState) : Type
   pub stage : task.knows.runner ≡ Ready
   pub home : task.knows.away ≡ false
 
--- the seat of a handle that has left knows what its owner did
+-- the seat of a handle that has left knows that, and what its owner did
 pub record KnowsHandle (handle : HandleState) (v : View) : Type 0 where
   pub is : v.asks ≡ true
+  pub left : v.left ≡ true
   pub asked : v.asked ≡ handle.asked
   pub cancelled : v.cancel ≡ handle.cancelled
   pub argument : v.argument ≡ handle.argument
