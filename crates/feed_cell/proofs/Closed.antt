@@ -29,7 +29,7 @@ module _ {B : Type 0} (told : B → List Signal) (cap id : ℕ) (v : View) (word
     (head tail asked control : ℕ) (held : Held B) (left : Lane B)
     (heads : get_elem? words 0 ≡ some head) (tails : get_elem? words 1 ≡ some tail) (asks : get_elem? words 2 ≡ some asked) (controls : get_elem? words 3 ≡ some control)
     (holds : get_elem? slots (length slots - 1) ≡ some held)
-    (there : (MARK ≤ head) ⊎ (bit_at control 0 ≡ 0) → OnGuest held (λ guest. (running : Bool) × (running ≡ false → (MARK ≤ head) ⊎ (MARK ≤ asked)) × (running ≡ true → asked < MARK) × (left ≡ lane_with guest (head % MARK) tail (asked % MARK) running)))
+    (there : (MARK ≤ head) ⊎ (bit_at control 0 ≡ 0) → OnGuest held (λ guest. (running : Bool) × (running ≡ false → (MARK ≤ head) ⊎ (MARK ≤ asked)) × (running ≡ true → (head < MARK) × (asked < MARK)) × (left ≡ lane_with guest (head % MARK) tail (asked % MARK) running)))
     (away : head < MARK → bit_at control 0 ≡ 1 → left ≡ lane_without (head % MARK) tail (asked % MARK)) (end : End) (end_is : end ≡ end_of v.capacity v end.ready)
     (handle : Option HandleState) (knows : IfSome handle (λ h. KnowsHandle h v)) where
   abbrev s : State (Held B) View
@@ -66,6 +66,10 @@ module _ {B : Type 0} (told : B → List Signal) (cap id : ℕ) (v : View) (word
   stays_below : asked < MARK → c.left ≡ true → ⊥
   stays_below below left = let large : MARK ≤ asked = large_by c.left c.world.asked asked asked_is left in omega arith
 
+  -- the word head has its mark after the subscription has ended
+  goes_below : head < MARK → is_over c.world.runner ≡ true → ⊥
+  goes_below below over = let large : MARK ≤ head = large_by (is_over c.world.runner) c.world.given head head_is over in omega arith
+
   -- where the subscriber is at home
   safe_left : (safe : IsSafe told cap s c) → (MARK ≤ head) ⊎ (bit_at control 0 ≡ 0) → IsLeftOf told end handle left
   safe_left safe shown =
@@ -74,7 +78,7 @@ module _ {B : Type 0} (told : B → List Signal) (cap id : ℕ) (v : View) (word
       let same : length s.homes ≡ length slots = last.3 in
       let place : length slots - 1 ≡ cap = omega arith in
       let here : held ≡ Held.Guest g.guest = slot.some-injective held (Held.Guest g.guest) (sym holds ∙ ap (λ k. get_elem? slots k) place ∙ last.4 cap (Held.Guest g.guest) g.at) in
-      let found = of_guest (λ guest. (running : Bool) × (running ≡ false → (MARK ≤ head) ⊎ (MARK ≤ asked)) × (running ≡ true → asked < MARK) × (left ≡ lane_with guest (head % MARK) tail (asked % MARK) running)) held g.guest here (there shown) in
+      let found = of_guest (λ guest. (running : Bool) × (running ≡ false → (MARK ≤ head) ⊎ (MARK ≤ asked)) × (running ≡ true → (head < MARK) × (asked < MARK)) × (left ≡ lane_with guest (head % MARK) tail (asked % MARK) running)) held g.guest here (there shown) in
       let head_there : head % MARK ≡ c.world.given = ap (λ m. m % MARK) head_is ∙ unmark (is_over c.world.runner) c.world.given given_small in
       let asked_there : asked % MARK ≡ c.world.asked = ap (λ m. m % MARK) asked_is ∙ unmark c.left c.world.asked asked_small in
       let left_is : left ≡ lane_with g.guest c.world.given c.world.accepted c.world.asked found.0 =
@@ -84,7 +88,7 @@ module _ {B : Type 0} (told : B → List Signal) (cap id : ℕ) (v : View) (word
       (λ large. inl (marked_by (is_over c.world.runner) c.world.given head given_small head_is large))
       (λ large. inr (marked_by c.left c.world.asked asked asked_small asked_is large))
       (found.1 rests))
-      (λ runs left. stays_below (found.2 runs) left))
+      (λ runs left. stays_below (found.2 runs).1 left) (λ runs over. goes_below (found.2 runs).0 over))
 
   -- where a task was lost with it
   lost_left : is_over c.world.runner ≡ false → is_started c.world.runner ≡ true → IsLeftOf told end handle left

@@ -31,6 +31,12 @@ flagged f answers handle end cancel argument state closing =
     ∙ ap (λ z. record { cancel = handle.cancelled || answers.cancel; argument = handle.argument || answers.argument; state = z; closing = f.closing; failed = answers.failed; memory = answers.memory }) state
     ∙ ap (λ z. record { cancel = handle.cancelled || answers.cancel; argument = handle.argument || answers.argument; state = end.state; closing = z; failed = answers.failed; memory = answers.memory }) closing
 
+not_over : (r : Runner) → (is_over r ≡ true → ⊥) → is_over r ≡ false
+not_over r never = by (is_over r) never where
+  by : (over : Bool) → (over ≡ true → ⊥) → over ≡ false
+  by true never = absurd (never refl)
+  by false never = refl
+
 -- a total within its bound, with nothing more
 whole_total : (asked : ℕ) → asked ≤ UNBOUNDED → asked ≡ total_after asked 0
 whole_total asked bounded = omega arith
@@ -173,9 +179,9 @@ module _ {B : Type 0} (told : B → List Signal) (cap : ℕ) (s : State (Held B)
     may = subst MayBegin (c.producers id v at puts).1.stands begins
 
     -- its subscriber is at home
-    pub left_there : (safe : IsSafe) (running : Bool) → (running ≡ false → (is_over c.world.runner ≡ true) ⊎ (c.left ≡ true)) → (running ≡ true → c.left ≡ true → ⊥)
+    pub left_there : (safe : IsSafe) (running : Bool) → (running ≡ false → (is_over c.world.runner ≡ true) ⊎ (c.left ≡ true)) → (running ≡ true → c.left ≡ true → ⊥) → (running ≡ true → is_over c.world.runner ≡ true → ⊥)
         → IsLeftOf told end handle (lane_with (lodges_safe safe).guest c.world.given c.world.accepted c.world.asked running)
-    left_there safe running settles stays =
+    left_there safe running settles stays goes =
         let g = lodges_safe safe in
         let held = safe_held safe in
         let text = told g.guest.subscriber in
@@ -191,7 +197,7 @@ module _ {B : Type 0} (told : B → List Signal) (cap : ℕ) (s : State (Held B)
             ending = g.how_is;
             flow = (refl, ap (total_after c.world.asked) g.own_is, flow_kept sound);
             settled = λ rests. (refl, settles_by (settles rests) safe);
-            lost = λ e. cc;
+            unended = λ runs. g.how_is ∙ goes_on c.world.runner (not_over c.world.runner (goes runs));
           };
           accepted = sym put_is;
           closing = ap (λ z. z.closing) c.shows.causes ∙ sym closing_is;
@@ -222,7 +228,7 @@ module _ {B : Type 0} (told : B → List Signal) (cap : ℕ) (s : State (Held B)
             ending = sym (goes_on c.world.runner goes);
             flow = tt;
             settled = λ e. cc;
-            lost = λ _. refl;
+            unended = λ _. refl;
           };
           accepted = sym put_is;
           closing = ap (λ z. z.closing) c.shows.causes ∙ sym closing_is;

@@ -1,5 +1,5 @@
 -- What is left of a subscription.
-use Rattle.std.specs.Prelude.{◌≡◌, ◌≤◌, false, None, IfSome, IsSome, List, length}
+use Rattle.std.specs.Prelude.{◌≡◌, ◌≤◌, true, false, None, IfSome, IsSome, List, length}
 use Rattle.feed_core.specs.Prelude.{Signal}
 use Rattle.feed_core.specs.Lane.{LaneState, IsFlow, IsSettled}
 use Rattle.feed_core.specs.declared.lane.Lane.{Lane}
@@ -15,5 +15,5 @@ pub record IsLeftLane {B : Type 0} (told : B → List Signal) (lane : LaneState)
   pub flow : IfSome left.subscriber (λ b. (told b ≡ lane.told) × (left.asked ≡ lane.asked) × IsFlow lane)
   -- nothing is forgotten in a lane that doesn't run
   pub settled : left.running ≡ false → IsSome left.subscriber × IsSettled lane
-  -- a subscription whose subscriber is missing has not ended
-  pub lost : left.subscriber ≡ None → left.ending ≡ None
+  -- a subscription that runs has not ended
+  pub unended : left.running ≡ true → left.ending ≡ None

@@ -108,7 +108,7 @@ fn take_apart<B: Listener>(table: CellTable<B>, seat: CellSeat<B>) -> Lane<B>
 
 /// What is left, by the words of a subscription and what its subscriber's slot holds.
 fn lane_of<B: Listener>(head: u64, tail: u64, asked: u64, control: u64, last: Held<B>) -> Lane<B>
-    ensures there { (MARK ≤ head) ⊎ (bit_at control 0 ≡ 0) → OnGuest last (λ guest. (running : Bool) × (running ≡ false → (MARK ≤ head) ⊎ (MARK ≤ asked)) × (running ≡ true → asked < MARK) × (result ≡ lane_with guest (head % MARK) tail (asked % MARK) running)) }
+    ensures there { (MARK ≤ head) ⊎ (bit_at control 0 ≡ 0) → OnGuest last (λ guest. (running : Bool) × (running ≡ false → (MARK ≤ head) ⊎ (MARK ≤ asked)) × (running ≡ true → (head < MARK) × (asked < MARK)) × (result ≡ lane_with guest (head % MARK) tail (asked % MARK) running)) }
     ensures away { head < MARK → bit_at control 0 ≡ 1 → result ≡ lane_without (head % MARK) tail (asked % MARK) }
 {
     let given = head % MARK;

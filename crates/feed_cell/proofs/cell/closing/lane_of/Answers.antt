@@ -23,6 +23,6 @@ returns-after-head-lt-MARK-clause-there g c home =
     on_guest c.args.last c.in-Guest.guest _ c.in-Guest.is (
       running,
       λ off. elim c.if-head-lt-MARK.branch [ then-head-lt-MARK w ↦ inr (ltb-false c.args.asked MARK (sym w.result-is ∙ off)) | else-head-lt-MARK w ↦ inl w.if-head-lt-MARK.false ],
-      λ on. elim c.if-head-lt-MARK.branch [ then-head-lt-MARK w ↦ ltb-true c.args.asked MARK (sym w.result-is ∙ on) | else-head-lt-MARK w ↦ absurd (let below : c.args.head < MARK = ltb-true c.args.head MARK (sym w.result-is ∙ on) in let above : MARK ≤ c.args.head = w.if-head-lt-MARK.false in omega arith) ],
+      λ on. elim c.if-head-lt-MARK.branch [ then-head-lt-MARK w ↦ (w.if-head-lt-MARK.true, ltb-true c.args.asked MARK (sym w.result-is ∙ on)) | else-head-lt-MARK w ↦ absurd (let below : c.args.head < MARK = ltb-true c.args.head MARK (sym w.result-is ∙ on) in let above : MARK ≤ c.args.head = w.if-head-lt-MARK.false in omega arith) ],
       ap₂ lane whole total,
     )
