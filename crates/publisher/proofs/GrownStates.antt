@@ -11,8 +11,8 @@ use Rattle.close_count.specs.declared.ticket.Ticket.{Ticket}
 use Rattle.flow_rules.specs.declared.ending.Ending.{Ending}
 use Rattle.flow_rules.specs.declared.item.Item.{Item}
 use Rattle.flow_rules.specs.declared.refusal.Refusal.{Refusal}
-use Rattle.feed_core.specs.Desk.{DeskState}
-use Rattle.feed_core.specs.Feed.{end_of, DoesCall}
+use Rattle.feed_cell.specs.Parties.{ProducerState, TaskState}
+use Rattle.feed_cell.specs.Offering.{DoesCall}
 use Rattle.feed_core.specs.LaneCalls.{IsCapacity}
 use Rattle.publisher_hub.specs.Closing.{IsClosedLooking}
 use Rattle.publisher_hub.specs.Entry.{entry_of}
@@ -26,16 +26,20 @@ use Rattle.publisher_hub.specs.declared.hub.Hub.{Hub}
 use Rattle.publisher_hub.specs.declared.work.Work.{Work}
 use Rattle.publisher_hub.proofs.PartialRounds.{same_some}
 use Rattle.publisher.specs.Publishing.{drop_of}
-use Rattle.publisher.specs.State.{IsState, PARTS, Sums}
+use Rattle.publisher.specs.Spending.{last_after}
+use Rattle.publisher.specs.State.{IsCountedAtClose, IsState, PARTS, Sums, producer_end}
 use Rattle.publisher.specs.Tickets.{AreOfOneCount, IsOfCount, IsTicketFor}
-use Rattle.publisher.specs.Turning.{last_after}
 use Rattle.publisher.proofs.Admitted.{tickets_admitted}
-use Rattle.publisher.proofs.KeptStates.{Stays, stays_looked}
-use Rattle.publisher.proofs.Ticketed.{AllKeep, all_closed, all_offered, all_same, all_then, of_count_after, of_count_still}
+use Rattle.publisher.proofs.KeptStates.{Stays, counted_stays, stays_looked}
+use Rattle.publisher.proofs.Ticketed.{AllKeep, all_closed, all_offered, all_same, all_then, of_count_after, of_count_counted, of_count_still}
 
 is_open : (ending : Option Ending) → ending ≡ None → IsSome ending → ⊥
 is_open None none some = cc
 is_open (Some how) none some = cc
+
+is_none : (counted : Option ℕ) → counted ≡ None → IsSome counted → ⊥
+is_none None none some = cc
+is_none (Some many) none some = cc
 
 -- a publication: the totals grow as the Hub's numbers do
 pub state_offered : (v w : HubState) (x : Item) (sums : Sums) (published dropping : ℕ) → IsState v sums → IsSound w → Offers x v w
@@ -52,10 +56,11 @@ state_offered v w x sums published dropping is sound offers one_more drops = rec
   none_dropped = is.none_dropped;
   sources_are = is.sources_are ∙ sym (ap (λ (h : HubState). h.sources) offers.rest);
   entries_are = is.entries_are ∙ sym offers.entries.as_long;
+  counted_is = counted_stays v w sums.counted is.counted_is (ap (λ (h : HubState). h.progress.ending) offers.rest) offers.entries.as_long;
   tickets = (
     is.tickets.0,
-    of_count_still is.tickets.0 v w sums.last is.tickets.1 (λ opening held. is.tickets.1.opening opening (sym (ap (λ (h : HubState). h.opening) offers.rest) ∙ held))
-        (λ closed. absurd (is_open v.progress.ending offers.next.unclosed closed)) (all_offered x v.entries w.entries offers.entries),
+    of_count_still is.tickets.0 v w sums.counted sums.last is.tickets.1 (λ opening held. is.tickets.1.opening opening (sym (ap (λ (h : HubState). h.opening) offers.rest) ∙ held))
+        (λ closed. absurd (is_open v.progress.ending offers.next.unclosed closed)) (λ counted. absurd (is_none sums.counted (is.counted_is.unclosed offers.next.unclosed) counted)) (all_offered x v.entries w.entries offers.entries),
   );
 }
 
@@ -68,20 +73,29 @@ drop_is (suc n) lag dropping = refl
 looked_before : (v w : HubState) (ending : Ending) (closing : IsClosedLooking ending v w) → Stays v closing.middle
 looked_before v w ending closing = stays_looked v closing.middle closing.looked
 
--- the first close
-tickets_closed : (count : CountId) (v w : HubState) (ending : Ending) (last : Option Spent) → IsOfCount count v last → IsClosedLooking ending v w → IsOfCount count w last
-tickets_closed count v w ending last is closing =
-    let before = looked_before v w ending closing in
-    let closed = closing.closed in
-    of_count_still count v w last is
-    (λ opening held. let no : None ≡ Some opening = sym (ap (λ (h : HubState). h.opening) closed.rest) ∙ held in cc)
-    (λ was. absurd (is_open v.progress.ending (sym (ap (λ (p : Progress). p.ending) before.progress) ∙ closed.unclosed) was))
-    (all_then v.entries closing.middle.entries w.entries before.keep (all_closed ending closing.middle.entries w.entries closed.entries))
+-- the first close: of the subscriptions that there are none is late
+module _ (count : CountId) (v w : HubState) (ending : Ending) (counted : Option ℕ) (last : Option Spent) (is : IsOfCount count v counted last) (close : IsCountedAtClose v counted) (closing : IsClosedLooking ending v w) where
+  before : Stays v closing.middle
+  before = looked_before v w ending closing
 
-state_closed_looking : (v w : HubState) (ending : Ending) (sums : Sums) → IsState v sums → IsSound w → IsClosedLooking ending v w → IsState w sums
+  unclosed : v.progress.ending ≡ None
+  unclosed = sym (ap (λ (p : Progress). p.ending) before.progress) ∙ closing.closed.unclosed
+
+  pub as_long_closed : length w.entries ≡ length v.entries
+  as_long_closed = closing.closed.entries.as_long ∙ before.keep.as_long
+
+  pub tickets_closed : IsOfCount count w (Some (length v.entries)) last
+  tickets_closed = of_count_counted count w (length v.entries) last (sym as_long_closed) (of_count_still count v w None last (subst (λ c. IsOfCount count v c last) (close.unclosed unclosed) is)
+      (λ opening held. let no : None ≡ Some opening = sym (ap (λ (h : HubState). h.opening) closing.closed.rest) ∙ held in cc)
+      (λ was. absurd (is_open v.progress.ending unclosed was))
+      (λ some. cc)
+      (all_then v.entries closing.middle.entries w.entries before.keep (all_closed ending closing.middle.entries w.entries closing.closed.entries)))
+
+state_closed_looking : (v w : HubState) (ending : Ending) (sums : Sums) → IsState v sums → IsSound w → IsClosedLooking ending v w → IsState w (record sums { counted = Some (length v.entries) })
 state_closed_looking v w ending sums is sound closing =
     let before = looked_before v w ending closing in
     let closed = closing.closed in
+    let long = as_long_closed is.tickets.0 v w ending sums.counted sums.last is.tickets.1 is.counted_is closing in
     record {
       sound = sound;
       sized = subst IsCapacity (sym (ap (λ (h : HubState). h.progress.capacity) closed.rest ∙ ap (λ (p : Progress). p.capacity) before.progress)) is.sized;
@@ -93,8 +107,12 @@ state_closed_looking v w ending sums is sound closing =
       drop_parts_are = is.drop_parts_are;
       none_dropped = is.none_dropped;
       sources_are = is.sources_are ∙ sym (ap (λ (h : HubState). h.sources) closed.rest ∙ before.sources);
-      entries_are = is.entries_are ∙ sym (closed.entries.as_long ∙ before.keep.as_long);
-      tickets = (is.tickets.0, tickets_closed is.tickets.0 v w ending sums.last is.tickets.1 closing);
+      entries_are = is.entries_are ∙ sym long;
+      counted_is = record {
+        unclosed = λ none. let no : Some ending ≡ None = sym (ap (λ (h : HubState). h.progress.ending) closed.rest) ∙ none in cc;
+        closed = λ _. (length v.entries, (refl, omega arith));
+      };
+      tickets = (is.tickets.0, tickets_closed is.tickets.0 v w ending sums.counted sums.last is.tickets.1 is.counted_is closing);
     }
 
 -- one more submitter, with its parts of the ledgers
@@ -113,17 +131,18 @@ state_with_source v w sums source parts amount drop_parts drop_amount is sound r
   none_dropped = let n = is.none_dropped in omega arith;
   sources_are = sym (ap (λ (h : HubState). h.sources) rest);
   entries_are = is.entries_are ∙ sym (ap (λ (h : HubState). length h.entries) rest);
+  counted_is = counted_stays v w sums.counted is.counted_is (ap (λ (h : HubState). h.progress.ending) rest) (ap (λ (h : HubState). length h.entries) rest);
   tickets = (
     is.tickets.0,
-    of_count_still is.tickets.0 v w sums.last is.tickets.1 (λ opening held. is.tickets.1.opening opening (sym (ap (λ (h : HubState). h.opening) rest) ∙ held))
-        (λ closed. (subst IsSome (sym (ap (λ (h : HubState). h.progress.ending) rest)) closed, ap (λ (h : HubState). h.progress.next) rest))
+    of_count_still is.tickets.0 v w sums.counted sums.last is.tickets.1 (λ opening held. is.tickets.1.opening opening (sym (ap (λ (h : HubState). h.opening) rest) ∙ held))
+        (λ closed. subst IsSome (sym (ap (λ (h : HubState). h.progress.ending) rest)) closed) (λ _. ap (λ (h : HubState). h.progress.next) rest)
         (subst (λ entries. AllKeep v.entries entries) (sym (ap (λ (h : HubState). h.entries) rest)) (all_same v.entries)),
   );
 }
 
 -- a new publisher
 pub state_at_start : (capacity : ℕ) (opening : Opening) (w : HubState) (parts drop_parts : ℕ) → w ≡ record (hub_at_start capacity 0) { opening = Some opening } → IsSound w → IsCapacity capacity → parts ≡ PARTS → drop_parts ≡ PARTS
-    → IsState w (record { published = 0; dropping = 0; parts = parts; amount = 0; drop_parts = drop_parts; drop_amount = 0; sources = 0; entries = 0; last = None })
+    → IsState w (record { published = 0; dropping = 0; parts = parts; amount = 0; drop_parts = drop_parts; drop_amount = 0; sources = 0; entries = 0; counted = None; last = None })
 state_at_start capacity opening w parts drop_parts start sound sized some_parts some_drop_parts = record {
   sound = sound;
   sized = subst IsCapacity (sym (ap (λ (h : HubState). h.progress.capacity) start)) sized;
@@ -136,6 +155,10 @@ state_at_start capacity opening w parts drop_parts start sound sized some_parts 
   none_dropped = refl;
   sources_are = sym (ap (λ (h : HubState). h.sources) start);
   entries_are = sym (ap (λ (h : HubState). length h.entries) start);
+  counted_is = record {
+    unclosed = λ none. refl;
+    closed = λ some. absurd (is_open w.progress.ending (ap (λ (h : HubState). h.progress.ending) start) some);
+  };
   tickets = (
     count_of_opening opening,
     record {
@@ -148,9 +171,9 @@ state_at_start capacity opening w parts drop_parts start sound sized some_parts 
 }
 
 -- one more subscription
-pub state_admitted : (name : List ℕ) (feed : DeskState) (ticket : Option Ticket) (number : ℕ) (due_before due_after : List (Work Unit)) (old new : Hub DeskState) (sums : Sums)
-    → IsState (hub_of end_of old) sums → IsSound (hub_of end_of new) → IsTicketFor old ticket → Admits end_of DoesCall name feed ticket number due_before due_after old new
-    → IsState (hub_of end_of new) (record sums { entries = number + 1 })
+pub state_admitted : (name : List ℕ) (feed : ProducerState) (ticket : Option Ticket) (number : ℕ) (due_before due_after : List (Work TaskState)) (old new : Hub ProducerState) (sums : Sums)
+    → IsState (hub_of producer_end old) sums → IsSound (hub_of producer_end new) → IsTicketFor old ticket → Admits producer_end DoesCall name feed ticket number due_before due_after old new
+    → IsState (hub_of producer_end new) (record sums { entries = number + 1 })
 state_admitted name feed ticket number due_before due_after old new sums is sound for_it admits = record {
   sound = sound;
   sized = subst IsCapacity (sym (ap (λ (h : HubState). h.progress.capacity) admits.rest)) is.sized;
@@ -163,15 +186,23 @@ state_admitted name feed ticket number due_before due_after old new sums is soun
   none_dropped = is.none_dropped;
   sources_are = is.sources_are ∙ sym (ap (λ (h : HubState). h.sources) admits.rest);
   entries_are =
-      let seen : length admits.middle.entries.items ≡ length old.entries.items = sym (length-map admits.middle.entries.items (entry_of end_of)) ∙ admits.seen.kept.as_long ∙ length-map old.entries.items (entry_of end_of) in
-      let added = length-map new.entries.items (entry_of end_of) ∙ ap length admits.entries ∙ length-append admits.middle.entries.items _ in
+      let seen : length admits.middle.entries.items ≡ length old.entries.items = sym (length-map admits.middle.entries.items (entry_of producer_end)) ∙ admits.seen.kept.as_long ∙ length-map old.entries.items (entry_of producer_end) in
+      let added = length-map new.entries.items (entry_of producer_end) ∙ ap length admits.entries ∙ length-append admits.middle.entries.items _ in
       let first = admits.is_next in
       omega arith;
-  tickets = (is.tickets.0, tickets_admitted name feed ticket number due_before due_after old new is.tickets.0 sums.last is.tickets.1 for_it admits);
+  counted_is = record {
+    unclosed = λ none. is.counted_is.unclosed (sym (ap (λ (h : HubState). h.progress.ending) admits.rest) ∙ none);
+    closed = λ some.
+        let before = is.counted_is.closed (subst IsSome (ap (λ (h : HubState). h.progress.ending) admits.rest) some) in
+        let seen : length admits.middle.entries.items ≡ length (hub_of producer_end old).entries = sym (length-map admits.middle.entries.items (entry_of producer_end)) ∙ admits.seen.kept.as_long in
+        let added = length-map new.entries.items (entry_of producer_end) ∙ ap length admits.entries ∙ length-append admits.middle.entries.items _ in
+        (before.0, (before.1.0, let few = before.1.1 in omega arith));
+  };
+  tickets = (is.tickets.0, tickets_admitted name feed ticket number due_before due_after old new is.tickets.0 sums.counted sums.last is.tickets.1 is.counted_is for_it admits);
 }
 
 -- what is left of the last ticket, once that was spent
-pub state_with_last : (v : HubState) (sums : Sums) (last : Option Spent) → IsState v sums → AreOfOneCount v last → IsState v (record sums { last = last })
+pub state_with_last : (v : HubState) (sums : Sums) (last : Option Spent) → IsState v sums → AreOfOneCount v sums.counted last → IsState v (record sums { last = last })
 state_with_last v sums last is tickets = record {
   sound = is.sound;
   sized = is.sized;
@@ -184,61 +215,75 @@ state_with_last v sums last is tickets = record {
   none_dropped = is.none_dropped;
   sources_are = is.sources_are;
   entries_are = is.entries_are;
+  counted_is = is.counted_is;
   tickets = tickets;
 }
+
+is_none_opening : (opening : Option Opening) → opening ≡ None → IsSome opening → ⊥
+is_none_opening None none some = cc
+is_none_opening (Some it) none some = cc
 
 none_came : (came : Option Opening) (opening : Opening) → came ≡ Some opening → ◌≡◌ {A = Result (Option Opening) Refusal} (Ok came) (Ok None) → ⊥
 none_came None opening some none = cc
 none_came (Some other) opening some none = cc
 
 -- the first close, which spends the opening, or a later one, which changes nothing in the Hub
-module _ (old new : Hub DeskState) (ending : Ending) (sums : Sums) (is : IsState (hub_of end_of old) sums) (sound : IsSound (hub_of end_of new))
-    (first : old.ending ≡ None → IsClosedLooking ending (hub_of end_of old) (hub_of end_of new)) (later : IsSome old.ending → new ≡ old) where
-  pub state_ended : IsState (hub_of end_of new) sums
-  state_ended = by old.ending refl where
-    by : (was : Option Ending) → old.ending ≡ was → IsState (hub_of end_of new) sums
-    by None e = state_closed_looking (hub_of end_of old) (hub_of end_of new) ending sums is sound (first e)
-    by (Some known) e = subst (λ h. IsState (hub_of end_of h) sums) (sym (later (rw e refl))) is
+module _ (old new : Hub ProducerState) (ending : Ending) (sums : Sums) (is : IsState (hub_of producer_end old) sums) (sound : IsSound (hub_of producer_end new))
+    (first : old.ending ≡ None → IsClosedLooking ending (hub_of producer_end old) (hub_of producer_end new)) (later : IsSome old.ending → new ≡ old) where
+  -- where no opening came out it was closed before
+  pub state_closed_before : (came : Option Opening) → (old.ending ≡ None → came ≡ old.opening) → ((opening : Opening) → came ≡ Some opening → ⊥) → IsState (hub_of producer_end new) sums
+  state_closed_before came first_came none = by old.ending refl where
+    by : (was : Option Ending) → old.ending ≡ was → IsState (hub_of producer_end new) sums
+    by None e = let held = is.opened e in absurd (never old.opening refl held) where
+      never : (opening : Option Opening) → old.opening ≡ opening → IsSome old.opening → ⊥
+      never None at some = is_none_opening old.opening at some
+      never (Some opening) at some = none opening (first_came e ∙ at)
+    by (Some known) e = subst (λ h. IsState (hub_of producer_end h) sums) (sym (later (rw e refl))) is
 
   pub state_ended_spent : (came : Option Opening) (opening : Opening) (spent : Spent) → (old.ending ≡ None → came ≡ old.opening) → (IsSome old.ending → ◌≡◌ {A = Result (Option Opening) Refusal} (Ok came) (Ok None))
-      → came ≡ Some opening → count_of_spent spent ≡ count_of_opening opening → IsState (hub_of end_of new) (record sums { last = last_after spent true sums.last })
+      → came ≡ Some opening → count_of_spent spent ≡ count_of_opening opening → IsState (hub_of producer_end new) (record sums { counted = Some sums.entries; last = last_after spent true sums.last })
   state_ended_spent came opening spent first_came later_came is_there same = by old.ending refl where
-    by : (was : Option Ending) → old.ending ≡ was → IsState (hub_of end_of new) (record sums { last = last_after spent true sums.last })
+    by : (was : Option Ending) → old.ending ≡ was → IsState (hub_of producer_end new) (record sums { counted = Some sums.entries; last = last_after spent true sums.last })
     by None e =
         let closing = first e in
-        let tickets = tickets_closed is.tickets.0 (hub_of end_of old) (hub_of end_of new) ending sums.last is.tickets.1 closing in
-        state_with_last (hub_of end_of new) sums (last_after spent true sums.last) state_ended (
-          is.tickets.0,
-          of_count_after is.tickets.0 (hub_of end_of new) spent true sums.last tickets (same ∙ is.tickets.1.opening opening (sym (first_came e) ∙ is_there))
-              (λ _. subst IsSome (sym (ap (λ (h : HubState). h.progress.ending) closing.closed.rest)) refl),
+        let closed = state_closed_looking (hub_of producer_end old) (hub_of producer_end new) ending sums is sound closing in
+        subst (λ n. IsState (hub_of producer_end new) (record sums { counted = Some n; last = last_after spent true sums.last })) (sym is.entries_are) (
+          state_with_last (hub_of producer_end new) (record sums { counted = Some (length (hub_of producer_end old).entries) }) (last_after spent true sums.last) closed (
+            is.tickets.0,
+            of_count_after is.tickets.0 (hub_of producer_end new) spent true (Some (length (hub_of producer_end old).entries)) sums.last
+                (tickets_closed is.tickets.0 (hub_of producer_end old) (hub_of producer_end new) ending sums.counted sums.last is.tickets.1 is.counted_is closing) (same ∙ is.tickets.1.opening opening (sym (first_came e) ∙ is_there))
+                (λ _. subst IsSome (sym (ap (λ (h : HubState). h.progress.ending) closing.closed.rest)) refl),
+          )
         )
     by (Some known) e = absurd (none_came came opening is_there (later_came (rw e refl)))
 
 -- one more ticket
-pub opened_after : (result : Result (Option Ticket) Refusal) (old new : Hub DeskState) → IfOk result (λ ticket. AddsTicket ticket old.opening new.opening) → OnErr result (new ≡ old) → IsSome old.opening → IsSome new.opening
+pub opened_after : (result : Result (Option Ticket) Refusal) (old new : Hub ProducerState) → IfOk result (λ ticket. AddsTicket ticket old.opening new.opening) → OnErr result (new ≡ old) → IsSome old.opening → IsSome new.opening
 opened_after (Ok None) old new adds same was = absurd adds
 opened_after (Ok (Some ticket)) old new adds same was = rw adds.now refl
-opened_after (Err refusal) old new adds same was = subst IsSome (sym (ap (λ (h : Hub DeskState). h.opening) same)) was
+opened_after (Err refusal) old new adds same was = subst IsSome (sym (ap (λ (h : Hub ProducerState). h.opening) same)) was
 
-pub state_ticketed : (old new : Hub DeskState) (sums : Sums) (is : IsState (hub_of end_of old) sums) → IsSound (hub_of end_of new) → new ≡ record old { opening = new.opening } → (old.ending ≡ None → IsSome new.opening)
-    → ((opening : Opening) → new.opening ≡ Some opening → count_of_opening opening ≡ is.tickets.0) → IsState (hub_of end_of new) sums
+pub state_ticketed : (old new : Hub ProducerState) (sums : Sums) (is : IsState (hub_of producer_end old) sums) → IsSound (hub_of producer_end new) → new ≡ record old { opening = new.opening } → (old.ending ≡ None → IsSome new.opening)
+    → ((opening : Opening) → new.opening ≡ Some opening → count_of_opening opening ≡ is.tickets.0) → IsState (hub_of producer_end new) sums
 state_ticketed old new sums is sound rest opened same_count = record {
   sound = sound;
-  sized = subst IsCapacity (sym (ap (λ (h : Hub DeskState). h.capacity) rest)) is.sized;
-  opened = λ none. opened (sym (ap (λ (h : Hub DeskState). h.ending) rest) ∙ none);
-  published_is = is.published_is ∙ sym (ap (λ (h : Hub DeskState). h.next) rest);
-  dropping_is = is.dropping_is ∙ sym (ap (λ (h : Hub DeskState). h.dropping) rest);
+  sized = subst IsCapacity (sym (ap (λ (h : Hub ProducerState). h.capacity) rest)) is.sized;
+  opened = λ none. opened (sym (ap (λ (h : Hub ProducerState). h.ending) rest) ∙ none);
+  published_is = is.published_is ∙ sym (ap (λ (h : Hub ProducerState). h.next) rest);
+  dropping_is = is.dropping_is ∙ sym (ap (λ (h : Hub ProducerState). h.dropping) rest);
   parts_are = is.parts_are;
   none_published = is.none_published;
   drop_parts_are = is.drop_parts_are;
   none_dropped = is.none_dropped;
-  sources_are = is.sources_are ∙ sym (ap (λ (h : Hub DeskState). h.sources) rest);
-  entries_are = is.entries_are ∙ sym (ap (λ (h : Hub DeskState). length (map (entry_of end_of) h.entries.items)) rest);
+  sources_are = is.sources_are ∙ sym (ap (λ (h : Hub ProducerState). h.sources) rest);
+  entries_are = is.entries_are ∙ sym (ap (λ (h : Hub ProducerState). length (map (entry_of producer_end) h.entries.items)) rest);
+  counted_is = counted_stays (hub_of producer_end old) (hub_of producer_end new) sums.counted is.counted_is (ap (λ (h : Hub ProducerState). h.ending) rest)
+      (ap (λ (h : Hub ProducerState). length (map (entry_of producer_end) h.entries.items)) rest);
   tickets = (
     is.tickets.0,
-    of_count_still is.tickets.0 (hub_of end_of old) (hub_of end_of new) sums.last is.tickets.1 same_count
-        (λ closed. (subst IsSome (sym (ap (λ (h : Hub DeskState). h.ending) rest)) closed, ap (λ (h : Hub DeskState). h.next) rest))
-        (subst (λ entries. AllKeep (hub_of end_of old).entries entries) (sym (ap (λ (h : Hub DeskState). (hub_of end_of h).entries) rest)) (all_same (hub_of end_of old).entries)),
+    of_count_still is.tickets.0 (hub_of producer_end old) (hub_of producer_end new) sums.counted sums.last is.tickets.1 same_count
+        (λ closed. subst IsSome (sym (ap (λ (h : Hub ProducerState). h.ending) rest)) closed) (λ _. ap (λ (h : Hub ProducerState). h.next) rest)
+        (subst (λ entries. AllKeep (hub_of producer_end old).entries entries) (sym (ap (λ (h : Hub ProducerState). (hub_of producer_end h).entries) rest)) (all_same (hub_of producer_end old).entries)),
   );
 }
 

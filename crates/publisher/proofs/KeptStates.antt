@@ -1,13 +1,13 @@
 -- What stands behind a publisher's lock stays as it should, whatever is asked of its Hub.
-use Rattle.std.proofs.Common.{◌≡◌, ◌⊎◌, inl, inr, ℕ, Option, List, map, refl, sym, ap, subst, ◌∙◌}
+use Rattle.std.proofs.Common.{◌≡◌, ◌⊎◌, inl, inr, ℕ, Option, List, length, map, refl, sym, ap, subst, ◌∙◌, arith}
 use Rattle.std.specs.Prelude.{IsSome}
 use Rattle.std.proofs.lemmas.List.{map-set}
 use Rattle.close_count.specs.Count.{CountId}
 use Rattle.close_count.specs.declared.spent.Spent.{Spent}
 use Rattle.flow_rules.specs.declared.feed.standing.Standing.{Standing}
 use Rattle.flow_rules.specs.declared.refusal.Refusal.{Refusal}
-use Rattle.feed_core.specs.Desk.{DeskState}
-use Rattle.feed_core.specs.Feed.{end_of, DoesCall}
+use Rattle.feed_cell.specs.Parties.{ProducerState, TaskState}
+use Rattle.feed_cell.specs.Offering.{DoesCall}
 use Rattle.feed_core.specs.LaneCalls.{IsCapacity}
 use Rattle.publisher_hub.specs.Entry.{entry_of}
 use Rattle.publisher_hub.specs.Hub.{HubState, Progress, hub_of}
@@ -20,7 +20,7 @@ use Rattle.publisher_hub.specs.declared.work.Work.{Work}
 use Rattle.publisher_hub.proofs.Kept.{each_mapped, glance_kept}
 use Rattle.publisher_hub.proofs.LiveRounds.{get_mapped}
 use Rattle.publisher_hub.proofs.Telling.{was_told}
-use Rattle.publisher.specs.State.{IsState, Sums}
+use Rattle.publisher.specs.State.{IsCountedAtClose, IsState, Sums, producer_end}
 use Rattle.publisher.specs.Tickets.{IsOfCount}
 use Rattle.publisher.proofs.Ticketed.{AllKeep, all_looked, all_same, all_then, of_count_still, one_told}
 
@@ -61,15 +61,22 @@ stays_seen v w rest kept = record {
 pub stays_looked : (v w : HubState) → IsLookedAt v w → Stays v w
 stays_looked v w looked = stays_by v w looked.rest (all_looked v.progress.next v.entries w.entries looked.entries)
 
-pub stays_all_looked : (old new : Hub DeskState) (glances : List (Option Standing)) → LooksAtAll end_of DoesCall glances old new → Stays (hub_of end_of old) (hub_of end_of new)
-stays_all_looked old new glances looks = stays_looked (hub_of end_of old) (hub_of end_of new) (record {
+pub stays_all_looked : (old new : Hub ProducerState) (glances : List (Option Standing)) → LooksAtAll producer_end DoesCall glances old new → Stays (hub_of producer_end old) (hub_of producer_end new)
+stays_all_looked old new glances looks = stays_looked (hub_of producer_end old) (hub_of producer_end new) (record {
   rest = looks.rest;
-  entries = each_mapped end_of (Glances end_of DoesCall old.next) (IsKept old.next) glances old.entries.items new.entries.items (glance_kept end_of DoesCall old.next) looks.entries;
+  entries = each_mapped producer_end (Glances producer_end DoesCall old.next) (IsKept old.next) glances old.entries.items new.entries.items (glance_kept producer_end DoesCall old.next) looks.entries;
 })
 
-pub tickets_stay : (count : CountId) (v w : HubState) (last : Option Spent) → IsOfCount count v last → Stays v w → IsOfCount count w last
-tickets_stay count v w last is stays = of_count_still count v w last is (λ opening held. is.opening opening (sym stays.opening ∙ held))
-    (λ closed. (subst IsSome (sym (ap (λ (p : Progress). p.ending) stays.progress)) closed, ap (λ (p : Progress). p.next) stays.progress)) stays.keep
+pub tickets_stay : (count : CountId) (v w : HubState) (counted : Option ℕ) (last : Option Spent) → IsOfCount count v counted last → Stays v w → IsOfCount count w counted last
+tickets_stay count v w counted last is stays = of_count_still count v w counted last is (λ opening held. is.opening opening (sym stays.opening ∙ held))
+    (λ closed. subst IsSome (sym (ap (λ (p : Progress). p.ending) stays.progress)) closed) (λ _. ap (λ (p : Progress). p.next) stays.progress) stays.keep
+
+-- how many there were before the close is known still
+pub counted_stays : (v w : HubState) (counted : Option ℕ) → IsCountedAtClose v counted → w.progress.ending ≡ v.progress.ending → length w.entries ≡ length v.entries → IsCountedAtClose w counted
+counted_stays v w counted is ending long = record {
+  unclosed = λ none. is.unclosed (sym ending ∙ none);
+  closed = λ some. let was = is.closed (subst IsSome ending some) in (was.0, (was.1.0, let few = was.1.1 in omega arith));
+}
 
 -- so what stands behind the lock stays
 pub state_stays : (v w : HubState) (sums : Sums) → IsState v sums → IsSound w → Stays v w → IsState w sums
@@ -85,35 +92,36 @@ state_stays v w sums is sound stays = record {
   none_dropped = is.none_dropped;
   sources_are = is.sources_are ∙ sym stays.sources;
   entries_are = is.entries_are ∙ sym stays.keep.as_long;
-  tickets = (is.tickets.0, tickets_stay is.tickets.0 v w sums.last is.tickets.1 stays);
+  counted_is = counted_stays v w sums.counted is.counted_is (ap (λ (p : Progress). p.ending) stays.progress) stays.keep.as_long;
+  tickets = (is.tickets.0, tickets_stay is.tickets.0 v w sums.counted sums.last is.tickets.1 stays);
 }
 
-pub state_all_looked : (old new : Hub DeskState) (glances : List (Option Standing)) (sums : Sums) → IsState (hub_of end_of old) sums → IsSound (hub_of end_of new)
-    → LooksAtAll end_of DoesCall glances old new → IsState (hub_of end_of new) sums
-state_all_looked old new glances sums is sound looks = state_stays (hub_of end_of old) (hub_of end_of new) sums is sound (stays_all_looked old new glances looks)
+pub state_all_looked : (old new : Hub ProducerState) (glances : List (Option Standing)) (sums : Sums) → IsState (hub_of producer_end old) sums → IsSound (hub_of producer_end new)
+    → LooksAtAll producer_end DoesCall glances old new → IsState (hub_of producer_end new) sums
+state_all_looked old new glances sums is sound looks = state_stays (hub_of producer_end old) (hub_of producer_end new) sums is sound (stays_all_looked old new glances looks)
 
 -- one of the subscriptions was told of a second subscribing
-keep_told : (due_before due_after : List (Work Unit)) (number : ℕ) (old new : Hub DeskState) → TellsAt end_of DoesCall number due_before due_after old new → AllKeep (hub_of end_of old).entries (hub_of end_of new).entries
-keep_told due_before due_after number old new tells = subst (λ entries. AllKeep (hub_of end_of old).entries entries)
-    (sym (ap (map (entry_of end_of)) tells.entries ∙ map-set (entry_of end_of) old.entries.items number tells.after))
-    (one_told (hub_of end_of old).entries number (entry_of end_of tells.before) (entry_of end_of tells.after) (get_mapped (entry_of end_of) old.entries.items number tells.before tells.there)
-    (was_told end_of DoesCall tells.start tells.before tells.after tells.told))
+keep_told : (due_before due_after : List (Work TaskState)) (number : ℕ) (old new : Hub ProducerState) → TellsAt producer_end DoesCall number due_before due_after old new → AllKeep (hub_of producer_end old).entries (hub_of producer_end new).entries
+keep_told due_before due_after number old new tells = subst (λ entries. AllKeep (hub_of producer_end old).entries entries)
+    (sym (ap (map (entry_of producer_end)) tells.entries ∙ map-set (entry_of producer_end) old.entries.items number tells.after))
+    (one_told (hub_of producer_end old).entries number (entry_of producer_end tells.before) (entry_of producer_end tells.after) (get_mapped (entry_of producer_end) old.entries.items number tells.before tells.there)
+    (was_told producer_end DoesCall tells.start tells.before tells.after tells.told))
 
 -- a subscribing that is refused
-module _ (name : List ℕ) (due_before due_after : List (Work Unit)) (old new : Hub DeskState) where
-  stays_no_place : (refusal : Refusal) → FindsNoPlace end_of DoesCall name refusal old new → Stays (hub_of end_of old) (hub_of end_of new)
-  stays_no_place refusal finds = stays_seen (hub_of end_of old) (hub_of end_of new) finds.seen.rest finds.seen.kept
+module _ (name : List ℕ) (due_before due_after : List (Work TaskState)) (old new : Hub ProducerState) where
+  stays_no_place : (refusal : Refusal) → FindsNoPlace producer_end DoesCall name refusal old new → Stays (hub_of producer_end old) (hub_of producer_end new)
+  stays_no_place refusal finds = stays_seen (hub_of producer_end old) (hub_of producer_end new) finds.seen.rest finds.seen.kept
 
-  stays_in_part : IsSeenInPart end_of DoesCall old new ⊎ FindsNoPlace end_of DoesCall name Refusal.NoMemory old new → Stays (hub_of end_of old) (hub_of end_of new)
-  stays_in_part (inl seen) = stays_looked (hub_of end_of old) (hub_of end_of new) (record { rest = seen.rest; entries = seen.kept })
+  stays_in_part : IsSeenInPart producer_end DoesCall old new ⊎ FindsNoPlace producer_end DoesCall name Refusal.NoMemory old new → Stays (hub_of producer_end old) (hub_of producer_end new)
+  stays_in_part (inl seen) = stays_looked (hub_of producer_end old) (hub_of producer_end new) (record { rest = seen.rest; entries = seen.kept })
   stays_in_part (inr finds) = stays_no_place Refusal.NoMemory finds
 
-  stays_told : (middle : Hub DeskState) → IsSeen end_of DoesCall old middle → TellsOne end_of DoesCall name due_before due_after middle new → Stays (hub_of end_of old) (hub_of end_of new)
+  stays_told : (middle : Hub ProducerState) → IsSeen producer_end DoesCall old middle → TellsOne producer_end DoesCall name due_before due_after middle new → Stays (hub_of producer_end old) (hub_of producer_end new)
   stays_told middle seen tells = stays_then
-      (stays_seen (hub_of end_of old) (hub_of end_of middle) seen.rest seen.kept)
-      (stays_by (hub_of end_of middle) (hub_of end_of new) tells.tells.rest (keep_told due_before due_after tells.number middle new tells.tells))
+      (stays_seen (hub_of producer_end old) (hub_of producer_end middle) seen.rest seen.kept)
+      (stays_by (hub_of producer_end middle) (hub_of producer_end new) tells.tells.rest (keep_told due_before due_after tells.number middle new tells.tells))
 
-  pub stays_refused : (refusal : Refusal) → Refuses end_of DoesCall name refusal due_before due_after old new → Stays (hub_of end_of old) (hub_of end_of new)
+  pub stays_refused : (refusal : Refusal) → Refuses producer_end DoesCall name refusal due_before due_after old new → Stays (hub_of producer_end old) (hub_of producer_end new)
   stays_refused Refusal.Duplicate refuses = stays_told refuses.0 refuses.1.0 refuses.1.1
   stays_refused Refusal.NoMemory refuses = stays_in_part refuses.0
   stays_refused Refusal.BadCapacity refuses = stays_no_place Refusal.BadCapacity refuses.0

@@ -1,18 +1,21 @@
 -- Each subscription has its ticket until it has ended, whatever is asked of a Hub.
-use Rattle.std.proofs.Common.{◌≡◌, ◌⊎◌, inl, inr, ℕ, ◌&&◌, Bool, true, false, if◌then◌else◌, Option, None, Some, List, set, refl, sym, ap, subst, ◌∙◌}
+use Rattle.std.proofs.Common.{◌≡◌, ◌⊎◌, inl, inr, ℕ, ◌<◌, ◌&&◌, Bool, true, false, if◌then◌else◌, Option, None, Some, List, length, set, refl, sym, ap, subst, ◌∙◌, arith}
 use Rattle.std.specs.Prelude.{IsSome, slice_get}
 use Rattle.std.proofs.lemmas.List.{length-set}
+use Rattle.std.proofs.lemmas.Option.{slice_get_within}
 use Rattle.close_count.specs.Count.{CountId}
 use Rattle.close_count.specs.Opening.{count_of_opening}
 use Rattle.close_count.specs.Spent.{count_of_spent, was_last}
+use Rattle.close_count.specs.Ticket.{count_of_ticket}
 use Rattle.close_count.specs.declared.opening.Opening.{Opening}
 use Rattle.close_count.specs.declared.spent.Spent.{Spent}
+use Rattle.close_count.specs.declared.ticket.Ticket.{Ticket}
 use Rattle.flow_rules.specs.Feed.{End}
 use Rattle.flow_rules.specs.declared.ending.Ending.{Ending}
 use Rattle.flow_rules.specs.declared.item.Item.{Item}
 use Rattle.publisher_hub.specs.Closing.{IsClosedBy}
 use Rattle.publisher_hub.specs.Entry.{EntryState}
-use Rattle.publisher_hub.specs.Hub.{HubState, Progress}
+use Rattle.publisher_hub.specs.Hub.{HubState}
 use Rattle.publisher_hub.specs.Lists.{Each}
 use Rattle.publisher_hub.specs.Looking.{IsKept}
 use Rattle.publisher_hub.specs.Offering.{IsOffered}
@@ -20,40 +23,52 @@ use Rattle.publisher_hub.specs.Subscribing.{WasTold}
 use Rattle.publisher_hub.proofs.PartialRounds.{same_some}
 use Rattle.publisher_hub.proofs.Places.{stood_at}
 use Rattle.publisher_hub.proofs.Replaced.{set_or_stood}
+use Rattle.publisher.specs.Spending.{last_after}
 use Rattle.publisher.specs.Tickets.{IsLate, IsOfCount, IsOver, IsTicketed}
-use Rattle.publisher.specs.Turning.{last_after}
 
--- what a call leaves of a subscription that has its ticket until it has ended: one of which that holds, too. The publisher may be closed
--- meanwhile, or may publish as long as it is open
+-- what a call leaves of a subscription: its ticket, or none once it has ended; it was subscribed when it was; and it stays ended
 pub record KeepsTicket (old new : EntryState) : Type 0 where
-  pub still : (count : CountId) (p q : Progress) → (IsSome p.ending → IsSome q.ending × (q.next ≡ p.next)) → IsTicketed count p old → IsTicketed count q new
+  pub since : new.since ≡ old.since
+  pub ticket : (new.ticket ≡ old.ticket) ⊎ ((new.ticket ≡ None) × IsOver new)
+  pub over : IsOver old → IsOver new
+
+-- so it has its ticket until it has ended, still. Nothing was published meanwhile if the publisher was closed
+pub ticketed_still : (count : CountId) (counted : Option ℕ) (next later number : ℕ) (old new : EntryState) → KeepsTicket old new → (IsLate counted number → later ≡ next)
+    → IsTicketed count counted next number old → IsTicketed count counted later number new
+ticketed_still count counted next later number old new keeps same is = record {
+  of_count = λ t at. has_of keeps.ticket t at;
+  spent = λ none. has_spent keeps.ticket none;
+  late = λ late. keeps.since ∙ is.late late ∙ sym (same late);
+} where
+  has_of : (new.ticket ≡ old.ticket) ⊎ ((new.ticket ≡ None) × IsOver new) → (t : Ticket) → new.ticket ≡ Some t → count_of_ticket t ≡ count
+  has_of (inl kept) t at = is.of_count t (sym kept ∙ at)
+  has_of (inr gone) t at = let no : None ≡ Some t = sym gone.0 ∙ at in cc
+
+  still : IsOver old ⊎ IsLate counted number → IsOver new ⊎ IsLate counted number
+  still (inl over) = inl (keeps.over over)
+  still (inr late) = inr late
+
+  has_spent : (new.ticket ≡ old.ticket) ⊎ ((new.ticket ≡ None) × IsOver new) → new.ticket ≡ None → IsOver new ⊎ IsLate counted number
+  has_spent (inl kept) none = still (is.spent (sym kept ∙ none))
+  has_spent (inr gone) none = inl gone.1
 
 -- one that stands as it stood, with the same ticket
 keeps_ticket : (old new : EntryState) → new.ticket ≡ old.ticket → new.since ≡ old.since → (IsOver old → IsOver new) → KeepsTicket old new
-keeps_ticket old new ticket since over = record {
-  still = λ count p q goes_on is. record {
-    of_count = λ t at. is.of_count t (sym ticket ∙ at);
-    spent = λ none. by p q goes_on (is.spent (sym ticket ∙ none));
-  };
-} where
-  by : (p q : Progress) → (IsSome p.ending → IsSome q.ending × (q.next ≡ p.next)) → IsOver old ⊎ IsLate p old → IsOver new ⊎ IsLate q new
-  by p q goes_on (inl is) = inl (over is)
-  by p q goes_on (inr late) = let still = goes_on late.0 in inr (still.0, since ∙ late.1 ∙ sym still.1)
+keeps_ticket old new ticket since over = record { since = since; ticket = inl ticket; over = over }
 
 pub keeps_same : (entry : EntryState) → KeepsTicket entry entry
 keeps_same entry = keeps_ticket entry entry refl refl (λ is. is)
 
 keeps_then : (one two three : EntryState) → KeepsTicket one two → KeepsTicket two three → KeepsTicket one three
-keeps_then one two three a b = record { still = λ count p q goes_on is. b.still count p q goes_on (a.still count p p (λ closed. (closed, refl)) is) }
+keeps_then one two three a b = record { since = b.since ∙ a.since; ticket = by a.ticket b.ticket; over = λ is. b.over (a.over is) } where
+  by : (two.ticket ≡ one.ticket) ⊎ ((two.ticket ≡ None) × IsOver two) → (three.ticket ≡ two.ticket) ⊎ ((three.ticket ≡ None) × IsOver three) → (three.ticket ≡ one.ticket) ⊎ ((three.ticket ≡ None) × IsOver three)
+  by (inl first) (inl later) = inl (later ∙ first)
+  by (inr first) (inl later) = inr (later ∙ first.0, b.over first.1)
+  by first (inr later) = inr later
 
 -- one that has ended, or whose producer's end was taken out, needs none
-pub keeps_over : (old new : EntryState) → new.ticket ≡ None → IsOver new → KeepsTicket old new
-keeps_over old new none over = record {
-  still = λ count p q goes_on is. record {
-    of_count = λ t at. let no : None ≡ Some t = sym none ∙ at in cc;
-    spent = λ _. inl over;
-  };
-}
+pub keeps_over : (old new : EntryState) → new.ticket ≡ None → IsOver new → new.since ≡ old.since → KeepsTicket old new
+keeps_over old new none over since = record { since = since; ticket = inr (none, over); over = λ _. over }
 
 -- an end that had ended stays so
 pub keeps_ended : (old new : EntryState) (before after : End) → old.feed ≡ Some before → new.feed ≡ Some after → new.ticket ≡ old.ticket → new.since ≡ old.since
@@ -139,22 +154,22 @@ pub one_told : (xs : List EntryState) (number : ℕ) (old new : EntryState) → 
 one_told xs number old new stood told = all_but_one xs number old new stood (told_kept old new told)
 
 -- so the tickets stay those of one count
-pub of_count_still : (count : CountId) (v w : HubState) (last : Option Spent) → IsOfCount count v last → ((opening : Opening) → w.opening ≡ Some opening → count_of_opening opening ≡ count)
-    → (IsSome v.progress.ending → IsSome w.progress.ending × (w.progress.next ≡ v.progress.next)) → AllKeep v.entries w.entries → IsOfCount count w last
-of_count_still count v w last is opening goes_on keep = record {
+pub of_count_still : (count : CountId) (v w : HubState) (counted : Option ℕ) (last : Option Spent) → IsOfCount count v counted last → ((opening : Opening) → w.opening ≡ Some opening → count_of_opening opening ≡ count)
+    → (IsSome v.progress.ending → IsSome w.progress.ending) → (IsSome counted → w.progress.next ≡ v.progress.next) → AllKeep v.entries w.entries → IsOfCount count w counted last
+of_count_still count v w counted last is opening closed same keep = record {
   opening = opening;
   entries = λ k entry at.
       let stood = stood_at KeepsTicket v.entries w.entries k entry keep at in
-      stood.became.still count v.progress w.progress goes_on (is.entries k stood.entry stood.at);
+      ticketed_still count counted v.progress.next w.progress.next k stood.entry entry stood.became (λ late. same (rw late.1.0 refl)) (is.entries k stood.entry stood.at);
   last_is = is.last_is;
-  closed = λ some. (goes_on (is.closed some)).0;
+  closed = λ some. closed (is.closed some);
 }
 
--- a ticket of the count was spent, and what is left of it is kept where it was the last
-pub of_count_after : (count : CountId) (v : HubState) (spent : Spent) (closed : Bool) (last : Option Spent) → IsOfCount count v last → count_of_spent spent ≡ count → (closed ≡ true → IsSome v.progress.ending)
-    → IsOfCount count v (last_after spent closed last)
-of_count_after count v spent closed last is same shut = by (was_last spent) closed refl refl where
-  by : (was now : Bool) → was_last spent ≡ was → closed ≡ now → IsOfCount count v (if was && now then Some spent else last)
+-- a ticket of the count was spent, and what is left of it is kept if it was the last
+pub of_count_after : (count : CountId) (v : HubState) (spent : Spent) (closed : Bool) (counted : Option ℕ) (last : Option Spent) → IsOfCount count v counted last → count_of_spent spent ≡ count
+    → (closed ≡ true → IsSome v.progress.ending) → IsOfCount count v counted (last_after spent closed last)
+of_count_after count v spent closed counted last is same shut = by (was_last spent) closed refl refl where
+  by : (was now : Bool) → was_last spent ≡ was → closed ≡ now → IsOfCount count v counted (if was && now then Some spent else last)
   by true true was now = record {
     opening = is.opening;
     entries = is.entries;
@@ -163,6 +178,25 @@ of_count_after count v spent closed last is same shut = by (was_last spent) clos
   }
   by true false was now = is
   by false now was e = is
+
+-- the publisher was closed: until then no subscription was late, and of those that there are none is
+pub of_count_counted : (count : CountId) (v : HubState) (many : ℕ) (last : Option Spent) → many ≡ length v.entries → IsOfCount count v None last → IsOfCount count v (Some many) last
+of_count_counted count v many last all is = record {
+  opening = is.opening;
+  entries = λ k entry at.
+      let was = is.entries k entry at in
+      let before : k < length v.entries = slice_get_within v.entries k entry at in
+      record {
+        of_count = was.of_count;
+        spent = λ none. by entry k (was.spent none);
+        late = λ late. let beyond = late.1.1 in let same = same_some late.1.0 in absurd (omega arith);
+      };
+  last_is = is.last_is;
+  closed = is.closed;
+} where
+  by : (entry : EntryState) (k : ℕ) → IsOver entry ⊎ IsLate None k → IsOver entry ⊎ IsLate (Some many) k
+  by entry k (inl over) = inl over
+  by entry k (inr late) = let never : None ≡ Some late.0 = late.1.0 in cc
 
 -- what is left of the last ticket stays
 pub last_stays : (spent : Spent) (closed : Bool) (last : Option Spent) → IsSome last → IsSome (last_after spent closed last)

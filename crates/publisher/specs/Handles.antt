@@ -1,5 +1,6 @@
 -- What the owners of submitters and subscriptions see of them.
-use Rattle.std.specs.Prelude.{◌≡◌, ⊤, ℕ, Option, Some}
+use Rattle.std.specs.Prelude.{◌≡◌, ⊤, ℕ, ℤ, true, false, Option, Some}
+use Rattle.feed_cell.specs.Parties.{HandleState, handle_after_request}
 use Rattle.flow_rules.specs.declared.ending.Ending.{Ending}
 use Rattle.flow_rules.specs.declared.refusal.Refusal.{Refusal}
 use Rattle.flow_rules.specs.declared.refusal.Refusal.TheVariants.{Closed, Duplicate, Exhausted, LineTooLong, NoMemory, TooMany}
@@ -7,9 +8,19 @@ use Rattle.publisher_hub.specs.declared.hub.publishing.Unpublished.{Unpublished}
 use Rattle.publisher_hub.specs.declared.hub.publishing.Unpublished.TheVariants.{NoRoom, Refused}
 use Rattle.publisher.specs.Note.{known_by}
 
--- a subscription: its number
+-- a subscription: its number, and its handle
 pub record SubscriptionState : Type 0 where
   pub entry : ℕ
+  pub handle : HandleState
+
+-- a request of this number, of a handle: after a cancel it does nothing (Reactive Streams 1.0, 3.6 and 3.8)
+pub record Requests (n : ℤ) (old new : HandleState) : Type 0 where
+  pub requested : old.cancelled ≡ false → new ≡ record (handle_after_request n old) { ready = new.ready }
+  pub ignored : old.cancelled ≡ true → new ≡ record old { ready = new.ready }
+
+-- a cancel of a handle: only the first does anything (Reactive Streams 1.0, 3.5 and 3.7)
+pub record Cancels (old new : HandleState) : Type 0 where
+  pub cancelled : new ≡ record old { cancelled = true; ready = new.ready }
 
 -- a submitter: its number; what it was told of the close; how many items it published; and how many of its offers found a buffer full
 pub record SubmitterState : Type 0 where

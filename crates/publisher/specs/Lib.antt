@@ -1,10 +1,14 @@
-pub mod Acting
+pub mod Closing
+pub mod Finding
+pub mod Finishing
 pub mod Handles
-pub mod Lanes
+pub mod Leaving
 pub mod Note
 pub mod Outcome
 pub mod Publishing
+pub mod Spending
 pub mod State
+pub mod Subscribing
 pub mod Tickets
 pub mod Together
-pub mod Turning
+pub mod Waiters

@@ -2,10 +2,11 @@
 use Rattle.std.specs.Prelude.{◌≡◌, ◌⊎◌, ⊤, ℕ, ◌+◌, ◌<◌, ◌≤◌, ◌||◌, ◌&&◌, Bool, true, false, is_none, Option, None, Some, IsSome, Result, Ok, Err, List, [], ◌++◌, length, slice_get, sum_by, codes, decimal}
 use Rattle.flow_rules.specs.declared.refusal.Refusal.{Refusal}
 use Rattle.feed_core.specs.Prelude.{Item, Signal, How}
-use Rattle.feed_core.specs.Lane.{LaneState, IsFlow, IsSettled}
+use Rattle.feed_core.specs.Lane.{LaneState}
+use Rattle.feed_core.specs.LeftLane.{IsLeftLane}
 use Rattle.publisher_hub.specs.Sound.{IsOrdered}
 use Rattle.publisher.specs.Handles.{SubmitterState, SubscriptionState}
-use Rattle.publisher.specs.Lanes.{IsFirstGap, IsHandedIn}
+use Rattle.publisher.specs.Finding.{IsHandedIn}
 use Rattle.publisher.specs.declared.outcome.NamedLane.{NamedLane}
 use Rattle.publisher.specs.declared.outcome.Outcome.{Outcome}
 use Rattle.publisher.specs.declared.state.TheConstants.{SOURCES}
@@ -18,13 +19,10 @@ TookPart (Some _) = ⊥
 
 -- what is left of one subscription of a publisher that published so many items, and the lane that it was
 pub record IsLane {B : Type 0} (told : B → List Signal) (published : ℕ) (left : NamedLane B) (lane : LaneState) : Type 0 where
-  -- its subscriber is there, and was told this
-  pub subscriber : B
-  pub there : left.lane.subscriber ≡ Some subscriber
-  pub told_is : told subscriber ≡ lane.told
-  -- onSubscribe, then the next of the items that its buffer accepted, in that order, never more than were requested; then at most one onComplete or
-  -- onError, and onComplete only after every accepted item
-  pub flow : IsFlow lane
+  -- its subscriber was told onSubscribe, then the next of the items that its buffer accepted, in that order, never more than were requested;
+  -- then at most one onComplete or onError, and onComplete only after every accepted item. If it doesn't run, it was told all that its demand
+  -- and its ending allow
+  pub is : IsLeftLane told lane left.lane
   -- it accepted each item once, and those of each sender in the order in which they were sent
   pub ordered : IsOrdered lane.accepted
   -- each of them was published since it was subscribed
@@ -32,13 +30,6 @@ pub record IsLane {B : Type 0} (told : B → List Signal) (published : ℕ) (lef
   -- what it accepted and dropped is what was published while it took part
   pub counted : left.since + (left.lane.accepted + left.dropped) ≤ published
   pub whole : TookPart left.lane.ending → left.since + (left.lane.accepted + left.dropped) ≡ published
-  -- the numbers of the lane, and how it ended
-  pub accepted : left.lane.accepted ≡ length lane.accepted
-  pub given : left.lane.given ≡ lane.given
-  pub asked : left.lane.asked ≡ lane.asked
-  pub ending : left.lane.ending ≡ lane.how
-  -- where no turn is owed, it was told all that its demand and its ending allow
-  pub settled : left.lane.running ≡ false → IsSettled lane
 
 -- items with one serial number are one item, whoever accepted them
 abbrev pub AreAgreed : List LaneState → Type 0
@@ -52,8 +43,10 @@ pub record IsOutcome {B : Type 0} (told : B → List Signal) (outcome : Outcome 
   pub as_many : length lanes ≡ length outcome.lanes.items
   pub each : (i : ℕ) (left : NamedLane B) (lane : LaneState) → slice_get outcome.lanes.items i ≡ Some left → slice_get lanes i ≡ Some lane → IsLane told outcome.published left lane
   pub agreed : AreAgreed lanes
-  -- once the last ticket was spent, each has ended but those since whose subscribing nothing was published, which may have come after the close
-  pub drained : outcome.drained ≡ true → (i : ℕ) (left : NamedLane B) → slice_get outcome.lanes.items i ≡ Some left → IsSome left.lane.ending ⊎ (left.since ≡ outcome.published)
+  -- once the last ticket was spent, each has ended that was subscribed before the close
+  pub drained : outcome.drained ≡ true → (i : ℕ) (left : NamedLane B) → slice_get outcome.lanes.items i ≡ Some left → left.late ≡ false → IsSome left.lane.ending
+  -- since a later one was subscribed nothing was published
+  pub late : (i : ℕ) (left : NamedLane B) → slice_get outcome.lanes.items i ≡ Some left → left.late ≡ true → left.since ≡ outcome.published
 
 -- what is left, whatever the answer of `finish`
 abbrev pub outcome_of : {B : Type 0} → Result (Outcome B) (Refusal × Outcome B) → Outcome B
@@ -69,10 +62,24 @@ pub record AreHandedIn {B : Type 0} (subscriptions : List SubscriptionState) (la
 abbrev pub AreNumbered : {B : Type 0} → List (NamedLane B) → Type 0
 AreNumbered {B} lanes = (i : ℕ) (left : NamedLane B) → slice_get lanes i ≡ Some left → left.entry ≡ i
 
+-- the subscription of this number has a lane
+abbrev pub HasLane : {B : Type 0} → ℕ → List (NamedLane B) → Type 0
+HasLane {B} number lanes = (i : ℕ) × (left : NamedLane B) × ((slice_get lanes i ≡ Some left) × (left.entry ≡ number))
+
+-- it is one of these
+abbrev pub IsHeld : ℕ → List ℕ → Type 0
+IsHeld number held = (i : ℕ) × (slice_get held i ≡ Some number)
+
+-- it is the first that has no lane
+pub record IsFirstGap {B : Type 0} (number : ℕ) (lanes : List (NamedLane B)) : Type 0 where
+  pub before : (k : ℕ) → k < number → (left : NamedLane B) × ((slice_get lanes k ≡ Some left) × (left.entry ≡ k))
+  pub none : HasLane number lanes → ⊥
+
 -- all is there: each subscription that was made, and all submitters, whose shares sum up to what was published
 pub record IsWhole {B : Type 0} (submitters : List SubmitterState) (subscriptions : List SubscriptionState) (outcome : Outcome B) : Type 0 where
   pub numbered : AreNumbered outcome.lanes.items
-  pub none_left_out : (number : ℕ) → IsHandedIn subscriptions number → number < length outcome.lanes.items
+  pub none_left_out : (number : ℕ) → IsHandedIn subscriptions number → HasLane number outcome.lanes.items
+  pub none_held : outcome.held.items ≡ []
   pub published : outcome.published ≡ sum_by (λ (s : SubmitterState). s.published) submitters
   pub dropped : (i : ℕ) (left : NamedLane B) → slice_get outcome.lanes.items i ≡ Some left → left.dropped ≤ sum_by (λ (s : SubmitterState). s.dropping) submitters
 
@@ -103,25 +110,34 @@ IsAway source submitters = (i : ℕ) (s : SubmitterState) → slice_get submitte
 abbrev pub source_name : ℕ → List ℕ
 source_name source = codes "source-" ++ decimal source
 
--- the first subscription that has no lane was not handed in
-abbrev pub IsLaneAway : {B : Type 0} → List SubscriptionState → List (NamedLane B) → Type 0
-IsLaneAway subscriptions lanes = (number : ℕ) × (IsFirstGap number lanes × (IsHandedIn subscriptions number → ⊥))
+-- the first subscription that has no lane was not handed in, or is held still
+abbrev pub IsLaneAway : {B : Type 0} → List SubscriptionState → Outcome B → Type 0
+IsLaneAway subscriptions outcome = (number : ℕ) × (IsFirstGap number outcome.lanes.items × ((IsHandedIn subscriptions number → ⊥) ⊎ IsHeld number outcome.held.items))
 
 -- the submitter with this name was not handed in, and no lane is missing
-abbrev pub IsSourceAway : {B : Type 0} → List ℕ → List SubmitterState → List (NamedLane B) → Type 0
-IsSourceAway name submitters lanes = (source : ℕ) × ((source < SOURCES) × ((name ≡ source_name source) × (IsAway source submitters × AreNumbered lanes)))
+abbrev pub IsSourceAway : {B : Type 0} → List ℕ → List SubmitterState → Outcome B → Type 0
+IsSourceAway name submitters outcome = (source : ℕ) × ((source < SOURCES) × ((name ≡ source_name source) × (IsAway source submitters × (AreNumbered outcome.lanes.items × (outcome.held.items ≡ [])))))
 
 -- a subscription or a submitter is missing
-abbrev pub IsMissing : {B : Type 0} → List ℕ → List SubmitterState → List SubscriptionState → List (NamedLane B) → Type 0
-IsMissing name submitters subscriptions lanes = IsLaneAway subscriptions lanes ⊎ IsSourceAway name submitters lanes
+abbrev pub IsMissing : {B : Type 0} → List ℕ → List SubmitterState → List SubscriptionState → Outcome B → Type 0
+IsMissing name submitters subscriptions outcome = IsLaneAway subscriptions outcome ⊎ IsSourceAway name submitters outcome
+
+-- the rest is given: each subscription that was handed in has its lane, but those that are held still, which have none
+pub record IsRestGiven {B : Type 0} (subscriptions : List SubscriptionState) (outcome : Outcome B) : Type 0 where
+  pub given : (number : ℕ) → IsHandedIn subscriptions number → HasLane number outcome.lanes.items ⊎ IsHeld number outcome.held.items
+  pub held : (number : ℕ) → IsHeld number outcome.held.items → IsHandedIn subscriptions number × (HasLane number outcome.lanes.items → ⊥)
 
 -- the answers of `finish`, in the order of its refusals
 abbrev pub Finishes : {B : Type 0} → List SubmitterState → List SubscriptionState → Result (Outcome B) (Refusal × Outcome B) → Type 0
 Finishes submitters subscriptions (Ok outcome) = IsWhole submitters subscriptions outcome × AreDone submitters outcome
-Finishes submitters subscriptions (Err (Refusal.NoMemory, outcome)) = outcome.lanes.items ≡ []
-Finishes submitters subscriptions (Err (Refusal.StillHeld name, outcome)) = IsMissing name submitters subscriptions outcome.lanes.items
+Finishes submitters subscriptions (Err (Refusal.NoMemory, outcome)) = (outcome.lanes.items ≡ []) × (outcome.held.items ≡ [])
+Finishes submitters subscriptions (Err (Refusal.StillHeld name, outcome)) = IsMissing name submitters subscriptions outcome × IsRestGiven subscriptions outcome
 Finishes submitters subscriptions (Err (Refusal.Unsettled names, outcome)) = IsWhole submitters subscriptions outcome × NamesUndone names.items outcome.lanes.items
 Finishes submitters subscriptions (Err (_, outcome)) = ⊥
+
+-- it is refused by this name
+abbrev pub StillHolds : {B : Type 0} → List ℕ → Result (Outcome B) (Refusal × Outcome B) → Type 0
+StillHolds {B} name result = (outcome : Outcome B) × (result ≡ Err (Refusal.StillHeld name, outcome))
 
 -- whether what is left runs, or has not ended where the publisher is closed
 abbrev pub is_undone : {B : Type 0} → Bool → NamedLane B → Bool

@@ -1,21 +1,28 @@
 -- What stands behind a publisher's lock.
-use Rattle.std.specs.Prelude.{◌≡◌, ℕ, ◌+◌, Option, None, IsSome, length}
+use Rattle.std.specs.Prelude.{◌≡◌, ℕ, ◌+◌, ◌≤◌, Option, None, Some, IsSome, length}
 use Rattle.close_count.specs.declared.spent.Spent.{Spent}
-use Rattle.feed_core.specs.Desk.{DeskState}
+use Rattle.feed_cell.specs.Parties.{ProducerState}
 use Rattle.feed_core.specs.LaneCalls.{IsCapacity}
+use Rattle.flow_rules.specs.Feed.{End}
 use Rattle.publisher_hub.specs.Hub.{HubState}
 use Rattle.publisher_hub.specs.Sound.{IsSound}
 use Rattle.publisher_hub.specs.declared.hub.Hub.{Hub}
 use Rattle.publisher.specs.Tickets.{AreOfOneCount}
 pub use Rattle.publisher.specs.declared.state.TheConstants.{PARTS}
 
--- the subscriptions and their buffers, and what is left of the last ticket of the count, once that was spent
+-- what the publisher knows of a subscription, by its producer's end
+abbrev pub producer_end : ProducerState → End
+producer_end producer = producer.end
+
+-- the subscriptions; how many of them were made before the close, once the publisher is closed; and what is left of the last ticket of the
+-- count, once that was spent
 pub record PublisherState : Type 0 where
-  pub hub : Hub DeskState
+  pub hub : Hub ProducerState
+  pub counted : Option ℕ
   pub last : Option Spent
 
--- the totals of both ledgers; the parts and amounts of the shares that no submitter has; how many submitters and subscriptions were made; and
--- what is left of the last ticket of the count, once that was spent
+-- the totals of both ledgers; the parts and amounts of the shares that no submitter has; how many submitters and subscriptions were made, and
+-- how many of these before the close; and what is left of the last ticket of the count, once that was spent
 pub record Sums : Type 0 where
   pub published : ℕ
   pub dropping : ℕ
@@ -25,10 +32,16 @@ pub record Sums : Type 0 where
   pub drop_amount : ℕ
   pub sources : ℕ
   pub entries : ℕ
+  pub counted : Option ℕ
   pub last : Option Spent
 
--- whenever the lock is free: the Hub is sound, and holds the opening ticket until it is closed; the totals are its numbers; and each submitter has
--- one part of each ledger, and the rest has no amount; and each subscription has its ticket until it has ended
+-- how many subscriptions were made before the close is known once the publisher is closed
+pub record IsCountedAtClose (hub : HubState) (counted : Option ℕ) : Type 0 where
+  pub unclosed : hub.progress.ending ≡ None → counted ≡ None
+  pub closed : IsSome hub.progress.ending → (many : ℕ) × ((counted ≡ Some many) × (many ≤ length hub.entries))
+
+-- whenever the lock is free: the Hub is sound, and holds the opening ticket until it is closed; the totals are its numbers; each submitter has
+-- one part of each ledger, and the rest has no amount; and each subscription from before the close has its ticket until it has ended
 pub record IsState (hub : HubState) (sums : Sums) : Type 0 where
   pub sound : IsSound hub
   pub sized : IsCapacity hub.progress.capacity
@@ -41,4 +54,5 @@ pub record IsState (hub : HubState) (sums : Sums) : Type 0 where
   pub none_dropped : sums.drop_amount ≡ 0
   pub sources_are : sums.sources ≡ hub.sources
   pub entries_are : sums.entries ≡ length hub.entries
-  pub tickets : AreOfOneCount hub sums.last
+  pub counted_is : IsCountedAtClose hub sums.counted
+  pub tickets : AreOfOneCount hub sums.counted sums.last

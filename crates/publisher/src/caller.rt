@@ -1,12 +1,13 @@
-//! How a thread has turns run, and publishes.
+//! How a thread schedules tasks, runs turns of them, and publishes.
 ghost use Rattle.std.specs.Prelude.{◌≡◌, ◌+◌, [], IfErr, IfOk, OnErr, OnOk};
 ghost use Rattle.publisher.specs.Handles.{IsHubReason, IsHubRefusal};
 ghost use Rattle.publisher.specs.Publishing.{drop_of};
 
-use crate::shared::{Shared, Turn, Worker};
+use crate::shared::{ConsumerTask, Shared, Worker};
 use crate::state::Own;
 use async_pool::{Job, Pool};
 use crossbeam_utils::Backoff;
+use feed_cell::Task;
 use flow_rules::{DropHandler, Listener, NoMemory, Refusal, Text};
 use publisher_hub::{Unpublished, Work};
 use std::alloc::Global;
@@ -16,11 +17,11 @@ use std::sync::{Arc, Wait};
 /// How often a blocked submitter looks for room before it sleeps.
 const LOOKS: u32 = 12;
 
-/// What one thread hands turns to the pool with, and runs those that come back.
+/// What one thread hands tasks to the pool with, and runs those that come back.
 #[derive(Drop)]
 pub struct Caller<L: Ledger + Send, D: Ledger + Send, B: Listener + Send> {
     pub worker: Worker<L, D, B>,
-    pool: Arc<Pool<Turn<L, D, B>>>,
+    pool: Arc<Pool<ConsumerTask<L, D, B>>>,
 }
 
 impl<L: Ledger + Send, D: Ledger + Send, B: Listener + Send> Caller<L, D, B> {
@@ -28,7 +29,7 @@ impl<L: Ledger + Send, D: Ledger + Send, B: Listener + Send> Caller<L, D, B> {
     pub fn new(
         alloc: Global,
         shared: &Arc<Shared<L, D, B>>,
-        pool: &Arc<Pool<Turn<L, D, B>>>,
+        pool: &Arc<Pool<ConsumerTask<L, D, B>>>,
     ) -> Result<Caller<L, D, B>, NoMemory> {
         Ok(Caller {
             worker: Worker::new(alloc, shared)?,
@@ -36,37 +37,36 @@ impl<L: Ledger + Send, D: Ledger + Send, B: Listener + Send> Caller<L, D, B> {
         })
     }
 
-    /// Has the started turn of a subscription run.
-    pub fn start<R: Wait>(&mut self, rt: &R, entry: u32) {
-        self.hand_in(rt, Turn::of(entry));
+    /// Schedules the started task of a subscription.
+    pub fn start<R: Wait>(&mut self, rt: &R, entry: u32, task: Task<B>) {
+        self.hand_in(rt, ConsumerTask::new(entry, task));
     }
 
-    /// Has all started turns run, in order. None is due then.
-    pub fn start_all<R: Wait>(&mut self, rt: &R, due: &mut Vec<Work<()>>) {
-        for work in due.iter() {
-            self.start(rt, work.entry);
+    /// Schedules all started tasks, in order. None is due then.
+    pub fn start_all<R: Wait>(&mut self, rt: &R, due: &mut Vec<Work<Task<B>>>) {
+        for work in due.drain(..) {
+            self.start(rt, work.entry, work.task);
         }
-        due.clear();
     }
 
-    /// Runs the turn that the pool would run next. False where there is none.
+    /// Runs a turn of the task that the pool would run next. False if there is none.
     pub fn run_one<R: Wait>(&mut self, rt: &R) -> bool {
-        let Some(turn) = self.pool.run_one(rt) else {
+        let Some(task) = self.pool.run_one(rt) else {
             return false;
         };
-        if let Some(again) = turn.run(rt, &mut self.worker) {
+        if let Some(again) = task.run(rt, &mut self.worker) {
             self.hand_in(rt, again);
         }
         true
     }
 
-    /// Publishes a text, if all live subscriptions have room, and has the started turns run.
+    /// Publishes a text, if all live subscriptions have room, and schedules the started tasks.
     pub fn publish<R: Wait>(
         &mut self,
         rt: &R,
         own: &mut Own<L, D>,
         text: Text,
-        due: &mut Vec<Work<()>>,
+        due: &mut Vec<Work<Task<B>>>,
     ) -> Result<u64, Unpublished>
         ensures reasons { IfErr result (λ why. IsHubReason why) }
         ensures one_more { OnOk result (own.new.publications.amount ≡ own.old.publications.amount + 1) }
@@ -79,14 +79,14 @@ impl<L: Ledger + Send, D: Ledger + Send, B: Listener + Send> Caller<L, D, B> {
         published
     }
 
-    /// Gives a text to all live subscriptions that have room, and has the started turns run.
+    /// Gives a text to all live subscriptions that have room, and schedules the started tasks.
     pub fn offer<R: Wait>(
         &mut self,
         rt: &R,
         own: &mut Own<L, D>,
         text: Text,
         handler: Option<&mut Box<dyn DropHandler>>,
-        due: &mut Vec<Work<()>>,
+        due: &mut Vec<Work<Task<B>>>,
     ) -> Result<i64, Refusal>
         ensures reasons { IfErr result (λ refusal. IsHubRefusal refusal) }
         ensures one_more { OnOk result (own.new.publications.amount ≡ own.old.publications.amount + 1) }
@@ -119,25 +119,25 @@ impl<L: Ledger + Send, D: Ledger + Send, B: Listener + Send> Caller<L, D, B> {
         0
     }
 
-    /// Sleeps until another thread tells, where a publication would have to wait still.
+    /// Sleeps until another thread tells, if a publication would still have to wait.
     fn wait_for_room<R: Wait>(&self, rt: &R) {
         let shared = &self.worker.shared;
         let mut state = shared.state.lock(rt);
-        if !state.may_publish() {
-            shared.wait(rt, state);
+        if let Err(reason) = state.look_for_room() {
+            shared.wait(rt, state, reason);
         }
     }
 
-    /// Hands turns to the pool, or runs them where they come back.
-    fn hand_in<R: Wait>(&mut self, rt: &R, turn: Turn<L, D, B>) {
-        if let Err(turn) = self.pool.execute(rt, turn) {
-            self.run(rt, turn);
+    /// Hands a task to the pool, or runs it if it comes back.
+    fn hand_in<R: Wait>(&mut self, rt: &R, task: ConsumerTask<L, D, B>) {
+        if let Err(task) = self.pool.execute(rt, task) {
+            self.run(rt, task);
         }
     }
 
-    /// Runs turns until none is owed.
-    fn run<R: Wait>(&mut self, rt: &R, turn: Turn<L, D, B>) {
-        let mut next = turn;
+    /// Runs turns of a task until none is owed.
+    fn run<R: Wait>(&mut self, rt: &R, task: ConsumerTask<L, D, B>) {
+        let mut next = task;
         for _ in rt.forever() {
             match next.run(rt, &mut self.worker) {
                 Some(again) => next = again,

@@ -1,14 +1,28 @@
-//! A publisher that threads share (`java.util.concurrent.SubmissionPublisher`, Java SE 17), over one lock.
+//! A publisher that threads share (`java.util.concurrent.SubmissionPublisher`, Java SE 17): it takes texts from any number of threads, and
+//! gives each to every current subscriber.
+//!
+//! # Who does what
 //!
 //! A [`Publisher`] has a pool of worker threads. Each [`Submitter`] publishes from a thread of its own, and each [`Subscription`] requests
-//! and cancels from any. Behind the lock stand all subscriptions and their buffers; a worker runs one turn of a subscription in one hold
-//! of the lock, so callbacks run under it, and one that calls the publisher may wait for ever. [`finish`] ends the workers and gives what
-//! is left of each subscription, and its contract says what every subscriber was told, whatever the threads did.
+//! and cancels from any. A worker tells subscribers what is owed, one turn of one subscription at a time. [`finish`] ends the workers and
+//! gives what is left of each subscription; its contract says what every subscriber was told, whatever the threads did.
+//!
+//! | What | Who | Waits |
+//! |---|---|---|
+//! | a publication, a subscribing, a close | whoever calls it | for the publisher's lock, behind which stand the list of subscriptions and the numbers of the publications; and `submit`, as long as a buffer is full |
+//! | a request, a cancel | whoever has the subscription | only if that starts a task, which is handed to the pool |
+//! | a turn, with its callbacks | a worker; a blocked submitter; or whoever started the task, if the pool takes none | for no lock. After it, for the publisher's lock, to wake who waits for room |
+//!
+//! Each subscription has a buffer that its publisher and its task share without a lock (`feed_cell`). So callbacks run outside every lock: one
+//! may publish, request, subscribe or close, and may wait for what another subscriber's callback does. A callback still may not wait for
+//! what its own subscription is to be told, nor `submit` to its own publisher unless others make room; and a drop handler runs while the
+//! lock is held, so it may not call its publisher.
 //!
 //! A caller works in a function over two ledgers, which name the publisher: a submitter or a subscription of another one does not fit.
 #![tactic(auto)]
 
 mod caller;
+mod leaving;
 mod note;
 mod outcome;
 mod publisher;

@@ -7,10 +7,13 @@ use flow_rules::Name;
 pub struct Outcome<B> {
     /// What is left of its subscriptions, in order of subscription.
     pub lanes: Vec<NamedLane<B>>,
+    /// The numbers of those subscriptions that were handed in and have no lane, since a thread is still in the middle of a turn of theirs, in
+    /// order.
+    pub held: Vec<u32>,
     /// How many items were published.
     pub published: u64,
-    /// Whether the last ticket of the count was spent: the publisher was closed, and each subscription of before has ended. Then each lane
-    /// has an end, but those since whose subscribing nothing was published; after `Ok` those have one, too.
+    /// Whether the last ticket of the count was spent: the publisher was closed, and each subscription from before the close has ended. After
+    /// `Ok` the later ones have ended, too.
     pub drained: bool,
 }
 
@@ -25,6 +28,8 @@ pub struct NamedLane<B> {
     pub since: u64,
     /// How many publications found its buffer full.
     pub dropped: u64,
+    /// Whether it was subscribed after the close, so that it isn't counted in `drained`. Nothing was published since then.
+    pub late: bool,
     /// Its subscriber, and the numbers of what was accepted, taken and requested.
     pub lane: Lane<B>,
 }

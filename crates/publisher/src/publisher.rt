@@ -9,8 +9,8 @@ ghost use Rattle.publisher.specs.declared.state.TheConstants.{PARTS};
 
 use crate::caller::Caller;
 use crate::note::Note;
-use crate::shared::{Shared, Turn, Worker};
-use crate::state::State;
+use crate::shared::{ConsumerTask, Shared, Worker};
+use crate::state::{State, Subscribed};
 use crate::submitter::Submitter;
 use crate::subscription::Subscription;
 use async_pool::{MOST_WORKERS, Pool, Wide};
@@ -25,7 +25,7 @@ use std::thread::Threads;
 #[derive(Drop)]
 pub struct Publisher<L: Ledger + Send, D: Ledger + Send, B: Listener + Send> {
     pub(crate) shared: Arc<Shared<L, D, B>>,
-    pool: Arc<Pool<Turn<L, D, B>>>,
+    pool: Arc<Pool<ConsumerTask<L, D, B>>>,
 }
 
 impl<
@@ -33,10 +33,10 @@ impl<
     D: Ledger + Send + Sync + 'static,
     B: Listener + Send + 'static,
 > Publisher<L, D, B> {
-    /// A publisher without subscriptions, whose buffers have the capacity that is enforced where this one is asked for, and whose
-    /// turns so many workers run, each a thread of its own. The two blanks are those of its ledgers.
+    /// Makes a publisher without subscriptions, whose buffers have the capacity that is enforced if this one is asked for, and whose
+    /// turns this many workers run, each a thread of its own. The two blanks are those of its ledgers.
     ///
-    /// Refused 7 for any other number of workers than 1 to [`MOST_WORKERS`], then 1 where the capacity is 0, and then 5 where a growth
+    /// Refused 7 for any other number of workers than 1 to [`MOST_WORKERS`], then 1 if the capacity is 0, and then 5 if a growth
     /// is refused or a thread can't be started; those that were started have ended then.
     pub fn new<R: Threads + Wait + Copy + Send + 'static>(
         rt: R,
@@ -149,8 +149,7 @@ impl<L: Ledger + Send, D: Ledger + Send, B: Listener + Send> Publisher<L, D, B> 
         note.known
     }
 
-    /// How many items wait for that live subscription for which most do, and 0 where there is none
-    /// (`SubmissionPublisher.estimateMaximumLag`).
+    /// Tells the longest backlog of any live subscription, in items, and 0 if there is none (`SubmissionPublisher.estimateMaximumLag`).
     pub fn estimate_maximum_lag<R: Wait>(&self, rt: &R) -> u64 {
         self.shared.state.lock(rt).max_lag()
     }
@@ -167,9 +166,8 @@ impl<L: Ledger + Send, D: Ledger + Send, B: Listener + Send> Publisher<L, D, B> 
 
     /// Subscribes a subscriber that was told nothing (`SubmissionPublisher.subscribe`).
     ///
-    /// Refused, with the subscriber back: 5 where a growth is refused; 3 where a live subscription has the name, whose subscriber is told of
-    /// it; 4 where as many are live as may be; 13 where as many subscriptions or tickets were made as may be; and 5 where a later
-    /// growth is refused.
+    /// Refused, with the subscriber back: 5 if a growth is refused; 3 if a live subscription has the name, whose subscriber is told of
+    /// it; 4 if 64 are live; 13 after the last possible subscription or ticket; and 5 if a later growth is refused.
     pub fn subscribe<R: Wait>(
         &self,
         rt: &R,
@@ -191,14 +189,18 @@ impl<L: Ledger + Send, D: Ledger + Send, B: Listener + Send> Publisher<L, D, B> 
             .lock(rt)
             .subscribe(alloc, name, subscriber, &mut due);
         caller.start_all(rt, &mut due);
-        let entry = subscribed?;
-        caller.start(rt, entry);
-        Ok(Subscription::new(caller, entry))
+        let Subscribed {
+            entry,
+            handle,
+            task,
+        } = subscribed?;
+        caller.start(rt, entry, task);
+        Ok(Subscription::new(caller, entry, handle))
     }
 
-    /// One more source of publications, which knows of the close where the note does.
+    /// Makes one more source of publications, which knows of the close if the note does.
     ///
-    /// Refused 5 where a growth is refused, and 4 once as many were made as may be.
+    /// Refused 5 if a growth is refused, and 4 after the 256th.
     pub fn submitter<R: Wait>(
         &self,
         rt: &R,
@@ -218,7 +220,7 @@ impl<L: Ledger + Send, D: Ledger + Send, B: Listener + Send> Publisher<L, D, B> 
     /// Closes the publisher (`SubmissionPublisher.close`): its subscribers get what was published before, and then complete. Only the first close
     /// does anything; the note knows then which that was.
     ///
-    /// Refused 5 where a growth is refused; nothing has changed then.
+    /// Refused 5 if a growth is refused; nothing has changed then.
     pub fn close<R: Wait>(&self, rt: &R, alloc: Global, note: &mut Note) -> Result<(), Refusal>
         ensures knows { OnOk result (IsSome note.new.known) }
         ensures same { IfSome note.old.known (λ ending. note.new.known ≡ Some ending) }
@@ -244,7 +246,7 @@ impl<L: Ledger + Send, D: Ledger + Send, B: Listener + Send> Publisher<L, D, B> 
         self.end(rt, alloc, note, Ending::Failed(code))
     }
 
-    /// Closes the publisher so.
+    /// Closes the publisher in this way.
     fn end<R: Wait>(
         &self,
         rt: &R,
@@ -267,15 +269,15 @@ impl<L: Ledger + Send, D: Ledger + Send, B: Listener + Send> Publisher<L, D, B> 
         Ok(())
     }
 
-    /// Ends the workers, and drops the turns that are left.
+    /// Ends the workers, and drops the tasks that are left.
     pub(crate) fn stop<R: Wait>(&self, rt: &R) {
         self.pool.shut(rt);
         let mut state = self.shared.state.lock(rt);
         for _ in rt.forever() {
-            if !state.has_loops() {
-                break;
+            match state.look_for_loops() {
+                Ok(()) => break,
+                Err(reason) => state = self.shared.wait(rt, state, reason),
             }
-            state = self.shared.wait(rt, state);
         }
         drop(state);
         for _ in rt.forever() {
@@ -286,7 +288,7 @@ impl<L: Ledger + Send, D: Ledger + Send, B: Listener + Send> Publisher<L, D, B> 
     }
 }
 
-/// Whether a publisher may have so many workers.
+/// Whether a publisher may have this many workers.
 fn is_worker_count(workers: usize) -> bool
     ensures { (result ≡ true) ↔ IsWorkerCount workers }
 {

@@ -1,6 +1,7 @@
 //! What a publisher's threads share, and what its pool runs.
-use crate::state::State;
+use crate::state::{Reason, State, Wake};
 use async_pool::Job;
+use feed_cell::{Task, Turn};
 use feed_core::Seen;
 use flow_rules::{Listener, NoMemory};
 use std::alloc::Global;
@@ -19,12 +20,13 @@ pub struct Shared<L: Ledger, D: Ledger, B: Listener> {
 }
 
 impl<L: Ledger, D: Ledger, B: Listener> Shared<L, D, B> {
-    /// Lets go of the lock, and wakes those who wait, where anybody does.
+    /// Lets go of the lock, and wakes those who wait, if anybody does.
     pub fn tell(&self, state: MutexGuard<'_, State<L, D, B>>) {
-        let is_awaited = state.is_awaited();
+        let wake = state.wake();
         drop(state);
-        if is_awaited {
-            self.changed.notify_all();
+        match wake {
+            Wake::Nobody => {}
+            Wake::All => self.changed.notify_all(),
         }
     }
 
@@ -33,11 +35,22 @@ impl<L: Ledger, D: Ledger, B: Listener> Shared<L, D, B> {
         &self,
         rt: &R,
         mut state: MutexGuard<'a, State<L, D, B>>,
+        reason: Reason,
     ) -> MutexGuard<'a, State<L, D, B>> {
-        state.begin_wait();
+        let waiter = state.begin_wait(reason);
         let mut state = self.changed.wait(rt, state);
-        state.end_wait();
+        state.end_wait(waiter);
         state
+    }
+
+    /// Does what is to be done after a turn of the subscription of this number: if that has ended, its ticket is spent; and those who wait
+    /// are woken, since the turn may have made room.
+    pub fn after_turn<R: Wait>(&self, rt: &R, entry: u32, has_ended: bool) {
+        let mut state = self.state.lock(rt);
+        if has_ended {
+            state.spend_ticket(entry);
+        }
+        self.tell(state);
     }
 }
 
@@ -58,37 +71,52 @@ impl<L: Ledger, D: Ledger, B: Listener> Worker<L, D, B> {
     }
 }
 
-/// The turns of the subscription of this number.
-pub struct Turn<L, D, B> {
+/// The task of the subscription of this number, as the pool runs it.
+#[must_use]
+pub struct ConsumerTask<L: Ledger, D: Ledger, B: Listener> {
     entry: u32,
-    of: PhantomData<(L, D, B)>,
+    task: Task<B>,
+    of: PhantomData<(L, D)>,
 }
 
-impl<L, D, B> Turn<L, D, B> {
-    /// The turns of the subscription of this number.
-    pub fn of(entry: u32) -> Turn<L, D, B> {
-        Turn {
+impl<L: Ledger, D: Ledger, B: Listener> ConsumerTask<L, D, B> {
+    /// The task of the subscription of this number.
+    pub fn new(entry: u32, task: Task<B>) -> ConsumerTask<L, D, B> {
+        ConsumerTask {
             entry,
+            task,
             of: PhantomData,
         }
     }
 }
 
-impl<L, D, B> Drop for Turn<L, D, B> {
+impl<L: Ledger, D: Ledger, B: Listener> Drop for ConsumerTask<L, D, B> {
     fn drop(self) {
-        let Turn { entry: _, of: _ } = self;
+        let ConsumerTask {
+            entry: _,
+            task: _,
+            of: _,
+        } = self;
     }
 }
 
-impl<L: Ledger + Send, D: Ledger + Send, B: Listener + Send> Job for Turn<L, D, B> {
+impl<L: Ledger + Send, D: Ledger + Send, B: Listener + Send> Job for ConsumerTask<L, D, B> {
     type Context = Worker<L, D, B>;
 
-    /// Runs one turn in one hold of the lock, where one is owed, and is run again where another one is owed then.
-    fn run<R: Wait>(self, rt: &R, worker: &mut Worker<L, D, B>) -> Option<Turn<L, D, B>> {
+    /// Runs one turn, outside every lock, and then does what is to be done after it. It is run again if another turn is owed.
+    fn run<R: Wait>(
+        self,
+        rt: &R,
+        worker: &mut Worker<L, D, B>,
+    ) -> Option<ConsumerTask<L, D, B>> {
+        let ConsumerTask { entry, task, of: _ } = self;
         let Worker { shared, seen } = worker;
-        let mut state = shared.state.lock(rt);
-        let again = state.turn(self.entry, seen);
-        shared.tell(state);
-        if again { Some(self) } else { None }
+        let (again, has_ended) = match task.turn(seen) {
+            Turn::Again(task) => (Some(ConsumerTask::new(entry, task)), false),
+            Turn::Resting(_) => (None, false),
+            Turn::Ended(_, _) => (None, true),
+        };
+        shared.after_turn(rt, entry, has_ended);
+        again
     }
 }

@@ -1,26 +1,29 @@
-//! What stands behind a publisher's lock: its calls are made in one hold of the lock each.
-mod acting;
+//! What stands behind a publisher's lock. Each call of it is made while the lock is held once.
+mod closing;
+mod finding;
 mod finishing;
-mod lanes;
 mod naming;
 mod publishing;
 mod shares;
 mod subscribing;
 mod tickets;
-mod turning;
-mod waiting;
+mod waiters;
 
 ghost use Rattle.std.specs.Prelude.{◌≡◌, ◌⊎◌, ◌<◌, ◌↔◌, zero, Err, IfErr, IfOk};
 ghost use Rattle.flow_rules.specs.declared.refusal.Refusal.TheVariants as Refusal;
 
 use close_count::{Count, Spent};
-use feed_core::Desk;
+use feed_cell::Producer;
+pub(crate) use finding::{Found, Taken};
+pub(crate) use finishing::{Books, Room};
 use flow_rules::{Listener, Refusal, capacity};
 use publisher_hub::Hub;
 pub use publishing::Own;
 use std::alloc::Global;
 use std::marker::Model;
 use std::sync::ledger::{Blank, Book, Ledger, Share};
+pub(crate) use subscribing::Subscribed;
+pub(crate) use waiters::{Reason, Waiter, Waiters, Wake};
 
 /// The most submitters of a publisher.
 pub(crate) const SOURCES: usize = 256;
@@ -31,7 +34,7 @@ pub const PARTS: u64 = 257;
 /// What stands behind a publisher's lock.
 #[derive(Drop)]
 pub struct State<L: Ledger, D: Ledger, B: Listener> {
-    hub: Hub<Desk<B>>,
+    hub: Hub<Producer<B>>,
     /// How many items were published, and how many offers found a buffer full: the sums of all shares.
     published: Book<L>,
     dropping: Book<D>,
@@ -41,24 +44,23 @@ pub struct State<L: Ledger, D: Ledger, B: Listener> {
     /// How many submitters and subscriptions were made.
     sources: u32,
     entries: u32,
-    /// How many loops of workers have not ended, and how many threads wait for what others do. Neither is ever so many that it
-    /// saturates.
-    loops: u32,
-    waiting: u32,
+    /// How many subscriptions were made before the close, once the publisher is closed. These have tickets, and later ones don't.
+    counted: Option<u32>,
     /// What is left of the last ticket of the count, once that was spent. The opening is one until the close, so that is after it.
     last: Option<Spent>,
+    /// Who waits for what others do.
+    waiters: Waiters,
 }
 
 impl<L: Ledger, D: Ledger, B: Listener> Model for State<L, D, B> {
-    ghost use Rattle.feed_core.specs.Feed.{end_of};
     ghost use Rattle.publisher_hub.specs.Hub.{hub_of};
-    ghost use Rattle.publisher.specs.State.{PublisherState, IsState};
+    ghost use Rattle.publisher.specs.State.{PublisherState, IsState, producer_end};
 
     ghost Value = { PublisherState };
 
-    ghost view = { λ s. record { hub = s.hub; last = s.last } };
+    ghost view = { λ s. record { hub = s.hub; counted = s.counted; last = s.last } };
 
-    ghost invariant = { λ s. IsState (hub_of end_of s.hub) (record {
+    ghost invariant = { λ s. IsState (hub_of producer_end s.hub) (record {
       published = s.published.total;
       dropping = s.dropping.total;
       parts = s.rest.parts;
@@ -67,14 +69,15 @@ impl<L: Ledger, D: Ledger, B: Listener> Model for State<L, D, B> {
       drop_amount = s.rest_of_drops.amount;
       sources = s.sources;
       entries = s.entries;
+      counted = s.counted;
       last = s.last;
     }) };
 }
 
 impl<L: Ledger, D: Ledger, B: Listener> State<L, D, B> {
-    /// What stands behind the lock of a new publisher, whose buffers have the capacity that is enforced where this one is asked for.
+    /// What stands behind the lock of a new publisher, whose buffers have the capacity that is enforced if this one is asked for.
     ///
-    /// Refused 1 where that is 0, and 5 where a growth is refused.
+    /// Refused 1 if that is 0, and 5 if a growth is refused.
     pub fn new(
         alloc: Global,
         asked: usize,
@@ -99,9 +102,9 @@ impl<L: Ledger, D: Ledger, B: Listener> State<L, D, B> {
             rest_of_drops,
             sources: 0,
             entries: 0,
-            loops: 0,
-            waiting: 0,
+            counted: None,
             last: None,
+            waiters: Waiters::none(),
         })
     }
 

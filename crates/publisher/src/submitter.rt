@@ -9,6 +9,7 @@ use crate::caller::Caller;
 use crate::note::Note;
 use crate::state::Own;
 use crossbeam_utils::Backoff;
+use feed_cell::Task;
 use flow_rules::{DropHandler, Ending, Listener, Refusal, Text};
 use publisher_hub::{Unpublished, Work};
 use std::alloc::Global;
@@ -23,8 +24,8 @@ pub struct Submitter<L: Ledger + Send, D: Ledger + Send, B: Listener + Send> {
     /// Its number, and its shares of the ledgers.
     own: Own<L, D>,
     note: Note,
-    /// The turns that a publication has started. Between two calls there are none.
-    due: Vec<Work<()>>,
+    /// The tasks that a publication has started. Between two calls there are none.
+    due: Vec<Work<Task<B>>>,
 }
 
 impl<L: Ledger + Send, D: Ledger + Send, B: Listener + Send> Model for Submitter<L, D, B> {

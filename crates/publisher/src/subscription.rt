@@ -1,15 +1,17 @@
 //! What the owner of a subscription holds.
 use crate::caller::Caller;
+use feed_cell::Handle;
 use flow_rules::{Listener, NoMemory};
 use std::marker::Model;
 use std::sync::Wait;
 use std::sync::ledger::Ledger;
 
-/// What the owner of a subscription requests and cancels with (`Flow.Subscription`). [`finish`](crate::finish) takes it back.
+/// What the owner of a subscription requests and cancels with (`Flow.Subscription`, Java SE 17). [`finish`](crate::finish) takes it back.
 #[derive(Drop)]
 pub struct Subscription<L: Ledger + Send, D: Ledger + Send, B: Listener + Send> {
     caller: Caller<L, D, B>,
     entry: u32,
+    handle: Handle<B>,
 }
 
 impl<L: Ledger + Send, D: Ledger + Send, B: Listener + Send> Model for Subscription<L, D, B> {
@@ -17,17 +19,26 @@ impl<L: Ledger + Send, D: Ledger + Send, B: Listener + Send> Model for Subscript
 
     ghost Value = { SubscriptionState };
 
-    ghost view = { λ s. record { entry = s.entry } };
+    ghost view = { λ s. record { entry = s.entry; handle = s.handle } };
 }
 
 impl<L: Ledger + Send, D: Ledger + Send, B: Listener + Send> Subscription<L, D, B> {
-    ghost use Rattle.std.specs.Prelude.{◌≡◌};
+    ghost use Rattle.std.specs.Prelude.{◌≡◌, OnErr, OnOk};
+    ghost use Rattle.publisher.specs.Handles.{Cancels, Requests};
 
     /// That of the subscription of this number.
-    pub(crate) fn new(caller: Caller<L, D, B>, entry: u32) -> Subscription<L, D, B>
-        ensures { result.entry ≡ entry }
+    pub(crate) fn new(
+        caller: Caller<L, D, B>,
+        entry: u32,
+        handle: Handle<B>,
+    ) -> Subscription<L, D, B>
+        ensures { result ≡ record { entry = entry; handle = handle } }
     {
-        Subscription { caller, entry }
+        Subscription {
+            caller,
+            entry,
+            handle,
+        }
     }
 
     /// The number of the subscription, from 0 in order of subscription.
@@ -37,37 +48,47 @@ impl<L: Ledger + Send, D: Ledger + Send, B: Listener + Send> Subscription<L, D, 
         self.entry
     }
 
-    /// Adds to the demand (`Flow.Subscription.request`). A number that is not positive ends the subscription with an error; after a cancel it
-    /// does nothing.
+    /// Adds to the demand (`Flow.Subscription.request`; Reactive Streams 1.0, rules 3.6, 3.8, 3.9 and 3.17). A number that is not positive
+    /// ends the subscription with an error. After a cancel this does nothing.
+    ///
+    /// `NoMemory` if what a started task needs is refused; nothing has changed then.
     pub fn request<R: Wait>(&mut self, rt: &R, n: i64) -> Result<(), NoMemory>
-        ensures { self.new ≡ self.old }
+        ensures entry { self.new.entry ≡ self.old.entry }
+        ensures ok { OnOk result (Requests n self.old.handle self.new.handle) }
+        ensures err { OnErr result (self.new ≡ self.old) }
     {
-        let started = self
-            .caller
-            .worker
-            .shared
-            .state
-            .lock(rt)
-            .request(self.entry, n);
-        self.start(rt, started);
-        Ok(())
-    }
-
-    /// Ends the subscription soon, and tells its subscriber nothing more (`Flow.Subscription.cancel`).
-    pub fn cancel<R: Wait>(&mut self, rt: &R) -> Result<(), NoMemory>
-        ensures { self.new ≡ self.old }
-    {
-        let started = self.caller.worker.shared.state.lock(rt).cancel(self.entry);
-        self.start(rt, started);
-        Ok(())
-    }
-
-    /// Has a turn run, where one was started.
-    fn start<R: Wait>(&mut self, rt: &R, started: Option<()>)
-        ensures { self.new ≡ self.old }
-    {
-        if started.is_some() {
-            self.caller.start(rt, self.entry);
+        self.handle.ready()?;
+        if let Some(task) = self.handle.request(n) {
+            self.caller.start(rt, self.entry, task);
         }
+        Ok(())
+    }
+
+    /// Ends the subscription (`Flow.Subscription.cancel`; Reactive Streams 1.0, rules 3.5, 3.7 and 3.12): its subscriber is told at most
+    /// `onSubscribe`, if it wasn't yet, and one item more. Only the first cancel does anything.
+    ///
+    /// `NoMemory` if what a started task needs is refused; nothing has changed then.
+    pub fn cancel<R: Wait>(&mut self, rt: &R) -> Result<(), NoMemory>
+        ensures entry { self.new.entry ≡ self.old.entry }
+        ensures ok { OnOk result (Cancels self.old.handle self.new.handle) }
+        ensures err { OnErr result (self.new ≡ self.old) }
+    {
+        self.handle.ready()?;
+        if let Some(task) = self.handle.cancel() {
+            self.caller.start(rt, self.entry, task);
+        }
+        Ok(())
+    }
+
+    /// Its number and its handle.
+    pub(crate) fn into_parts(self) -> (u32, Handle<B>)
+        ensures { result ≡ (self.entry, self.handle) }
+    {
+        let Subscription {
+            caller: _,
+            entry,
+            handle,
+        } = self;
+        (entry, handle)
     }
 }

@@ -13,10 +13,11 @@ use std::sync::Wait;
 use std::sync::ledger::Ledger;
 
 /// Ends a publisher's workers, and gives what is left of each subscription that is handed in, with its subscriber. Nothing is closed by
-/// that: a publisher that is to tell its subscribers of the end is closed before.
+/// that: a publisher that is to tell its subscribers of the end is closed before. It doesn't wait for demand to come.
 ///
-/// Refused 5 where a growth is refused, and no lane is left then; 8 where a subscription or a submitter is missing, by the name of the first;
-/// and 9 where a subscription runs, or is closed and has not ended, by the names of these. The rest is given nevertheless.
+/// Refused 5 if a growth is refused, and no lane is left then; 8 if a subscription or a submitter is missing, by the name of the first, or if
+/// a thread is still in the middle of a turn of a subscription, which is `held` then; and 9 if a subscription runs, or is closed and has not
+/// ended, by the names of these. The rest is given nevertheless.
 pub fn finish<L: Ledger + Send, D: Ledger + Send, B: Listener + Send, R: Wait>(
     rt: &R,
     alloc: Global,
@@ -34,9 +35,13 @@ pub fn finish<L: Ledger + Send, D: Ledger + Send, B: Listener + Send, R: Wait>(
     ensures finishes { Finishes submitters.items subscriptions.items result }
 {
     publisher.stop(rt);
-    publisher
+    let books = publisher
         .shared
         .state
         .lock(rt)
-        .finish(alloc, submitters, &subscriptions)
+        .take_out(alloc, submitters, subscriptions);
+    match books {
+        Ok(books) => books.conclude(),
+        Err(outcome) => Err((Refusal::NoMemory, outcome)),
+    }
 }

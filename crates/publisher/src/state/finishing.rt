@@ -1,125 +1,134 @@
-//! The end of a publisher.
-ghost use Rattle.std.specs.Prelude.{◌≡◌, ◌<◌, ◌≤◌, ◌++◌, [], false, if◌then◌else◌, is_some, length, IfOk, replicate, vec_capacity, ◌∷◌};
+//! What is taken out from behind the lock at the end of a publisher.
+ghost use Rattle.std.specs.Prelude.{◌≡◌, ◌≤◌, [], IfErr, IfOk, None, replicate, is_some, length, vec_capacity};
 ghost use Rattle.publisher.specs.declared.state.TheConstants.{PARTS};
-ghost use Rattle.publisher.specs.Outcome.{AreHandedIn, Finishes, IsOutcome, Judges, is_undone, outcome_of};
+ghost use Rattle.publisher.specs.Finishing.{HasRoom, IsNothing, TakesOut};
 
+use super::finding::{Found, find_all, place_all};
 use super::State;
-use super::lanes::{Lost, mark_all, take_lanes};
 use super::tickets::compare_tickets;
 use crate::outcome::{NamedLane, Outcome};
 use crate::submitter::Submitter;
 use crate::subscription::Subscription;
-use flow_rules::{Listener, Name, NoMemory, Refusal};
+use feed_cell::Handle;
+use flow_rules::{Listener, Name, NoMemory};
 use std::alloc::Global;
 use std::sync::ledger::Ledger;
 
-/// The room that the end of a publisher takes.
-struct Room<B> {
-    /// Of each subscription, whether it was handed in.
-    handed: Vec<bool>,
-    lanes: Vec<NamedLane<B>>,
-    unsettled: Vec<Name>,
+/// The room for what is left of a publisher, made before anything is taken out.
+#[derive(Drop)]
+pub struct Room<B: Listener> {
+    pub lanes: Vec<NamedLane<B>>,
+    pub held: Vec<u32>,
+    pub unsettled: Vec<Name>,
+}
+
+/// A place for each subscription.
+struct Places<B: Listener> {
+    /// Of each, the handle that was handed in.
+    handles: Vec<Option<Handle<B>>>,
+    founds: Vec<Found<B>>,
+    room: Room<B>,
+}
+
+/// What stood behind the lock of a publisher at its end.
+#[derive(Drop)]
+pub struct Books<B: Listener> {
+    /// What is there of each subscription, in order.
+    pub founds: Vec<Found<B>>,
+    pub room: Room<B>,
+    /// How many items were published.
+    pub published: u64,
+    /// Whether the last ticket was spent.
+    pub drained: bool,
+    /// Whether the publisher is closed, as its lock or a submitter knows.
+    pub is_closed: bool,
+    /// The name of the first submitter that was not handed in.
+    pub missing: Option<Name>,
 }
 
 impl<L: Ledger + Send, D: Ledger + Send, B: Listener + Send> State<L, D, B> {
-    /// Takes out what is left of the subscriptions that were handed in, and sums up the shares of the submitters.
-    pub fn finish(
+    /// Takes the producer's end of each subscription out that was handed in, and sums up the shares of the submitters. If a growth is
+    /// refused, the answer is an outcome without lanes.
+    pub fn take_out(
         &mut self,
         alloc: Global,
         submitters: Vec<Submitter<L, D, B>>,
-        subscriptions: &[Subscription<L, D, B>],
-    ) -> Result<Outcome<B>, (Refusal, Outcome<B>)>
+        subscriptions: Vec<Subscription<L, D, B>>,
+    ) -> Result<Books<B>, Outcome<B>>
         requires { (L.parts ≡ PARTS) × (D.parts ≡ PARTS) }
-        ensures outcome { IsOutcome B.told (outcome_of result) }
-        ensures handed { AreHandedIn subscriptions.now (outcome_of result).lanes.items }
-        ensures finishes { Finishes submitters.items subscriptions.now result }
+        ensures ok { IfOk result (λ books. TakesOut submitters.items subscriptions.items self.old books) }
+        ensures err { IfErr result (λ outcome. IsNothing outcome) }
     {
-        let Ok(room) = new_room(alloc, self.entries as usize) else {
-            return Err((Refusal::NoMemory, self.outcome(Vec::new(alloc))));
+        let Ok(Places {
+            mut handles,
+            mut founds,
+            room,
+        }) = new_places(alloc, self.entries as usize)
+        else {
+            return Err(self.nothing(alloc));
         };
-        let Room {
-            mut handed,
-            mut lanes,
-            unsettled,
-        } = room;
-        let all = mark_all(&mut handed, subscriptions);
+        let all = place_all(&mut handles, subscriptions);
         compare_tickets(&mut self.hub, &mut self.last, self.entries);
-        let Lost { first: lost, gone } = take_lanes(&mut self.hub, &handed, &mut lanes);
+        let gone = find_all(&mut self.hub, self.counted, &mut handles, &mut founds);
         // Each subscription of this publisher has its place; only another call of this takes buffers out, and a publisher is consumed by one.
         if gone | !all {
-            return Err((Refusal::NoMemory, self.outcome(Vec::new(alloc))));
+            return Err(self.nothing(alloc));
         }
         let together = self.put_together(submitters);
         let is_closed = together.knows | self.hub.ending().is_some();
         let missing = self.audit(together);
-        let outcome = self.outcome(lanes);
-        match lost.or(missing) {
-            Some(name) => Err((Refusal::StillHeld(name), outcome)),
-            None => judge(outcome, is_closed, unsettled),
-        }
+        Ok(Books {
+            founds,
+            room,
+            published: self.hub.next_serial(),
+            drained: self.last.is_some(),
+            is_closed,
+            missing,
+        })
     }
 
-    /// What is left, with these lanes.
-    fn outcome(&self, lanes: Vec<NamedLane<B>>) -> Outcome<B>
-        ensures lanes { result.lanes ≡ lanes }
-        ensures published { result.published ≡ self.now.hub.next }
-        ensures drained { result.drained ≡ is_some self.now.last }
+    /// An outcome without lanes.
+    fn nothing(&self, alloc: Global) -> Outcome<B>
+        ensures { IsNothing result }
     {
         Outcome {
-            lanes,
+            lanes: Vec::new(alloc),
+            held: Vec::new(alloc),
             published: self.hub.next_serial(),
             drained: self.last.is_some(),
         }
     }
 }
 
-/// Room for so many subscriptions.
-fn new_room<B: Drop>(alloc: Global, entries: usize) -> Result<Room<B>, NoMemory>
-    ensures handed { IfOk result (λ room. room.handed.items ≡ replicate entries false) }
-    ensures lanes { IfOk result (λ room. (room.lanes.items ≡ []) × (entries ≤ vec_capacity room.lanes)) }
-    ensures unsettled { IfOk result (λ room. (room.unsettled.items ≡ []) × (entries ≤ vec_capacity room.unsettled)) }
+/// Places for so many subscriptions, with the room for what is left of them.
+fn new_places<B: Listener>(alloc: Global, entries: usize) -> Result<Places<B>, NoMemory>
+    ensures handles { IfOk result (λ places. places.handles.items ≡ replicate entries None) }
+    ensures founds { IfOk result (λ places. (places.founds.items ≡ []) × (entries ≤ vec_capacity places.founds)) }
+    ensures room { IfOk result (λ places. HasRoom entries places.room) }
 {
-    Ok(Room {
-        handed: vec![in alloc; false; entries]?,
-        lanes: Vec::with_capacity(alloc, entries)?,
-        unsettled: Vec::with_capacity(alloc, entries)?,
+    Ok(Places {
+        handles: no_handles(alloc, entries)?,
+        founds: Vec::with_capacity(alloc, entries)?,
+        room: Room {
+            lanes: Vec::with_capacity(alloc, entries)?,
+            held: Vec::with_capacity(alloc, entries)?,
+            unsettled: Vec::with_capacity(alloc, entries)?,
+        },
     })
 }
 
-/// Refuses what is left where a subscription runs, or is closed and has not ended, and names these.
-fn judge<B>(
-    outcome: Outcome<B>,
-    is_closed: bool,
-    mut unsettled: Vec<Name>,
-) -> Result<Outcome<B>, (Refusal, Outcome<B>)>
-    requires empty { unsettled.items ≡ [] }
-    requires room { length outcome.lanes.items ≤ vec_capacity unsettled }
-    ensures { Judges outcome is_closed result }
+/// So many places without a handle.
+fn no_handles<B: Listener>(
+    alloc: Global,
+    entries: usize,
+) -> Result<Vec<Option<Handle<B>>>, NoMemory>
+    ensures { IfOk result (λ handles. handles.items ≡ replicate entries None) }
 {
-    for left in outcome.lanes.iter() {
-        push_if(&mut unsettled, left.name, is_unsettled(left, is_closed));
+    let mut handles = Vec::with_capacity(alloc, entries)?;
+    let mut i = 0;
+    while i < entries {
+        handles.push_reserved(None);
+        i += 1;
     }
-    if unsettled.is_empty() {
-        Ok(outcome)
-    } else {
-        Err((Refusal::Unsettled(unsettled), outcome))
-    }
-}
-
-/// Whether what is left runs, or is closed and has not ended.
-fn is_unsettled<B>(left: &NamedLane<B>, is_closed: bool) -> bool
-    ensures { result ≡ is_undone is_closed left.now }
-{
-    left.lane.running || (is_closed && left.lane.ending.is_none())
-}
-
-/// Adds a name, if so.
-fn push_if(names: &mut Vec<Name>, name: Name, is_one: bool)
-    requires { length names.old.items < vec_capacity names.old }
-    ensures items { names.new.items ≡ names.old.items ++ (if is_one then name ∷ [] else []) }
-    ensures capacity { vec_capacity names.new ≡ vec_capacity names.old }
-{
-    if is_one {
-        names.push_reserved(name);
-    }
+    Ok(handles)
 }

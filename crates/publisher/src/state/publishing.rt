@@ -1,15 +1,16 @@
-//! Publishing, and closing.
-ghost use Rattle.std.specs.Prelude.{◌≡◌, ◌+◌, ◌<◌, IfErr, IfOk, IsSome, None, OnErr, OnOk, Some, false, is_none};
-ghost use Rattle.feed_core.specs.Feed.{DoesCall, end_of};
+//! Publishing.
+ghost use Rattle.std.specs.Prelude.{◌≡◌, ◌+◌, ◌<◌, ◌↔◌, Bool, true, IfErr, IfOk, IsErr, IsOk, OnErr, OnOk, is_none};
+ghost use Rattle.feed_cell.specs.Offering.{DoesCall};
 ghost use Rattle.flow_rules.specs.declared.refusal.Refusal.TheVariants as Refusal;
 ghost use Rattle.publisher_hub.specs.Publishing.{OffersItem, Publishes, RefusesItem, RefusesOffer};
 ghost use Rattle.publisher.specs.declared.state.TheConstants.{SOURCES};
 ghost use Rattle.publisher.specs.Handles.{IsHubReason, IsHubRefusal};
-ghost use Rattle.publisher.specs.Publishing.{drop_of};
+ghost use Rattle.publisher.specs.Publishing.{LooksForRoom, drop_of};
+ghost use Rattle.publisher.specs.State.{producer_end};
 
-use super::State;
-use super::turning::keep_last;
-use flow_rules::{DropHandler, Ending, Listener, Refusal, Text};
+use super::{Reason, State};
+use feed_cell::Task;
+use flow_rules::{DropHandler, Listener, Refusal, Text};
 use publisher_hub::{Unpublished, Work};
 use std::sync::ledger::{Book, Ledger, Share};
 
@@ -28,8 +29,12 @@ pub struct Own<L: Ledger, D: Ledger> {
 impl<L: Ledger, D: Ledger, B: Listener> State<L, D, B> {
     /// The number of one more submitter, with its parts of the ledgers. Refused 4 once as many were made as may be.
     pub fn next_source(&mut self) -> Result<Own<L, D>, Refusal>
+        ensures next { IfOk result (λ own. own.source ≡ self.old.hub.sources) }
         ensures new { IfOk result (λ own. (own.publications.amount ≡ 0) × (own.drops.amount ≡ 0)) }
+        ensures counted { IfOk result (λ own. self.new ≡ record self.old { hub = record self.old.hub { sources = own.source + 1 } }) }
         ensures many { IfErr result (λ refusal. refusal ≡ Refusal.TooMany) }
+        ensures refused { IsErr result ↔ (self.old.hub.sources ≡ SOURCES) }
+        ensures err { OnErr result (self.new ≡ self.old) }
     {
         let source = self.hub.next_source()?;
         self.sources = source + 1;
@@ -40,8 +45,22 @@ impl<L: Ledger, D: Ledger, B: Listener> State<L, D, B> {
         })
     }
 
-    /// Whether a publication need not wait: each live subscription has room, or the publisher is closed.
-    pub fn may_publish(&mut self) -> bool {
+    /// Looks whether a publication has to wait, which gives a reason to. It has not to if each live subscription has room, or the publisher is
+    /// closed.
+    pub fn look_for_room(&mut self) -> Result<(), Reason>
+        ensures { (room : Bool) × (LooksForRoom room self.old self.new × (IsOk result ↔ (room ≡ true))) }
+    {
+        if self.has_room() {
+            Ok(())
+        } else {
+            Err(Reason::of_a_look())
+        }
+    }
+
+    /// Whether each live subscription has room, or the publisher is closed.
+    fn has_room(&mut self) -> bool
+        ensures { LooksForRoom result self.old self.new }
+    {
         if self.hub.ending().is_some() {
             return true;
         }
@@ -53,10 +72,10 @@ impl<L: Ledger, D: Ledger, B: Listener> State<L, D, B> {
         &mut self,
         own: &mut Own<L, D>,
         text: Text,
-        due: &mut Vec<Work<()>>,
+        due: &mut Vec<Work<Task<B>>>,
     ) -> Result<u64, Unpublished>
-        ensures ok { IfOk result (λ lag. Publishes end_of DoesCall own.old.source text self.old.hub self.new.hub due.old.items due.new.items lag) }
-        ensures err { IfErr result (λ why. RefusesItem end_of DoesCall text self.old.hub self.new.hub why) }
+        ensures ok { IfOk result (λ lag. Publishes producer_end DoesCall own.old.source text self.old.hub self.new.hub due.old.items due.new.items lag) }
+        ensures err { IfErr result (λ why. RefusesItem producer_end DoesCall text self.old.hub self.new.hub why) }
         ensures reasons { IfErr result (λ why. IsHubReason why) }
         ensures one_more { OnOk result (own.new.publications.amount ≡ own.old.publications.amount + 1) }
         ensures none { OnErr result (own.new.publications.amount ≡ own.old.publications.amount) }
@@ -76,10 +95,10 @@ impl<L: Ledger, D: Ledger, B: Listener> State<L, D, B> {
         own: &mut Own<L, D>,
         text: Text,
         handler: Option<&mut Box<dyn DropHandler>>,
-        due: &mut Vec<Work<()>>,
+        due: &mut Vec<Work<Task<B>>>,
     ) -> Result<i64, Refusal>
-        ensures ok { IfOk result (λ answer. OffersItem end_of DoesCall own.old.source text (is_none handler.entry) self.old.hub self.new.hub due.old.items due.new.items answer) }
-        ensures err { IfErr result (λ refusal. RefusesOffer end_of DoesCall self.old.hub self.new.hub refusal) }
+        ensures ok { IfOk result (λ answer. OffersItem producer_end DoesCall own.old.source text (is_none handler.entry) self.old.hub self.new.hub due.old.items due.new.items answer) }
+        ensures err { IfErr result (λ refusal. RefusesOffer producer_end DoesCall self.old.hub self.new.hub refusal) }
         ensures reasons { IfErr result (λ refusal. IsHubRefusal refusal) }
         ensures one_more { OnOk result (own.new.publications.amount ≡ own.old.publications.amount + 1) }
         ensures none { OnErr result (own.new.publications.amount ≡ own.old.publications.amount) }
@@ -97,27 +116,6 @@ impl<L: Ledger, D: Ledger, B: Listener> State<L, D, B> {
         published.add(&mut own.publications, 1);
         count_drop(dropping, &mut own.drops, answer);
         Ok(answer)
-    }
-
-    /// How the publisher is closed, if it is.
-    pub fn ending(&self) -> Option<Ending>
-        ensures { result ≡ self.now.hub.ending }
-    {
-        self.hub.ending()
-    }
-
-    /// Closes the publisher so, if it isn't, and spends the opening ticket then. The answer is how it is closed.
-    pub fn close(&mut self, ending: Ending, due: &mut Vec<Work<()>>) -> Result<Ending, Refusal>
-        ensures closed { IfOk result (λ how. self.new.hub.ending ≡ Some how) }
-        ensures first { self.old.hub.ending ≡ None → IfOk result (λ how. how ≡ ending) }
-        ensures later { IsSome self.old.hub.ending → self.new ≡ self.old }
-        ensures err { OnErr result (self.new.last ≡ self.old.last) }
-        ensures refusals { IfErr result (λ refusal. refusal ≡ Refusal.NoMemory) }
-    {
-        if let Some(opening) = self.hub.end(ending, due)? {
-            keep_last(&mut self.last, opening.spend(), true);
-        }
-        Ok(self.hub.ending().unwrap_or(ending))
     }
 }
 

@@ -1,38 +1,62 @@
 //! Subscribing, and what is asked of all subscriptions.
-ghost use Rattle.std.specs.Prelude.{◌≡◌, [], IfErr, IfOk, List, OnOk};
-ghost use Rattle.feed_core.specs.Feed.{end_of};
+ghost use Rattle.std.specs.Prelude.{◌≡◌, ◌↔◌, [], true, IfErr, IfOk, List, OnErr, OnOk, Option, length};
+ghost use Rattle.feed_cell.specs.Offering.{DoesCall};
+ghost use Rattle.flow_rules.specs.declared.feed.standing.Standing.{Standing};
 ghost use Rattle.publisher_hub.specs.Adding.{IsFresh};
-ghost use Rattle.publisher_hub.specs.Subscribing.{CanAdmit};
+ghost use Rattle.publisher_hub.specs.Hub.{hub_of};
+ghost use Rattle.publisher_hub.specs.Lists.{greatest};
+ghost use Rattle.publisher_hub.specs.Looking.{LooksAtAll, living, waiting};
+ghost use Rattle.publisher_hub.specs.Names.{IsSubscribed};
+ghost use Rattle.publisher_hub.specs.Subscribing.{Admits, CanAdmit};
 ghost use Rattle.publisher.specs.Handles.{RefusesSubscribing};
+ghost use Rattle.publisher.specs.State.{producer_end};
+ghost use Rattle.publisher.specs.Subscribing.{IsSubscription};
 ghost use Rattle.publisher.specs.Tickets.{IsTicketFor};
 
 use super::State;
 use close_count::Ticket;
-use feed_core::Desk;
+use feed_cell::{Cell, Handle, Producer, Task};
 use flow_rules::{Listener, Name, Refusal};
 use publisher_hub::Work;
 use std::alloc::Global;
 use std::sync::ledger::Ledger;
 
+/// What a new subscription's owner gets: its number, its handle, and its first task, which has to be run.
+#[must_use]
+#[derive(Drop)]
+pub struct Subscribed<B: Listener> {
+    pub entry: u32,
+    pub handle: Handle<B>,
+    pub task: Task<B>,
+}
+
 impl<L: Ledger, D: Ledger, B: Listener> State<L, D, B> {
-    /// Adds a subscription, whose first turn is to be run. The answer is its number.
+    /// Adds a subscription. The tasks of others that this starts are due.
     pub fn subscribe(
         &mut self,
         alloc: Global,
         name: Name,
         subscriber: B,
-        due: &mut Vec<Work<()>>,
-    ) -> Result<u32, (Refusal, B)>
+        due: &mut Vec<Work<Task<B>>>,
+    ) -> Result<Subscribed<B>, (Refusal, B)>
         requires { B.told subscriber ≡ [] }
+        ensures ok { IfOk result (λ subscribed. IsSubscription name subscribed self.new) }
         ensures refusals { IfErr result (λ refused. RefusesSubscribing refused.0) }
         ensures back { IfErr result (λ refused. refused.1 ≡ subscriber) }
     {
-        let ticket = match self.prepare(name, due) {
+        let ticket = match self.reserve(name, due) {
             Ok(ticket) => ticket,
             Err(refusal) => return Err((refusal, subscriber)),
         };
-        match Desk::new(alloc, self.hub.capacity(), subscriber) {
-            Ok(desk) => Ok(self.admit(name, desk, ticket, due)),
+        match Cell::new(alloc, self.hub.capacity(), subscriber) {
+            Ok((producer, handle, task)) => {
+                let entry = self.admit(name, producer, ticket, due);
+                Ok(Subscribed {
+                    entry,
+                    handle,
+                    task,
+                })
+            }
             Err((_, subscriber)) => {
                 spend_unused(ticket);
                 Err((Refusal::NoMemory, subscriber))
@@ -40,9 +64,13 @@ impl<L: Ledger, D: Ledger, B: Listener> State<L, D, B> {
         }
     }
 
-    /// Whether a subscriber of this name may subscribe now, and a ticket for it.
-    fn prepare(&mut self, name: Name, due: &mut Vec<Work<()>>) -> Result<Option<Ticket>, Refusal>
-        ensures can { OnOk result (CanAdmit end_of name self.new.hub due.new) }
+    /// Whether a subscriber of this name may subscribe now, with a place and a ticket for it.
+    fn reserve(
+        &mut self,
+        name: Name,
+        due: &mut Vec<Work<Task<B>>>,
+    ) -> Result<Option<Ticket>, Refusal>
+        ensures can { OnOk result (CanAdmit producer_end name self.new.hub due.new) }
         ensures ticket { IfOk result (λ ticket. IsTicketFor self.new.hub ticket) }
         ensures refusals { IfErr result (λ refusal. RefusesSubscribing refusal) }
     {
@@ -50,35 +78,43 @@ impl<L: Ledger, D: Ledger, B: Listener> State<L, D, B> {
         self.hub.add_ticket()
     }
 
-    /// Adds a subscription that may be added.
+    /// Adds a subscription that may be added. The answer is its number.
     fn admit(
         &mut self,
         name: Name,
-        desk: Desk<B>,
+        producer: Producer<B>,
         ticket: Option<Ticket>,
-        due: &mut Vec<Work<()>>,
+        due: &mut Vec<Work<Task<B>>>,
     ) -> u32
-        requires can { CanAdmit end_of name self.old.hub due.old }
+        requires can { CanAdmit producer_end name self.old.hub due.old }
         requires ticket { IsTicketFor self.old.hub ticket }
-        requires fresh { IsFresh self.old.hub.capacity (end_of desk) }
+        requires fresh { IsFresh self.old.hub.capacity (producer_end producer) }
+        ensures admits { Admits producer_end DoesCall name producer ticket result due.old.items due.new.items self.old.hub self.new.hub }
     {
-        let entry = self.hub.admit(name, desk, ticket, due).unwrap();
+        let entry = self.hub.admit(name, producer, ticket, due).unwrap();
         self.entries = entry + 1;
         entry
     }
 
-    /// How many items wait for that live subscription for which most do.
-    pub fn max_lag(&mut self) -> u64 {
+    /// The longest backlog of any live subscription, in items, and 0 if there is none.
+    pub fn max_lag(&mut self) -> u64
+        ensures { (glances : List (Option Standing)) × (LooksAtAll producer_end DoesCall glances self.old.hub self.new.hub × (result ≡ greatest (waiting glances))) }
+    {
         self.hub.max_lag()
     }
 
     /// How many subscriptions are live.
-    pub fn number_of_subscribers(&mut self) -> usize {
+    pub fn number_of_subscribers(&mut self) -> usize
+        ensures { (glances : List (Option Standing)) × (LooksAtAll producer_end DoesCall glances self.old.hub self.new.hub × (result ≡ length (living glances))) }
+    {
         self.hub.number_of_subscribers()
     }
 
     /// Whether a live subscription has this name.
-    pub fn is_subscribed(&mut self, name: Name) -> bool {
+    pub fn is_subscribed(&mut self, name: Name) -> bool
+        ensures looks { (glances : List (Option Standing)) × LooksAtAll producer_end DoesCall glances self.old.hub self.new.hub }
+        ensures named { (result ≡ true) ↔ IsSubscribed name (hub_of producer_end self.new.hub).entries }
+    {
         self.hub.is_subscribed(name)
     }
 }

@@ -1,27 +1,51 @@
-//! What the last ticket of a publisher's count tells of the others.
+//! The tickets of the count that finds the last subscription of a publisher.
 ghost use Rattle.std.specs.Prelude.{◌≡◌, IsSome, None, Some, slice_get};
-ghost use Rattle.feed_core.specs.Feed.{end_of};
 ghost use Rattle.publisher_hub.specs.Entry.{EntryState};
 ghost use Rattle.publisher_hub.specs.Hub.{hub_of};
 ghost use Rattle.publisher_hub.specs.Sound.{IsSound};
 ghost use Rattle.publisher_hub.specs.Tickets.{ticket_at};
-ghost use Rattle.publisher.specs.Tickets.{AreOfOneCount, AreSpent, IsBeside};
+ghost use Rattle.publisher.specs.Spending.{SpendsTicket, last_after};
+ghost use Rattle.publisher.specs.State.{producer_end};
+ghost use Rattle.publisher.specs.Tickets.{AreOfOneCountOf, AreSpent, IsBeside};
 
+use super::State;
 use close_count::{Spent, none_left};
-use feed_core::Desk;
+use feed_cell::Producer;
 use flow_rules::Listener;
 use publisher_hub::Hub;
+use std::sync::ledger::Ledger;
+
+impl<L: Ledger, D: Ledger, B: Listener> State<L, D, B> {
+    /// Spends the ticket of the subscription of this number, if that has ended and its ticket is there.
+    pub fn spend_ticket(&mut self, entry: u32)
+        ensures { SpendsTicket entry self.old self.new }
+    {
+        if let Some(ticket) = self.hub.ended(entry) {
+            let is_closed = self.hub.ending().is_some();
+            keep_last(&mut self.last, ticket.spend(), is_closed);
+        }
+    }
+}
+
+/// Keeps what is left of a ticket that was spent, if it was the last. None is before the close, since the opening is a ticket until then.
+pub(super) fn keep_last(last: &mut Option<Spent>, spent: Spent, is_closed: bool)
+    ensures { last.new ≡ last_after spent is_closed last.old }
+{
+    if spent.is_last() & is_closed {
+        *last = Some(spent);
+    }
+}
 
 /// Compares what is left of the last ticket, if it was spent, with the tickets of all subscriptions: then none of them has one.
 pub(super) fn compare_tickets<B: Listener>(
-    hub: &mut Hub<Desk<B>>,
+    hub: &mut Hub<Producer<B>>,
     last: &mut Option<Spent>,
     entries: u32,
 )
-    requires sound { IsSound (hub_of end_of hub.old) }
-    requires one_count { AreOfOneCount (hub_of end_of hub.old) last.old }
-    ensures none { IsSome last.old → AreSpent entries (hub_of end_of hub.new) }
-    ensures hub { hub_of end_of hub.new ≡ hub_of end_of hub.old }
+    requires sound { IsSound (hub_of producer_end hub.old) }
+    requires one_count { AreOfOneCountOf (hub_of producer_end hub.old) last.old }
+    ensures none { IsSome last.old → AreSpent entries (hub_of producer_end hub.new) }
+    ensures hub { hub_of producer_end hub.new ≡ hub_of producer_end hub.old }
     ensures last { last.new ≡ last.old }
 {
     for entry in 0..entries {
@@ -30,11 +54,11 @@ pub(super) fn compare_tickets<B: Listener>(
 }
 
 /// Compares what is left of the last ticket, if it was spent, with the ticket of the subscription of this number: it has none then.
-fn compare_ticket<B: Listener>(hub: &mut Hub<Desk<B>>, last: &mut Option<Spent>, entry: u32)
-    requires sound { IsSound (hub_of end_of hub.old) }
+fn compare_ticket<B: Listener>(hub: &mut Hub<Producer<B>>, last: &mut Option<Spent>, entry: u32)
+    requires sound { IsSound (hub_of producer_end hub.old) }
     requires one_count { IsBeside last.old (ticket_at hub.old entry) }
-    ensures none { IsSome last.old → (stored : EntryState) → slice_get (hub_of end_of hub.old).entries entry ≡ Some stored → stored.ticket ≡ None }
-    ensures hub { hub_of end_of hub.new ≡ hub_of end_of hub.old }
+    ensures none { IsSome last.old → (stored : EntryState) → slice_get (hub_of producer_end hub.old).entries entry ≡ Some stored → stored.ticket ≡ None }
+    ensures hub { hub_of producer_end hub.new ≡ hub_of producer_end hub.old }
     ensures last { last.new ≡ last.old }
 {
     let Some(spent) = last.take() else {

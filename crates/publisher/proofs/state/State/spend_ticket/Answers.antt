@@ -1,6 +1,6 @@
-use Rattle.std.proofs.Common.{◌≡◌, None, Some, is_some, sym, ap, ◌∙◌}
+use Rattle.std.proofs.Common.{◌≡◌, None, Some, is_some, refl, sym, ap, ◌∙◌}
 use Rattle.publisher.proofs.Ticketed.{last_stays}
-use Rattle.publisher.proofs.TurnedStates.{state_asked, state_spent}
+use Rattle.publisher.proofs.AskedStates.{state_asked, state_spent}
 use Rattle.publisher.proofs.state.State.spend_ticket.Goals as goal
 
 pub invariant_of-self : goal.invariant_of-self
@@ -17,4 +17,5 @@ returns-in-Some g c = rw (← c.self.view_is) (record {
   asks = c.ended.ensures.looks;
   none = λ none. let no : None ≡ Some c.in-Some.ticket = sym none ∙ c.in-Some.is in cc;
   stays = λ some. rw c.keep_last.ensures (last_stays c.spend.result c.is_some-is_closed.result c.self.inside.last some);
+  counted = refl;
 })

@@ -1,0 +1,32 @@
+use Rattle.publisher_hub.specs.Hub.{hub_of}
+use Rattle.publisher.proofs.Admitted.{same_count, ticket_for_one}
+use Rattle.publisher.proofs.GrownStates.{on_ok_all, opened_after, state_ticketed}
+use Rattle.publisher.proofs.KeptStates.{state_stays, stays_refused, stays_seen}
+use Rattle.publisher.proofs.Refused.{ticket_refused}
+use Rattle.publisher.proofs.state.State.reserve.Goals as goal
+use Rattle.publisher.specs.State.{producer_end}
+
+pub invariant_of-self : goal.invariant_of-self
+invariant_of-self g c =
+    let old = hub_of producer_end c.self.inside.hub in
+    let new = hub_of producer_end c.may_subscribe.new.self in
+    state_stays old new _ c.self.invariant c.may_subscribe.ensures.sound (stays_refused c.args.name c.args.due.now.items c.may_subscribe.new.due.items c.self.inside.hub c.may_subscribe.new.self c.in_err-may_subscribe.field-0.0 c.in_err-may_subscribe.ensures.err)
+
+pub invariant_of-self-2 : goal.invariant_of-self-2
+invariant_of-self-2 g c =
+    let old = hub_of producer_end c.self.inside.hub in
+    let middle = hub_of producer_end c.may_subscribe.new.self in
+    let seen = c.in_ok-may_subscribe.ensures.seen in
+    let is = state_stays old middle _ c.self.invariant c.may_subscribe.ensures.sound (stays_seen old middle seen.rest seen.kept) in
+    let adds = c.add_ticket.ensures in
+    state_ticketed c.may_subscribe.new.self c.add_ticket.new.self _ is adds.sound adds.rest (λ none. opened_after c.add_ticket.result c.may_subscribe.new.self c.add_ticket.new.self (adds.ok none) adds.unchanged (is.opened none))
+    (same_count c.add_ticket.result c.may_subscribe.new.self c.add_ticket.new.self adds.closed adds.ok adds.unchanged is.tickets.0 is.tickets.1.opening)
+
+pub returns : goal.returns
+returns g c =
+    let adds = c.add_ticket.ensures in
+    record {
+      can = on_ok_all c.add_ticket.result (adds.keeps c.args.name c.may_subscribe.new.due c.in_ok-may_subscribe.ensures.can);
+      ticket = ticket_for_one c.add_ticket.result c.may_subscribe.new.self c.add_ticket.new.self adds.closed adds.ok;
+      refusals = ticket_refused c.add_ticket.result c.may_subscribe.new.self.opening adds.err;
+    }
