@@ -5,8 +5,9 @@ use Rattle.feed_core.specs.Prelude.{Ending, Item}
 use Rattle.feed_cell.specs.Control.{MARK, marked}
 use Rattle.feed_cell.specs.Offering.{SaysOf}
 use Rattle.feed_cell.specs.Parties.{end_of}
-use Rattle.feed_cell.specs.Plays.{SeatOf, FindsRoom, after_look, sent}
+use Rattle.feed_cell.specs.Plays.{SeatOf, FindsRoom, after_look, after_signal}
 use Rattle.feed_cell.specs.Types.{Free, HasRoom, HasPut}
+use Rattle.feed_cell.specs.Views.{starts_with}
 use Rattle.feed_cell.specs.declared.cell.View.{View}
 use Rattle.feed_cell.specs.declared.cell.offering.Found.{Found}
 
@@ -15,9 +16,9 @@ pub unmarked : (ended : Bool) (head found : ℕ) → found ≡ marked ended head
 unmarked false head found is small = (refl, is)
 unmarked true head found is small = absurd (omega arith)
 
-module _ {B T : Type 0} (capacity tail found held : ℕ) (before looked placed after : SeatOf B) (item : Item) (start : Option T) (ready later : Bool) (finds : FindsRoom before found looked) (says : SaysOf capacity tail found (Found.Room held)) (counted : length before.0.put ≡ tail)
+module _ {B T S : Type 0} (capacity tail found held : ℕ) (before looked placed after : SeatOf B) (item : Item) (start : Option T) (task : Option S) (ready later : Bool) (finds : FindsRoom before found looked) (says : SaysOf capacity tail found (Found.Room held)) (counted : length before.0.put ≡ tail)
     (sized : before.0.capacity ≡ capacity) (unclosed : before.0.closing ≡ None)
-    (put : placed ≡ (record looked.0 { put = looked.0.put ++ item ∷ []; producing = HasPut; places = 0 }, [])) (signalled : after ≡ (sent None Free placed.0, placed.1)) (keeps : start ≡ None → later ≡ ready) where
+    (put : placed ≡ (record looked.0 { put = looked.0.put ++ item ∷ []; producing = HasPut; places = 0 }, [])) (signalled : after ≡ (after_signal task None placed.0, placed.1)) (keeps : start ≡ None → later ≡ ready) where
   ends : finds.ended ≡ false
   ends = (unmarked finds.ended finds.head found finds.found_is says.0).0
 
@@ -30,8 +31,8 @@ module _ {B T : Type 0} (capacity tail found held : ℕ) (before looked placed a
   abbrev seen : View
   seen = after_look before.0 finds.head finds.ended HasRoom 1
 
-  view_is : after.0 ≡ record seen { put = before.0.put ++ item ∷ []; producing = Free; places = 0 }
-  view_is = ap (λ (m : SeatOf B). m.0) signalled ∙ ap (λ (m : SeatOf B). sent None Free m.0) put ∙ ap (λ (m : SeatOf B). record m.0 { put = m.0.put ++ item ∷ []; producing = Free; places = 0 }) (finds.room ends within)
+  view_is : after.0 ≡ record seen { put = before.0.put ++ item ∷ []; producing = Free; places = 0; started = starts_with task before.0.started }
+  view_is = ap (λ (m : SeatOf B). m.0) signalled ∙ ap (λ (m : SeatOf B). after_signal task None m.0) put ∙ ap (λ (m : SeatOf B). record m.0 { put = m.0.put ++ item ∷ []; producing = Free; places = 0; started = starts_with task m.0.started }) (finds.room ends within)
 
   pub accepted : (m : End) × LookedIfOpen (end_of capacity before.0 ready) m × TakesItem m item (held + 1) start (end_of capacity after.0 later)
   accepted =

@@ -29,5 +29,6 @@ pub mod Seeing
 pub mod Serving
 pub mod Signalling
 pub mod Stages
+pub mod Starting
 pub mod Taking
 pub mod Turned

@@ -5,6 +5,7 @@ use Rattle.flow_rules.specs.declared.feed.put.Put.TheVariants.{Accepted, Full, G
 use Rattle.feed_cell.specs.Control.{MARK}
 use Rattle.feed_cell.specs.Parties.{ProducerState, TaskState, IsStarted}
 use Rattle.feed_cell.specs.Plays.{SeatOf, FindsRoom}
+use Rattle.feed_cell.specs.Views.{starts_with}
 use Rattle.feed_cell.specs.declared.cell.offering.Found.{Found}
 
 -- what this head says to a producer that has put as many items as tail
@@ -27,8 +28,9 @@ started_in (Call.Ends ending start) = start
 started_in (Call.Duplicates start) = start
 started_in (Call.Looks standing) = None
 
--- it is one of the same subscription, and what was there for it is spent
+-- it is one of the same subscription, and what was there for it is spent; a call answers a task exactly if its signal has started one
 pub record DoesCall (old : ProducerState) (call : Call TaskState) (new : ProducerState) : Type 0 where
   pub ring : new.ring ≡ old.ring
   pub starts : IfSome (started_in call) (IsStarted old.ring old.end.capacity)
   pub spent : IsSome (started_in call) → new.end.ready ≡ false
+  pub counts : new.started ≡ starts_with (started_in call) old.started

@@ -13,17 +13,18 @@ use Rattle.feed_cell.specs.Plays.{SeatOf}
 use Rattle.feed_cell.specs.Turning.{own_after, answers_after}
 use Rattle.feed_cell.specs.Types.{Fresh, Ready}
 
--- the producer: whose subscription it is, and what its publisher knows of that
+-- the producer: whose subscription it is, what its publisher knows of that, and how many tasks its calls have started
 pub record ProducerState : Type 0 where
   pub ring : TableId
   pub end : End
+  pub started : ℕ
 
 -- the producer's end, by what its seat knows and whether it is ready
 abbrev pub end_of : ℕ → View → Bool → End
 end_of capacity v ready = record { capacity = capacity; accepted = v.put; seen = v.seen; looks = v.looks; over = v.over; closing = v.closing; state = v.state; ready = ready }
 
--- the handle: how many items it requested in all, whether it cancelled, whether it requested a number that is not positive, and
--- whether it has what one started task needs
+-- the handle: how many items it requested in all, whether it cancelled, whether it requested a number that is not positive, whether
+-- it has what one started task needs, and how many tasks its calls have started
 pub record HandleState : Type 0 where
   pub ring : TableId
   pub capacity : ℕ
@@ -31,6 +32,7 @@ pub record HandleState : Type 0 where
   pub cancelled : Bool
   pub argument : Bool
   pub ready : Bool
+  pub started : ℕ
 
 -- the task: its seat, what it knows of the subscription, and what its subscriber was told, where that is with it
 pub record TaskState : Type 0 where
@@ -47,10 +49,10 @@ pub record SpentState : Type 0 where
 
 -- a new subscription's parties
 abbrev pub new_producer : ℕ → TableId → ProducerState
-new_producer capacity ring = record { ring = ring; end = record { capacity = capacity; accepted = []; seen = 0; looks = 0; over = false; closing = None; state = false; ready = true } }
+new_producer capacity ring = record { ring = ring; end = record { capacity = capacity; accepted = []; seen = 0; looks = 0; over = false; closing = None; state = false; ready = true }; started = 0 }
 
 abbrev pub new_handle : ℕ → TableId → HandleState
-new_handle capacity ring = record { ring = ring; capacity = capacity; asked = 0; cancelled = false; argument = false; ready = true }
+new_handle capacity ring = record { ring = ring; capacity = capacity; asked = 0; cancelled = false; argument = false; ready = true; started = 0 }
 
 -- its task was never run, and its subscriber was told nothing
 pub record IsNewTask (ring : TableId) (capacity : ℕ) (task : TaskState) : Type 0 where

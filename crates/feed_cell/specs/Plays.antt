@@ -13,6 +13,7 @@ use Rattle.feed_cell.specs.declared.cell.Held.{Held}
 use Rattle.feed_cell.specs.declared.cell.Lodger.{Lodger}
 use Rattle.feed_cell.specs.declared.cell.View.{View}
 use Rattle.feed_cell.specs.Cell.{greeted}
+use Rattle.feed_cell.specs.Views.{starts_with}
 use Rattle.feed_cell.specs.Control.{Flags, Reads, causes_of, MARK, marked}
 
 -- what a party knows, and the slots that it has out
@@ -105,6 +106,10 @@ sent (Some Argument) producing v = record v { producing = producing }
 sent (Some State) producing v = record v { producing = producing; state = true }
 sent (Some (Closing ending)) producing v = record v { producing = producing; closing = Some ending }
 
+-- and where it has handed over the task that its signal started, if it did
+abbrev pub after_signal : {T : Type 0} → Option T → Option Cause → View → View
+after_signal task cause v = record (sent cause Free v) { started = starts_with task v.started }
+
 -- its signal starts the task where the word had no mark of that, and then the producer has to hand it over
 pub record ProducerSignals {B : Type 0} (cause : Option Cause) (before : SeatOf B) (found : ℕ) (after : SeatOf B) : Type 0 where
   pub producing : Producing
@@ -123,6 +128,9 @@ sent_by_handle (Some Cancel) requesting v = record v { requesting = requesting; 
 sent_by_handle (Some Argument) requesting v = record v { requesting = requesting; argument = true }
 sent_by_handle (Some State) requesting v = record v { requesting = requesting }
 sent_by_handle (Some (Closing ending)) requesting v = record v { requesting = requesting }
+
+abbrev pub handle_after_signal : {T : Type 0} → Option T → Option Cause → View → View
+handle_after_signal task cause v = record (sent_by_handle cause Idle v) { started = starts_with task v.started }
 
 pub record HandleSignals {B : Type 0} (cause : Option Cause) (before : SeatOf B) (found : ℕ) (after : SeatOf B) : Type 0 where
   pub requesting : Requesting

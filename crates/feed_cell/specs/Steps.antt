@@ -1,5 +1,5 @@
 -- What the steps of a party ask of its seat.
-use Rattle.std.specs.Prelude.{◌≡◌, ℕ, ◌%◌, ◌^◌, ◌<◌, ◌⊎◌, [], ◌∷◌, length, None, false}
+use Rattle.std.specs.Prelude.{◌≡◌, ℕ, ◌%◌, ◌^◌, ◌<◌, [], ◌∷◌, length, Option, None, Some, false}
 use Rattle.std.specs.Int.{bit_at}
 use Rattle.atomic_table.specs.Seated.{TableId}
 use Rattle.feed_core.specs.World.Table.{MayBegin}
@@ -13,9 +13,10 @@ use Rattle.feed_cell.specs.Views.{IsProducer, IsHandle, IsRunner}
 abbrev pub HasFourWords : TableId → Type 0
 HasFourWords ring = ring.words ≡ 4
 
--- the task was handed over where the signal that found this word had started it, and else nothing changed
-abbrev pub IsHanded : {B : Type 0} → ℕ → View → SeatOf B → SeatOf B → Type 0
-IsHanded found handed before after = ((bit_at found 0 ≡ 1) × (after ≡ before)) ⊎ ((bit_at found 0 ≡ 0) × (after ≡ (handed, before.1)))
+-- the task was handed over exactly if the signal that found this word has started it, and else nothing changed
+abbrev pub IsHanded : {B T : Type 0} → ℕ → View → Option T → SeatOf B → SeatOf B → Type 0
+IsHanded found handed None before after = (bit_at found 0 ≡ 1) × (after ≡ before)
+IsHanded found handed (Some task) before after = (bit_at found 0 ≡ 0) × (after ≡ (handed, before.1))
 
 -- the producer may look: it is not in the middle of a put or a signal
 pub record MayOffer {B : Type 0} (me : SeatOf B) : Type 0 where

@@ -1,5 +1,5 @@
 -- What the parties of a subscription know: at first, and when seats are split.
-use Rattle.std.specs.Prelude.{◌≡◌, ℕ, Bool, true, false, None, []}
+use Rattle.std.specs.Prelude.{◌≡◌, ℕ, ◌+◌, Bool, true, false, Option, None, Some, []}
 use Rattle.feed_core.specs.Cause.{no_causes}
 use Rattle.feed_core.specs.declared.turn.outlook.Outlook.TheVariants.{Again}
 use Rattle.feed_cell.specs.Types.{Free, Idle, Fresh, Ready}
@@ -9,6 +9,7 @@ use Rattle.feed_cell.specs.declared.cell.View.{View}
 abbrev pub first_view : ℕ → View
 first_view capacity = record {
   capacity = capacity;
+  started = 0;
   puts = true;
   put = [];
   producing = Free;
@@ -63,10 +64,15 @@ running_alone v = record v { puts = false; asks = false }
 
 -- a side has handed over the task that its signal started
 abbrev pub producer_handed : View → View
-producer_handed v = record v { producing = Free }
+producer_handed v = record v { producing = Free; started = v.started + 1 }
 
 abbrev pub handle_handed : View → View
-handle_handed v = record v { requesting = Idle }
+handle_handed v = record v { requesting = Idle; started = v.started + 1 }
+
+-- how many tasks were started, with this one, if there is one
+abbrev pub starts_with : {T : Type 0} → Option T → ℕ → ℕ
+starts_with None started = started
+starts_with (Some task) started = started + 1
 
 -- the task that was handed over is ready, and its subscriber is at home
 abbrev pub running_handed : View → View

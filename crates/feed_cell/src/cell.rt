@@ -134,6 +134,8 @@ pub struct Grant {
 pub struct View {
     /// How many items the buffer has room for.
     pub capacity: u64,
+    /// How many tasks its signals have started.
+    pub started: u64,
     /// Whether it is the producer.
     pub puts: bool,
     /// All that it put.

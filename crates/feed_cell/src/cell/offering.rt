@@ -4,9 +4,9 @@ ghost use Rattle.std.specs.Int.{bit_at};
 ghost use Rattle.feed_core.specs.Prelude.{Ending};
 ghost use Rattle.feed_core.specs.World.Table.{MayBegin, ProducerMay};
 ghost use Rattle.feed_cell.specs.Offering.{Finds};
-ghost use Rattle.feed_cell.specs.Plays.{FindsRoom, Stands, sent};
+ghost use Rattle.feed_cell.specs.Plays.{FindsRoom, Stands, after_signal};
 ghost use Rattle.feed_cell.specs.Steps.{HasFourWords, MayOffer, HasPlace, IsHanded};
-ghost use Rattle.feed_cell.specs.Types.{State, Closing, Free, HasPut, Hands};
+ghost use Rattle.feed_cell.specs.Types.{State, Closing, HasPut, Hands};
 ghost use Rattle.feed_cell.specs.Views.{IsProducer, producer_handed, running_handed};
 ghost use Rattle.feed_cell.specs.declared.cell.Held.TheVariants as Held;
 
@@ -107,7 +107,7 @@ pub(crate) fn signal_item<B: Listener>(
     requires table { (seat.old.table_id ≡ table.now.shared.table_id) × HasFourWords seat.old.table_id }
     requires put { IsProducer seat.old.me.0 × (seat.old.me.0.producing ≡ HasPut) }
     ensures table { (seat.new.table_id ≡ seat.old.table_id) × (seat.new.id ≡ seat.old.id) }
-    ensures sent { seat.new.me ≡ (sent None Free seat.old.me.0, seat.old.me.1) }
+    ensures sent { seat.new.me ≡ (after_signal result None seat.old.me.0, seat.old.me.1) }
     ensures starts { IfSome result (λ task. (task.table_id ≡ seat.old.table_id) × (task.me ≡ (running_handed seat.old.me.0, []))) }
 {
     let found = table.shared.fetch_or::<SignalItem>(seat, CONTROL, ITEM);
@@ -122,7 +122,7 @@ pub(crate) fn signal_state<B: Listener>(
     requires table { (seat.old.table_id ≡ table.now.shared.table_id) × HasFourWords seat.old.table_id }
     requires may { MayOffer seat.old.me }
     ensures table { (seat.new.table_id ≡ seat.old.table_id) × (seat.new.id ≡ seat.old.id) }
-    ensures sent { seat.new.me ≡ (sent (Some State) Free seat.old.me.0, seat.old.me.1) }
+    ensures sent { seat.new.me ≡ (after_signal result (Some State) seat.old.me.0, seat.old.me.1) }
     ensures starts { IfSome result (λ task. (task.table_id ≡ seat.old.table_id) × (task.me ≡ (running_handed seat.old.me.0, []))) }
 {
     let found = table.shared.fetch_or::<SignalState>(seat, CONTROL, STATE);
@@ -138,7 +138,7 @@ pub(crate) fn signal_complete<B: Listener>(
     requires may { MayOffer seat.old.me }
     requires unclosed { seat.old.me.0.closing ≡ None }
     ensures table { (seat.new.table_id ≡ seat.old.table_id) × (seat.new.id ≡ seat.old.id) }
-    ensures sent { seat.new.me ≡ (sent (Some (Closing Ending.Normal)) Free seat.old.me.0, seat.old.me.1) }
+    ensures sent { seat.new.me ≡ (after_signal result (Some (Closing Ending.Normal)) seat.old.me.0, seat.old.me.1) }
     ensures starts { IfSome result (λ task. (task.table_id ≡ seat.old.table_id) × (task.me ≡ (running_handed seat.old.me.0, []))) }
 {
     let found = table
@@ -157,7 +157,7 @@ pub(crate) fn signal_error<B: Listener>(
     requires may { MayOffer seat.old.me }
     requires unclosed { seat.old.me.0.closing ≡ None }
     ensures table { (seat.new.table_id ≡ seat.old.table_id) × (seat.new.id ≡ seat.old.id) }
-    ensures sent { seat.new.me ≡ (sent (Some (Closing (Ending.Failed code))) Free seat.old.me.0, seat.old.me.1) }
+    ensures sent { seat.new.me ≡ (after_signal result (Some (Closing (Ending.Failed code))) seat.old.me.0, seat.old.me.1) }
     ensures starts { IfSome result (λ task. (task.table_id ≡ seat.old.table_id) × (task.me ≡ (running_handed seat.old.me.0, []))) }
 {
     let found = table
@@ -176,7 +176,7 @@ fn hand_over<B: Listener>(
     requires producer { IsProducer seat.old.me.0 }
     requires hands { bit_at found 0 ≡ 0 → seat.old.me.0.producing ≡ Hands }
     ensures table { (seat.new.table_id ≡ seat.old.table_id) × (seat.new.id ≡ seat.old.id) }
-    ensures handed { IsHanded found (producer_handed seat.old.me.0) seat.old.me seat.new.me }
+    ensures handed { IsHanded found (producer_handed seat.old.me.0) result seat.old.me seat.new.me }
     ensures starts { IfSome result (λ task. (task.table_id ≡ seat.old.table_id) × (task.me ≡ (running_handed seat.old.me.0, []))) }
 {
     if found & RUN != 0 {

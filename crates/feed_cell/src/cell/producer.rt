@@ -1,10 +1,10 @@
 //! The producer's end of a subscription, which its publisher has.
-ghost use Rattle.std.specs.Prelude.{◌≡◌, ◌<◌, IfSome, IfNone, IsSome, None, []};
+ghost use Rattle.std.specs.Prelude.{◌≡◌, ◌<◌, ℕ, IfSome, IfNone, IsSome, None, []};
 ghost use Rattle.std.specs.Arc.{arc_value};
 ghost use Rattle.crossbeam_utils.specs.Padded.{padded_value};
 ghost use Rattle.feed_cell.specs.Parties.{IsStarted};
 ghost use Rattle.feed_cell.specs.Steps.{HasFourWords};
-ghost use Rattle.feed_cell.specs.Views.{running_handed};
+ghost use Rattle.feed_cell.specs.Views.{running_handed, starts_with};
 ghost use Rattle.feed_cell.specs.declared.cell.View.{View};
 
 use super::offering::{
@@ -39,7 +39,7 @@ impl<B: Listener> Model for Producer<B> {
 
     ghost Value = { ProducerState };
 
-    ghost view = { λ p. record { ring = p.seat.table_id; end = end_of p.capacity p.seat.me.0 (is_some p.spare) } };
+    ghost view = { λ p. record { ring = p.seat.table_id; end = end_of p.capacity p.seat.me.0 (is_some p.spare); started = p.seat.me.0.started } };
 
     ghost invariant = { λ p. ((padded_value (arc_value p.table)).shared.table_id ≡ p.seat.table_id) × IfSome p.spare (λ spare. (padded_value (arc_value spare)).shared.table_id ≡ p.seat.table_id) × HasFourWords p.seat.table_id × (0 < p.capacity) × (p.seat.me.1 ≡ []) × MayOffer p.seat.me × (p.seat.me.0.capacity ≡ p.capacity) × (p.seat.me.0.closing ≡ p.closing) × (length p.seat.me.0.put ≡ p.tail) };
 }
@@ -129,6 +129,7 @@ pub(crate) fn start<B: Listener>(
     ensures spent { IfSome result (λ task. spare.new ≡ None) }
     ensures started { IfSome result (λ task. IfSome seat (λ seat. IsStarted seat.table_id capacity task)) }
     ensures some { IfSome result (λ task. IsSome seat) }
+    ensures counts { (started : ℕ) → starts_with result started ≡ starts_with seat started }
 {
     let seat = seat?;
     let table = spare.take()?;

@@ -3,9 +3,9 @@ ghost use Rattle.std.specs.Prelude.{◌≡◌, ◌+◌, ◌≤◌, [], Some, Non
 ghost use Rattle.std.specs.Int.{bit_at};
 ghost use Rattle.feed_core.specs.Prelude.{total_after};
 ghost use Rattle.feed_cell.specs.Control.{MARK};
-ghost use Rattle.feed_cell.specs.Plays.{sent_by_handle};
+ghost use Rattle.feed_cell.specs.Plays.{handle_after_signal};
 ghost use Rattle.feed_cell.specs.Steps.{HasFourWords, MayRequest, IsHanded};
-ghost use Rattle.feed_cell.specs.Types.{Cancel, Argument, Idle, HasAsked, HandsOver};
+ghost use Rattle.feed_cell.specs.Types.{Cancel, Argument, HasAsked, HandsOver};
 ghost use Rattle.feed_cell.specs.Views.{IsHandle, handle_handed, running_handed};
 
 use super::plays::{Ask, Leave, SignalArgument, SignalCancel, SignalRequest};
@@ -42,7 +42,7 @@ pub(crate) fn signal_request<B: Listener>(
     requires table { (seat.old.table_id ≡ table.now.shared.table_id) × HasFourWords seat.old.table_id }
     requires stored { IsHandle seat.old.me.0 × (seat.old.me.0.requesting ≡ HasAsked) × (seat.old.me.0.left ≡ false) }
     ensures table { (seat.new.table_id ≡ seat.old.table_id) × (seat.new.id ≡ seat.old.id) }
-    ensures sent { seat.new.me ≡ (sent_by_handle None Idle seat.old.me.0, seat.old.me.1) }
+    ensures sent { seat.new.me ≡ (handle_after_signal result None seat.old.me.0, seat.old.me.1) }
     ensures starts { IfSome result (λ task. (task.table_id ≡ seat.old.table_id) × (task.me ≡ (running_handed seat.old.me.0, []))) }
 {
     let found = table.shared.fetch_or::<SignalRequest>(seat, CONTROL, ITEM);
@@ -57,7 +57,7 @@ pub(crate) fn signal_cancel<B: Listener>(
     requires table { (seat.old.table_id ≡ table.now.shared.table_id) × HasFourWords seat.old.table_id }
     requires may { MayRequest seat.old.me }
     ensures table { (seat.new.table_id ≡ seat.old.table_id) × (seat.new.id ≡ seat.old.id) }
-    ensures sent { seat.new.me ≡ (sent_by_handle (Some Cancel) Idle seat.old.me.0, seat.old.me.1) }
+    ensures sent { seat.new.me ≡ (handle_after_signal result (Some Cancel) seat.old.me.0, seat.old.me.1) }
     ensures starts { IfSome result (λ task. (task.table_id ≡ seat.old.table_id) × (task.me ≡ (running_handed seat.old.me.0, []))) }
 {
     let found = table.shared.fetch_or::<SignalCancel>(seat, CONTROL, CANCEL);
@@ -72,7 +72,7 @@ pub(crate) fn signal_argument<B: Listener>(
     requires table { (seat.old.table_id ≡ table.now.shared.table_id) × HasFourWords seat.old.table_id }
     requires may { MayRequest seat.old.me }
     ensures table { (seat.new.table_id ≡ seat.old.table_id) × (seat.new.id ≡ seat.old.id) }
-    ensures sent { seat.new.me ≡ (sent_by_handle (Some Argument) Idle seat.old.me.0, seat.old.me.1) }
+    ensures sent { seat.new.me ≡ (handle_after_signal result (Some Argument) seat.old.me.0, seat.old.me.1) }
     ensures starts { IfSome result (λ task. (task.table_id ≡ seat.old.table_id) × (task.me ≡ (running_handed seat.old.me.0, []))) }
 {
     let found = table
@@ -103,7 +103,7 @@ fn hand_over<B: Listener>(
     requires handle { IsHandle seat.old.me.0 }
     requires hands { bit_at found 0 ≡ 0 → seat.old.me.0.requesting ≡ HandsOver }
     ensures table { (seat.new.table_id ≡ seat.old.table_id) × (seat.new.id ≡ seat.old.id) }
-    ensures handed { IsHanded found (handle_handed seat.old.me.0) seat.old.me seat.new.me }
+    ensures handed { IsHanded found (handle_handed seat.old.me.0) result seat.old.me seat.new.me }
     ensures starts { IfSome result (λ task. (task.table_id ≡ seat.old.table_id) × (task.me ≡ (running_handed seat.old.me.0, []))) }
 {
     if found & RUN != 0 {

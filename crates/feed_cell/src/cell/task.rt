@@ -14,7 +14,8 @@ pub enum Stage {
     Going,
 }
 
-/// The task of a subscription. It has to be run until it is at rest or has ended.
+/// The task of a subscription. It has to be run until it is at rest or has ended: one that is dropped takes its subscriber with it.
+#[must_use]
 #[derive(Drop)]
 pub struct Task<B: Listener> {
     pub(crate) table: SharedTable<B>,
