@@ -47,7 +47,7 @@ module _ {B : Type 0} (told : B → List Signal) where
         tt,
         record {
           world = after (End how) p;
-          reached = reached_end how id v w c.reached here at (inr (inr is.2)) (ap outlook_by how_is) (has_none w is.0 is.1 refl) seat.over;
+          reached = reached_end how id v w c.reached here at (inr (inr is.2)) (ap outlook_by how_is) refl (has_none w is.0 is.1 refl) seat.over;
           log = c.log;
           taken = c.taken;
           item = c.item;

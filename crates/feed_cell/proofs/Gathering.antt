@@ -5,7 +5,7 @@ use lib.ListN.{get_elem?}
 use Rattle.atomic_table.proofs.Lists.{at_set}
 use Rattle.atomic_table.specs.Table.{Me, Joins}
 use Rattle.feed_core.specs.Prelude.{Signal}
-use Rattle.feed_cell.proofs.Outlooks.{reached_too}
+use Rattle.feed_cell.proofs.Outlooks.{reached_joined}
 use Rattle.feed_cell.proofs.Seats.{lacks, mine, other}
 use Rattle.feed_cell.specs.Cell.{Only, Cell}
 use Rattle.feed_cell.specs.Views.{has_put, has_ask, has_run, with_asking, no_part}
@@ -37,7 +37,7 @@ module _ {B : Type 0} (told : B → List Signal) where
       let was : get_elem? s.views from ≡ some w = ⊎_elim (λ here. absurd (apart here.0)) (λ else. else.1) (at_set s.views id from (with_asking v w) w later) in
       record {
         world = c.world;
-        reached = reached_too from w no_part (reached_too id v (with_asking v w) c.reached at (inl puts) refl) later (inr (inl asks)) (sym (c.reached.goes from w was (inr (inl asks))));
+        reached = reached_joined id from v (with_asking v w) w no_part c.reached at (inl puts) later (c.reached.goes from w was (inr (inl asks))) refl refl refl refl;
         log = c.log;
         taken = c.taken;
         item = c.item;

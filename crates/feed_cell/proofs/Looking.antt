@@ -107,7 +107,7 @@ module _ {B : Type 0} (told : B → List Signal) where
       let w : View = after_causes v found c.flags g.own g.answers v.taken in
       let reached : IsReachedBy (set s.views id w) (looked_with g.own (causes_of c.flags g.answers) p) =
       subst (IsReachedBy (set s.views id w)) (effect answer p c.flags c.answers c.shows.causes ∙ ap₂ (λ (a : ℕ) (b : Causes). looked_with a (causes_of c.flags b) p) own_there answers_there)
-      (reached_more (Look answer) id v w c.reached here at (inr (inr is.2)) refl (stays_on p.runner (after (Look answer) p).runner (seated p.runner k.seated).over refl)) in (
+      (reached_more (Look answer) id v w c.reached here at (inr (inr is.2)) (refl, refl) (stays_on p.runner (after (Look answer) p).runner (seated p.runner k.seated).over refl (λ e. cc))) in (
         w,
         keeps,
         tt,
@@ -133,7 +133,7 @@ module _ {B : Type 0} (told : B → List Signal) where
       let w : View = after_causes v found c.flags g.own g.answers c.taken in
       let reached : IsReachedBy (set s.views id w) (looked_with g.own (causes_of c.flags g.answers) p) =
       subst (IsReachedBy (set s.views id w)) (effect Answer.Go p c.flags c.answers c.shows.causes ∙ ap₂ (λ (a : ℕ) (b : Causes). looked_with a (causes_of c.flags b) p) (sym lodge.own_is) (sym lodge.answers_are))
-      (reached_more (Look Answer.Go) id v w c.reached here at (inr (inr is.2)) refl (stays_on p.runner (after (Look Answer.Go) p).runner (seated p.runner k.seated).over refl)) in (
+      (reached_more (Look Answer.Go) id v w c.reached here at (inr (inr is.2)) (refl, refl) (stays_on p.runner (after (Look Answer.Go) p).runner (seated p.runner k.seated).over refl (λ e. cc))) in (
         w,
         takes v.capacity (Held.Guest g),
         ap (λ (j : ℕ). get_elem? s.homes j) k.sized ∙ lodge.at,

@@ -32,6 +32,7 @@ module _ {B : Type 0} (told : B → List Signal) where
           start = told_out told me.1;
           base = me.0.taken;
           knew = λ e. (refl, refl);
+          met = λ e. (let clash : true ≡ false = sym paused.away ∙ e in cc);
           opened = inr out;
           took = [];
           counted = refl;
@@ -59,6 +60,7 @@ module _ {B : Type 0} (told : B → List Signal) where
             start = [];
             base = [];
             knew = λ e. (sym untold, sym fresh.taken);
+            met = λ e. (let clash : true ≡ false = sym fresh.away ∙ e in cc);
             opened = inl (refl, refl);
             took = [];
             counted = refl;
@@ -83,7 +85,7 @@ module _ {B : Type 0} (told : B → List Signal) where
         sym (ap (told_out told) ends.ending.slot) ∙ ends.tells.text ∙ ap (λ s. s ++ ends.last) untold ∙ sym saw
         in (
           record {
-            turned = whole_turn before.0 (told_out told before.1) later.signals [] [] [] (Ended how) (λ e. (sym untold, sym fresh.taken)) (inl (refl, refl)) (omega arith) [] refl tt
+            turned = whole_turn before.0 (told_out told before.1) later.signals [] [] [] (Ended how) (λ e. (sym untold, sym fresh.taken)) (λ e. (let clash : true ≡ false = sym fresh.away ∙ e in cc)) (inl (refl, refl)) (omega arith) [] refl tt
                 (subst (λ (l : List Item). IsToldBy how l later.signals) taken (subst (λ (s : List Signal). IsToldBy how after.0.taken s) text ends.ending.text));
             taken = ap (λ (m : SeatOf B). m.0.taken) left ∙ taken;
             grants = ap (λ (m : SeatOf B). m.0.grants) left ∙ ap (λ (v : View). v.grants) ends.tells.view ∙ sym (append-nil before.0.grants);
@@ -112,6 +114,7 @@ module _ {B : Type 0} (told : B → List Signal) where
         start = greeted mid.0.taken;
         base = mid.0.taken;
         knew = λ e. let clash : true ≡ false = sym e ∙ so_far.3 ∙ so_far.2.home in cc;
+        met = λ _. refl;
         opened = inr refl;
         took = [];
         counted = sym so_far.0;
@@ -130,6 +133,7 @@ module _ {B : Type 0} (told : B → List Signal) where
         start = t.start;
         base = t.base;
         knew = t.knew;
+        met = t.met;
         opened = t.opened;
         took = t.took;
         counted = t.counted;
@@ -177,6 +181,7 @@ module _ {B : Type 0} (told : B → List Signal) where
             start = t.start;
             base = t.base;
             knew = t.knew;
+            met = t.met;
             opened = t.opened;
             took = t.took ++ item ∷ [];
             counted = length-append t.took (item ∷ []) ∙ ap (λ n. n + 1) t.counted;
@@ -196,7 +201,7 @@ module _ {B : Type 0} (told : B → List Signal) where
     rests_after short rests same = (
       subst (λ (s : SeenState). StopsAs before.0 after.0 (told_out told before.1) s.signals Resting) (sym same)
           (record {
-            turned = whole_turn before.0 (told_out told before.1) seen.signals t.start t.base t.took Resting t.knew t.opened (let c = t.counted in omega arith) t.grants (t.one_each ∙ sym t.counted) t.granted t.text;
+            turned = whole_turn before.0 (told_out told before.1) seen.signals t.start t.base t.took Resting t.knew t.met t.opened (let c = t.counted in omega arith) t.grants (t.one_each ∙ sym t.counted) t.granted t.text;
             taken = rests.taken ∙ t.taken;
             grants = rests.grants ∙ t.grants_are;
             misses = rests.misses ∙ t.misses;
@@ -211,7 +216,7 @@ module _ {B : Type 0} (told : B → List Signal) where
     misses_after short missed same =
         subst (λ (s : SeenState). GoesOnAs before.0 after.0 (told_out told before.1) (told_out told after.1) s.signals) (sym same)
         (record {
-          turned = whole_turn before.0 (told_out told before.1) seen.signals t.start t.base t.took Again t.knew t.opened (let c = t.counted in omega arith) t.grants (t.one_each ∙ sym t.counted) t.granted t.text;
+          turned = whole_turn before.0 (told_out told before.1) seen.signals t.start t.base t.took Again t.knew t.met t.opened (let c = t.counted in omega arith) t.grants (t.one_each ∙ sym t.counted) t.granted t.text;
           taken = missed.taken ∙ t.taken;
           grants = missed.grants ∙ t.grants_are;
           told_is = missed.text ∙ t.told_is;
@@ -240,7 +245,7 @@ module _ {B : Type 0} (told : B → List Signal) where
         in
         let last = all_granted ends.took ends.granted in (
           record {
-            turned = whole_turn before.0 (told_out told before.1) later.signals t.start t.base (t.took ++ ends.took) (Ended how) t.knew t.opened
+            turned = whole_turn before.0 (told_out told before.1) later.signals t.start t.base (t.took ++ ends.took) (Ended how) t.knew t.met t.opened
                 (let c = t.counted in let few = ends.few in let l = length-append t.took ends.took in omega arith)
                 last.0 last.1 last.2
                 (subst (λ (l : List Item). IsToldBy how l (t.start ++ later.signals)) items (subst (λ (s : List Signal). IsToldBy how (mid.0.taken ++ ends.took) s) signals ends.text));
@@ -256,7 +261,7 @@ module _ {B : Type 0} (told : B → List Signal) where
   -- a turn is over after 64 items
   pub full : (before me : SeatOf B) (seen : List Signal) → TellsSoFar told 64 before me seen → GoesOnAs before.0 me.0 (told_out told before.1) (told_out told me.1) seen
   full before me seen t =
-      let turned = whole_turn before.0 (told_out told before.1) seen t.start t.base t.took Again t.knew t.opened (let c = t.counted in omega arith) t.grants (t.one_each ∙ sym t.counted) t.granted t.text in
+      let turned = whole_turn before.0 (told_out told before.1) seen t.start t.base t.took Again t.knew t.met t.opened (let c = t.counted in omega arith) t.grants (t.one_each ∙ sym t.counted) t.granted t.text in
       record {
         turned = turned;
         taken = t.taken;

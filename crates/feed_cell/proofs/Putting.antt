@@ -41,7 +41,7 @@ module _ {B : Type 0} (told : B → List Signal) where
         tt,
         record {
           world = after Put p;
-          reached = reached_more Put id v w c.reached (stage_is, closing_is) at (inl is.0) refl (stays_same p.runner);
+          reached = reached_more Put id v w c.reached (stage_is, closing_is) at (inl is.0) (refl, refl) (stays_same p.runner);
           log = log;
           taken = c.taken;
           item = c.item;

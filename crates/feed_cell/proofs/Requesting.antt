@@ -27,7 +27,7 @@ module _ {B : Type 0} (told : B → List Signal) where
         tt,
         record {
           world = after (Ask m) p;
-          reached = reached_more (Ask m) id v w c.reached (sym k.stands ∙ idle, some) at (inr (inl is.1)) refl (stays_same p.runner);
+          reached = reached_more (Ask m) id v w c.reached (sym k.stands ∙ idle, some) at (inr (inl is.1)) (refl, refl) (stays_same p.runner);
           log = c.log;
           taken = c.taken;
           item = c.item;
@@ -66,7 +66,7 @@ module _ {B : Type 0} (told : B → List Signal) where
         tt,
         record {
           world = p;
-          reached = reached_too id v w c.reached at (inr (inl is.1)) refl;
+          reached = reached_too id v w c.reached at (inr (inl is.1)) (refl, refl);
           log = c.log;
           taken = c.taken;
           item = c.item;

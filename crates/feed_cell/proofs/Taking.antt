@@ -45,7 +45,7 @@ module _ {B : Type 0} (told : B → List Signal) where
         tt,
         record {
           world = after Take p;
-          reached = reached_more Take id v w c.reached here at (inr (inr is.2)) refl (stays_on p.runner Taken seat.over refl);
+          reached = reached_more Take id v w c.reached here at (inr (inr is.2)) (refl, refl) (stays_on p.runner Taken seat.over refl (λ e. cc));
           log = c.log;
           taken = taken;
           item = [];

@@ -1,5 +1,5 @@
 -- What a turn did, by what its subscriber was told in all.
-use Rattle.std.proofs.Common.{◌≡◌, ℕ, suc, ◌+◌, ◌≤◌, ◌⊎◌, true, List, [], ◌∷◌, ◌++◌, map, length, Contains, refl, ap, sym, ◌∙◌, subst, inl, inr, arith, append-nil, length-append, append_assoc}
+use Rattle.std.proofs.Common.{◌≡◌, ℕ, suc, ◌+◌, ◌≤◌, ◌⊎◌, true, false, List, [], ◌∷◌, ◌++◌, map, length, Contains, refl, ap, sym, ◌∙◌, subst, inl, inr, arith, append-nil, length-append, append_assoc}
 use Rattle.std.proofs.lemmas.List.{append_cancel_left, length-map, map-append}
 use Rattle.flow_rules.proofs.Items.{items_of_append}
 use Rattle.feed_core.specs.PlainTurn.{terminal_of}
@@ -142,16 +142,17 @@ granted_more given (x ∷ first) second a b = (a.0, a.1, granted_more (given + 1
 
 -- the whole of a turn
 abbrev pub whole_turn : (old : View) (known seen start : List Signal) (base took : List Item) (outlook : Outlook)
-    → (old.away ≡ true → (start ≡ known) × (base ≡ old.taken)) → IsBefore base start → length took ≤ 64
+    → (old.away ≡ true → (start ≡ known) × (base ≡ old.taken)) → (old.away ≡ false → start ≡ greeted base) → IsBefore base start → length took ≤ 64
     → (grants : List Grant) → length grants ≡ length took → AreGranted (length base) grants
     → IsTextOf outlook (base ++ took) (start ++ seen) → TurnsAs old known seen outlook
-whole_turn old known seen start base took outlook knew before at_most grants one_each granted text =
+whole_turn old known seen start base took outlook knew met before at_most grants one_each granted text =
     let shape = shaped outlook (base ++ took) (start ++ seen) text in
     let items : items_of (start ++ seen) ≡ base ++ items_of seen = items_of_append start seen ∙ ap (λ l. l ++ items_of seen) (base_items base start before) in
     record {
       start = start;
       base = base;
       knew = knew;
+      met = met;
       before = before;
       took = took;
       at_most = at_most;

@@ -39,10 +39,12 @@ AreGranted given (grant ∷ more) = (stops grant.causes ≡ None) × (given < gr
 
 -- a turn that saw these signals, of a task that knew this, and whose subscriber was known to have been told that
 pub record TurnsAs (old : View) (known seen : List Signal) (outlook : Outlook) : Type 0 where
-  -- what its subscriber was told before, and the items that were taken by then; a task that has its subscriber with it knows them
+  -- what its subscriber was told before, and the items that were taken by then: a task that has its subscriber with it knows them, and
+  -- a task that a signal started has a subscriber that was greeted
   pub start : List Signal
   pub base : List Item
   pub knew : old.away ≡ true → (start ≡ known) × (base ≡ old.taken)
+  pub met : old.away ≡ false → start ≡ greeted base
   pub before : IsBefore base start
   -- the items that this turn took, in order
   pub took : List Item
@@ -84,6 +86,7 @@ module _ {B : Type 0} (told : B → List Signal) where
     pub start : List Signal
     pub base : List Item
     pub knew : before.0.away ≡ true → (start ≡ told_out told before.1) × (base ≡ before.0.taken)
+    pub met : before.0.away ≡ false → start ≡ greeted base
     pub opened : IsBefore base start
     pub took : List Item
     pub counted : length took ≡ count
