@@ -2,12 +2,12 @@
 use Rattle.std.proofs.Common.{◌≡◌, ℕ, ◌+◌, ◌-◌, ◌<◌, Bool, true, false, [], ◌∷◌, ◌++◌, length, Option, None, is_some, ◌||◌, sym, refl, ap, ◌∙◌, length-append, arith}
 use Rattle.flow_rules.specs.Feed.{End, LookedIfOpen, TakesItem}
 use Rattle.feed_core.specs.Prelude.{Ending, Item}
+use Rattle.feed_cell.specs.Types.{Free, HasRoom, HasPut}
 use Rattle.feed_cell.specs.Control.{MARK, marked}
 use Rattle.feed_cell.specs.Offering.{SaysOf}
-use Rattle.feed_cell.specs.Parties.{end_of}
+use Rattle.feed_cell.specs.Parties.{known_end}
 use Rattle.feed_cell.specs.Plays.{SeatOf, FindsRoom, after_look, after_signal}
-use Rattle.feed_cell.specs.Types.{Free, HasRoom, HasPut}
-use Rattle.feed_cell.specs.Views.{starts_with}
+use Rattle.feed_cell.specs.Views.{starts_after}
 use Rattle.feed_cell.specs.declared.cell.View.{View}
 use Rattle.feed_cell.specs.declared.cell.offering.Found.{Found}
 
@@ -31,10 +31,10 @@ module _ {B T S : Type 0} (capacity tail found held : ℕ) (before looked placed
   abbrev seen : View
   seen = after_look before.0 finds.head finds.ended HasRoom 1
 
-  view_is : after.0 ≡ record seen { put = before.0.put ++ item ∷ []; producing = Free; places = 0; started = starts_with task before.0.started }
-  view_is = ap (λ (m : SeatOf B). m.0) signalled ∙ ap (λ (m : SeatOf B). after_signal task None m.0) put ∙ ap (λ (m : SeatOf B). record m.0 { put = m.0.put ++ item ∷ []; producing = Free; places = 0; started = starts_with task m.0.started }) (finds.room ends within)
+  view_is : after.0 ≡ record seen { put = before.0.put ++ item ∷ []; producing = Free; places = 0; started = starts_after task before.0.started }
+  view_is = ap (λ (m : SeatOf B). m.0) signalled ∙ ap (λ (m : SeatOf B). after_signal task None m.0) put ∙ ap (λ (m : SeatOf B). record m.0 { put = m.0.put ++ item ∷ []; producing = Free; places = 0; started = starts_after task m.0.started }) (finds.room ends within)
 
-  pub accepted : (m : End) × LookedIfOpen (end_of capacity before.0 ready) m × TakesItem m item (held + 1) start (end_of capacity after.0 later)
+  pub accepted : (m : End) × LookedIfOpen (known_end capacity before.0 ready) m × TakesItem m item (held + 1) start (known_end capacity after.0 later)
   accepted =
       let h = head_is in
       let p = finds.put in
@@ -43,7 +43,7 @@ module _ {B T S : Type 0} (capacity tail found held : ℕ) (before looked placed
       let count : held ≡ tail - found = says.2 in
       let lag : held + 1 ≡ length (before.0.put ++ item ∷ []) - finds.head = (let longer : length (before.0.put ++ item ∷ []) ≡ length before.0.put + 1 = length-append before.0.put (item ∷ []) in omega arith) in
       let longer : length (before.0.put ++ item ∷ []) ≡ length before.0.put + 1 = length-append before.0.put (item ∷ []) in (
-        end_of capacity seen ready,
+        known_end capacity seen ready,
         record {
           unclosed = λ _. record { seen = finds.grows; over = finds.stays; taken = finds.put; fits = omega arith; rest = refl };
           closed = λ some. (let never : false ≡ true = sym (ap (λ (o : Option Ending). is_some o) unclosed) ∙ some in cc);
@@ -51,7 +51,7 @@ module _ {B T S : Type 0} (capacity tail found held : ℕ) (before looked placed
         record {
           open_before = ap (λ (b : Bool). b || is_some before.0.closing) ends ∙ ap (λ (o : Option Ending). is_some o) unclosed;
           room_before = omega arith;
-          taken = ap (λ (v : View). end_of capacity v later) view_is;
+          taken = ap (λ (v : View). known_end capacity v later) view_is;
           lag_after = lag ∙ sym (ap (λ (v : View). length v.put - v.seen) view_is);
           ready = keeps;
         },

@@ -8,13 +8,13 @@ use Rattle.feed_core.specs.Prelude.{Answer, How, Item, Signal, Subscribed, Next}
 use Rattle.feed_core.specs.Seen.{SeenState}
 use Rattle.feed_core.specs.Steps.{HasTerminal}
 use Rattle.feed_core.specs.World.Table.{MayLook, MayEnd, IsAnswered}
-use Rattle.feed_cell.specs.Cell.{greeted, IsToldBy}
-use Rattle.feed_cell.specs.Parties.{IsFresh}
+use Rattle.feed_cell.specs.Types.{Runner, Fresh, Taken}
+use Rattle.feed_cell.specs.Cell.{greeted, IsToldAtEnd}
+use Rattle.feed_cell.specs.Parties.{IsUngreeted}
 use Rattle.feed_cell.specs.Paused.{told_out}
 use Rattle.feed_cell.specs.Plays.{SeatOf}
 use Rattle.feed_cell.specs.Running.{IsGoOn, IsQuietEnd, Carries, GoesOnWith, EndsWith, FinishesWith, GoesOnThere, EndsThere, FinishesThere, HasTaken}
 use Rattle.feed_cell.specs.Turning.{own_after, answers_after}
-use Rattle.feed_cell.specs.Types.{Runner, Fresh, Taken}
 use Rattle.feed_cell.specs.Views.{IsRunner}
 use Rattle.feed_cell.specs.declared.cell.Held.{Held}
 use Rattle.feed_cell.specs.declared.cell.Lodger.{Lodger}
@@ -38,14 +38,14 @@ may_end : (how : How) (n : ℕ) (r : Runner) → IsAnswered how → (r ≡ Fresh
 may_end how n r a (inl e) = subst (MayEnd how n) (sym e) a
 may_end how n r a (inr e) = subst (MayEnd how n) (sym e) a
 
-quietly : (how : How) (taken : List Item) (text : List Signal) → IsQuietEnd how → text ≡ greeted taken → IsToldBy how taken text
+quietly : (how : How) (taken : List Item) (text : List Signal) → IsQuietEnd how → text ≡ greeted taken → IsToldAtEnd how taken text
 quietly How.Completed taken text q e = absurd q
 quietly (How.Errored fault) taken text q e = absurd q
 quietly How.Cancelled taken text q e = e
 quietly (How.Failed code) taken text q e = e
 quietly How.OutOfMemory taken text q e = absurd q
 
-finally : (how : How) (taken : List Item) (text : List Signal) → text ≡ greeted taken ++ terminal_of how → IsToldBy how taken text
+finally : (how : How) (taken : List Item) (text : List Signal) → text ≡ greeted taken ++ terminal_of how → IsToldAtEnd how taken text
 finally How.Completed taken text e = e
 finally (How.Errored fault) taken text e = e
 finally How.Cancelled taken text e = e ∙ append-nil (greeted taken)
@@ -85,7 +85,7 @@ module _ {B : Type 0} (told : B → List Signal) where
     after = (before.0, (slot, Held.Guest new) ∷ rest before.1)
 
     -- onSubscribe
-    pub greets_on : IsFresh told before → GoesOnWith told Subscribed 0 old new seen later → GoesOnThere told Subscribed before after seen later
+    pub greets_on : IsUngreeted told before → GoesOnWith told Subscribed 0 old new seen later → GoesOnThere told Subscribed before after seen later
     greets_on f w =
         let same : old ≡ f.guest = same_guest before.1 before.0.capacity slot f.guest old held f.slot lent was in
         let text : told new.subscriber ≡ Subscribed ∷ [] = w.text ∙ ap (λ t. t ++ Subscribed ∷ []) (ap (λ (g : Lodger B). told g.subscriber) same ∙ f.untold) in
@@ -106,7 +106,7 @@ module _ {B : Type 0} (told : B → List Signal) where
           tells = record { view = refl; text = w.text ∙ ap (λ (g : Lodger B). told g.subscriber ++ Subscribed ∷ []) same ∙ ap (λ t. t ++ Subscribed ∷ []) (sym (text_of before.1 before.0.capacity f.guest f.slot)); saw = w.saw };
         }
 
-    pub greets_end : (how : How) → IsFresh told before → IsRunner before.0 → before.0.item ≡ [] → EndsWith told Subscribed 0 how old new seen later → EndsThere told Subscribed how before after seen later
+    pub greets_end : (how : How) → IsUngreeted told before → IsRunner before.0 → before.0.item ≡ [] → EndsWith told Subscribed 0 how old new seen later → EndsThere told Subscribed how before after seen later
     greets_end how f is none_out w =
         let same : old ≡ f.guest = same_guest before.1 before.0.capacity slot f.guest old held f.slot lent was in
         let text : told new.subscriber ≡ w.last = w.text ∙ ap (λ t. t ++ w.last) (ap (λ (g : Lodger B). told g.subscriber) same ∙ f.untold) in
@@ -120,7 +120,7 @@ module _ {B : Type 0} (told : B → List Signal) where
             none_out = none_out;
             may = may_end how (length before.0.taken) before.0.runner (answered how (⊎_elim (λ e. inl e.0) (λ e. inr e.0) w.shape)) (inl f.stage);
             text = ⊎_elim
-                (λ e. subst (λ h. IsToldBy h before.0.taken (told new.subscriber)) (sym e.0) (inr (inl (f.taken, text ∙ e.1))))
+                (λ e. subst (λ h. IsToldAtEnd h before.0.taken (told new.subscriber)) (sym e.0) (inr (inl (f.taken, text ∙ e.1))))
                 (λ e. quietly how before.0.taken (told new.subscriber) e.0 (text ∙ e.1 ∙ ap greeted (sym f.taken)))
                 w.shape;
             given = count ∙ ap length (sym f.taken);
@@ -171,7 +171,7 @@ module _ {B : Type 0} (told : B → List Signal) where
             none_out = f.none_out;
             may = may_end how (length before.0.taken) before.0.runner (answered how (⊎_elim (λ e. inl e.0) (λ e. inr e.0) w.shape)) (inr f.stage);
             text = ⊎_elim
-                (λ e. subst (λ h. IsToldBy h before.0.taken (told new.subscriber)) (sym e.0) (inr (inr (f.before, x, f.taken, text ∙ ap (λ l. greeted f.before ++ l) e.1 ∙ append-nil (greeted f.before)))))
+                (λ e. subst (λ h. IsToldAtEnd h before.0.taken (told new.subscriber)) (sym e.0) (inr (inr (f.before, x, f.taken, text ∙ ap (λ l. greeted f.before ++ l) e.1 ∙ append-nil (greeted f.before)))))
                 (λ e. quietly how before.0.taken (told new.subscriber) e.0 (text ∙ ap (λ l. greeted f.before ++ l) e.1 ∙ greeted_more f.before x ∙ ap greeted (sym f.taken)))
                 w.shape;
             given = count ∙ sym longer;
@@ -202,8 +202,8 @@ module _ {B : Type 0} (told : B → List Signal) where
                 (λ e. subst (λ h. MayEnd h (length before.0.taken) before.0.runner) (sym e.0) (missed e.1))
                 w.shape;
             text = ⊎_elim
-                (λ e. subst (λ h. IsToldBy h before.0.taken (told new.subscriber)) (sym e.0) (finally due before.0.taken (told new.subscriber) (text ∙ ap (λ l. greeted before.0.taken ++ l) e.1)))
-                (λ e. subst (λ h. IsToldBy h before.0.taken (told new.subscriber)) (sym e.0) (inl (text ∙ ap (λ l. greeted before.0.taken ++ l) e.2 ∙ append-nil (greeted before.0.taken))))
+                (λ e. subst (λ h. IsToldAtEnd h before.0.taken (told new.subscriber)) (sym e.0) (finally due before.0.taken (told new.subscriber) (text ∙ ap (λ l. greeted before.0.taken ++ l) e.1)))
+                (λ e. subst (λ h. IsToldAtEnd h before.0.taken (told new.subscriber)) (sym e.0) (inl (text ∙ ap (λ l. greeted before.0.taken ++ l) e.2 ∙ append-nil (greeted before.0.taken))))
                 w.shape;
             given = w.given ∙ ap (λ (g : Lodger B). g.given) same ∙ f.given;
             own = w.own ∙ ap (λ (g : Lodger B). g.own) same ∙ f.own;

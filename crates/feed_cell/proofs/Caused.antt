@@ -3,13 +3,13 @@ use Rattle.std.proofs.Common.{◌≡◌, ℕ, true, false, length, Some, None, i
 use Rattle.feed_core.specs.Lane.{LaneState}
 use Rattle.feed_core.specs.Prelude.{Fault, Published, IllegalArgument, IllegalState, Ending, How}
 use Rattle.feed_core.specs.Sound.{HasCause}
-use Rattle.feed_core.specs.World.Kept.{HasEnded}
+use Rattle.feed_core.specs.World.Kept.{EndHasCause}
 use Rattle.feed_core.specs.World.Table.{is_over}
-use Rattle.feed_cell.specs.Cell.{how_of}
 use Rattle.feed_cell.specs.Types.{Runner, Nobody, Coming, Fresh, Ready, Looked, Saw, Measured, Taken, Over, Parts}
+use Rattle.feed_cell.specs.Cell.{how_of}
 
 -- an end has its cause
-pub caused : (w : Parts) (how : How) (lane : LaneState) → lane.causes ≡ w.causes → lane.given ≡ w.given → length lane.accepted ≡ w.accepted → lane.how ≡ Some how → HasEnded how w → HasCause lane
+pub caused : (w : Parts) (how : How) (lane : LaneState) → lane.causes ≡ w.causes → lane.given ≡ w.given → length lane.accepted ≡ w.accepted → lane.how ≡ Some how → EndHasCause how w → HasCause lane
 caused w How.Completed lane causes given accepted is e = record {
   completed = λ _. ap (λ z. z.closing) causes ∙ e.0;
   whole = λ _. given ∙ e.1 ∙ sym accepted;
@@ -30,17 +30,17 @@ caused w (How.Errored fault) lane causes given accepted is e = record {
   failed = λ code h. (let s = sym is ∙ h in cc);
   refused = λ h. (let s = sym is ∙ h in cc);
 } where
-  of_code : (fault : Fault) (code : ℕ) → HasEnded (How.Errored fault) w → Some (How.Errored fault) ≡ Some (How.Errored (Published code)) → w.causes.closing ≡ Some (Ending.Failed code)
+  of_code : (fault : Fault) (code : ℕ) → EndHasCause (How.Errored fault) w → Some (How.Errored fault) ≡ Some (How.Errored (Published code)) → w.causes.closing ≡ Some (Ending.Failed code)
   of_code (Published other) code e same = e ∙ ap (λ (m : ℕ). Some (Ending.Failed m)) (cc)
   of_code IllegalArgument code e same = cc
   of_code IllegalState code e same = cc
 
-  of_argument : (fault : Fault) → HasEnded (How.Errored fault) w → Some (How.Errored fault) ≡ Some (How.Errored IllegalArgument) → w.causes.argument ≡ true
+  of_argument : (fault : Fault) → EndHasCause (How.Errored fault) w → Some (How.Errored fault) ≡ Some (How.Errored IllegalArgument) → w.causes.argument ≡ true
   of_argument (Published other) e same = cc
   of_argument IllegalArgument e same = e
   of_argument IllegalState e same = cc
 
-  of_state : (fault : Fault) → HasEnded (How.Errored fault) w → Some (How.Errored fault) ≡ Some (How.Errored IllegalState) → w.causes.state ≡ true
+  of_state : (fault : Fault) → EndHasCause (How.Errored fault) w → Some (How.Errored fault) ≡ Some (How.Errored IllegalState) → w.causes.state ≡ true
   of_state (Published other) e same = cc
   of_state IllegalArgument e same = cc
   of_state IllegalState e same = e

@@ -10,11 +10,11 @@ use Rattle.feed_core.specs.declared.lane.Lane.{Lane}
 use Rattle.feed_core.specs.World.Table.{is_started, is_over, total_of, MayBegin}
 use Rattle.feed_core.proofs.Interleavings.Signalling.{starts_nobody}
 use Rattle.feed_cell.proofs.Outlooks.{reached_kept}
-use Rattle.feed_cell.specs.Cell.{Cell}
+use Rattle.feed_cell.specs.Cell.{CellRule}
 use Rattle.feed_cell.specs.Control.{MARK, number, marked}
 use Rattle.feed_cell.specs.Left.{OnGuest, lane_with, lane_without, IsLeftOf}
 use Rattle.flow_rules.specs.Feed.{End}
-use Rattle.feed_cell.specs.Parties.{HandleState, KnowsHandle, end_of}
+use Rattle.feed_cell.specs.Parties.{HandleState, KnowsHandle, known_end}
 use Rattle.feed_cell.specs.declared.cell.Held.{Held}
 use Rattle.feed_cell.specs.declared.cell.Lodger.{Lodger}
 use Rattle.feed_cell.specs.declared.cell.View.{View}
@@ -25,17 +25,17 @@ use Rattle.feed_cell.proofs.Marks.{unmark, marked_by, unmarked_by, large_by}
 of_guest : {B : Type 0} (P : Lodger B → Type 0) (held : Held B) (g : Lodger B) → held ≡ Held.Guest g → OnGuest held P → P g
 of_guest P held g is on = subst (λ h. OnGuest h P) is on
 
-module _ {B : Type 0} (told : B → List Signal) (cap id : ℕ) (v : View) (words : List ℕ) (slots : List (Held B)) (last : Final (Seen (Cell told cap) id v) words slots) (puts : v.puts ≡ true) (begins : MayBegin v.producing)
+module _ {B : Type 0} (told : B → List Signal) (cap id : ℕ) (v : View) (words : List ℕ) (slots : List (Held B)) (last : Final (Seen (CellRule told cap) id v) words slots) (puts : v.puts ≡ true) (begins : MayBegin v.producing)
     (head tail asked control : ℕ) (held : Held B) (left : Lane B)
     (heads : get_elem? words 0 ≡ some head) (tails : get_elem? words 1 ≡ some tail) (asks : get_elem? words 2 ≡ some asked) (controls : get_elem? words 3 ≡ some control)
     (holds : get_elem? slots (length slots - 1) ≡ some held)
     (there : (MARK ≤ head) ⊎ (bit_at control 0 ≡ 0) → OnGuest held (λ guest. (running : Bool) × (running ≡ false → (MARK ≤ head) ⊎ (MARK ≤ asked)) × (running ≡ true → (head < MARK) × (asked < MARK)) × (left ≡ lane_with guest (head % MARK) tail (asked % MARK) running)))
-    (away : head < MARK → bit_at control 0 ≡ 1 → left ≡ lane_without (head % MARK) tail (asked % MARK)) (end : End) (end_is : end ≡ end_of v.capacity v end.ready)
+    (away : head < MARK → bit_at control 0 ≡ 1 → left ≡ lane_without (head % MARK) tail (asked % MARK)) (end : End) (end_is : end ≡ known_end v.capacity v end.ready)
     (handle : Option HandleState) (knows : IfSome handle (λ h. KnowsHandle h v)) where
   abbrev s : State (Held B) View
   s = last.0
 
-  abbrev c : Cell told cap s
+  abbrev c : CellRule told cap s
   c = last.1.0
 
   words_are : words ≡ marked (is_over c.world.runner) c.world.given ∷ c.world.accepted ∷ marked c.left c.world.asked ∷ c.control ∷ []

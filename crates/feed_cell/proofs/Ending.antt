@@ -5,15 +5,15 @@ use Rattle.atomic_table.specs.Table.{gives, Allows}
 use Rattle.feed_core.specs.Cause.{with_cause_of}
 use Rattle.feed_core.specs.Prelude.{How, Item, Signal}
 use Rattle.feed_core.specs.World.Table.{MayEnd, after}
+use Rattle.feed_cell.specs.Types.{Causes, End}
 use Rattle.feed_cell.proofs.Outlooks.{has_none, reached_end}
 use Rattle.feed_cell.proofs.Places.{lies_guest, changed}
 use Rattle.feed_cell.proofs.Reading.{or_true}
 use Rattle.feed_cell.proofs.Seats.{other, spent}
 use Rattle.feed_cell.proofs.Stages.{seated}
-use Rattle.feed_cell.specs.Cell.{Lies, Cell, IsToldBy}
+use Rattle.feed_cell.specs.Cell.{Lies, CellRule, IsToldAtEnd}
 use Rattle.feed_cell.specs.Control.{Flags, MARK, causes_of, marked}
 use Rattle.feed_cell.specs.Plays.{outlook_by, IsEnd}
-use Rattle.feed_cell.specs.Types.{Causes, End}
 use Rattle.feed_cell.specs.Views.{IsRunner, has_put, has_ask, has_run}
 use Rattle.feed_cell.specs.declared.cell.Held.{Held}
 use Rattle.feed_cell.specs.declared.cell.Lodger.{Lodger}
@@ -30,8 +30,8 @@ ends_causes How.OutOfMemory f answers = refl
 module _ {B : Type 0} (told : B → List Signal) where
   -- a store of head with its mark gives the subscriber's slot back
   pub ends : (cap n id : ℕ) (v : View) (g : Lodger B) (more : List (ℕ × Held B)) (new : ℕ) (how : How) → IsRunner v → v.away ≡ true → MayEnd how (length v.taken) v.runner → v.item ≡ [] → new ≡ length v.taken + MARK
-      → g.given ≡ length v.taken → g.own ≡ v.own → g.answers ≡ with_cause_of how v.answers → g.how ≡ Some how → IsToldBy how v.taken (told g.subscriber)
-      → Allows (Cell told cap) n id (v, (v.capacity, Held.Guest g) ∷ more) 0 (λ _. new) (λ _. IsEnd (v, (v.capacity, Held.Guest g) ∷ more))
+      → g.given ≡ length v.taken → g.own ≡ v.own → g.answers ≡ with_cause_of how v.answers → g.how ≡ Some how → IsToldAtEnd how v.taken (told g.subscriber)
+      → Allows (CellRule told cap) n id (v, (v.capacity, Held.Guest g) ∷ more) 0 (λ _. new) (λ _. IsEnd (v, (v.capacity, Held.Guest g) ∷ more))
   ends cap n id v g more new how is out may none_out new_is given_is own_is answers_are how_is told_is s c wide at small =
       let k = (c.runners id v at is.2).1 in
       let p = c.world in
@@ -66,7 +66,7 @@ module _ {B : Type 0} (told : B → List Signal) where
           words = ap (λ (ws : List ℕ). set ws 0 new) c.words ∙ ap (λ (m : ℕ). m ∷ p.accepted ∷ marked c.left p.asked ∷ c.control ∷ []) (new_is ∙ ap (λ (m : ℕ). m + MARK) same);
           lies = subst (λ (j : ℕ). Lies cap c.log (length c.taken) (length c.taken + length c.item) c.free (set s.homes j (some (Held.Guest g)))) (sym k.sized)
               (lies_guest cap c.log s.homes (length c.taken) (length c.taken + length c.item) c.free (some (Held.Guest g)) c.lists.sized c.lies);
-          lodges = λ _. record { guest = g; at = changed s.homes v.capacity cap (some (Held.Guest g)) (sym k.sized) (let wide = c.lies.wide in let sized : v.capacity ≡ cap = k.sized in omega arith); given_is = given_is ∙ ap length know.taken_is; own_is = own_is ∙ know.own_is; answers_are = refl; how_is = how_is; told_is = subst (λ (l : List Item). IsToldBy how l (told g.subscriber)) know.taken_is told_is };
+          lodges = λ _. record { guest = g; at = changed s.homes v.capacity cap (some (Held.Guest g)) (sym k.sized) (let wide = c.lies.wide in let sized : v.capacity ≡ cap = k.sized in omega arith); given_is = given_is ∙ ap length know.taken_is; own_is = own_is ∙ know.own_is; answers_are = refl; how_is = how_is; told_is = subst (λ (l : List Item). IsToldAtEnd how l (told g.subscriber)) know.taken_is told_is };
           producers = other has_put c.producer _ _ s.views id w c.producers is.0 (λ d o. record { sized = o.sized; put = o.put; seen = o.seen; places = o.places; over = λ _. refl; closed = o.closed; doubled = o.doubled; stands = o.stands });
           handles = other has_ask c.handle _ _ s.views id w c.handles is.1 (λ d h. h);
           runners = spent has_run c.runner _ _ s.views id v w c.runners at is.2 refl;

@@ -4,8 +4,8 @@ use Rattle.feed_core.specs.Prelude.{Item, Signal, Subscribed, Next, Complete, Er
 use Rattle.feed_core.specs.Sound.{is_begun, signals_of}
 use Rattle.flow_rules.proofs.Items.{items_of_append}
 use Rattle.feed_core.proofs.SignalLists.{items_of_nexts}
-use Rattle.feed_cell.specs.Cell.{IsToldAt, IsToldBy, how_of, greeted}
 use Rattle.feed_cell.specs.Types.{Runner, Nobody, Coming, Fresh, Ready, Looked, Saw, Measured, Taken, Over}
+use Rattle.feed_cell.specs.Cell.{IsToldAt, IsToldAtEnd, how_of, greeted}
 
 -- the items of these signals and others
 items_then : (items : List Item) (more : List Signal) → items_of (map Next items ++ more) ≡ items ++ items_of more
@@ -25,7 +25,7 @@ fits_ending how taken ending none_there is =
 fits_greeted : (how : Option How) (taken : List Item) (told : List Signal) → signals_of true taken how ≡ Subscribed ∷ (map Next taken ++ []) → told ≡ greeted taken → Fits how taken told
 fits_greeted how taken told is e = subst (λ t. Fits how taken t) (ap (λ l. Subscribed ∷ l) (append-nil (map Next taken)) ∙ sym e) (fits_ending how taken [] refl is)
 
-fits_by : (how : How) (taken : List Item) (told : List Signal) → IsToldBy how taken told → Fits (Some how) taken told
+fits_by : (how : How) (taken : List Item) (told : List Signal) → IsToldAtEnd how taken told → Fits (Some how) taken told
 fits_by How.Completed taken told e = subst (λ t. Fits (Some How.Completed) taken t) (sym e) (fits_ending (Some How.Completed) taken (Complete ∷ []) refl refl)
 fits_by (How.Errored fault) taken told e = subst (λ t. Fits (Some (How.Errored fault)) taken t) (sym e) (fits_ending (Some (How.Errored fault)) taken (Error fault ∷ []) refl refl)
 fits_by How.Cancelled taken told e = fits_greeted (Some How.Cancelled) taken told refl e

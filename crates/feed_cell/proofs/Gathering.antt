@@ -7,7 +7,7 @@ use Rattle.atomic_table.specs.Table.{Me, Joins}
 use Rattle.feed_core.specs.Prelude.{Signal}
 use Rattle.feed_cell.proofs.Outlooks.{reached_joined}
 use Rattle.feed_cell.proofs.Seats.{lacks, mine, other}
-use Rattle.feed_cell.specs.Cell.{Only, Cell}
+use Rattle.feed_cell.specs.Cell.{Only, CellRule}
 use Rattle.feed_cell.specs.Views.{has_put, has_ask, has_run, with_asking, no_part}
 use Rattle.feed_cell.specs.declared.cell.View.{View}
 
@@ -31,7 +31,7 @@ taken_in part seat Knows Later views id from both w spent only at has without la
     (at_set (set views id both) from j spent d there)
 
 module _ {B : Type 0} (told : B → List Signal) where
-  pub gathers : (cap id from : ℕ) (v w : View) → v.puts ≡ true → v.runs ≡ false → w.asks ≡ true → Joins (Cell told cap) id v from w (with_asking v w) no_part
+  pub gathers : (cap id from : ℕ) (v w : View) → v.puts ≡ true → v.runs ≡ false → w.asks ≡ true → Joins (CellRule told cap) id v from w (with_asking v w) no_part
   gathers cap id from v w puts runs asks s c at apart later =
       let p = (c.producers id v at puts).1 in
       let was : get_elem? s.views from ≡ some w = ⊎_elim (λ here. absurd (apart here.0)) (λ else. else.1) (at_set s.views id from (with_asking v w) w later) in

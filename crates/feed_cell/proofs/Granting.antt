@@ -3,15 +3,15 @@ use Rattle.std.proofs.Common.{◌≡◌, ℕ, ◌<◌, ◌≤◌, ◌%◌, List,
 use Rattle.atomic_table.specs.Table.{rest}
 use Rattle.feed_core.specs.Prelude.{Item, UNBOUNDED, total_after}
 use Rattle.feed_core.specs.World.Table.{MaySee, MayTake, seeing, measuring}
+use Rattle.feed_cell.specs.Types.{Runner, Measured, Taken}
 use Rattle.feed_cell.proofs.Marks.{unmark}
 use Rattle.feed_cell.specs.Control.{MARK}
-use Rattle.feed_cell.specs.Plays.{SeatOf, Sees, Measures, MeasuresNone, grants_by}
+use Rattle.feed_cell.specs.Plays.{SeatOf, SeesPut, Measures, MeasuresNone, grants_by}
 use Rattle.feed_cell.specs.Running.{FindsNone, TakesNext}
-use Rattle.feed_cell.specs.Types.{Runner, Measured, Taken}
 
 module _ {B : Type 0} where
   -- it saw an item, and measured that more were requested than were taken
-  pub may_take : (before there measured : SeatOf B) (found word : ℕ) → MaySee before.0.runner → length before.0.taken < found → Sees before found there → (m : Measures there word measured) → length before.0.taken < total_after m.asked before.0.own
+  pub may_take : (before there measured : SeatOf B) (found word : ℕ) → MaySee before.0.runner → length before.0.taken < found → SeesPut before found there → (m : Measures there word measured) → length before.0.taken < total_after m.asked before.0.own
       → MayTake (length measured.0.taken) measured.0.runner
   may_take before there measured found word may more s m wanted =
       let saw = s.waits more in
@@ -30,7 +30,7 @@ module _ {B : Type 0} where
 
   -- it saw an item, measured that more were requested than were taken, and took it
   pub takes_next : (before there measured after : SeatOf B) (x : Item) (found word : ℕ) → MaySee before.0.runner → length before.0.taken < found → length before.0.taken < UNBOUNDED
-      → Sees before found there → (m : Measures there word measured) → length before.0.taken < total_after m.asked before.0.own
+      → SeesPut before found there → (m : Measures there word measured) → length before.0.taken < total_after m.asked before.0.own
       → after ≡ (record measured.0 { taken = measured.0.taken ++ x ∷ []; item = []; grants = measured.0.grants ++ grants_by measured.0.runner; runner = Taken }, rest measured.1)
       → TakesNext x before after
   takes_next before there measured after x found word may more few s m wanted took =
@@ -54,7 +54,7 @@ module _ {B : Type 0} where
       ap (λ n. n % MARK) m.found_is ∙ unmark m.left m.asked (omega arith)
 
   -- it saw no item that it did not take, and measured
-  pub finds_none : (before there after : SeatOf B) (found word : ℕ) → MaySee before.0.runner → before.0.item ≡ [] → found ≡ length before.0.taken → Sees before found there → MeasuresNone there word after → FindsNone found before after
+  pub finds_none : (before there after : SeatOf B) (found word : ℕ) → MaySee before.0.runner → before.0.item ≡ [] → found ≡ length before.0.taken → SeesPut before found there → MeasuresNone there word after → FindsNone found before after
   finds_none before there after found word may none_out all s m =
       let total : ℕ = total_after m.asked there.0.own in
       record {
@@ -71,7 +71,7 @@ module _ {B : Type 0} where
       }
 
   -- it saw an item, and measured that no more were requested than were taken
-  pub finds_no_demand : (before there after : SeatOf B) (found word : ℕ) → MaySee before.0.runner → length before.0.taken < found → Sees before found there → (m : Measures there word after) → total_after m.asked before.0.own ≤ length before.0.taken → FindsNone found before after
+  pub finds_no_demand : (before there after : SeatOf B) (found word : ℕ) → MaySee before.0.runner → length before.0.taken < found → SeesPut before found there → (m : Measures there word after) → total_after m.asked before.0.own ≤ length before.0.taken → FindsNone found before after
   finds_no_demand before there after found word may more s m few =
       let saw = s.waits more in
       let total : ℕ = total_after m.asked there.0.own in

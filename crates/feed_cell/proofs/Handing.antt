@@ -7,23 +7,23 @@ use Rattle.atomic_table.specs.Table as Table
 use Rattle.atomic_table.specs.Table.{Splits}
 use Rattle.feed_core.specs.Prelude.{Signal}
 use Rattle.feed_core.specs.World.Table.{is_started, is_over}
+use Rattle.feed_cell.specs.Types.{Hand, Producer, Handle, Producing, Free, Hands, Requesting, Idle, HandsOver, Runner, Coming, Ready}
 use Rattle.feed_cell.proofs.Outlooks.{stays_by, reached_more, reached_with, reached_lawful}
 use Rattle.feed_cell.proofs.Seats.{mine, other, added, comes}
-use Rattle.feed_cell.specs.Cell.{Only, Cell, AsProducer, AsHandle, has_seat, may_hold, LodgesAt}
+use Rattle.feed_cell.specs.Cell.{Only, CellRule, AsProducer, AsHandle, has_seat, may_hold, LodgesAt}
 use Rattle.feed_cell.specs.Control.{marked}
 use Rattle.feed_cell.specs.Outlooks.{IsReachedBy, one_miss}
-use Rattle.feed_cell.specs.Types.{Hand, Producer, Handle, Producing, Free, Hands, Requesting, Idle, HandsOver, Runner, Coming, Ready}
 use Rattle.feed_cell.specs.Views.{IsProducer, IsHandle, has_put, has_ask, has_run, producer_handed, handle_handed, running_handed}
 use Rattle.feed_cell.specs.declared.cell.Held.{Held}
 use Rattle.feed_cell.specs.declared.cell.View.{View}
 
 module _ {B : Type 0} (told : B → List Signal) (cap : ℕ) where
   -- the rule after a task was handed over, whichever side does it
-  hand_kept : (s : Table.State (Held B) View) (c : Cell told cap s) (id : ℕ) (v left : View) (producer : Producing) (handle : Requesting) → c.world.runner ≡ Coming → v.capacity ≡ cap → has_run left ≡ false
+  hand_kept : (s : Table.State (Held B) View) (c : CellRule told cap s) (id : ℕ) (v left : View) (producer : Producing) (handle : Requesting) → c.world.runner ≡ Coming → v.capacity ≡ cap → has_run left ≡ false
       → IsReachedBy (set s.views id left ++ running_handed v ∷ []) (record c.world { producer = producer; handle = handle; runner = Ready }) → (c.left ≡ true → handle ≡ Idle)
       → Only has_put c.producer (AsProducer cap c.log c.world.given c.free false c.flags.closing c.flags.state producer) (set s.views id left)
       → Only has_ask c.handle (AsHandle cap c.world.asked c.flags.cancel c.flags.argument c.left handle) (set s.views id left)
-      → Cell told cap (record { words = s.words; homes = s.homes; views = set s.views id left ++ running_handed v ∷ [] })
+      → CellRule told cap (record { words = s.words; homes = s.homes; views = set s.views id left ++ running_handed v ∷ [] })
   hand_kept s c id v left producer handle coming sized runs reached settled producers handles =
       let p = c.world in
       let inside : c.away ≡ false = c.shows.home (ap has_seat coming) in
@@ -56,7 +56,7 @@ module _ {B : Type 0} (told : B → List Signal) (cap : ℕ) where
       }
 
   -- by the producer
-  pub producer_hands : (id : ℕ) (v : View) → IsProducer v → v.producing ≡ Hands → Splits (Cell told cap) id v (producer_handed v) (running_handed v)
+  pub producer_hands : (id : ℕ) (v : View) → IsProducer v → v.producing ≡ Hands → Splits (CellRule told cap) id v (producer_handed v) (running_handed v)
   producer_hands id v is stage s c at =
       let k = (c.producers id v at is.0).1 in
       let p = c.world in
@@ -68,7 +68,7 @@ module _ {B : Type 0} (told : B → List Signal) (cap : ℕ) where
       (other has_ask c.handle _ _ s.views id (producer_handed v) c.handles is.1 (λ d h. h))
 
   -- by the handle
-  pub handle_hands : (id : ℕ) (v : View) → IsHandle v → v.requesting ≡ HandsOver → Splits (Cell told cap) id v (handle_handed v) (running_handed v)
+  pub handle_hands : (id : ℕ) (v : View) → IsHandle v → v.requesting ≡ HandsOver → Splits (CellRule told cap) id v (handle_handed v) (running_handed v)
   handle_hands id v is stage s c at =
       let k = (c.handles id v at is.1).1 in
       let p = c.world in

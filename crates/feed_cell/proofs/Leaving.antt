@@ -5,20 +5,20 @@ use lib.ListN.{get_elem?}
 use Rattle.atomic_table.specs.Table.{State}
 use Rattle.feed_core.specs.Lane.{LaneState, IsSettled}
 use Rattle.feed_core.specs.Prelude.{Item, Signal, UNBOUNDED, total_after, items_of}
-use Rattle.feed_core.specs.Sound.{is_begun, loss_of, HasCause, IsAtRest, IsSound}
+use Rattle.feed_core.specs.Sound.{is_begun, loss_of, HasCause, IsAtRest, IsSoundLane}
 use Rattle.feed_core.specs.World.Table.{is_over, total_of, MayBegin}
 use Rattle.feed_core.proofs.DeskSteps.{no_cause}
 use Rattle.feed_core.proofs.FlowRules.{flow_kept, settled_some, settled_at_rest}
+use Rattle.feed_cell.specs.Types.{Causes, Runner, Nobody, Coming, Fresh, Ready, Looked, Saw, Measured, Taken, Over, HasPut, HasAsked, Idle, Free, HasRoom}
 use Rattle.feed_cell.proofs.Outlooks.{reached_kept, reached_lawful}
-use Rattle.feed_cell.specs.Cell.{Cell, Lodges, LodgesAt, IsToldAt, has_seat, may_hold, how_of, greeted}
+use Rattle.feed_cell.specs.Cell.{CellRule, Lodges, LodgesAt, IsToldAt, has_seat, may_hold, how_of, greeted}
 use Rattle.flow_rules.specs.Feed.{End}
 use Rattle.feed_cell.specs.Control.{Flags, causes_of}
 use Rattle.feed_cell.specs.Left.{lane_with, lane_without, causes_left, CountsHandle, IsLeftOf}
-use Rattle.feed_cell.specs.Parties.{HandleState, KnowsHandle, end_of}
+use Rattle.feed_cell.specs.Parties.{HandleState, KnowsHandle, known_end}
 use Rattle.feed_cell.proofs.Caused.{caused, unended, goes_on, has_ended}
 use Rattle.feed_cell.proofs.Fitting.{fits_at}
 use Rattle.feed_cell.proofs.Handing.{on_some}
-use Rattle.feed_cell.specs.Types.{Causes, Runner, Nobody, Coming, Fresh, Ready, Looked, Saw, Measured, Taken, Over, HasPut, HasAsked, Idle, Free, HasRoom}
 use Rattle.feed_cell.specs.declared.cell.Held.{Held}
 use Rattle.feed_cell.specs.declared.cell.View.{View}
 
@@ -41,7 +41,7 @@ not_over r never = by (is_over r) never where
 whole_total : (asked : ℕ) → asked ≤ UNBOUNDED → asked ≡ total_after asked 0
 whole_total asked bounded = omega arith
 
-module _ {B : Type 0} (told : B → List Signal) (cap : ℕ) (s : State (Held B) View) (c : Cell told cap s) where
+module _ {B : Type 0} (told : B → List Signal) (cap : ℕ) (s : State (Held B) View) (c : CellRule told cap s) where
   -- the lane of a subscription whose subscriber was told this
   abbrev pub lane_told_so : List Signal → LaneState
   lane_told_so text = record { accepted = c.log; given = c.world.given; asked = total_of c.world; causes = c.world.causes; how = how_of c.world.runner; told = text }
@@ -58,7 +58,7 @@ module _ {B : Type 0} (told : B → List Signal) (cap : ℕ) (s : State (Held B)
   ends_by Taken e text = no_cause (lane_told_so text) (ap how_of e)
 
   -- the lane is sound
-  pub sound_left : (text : List Signal) → (c.world.runner ≡ Fresh → ⊥) → IsToldAt c.world.runner c.taken text → may_hold c.world.runner ≡ false → IsSound (lane_told_so text)
+  pub sound_left : (text : List Signal) → (c.world.runner ≡ Fresh → ⊥) → IsToldAt c.world.runner c.taken text → may_hold c.world.runner ≡ false → IsSoundLane (lane_told_so text)
   sound_left text begun told_is held =
       let kept = reached_kept c.reached in
       let fits = fits_at c.world.runner c.taken text begun told_is in
@@ -147,7 +147,7 @@ module _ {B : Type 0} (told : B → List Signal) (cap : ℕ) (s : State (Held B)
         causes_are = c.shows.causes ∙ flagged c.flags c.answers handle end (sym k.cancels ∙ knows.cancelled) (sym k.bad ∙ knows.argument) (sym state) (sym closing);
       }
 
-  module _ (id : ℕ) (v : View) (at : get_elem? s.views id ≡ some v) (puts : v.puts ≡ true) (begins : MayBegin v.producing) (end : End) (end_is : end ≡ end_of v.capacity v end.ready)
+  module _ (id : ℕ) (v : View) (at : get_elem? s.views id ≡ some v) (puts : v.puts ≡ true) (begins : MayBegin v.producing) (end : End) (end_is : end ≡ known_end v.capacity v end.ready)
       (handle : Option HandleState) (knows : IfSome handle (λ h. KnowsHandle h v)) where
     put_is : end.accepted ≡ c.log
     put_is = ap (λ z. z.accepted) end_is ∙ (c.producers id v at puts).1.put

@@ -6,17 +6,17 @@ use lib.ListN.{get_elem?}
 use Rattle.atomic_table.specs.Table.{State, keeps, takes, Allows}
 use Rattle.feed_core.specs.Prelude.{Answer, Item, Signal, UNBOUNDED, total_after}
 use Rattle.feed_core.specs.World.Table.{MayLook, total_of, after}
+use Rattle.feed_cell.specs.Types.{Causes, Look, Runner, Ready, Looked, Parts}
 use Rattle.feed_cell.proofs.Outlooks.{stays_on, reached_more, reached_kept}
 use Rattle.feed_cell.proofs.Places.{lies_guest}
 use Rattle.feed_cell.proofs.Reading.{reads_look, or_true}
 use Rattle.feed_cell.proofs.Seats.{mine, other}
 use Rattle.feed_cell.proofs.Stages.{seated}
-use Rattle.feed_cell.specs.Cell.{Lies, Cell, AsProducer, AsRunner, LodgesAt, may_hold}
+use Rattle.feed_cell.specs.Cell.{Lies, CellRule, AsProducer, AsRunner, LodgesAt, may_hold}
 use Rattle.feed_cell.specs.Control.{Flags, Reads, causes_of, marked}
 use Rattle.feed_cell.specs.Outlooks.{IsReachedBy}
 use Rattle.feed_cell.specs.Plays.{SeatOf, QUIET, after_causes, LooksOut, LooksFirst}
 use Rattle.feed_cell.specs.Turning.{own_after, answers_after}
-use Rattle.feed_cell.specs.Types.{Causes, Look, Runner, Ready, Looked, Parts}
 use Rattle.feed_cell.specs.Views.{IsRunner, has_put, has_ask, has_run}
 use Rattle.feed_cell.specs.declared.cell.Held.{Held}
 use Rattle.feed_cell.specs.declared.cell.Lodger.{Lodger}
@@ -46,10 +46,10 @@ none_held (Answer.Fail code) r may = absurd may
 
 module _ {B : Type 0} (told : B → List Signal) (cap : ℕ) where
   -- the rule after a look, with its subscriber or for the first time
-  look_kept : (s : State (Held B) View) (c : Cell told cap s) (id : ℕ) (v w : View) (own : ℕ) (answers : Causes) (homes : List (slot.Option (Held B))) → get_elem? s.views id ≡ some v → IsRunner v → has_put w ≡ false → has_ask w ≡ false
+  look_kept : (s : State (Held B) View) (c : CellRule told cap s) (id : ℕ) (v w : View) (own : ℕ) (answers : Causes) (homes : List (slot.Option (Held B))) → get_elem? s.views id ≡ some v → IsRunner v → has_put w ≡ false → has_ask w ≡ false
       → slice_index s.words 3 < 18446744073709551616 → may_hold c.world.runner ≡ false → IsReachedBy (set s.views id w) (looked_with own (causes_of c.flags answers) c.world) → Lies cap c.log (length c.taken) (length c.taken + length c.item) c.free homes
       → AsRunner cap (Looked (causes_of c.flags answers)) false (bit_and c.control QUIET) true c.taken c.item own answers w
-      → Cell told cap (record { words = set s.words 3 (bit_and (slice_index s.words 3) QUIET); homes = homes; views = set s.views id w })
+      → CellRule told cap (record { words = set s.words 3 (bit_and (slice_index s.words 3) QUIET); homes = homes; views = set s.views id w })
   look_kept s c id v w own answers homes at is puts asks small held reached lies knows =
       let p = c.world in
       let k = (c.runners id v at is.2).1 in
@@ -82,7 +82,7 @@ module _ {B : Type 0} (told : B → List Signal) (cap : ℕ) where
       }
 
 -- no more than the bound of demand was taken
-few_taken : {B : Type 0} (told : B → List Signal) (cap : ℕ) (s : State (Held B) View) (c : Cell told cap s) {taken : List Item} → taken ≡ c.taken → length taken ≤ UNBOUNDED
+few_taken : {B : Type 0} (told : B → List Signal) (cap : ℕ) (s : State (Held B) View) (c : CellRule told cap s) {taken : List Item} → taken ≡ c.taken → length taken ≤ UNBOUNDED
 few_taken told cap s c same =
     let kept = reached_kept c.reached in
     let requested : c.world.given ≤ total_of c.world = kept.requested in
@@ -93,7 +93,7 @@ few_taken told cap s c same =
 module _ {B : Type 0} (told : B → List Signal) where
   -- a look with the subscriber
   pub looks : (cap n id : ℕ) (v : View) (i : ℕ) (g : Lodger B) (more : List (ℕ × Held B)) (answer : Answer) → IsRunner v → v.away ≡ true → MayLook answer v.runner → g.own ≡ own_after answer v.own → g.answers ≡ answers_after answer v.answers
-      → Allows (Cell told cap) n id (v, (i, Held.Guest g) ∷ more) 3 (λ n. bit_and n 18446744073709551613) (LooksOut (v, (i, Held.Guest g) ∷ more))
+      → Allows (CellRule told cap) n id (v, (i, Held.Guest g) ∷ more) 3 (λ n. bit_and n 18446744073709551613) (LooksOut (v, (i, Held.Guest g) ∷ more))
   looks cap n id v i g more answer is out may own_is answers_are s c wide at small =
       let k = (c.runners id v at is.2).1 in
       let p = c.world in
@@ -117,7 +117,7 @@ module _ {B : Type 0} (told : B → List Signal) where
       )
 
   -- the first look of a task that was handed over takes the subscriber's slot out
-  pub looks_first : (cap n id : ℕ) (me : SeatOf B) → IsRunner me.0 → me.0.away ≡ false → me.0.runner ≡ Ready → Allows (Cell told cap) n id me 3 (λ n. bit_and n 18446744073709551613) (LooksFirst told me)
+  pub looks_first : (cap n id : ℕ) (me : SeatOf B) → IsRunner me.0 → me.0.away ≡ false → me.0.runner ≡ Ready → Allows (CellRule told cap) n id me 3 (λ n. bit_and n 18446744073709551613) (LooksFirst told me)
   looks_first cap n id me is home ready s c wide at small =
       let v : View = me.0 in
       let k = (c.runners id v at is.2).1 in

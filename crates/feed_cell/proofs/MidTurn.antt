@@ -5,14 +5,14 @@ use Rattle.feed_core.specs.Prelude.{How, Item, Next, Signal, Subscribed, items_o
 use Rattle.feed_core.specs.Seen.{SeenState}
 use Rattle.feed_core.specs.World.Table.{MayEnd}
 use Rattle.feed_core.specs.declared.turn.outlook.Outlook.TheVariants.{Again, Resting, Ended}
-use Rattle.feed_cell.specs.Cell.{greeted, IsToldBy}
-use Rattle.feed_cell.specs.Parties.{IsFresh, IsGoing}
+use Rattle.feed_cell.specs.Types.{Nobody}
+use Rattle.feed_cell.specs.Cell.{greeted, IsToldAtEnd}
+use Rattle.feed_cell.specs.Parties.{IsUngreeted, IsGoing}
 use Rattle.feed_cell.specs.Paused.{told_out, IsPaused}
 use Rattle.feed_cell.specs.Plays.{SeatOf, how_out, outlook_by}
-use Rattle.feed_cell.specs.Running.{EndsThere, GoesOnThere, HasLooked, IsGranted, grant_of}
-use Rattle.feed_cell.specs.Serving.{EndsSo, GivesItem, IsLastGrant, MissesRest, RestsNow}
-use Rattle.feed_cell.specs.Types.{Nobody}
-use Rattle.feed_cell.specs.Turned.{AreGivenOf, AreGranted, GoesOnAs, IsMidTurn, KeepsGoing, MayLookNext, StopsAs, TellsSoFar}
+use Rattle.feed_cell.specs.Running.{EndsThere, GoesOnThere, HasLookedAt, IsGranted, grant_of}
+use Rattle.feed_cell.specs.Serving.{EndsAs, GivesItem, IsLastGrant, MissesRest, RestsNow}
+use Rattle.feed_cell.specs.Turned.{AreGivenOf, AreGranted, GoesOnAs, IsBeforeLook, KeepsGoing, MayLookNext, StopsAs, TellsSoFar}
 use Rattle.feed_cell.specs.declared.cell.Grant.{Grant}
 use Rattle.feed_cell.specs.declared.cell.View.{View}
 use Rattle.feed_cell.specs.declared.cell.task.Stage.{Stage}
@@ -21,7 +21,7 @@ use Rattle.feed_cell.proofs.Turned.{base_length, granted_more, whole_turn}
 
 module _ {B : Type 0} (told : B → List Signal) where
   -- a task whose subscriber was greeted before
-  pub stays : (stage : Stage) (me : SeatOf B) (seen : List Signal) → (stage ≡ Stage.Fresh → ⊥) → seen ≡ [] → IsPaused told stage me → IsMidTurn told stage 0 me me seen
+  pub stays : (stage : Stage) (me : SeatOf B) (seen : List Signal) → (stage ≡ Stage.Fresh → ⊥) → seen ≡ [] → IsPaused told stage me → IsBeforeLook told stage 0 me me seen
   stays Stage.Fresh me seen other nothing paused = absurd (other refl)
   stays Stage.Home me seen other nothing paused = (refl, nothing, paused, refl, refl, refl)
   stays Stage.Going me seen other nothing paused =
@@ -47,12 +47,12 @@ module _ {B : Type 0} (told : B → List Signal) where
         },
       )
 
-  module _ (before after : SeatOf B) (seen later : SeenState) (nothing : seen.signals ≡ []) (fresh : IsFresh told before) where
+  module _ (before after : SeatOf B) (seen later : SeenState) (nothing : seen.signals ≡ []) (fresh : IsUngreeted told before) where
     untold : told_out told before.1 ≡ []
     untold = ap (told_out told) fresh.slot ∙ fresh.untold
 
     -- it was greeted, and goes on
-    pub greeted_on : GoesOnThere told Subscribed before after seen later → IsMidTurn told Stage.Going 0 before after later.signals
+    pub greeted_on : GoesOnThere told Subscribed before after seen later → IsBeforeLook told Stage.Going 0 before after later.signals
     greeted_on goes =
         let saw : later.signals ≡ Subscribed ∷ [] = ap (λ (s : SeenState). s.signals) goes.tells.saw ∙ ap (λ s. s ++ Subscribed ∷ []) nothing in (
           goes.going,
@@ -86,7 +86,7 @@ module _ {B : Type 0} (told : B → List Signal) where
         in (
           record {
             turned = whole_turn before.0 (told_out told before.1) later.signals [] [] [] (Ended how) (λ e. (sym untold, sym fresh.taken)) (λ e. (let clash : true ≡ false = sym fresh.away ∙ e in cc)) (inl (refl, refl)) (omega arith) [] refl tt
-                (subst (λ (l : List Item). IsToldBy how l later.signals) taken (subst (λ (s : List Signal). IsToldBy how after.0.taken s) text ends.ending.text));
+                (subst (λ (l : List Item). IsToldAtEnd how l later.signals) taken (subst (λ (s : List Signal). IsToldAtEnd how after.0.taken s) text ends.ending.text));
             taken = ap (λ (m : SeatOf B). m.0.taken) left ∙ taken;
             grants = ap (λ (m : SeatOf B). m.0.grants) left ∙ ap (λ (v : View). v.grants) ends.tells.view ∙ sym (append-nil before.0.grants);
             misses = ap (λ (m : SeatOf B). m.0.misses) left ∙ ap (λ (v : View). v.misses) ends.tells.view;
@@ -97,14 +97,14 @@ module _ {B : Type 0} (told : B → List Signal) where
         )
 
   -- a task may look in the middle of a turn
-  pub may_look_next : (stage : Stage) (count : ℕ) (before me : SeatOf B) (seen : List Signal) → IsMidTurn told stage count before me seen → MayLookNext told stage me
+  pub may_look_next : (stage : Stage) (count : ℕ) (before me : SeatOf B) (seen : List Signal) → IsBeforeLook told stage count before me seen → MayLookNext told stage me
   may_look_next Stage.Fresh count before me seen mid = mid
   may_look_next Stage.Home count before me seen mid = mid.2
   may_look_next Stage.Going count before me seen mid = mid.0
 
   -- it has looked: what its subscriber was told before is known now
-  pub looked_on : (stage : Stage) (count word : ℕ) (before me mid : SeatOf B) (seen : List Signal) → IsMidTurn told stage count before me seen
-      → HasLooked told word mid → mid.0.misses ≡ me.0.misses → mid.0.grants ≡ me.0.grants → KeepsGoing stage me mid → TellsSoFar told count before mid seen
+  pub looked_on : (stage : Stage) (count word : ℕ) (before me mid : SeatOf B) (seen : List Signal) → IsBeforeLook told stage count before me seen
+      → HasLookedAt told word mid → mid.0.misses ≡ me.0.misses → mid.0.grants ≡ me.0.grants → KeepsGoing stage me mid → TellsSoFar told count before mid seen
   looked_on Stage.Fresh count word before me mid seen so_far looked same still keeps = absurd so_far
   looked_on Stage.Home count word before me mid seen so_far looked same still keeps =
       let nothing = so_far.1 in
@@ -170,7 +170,7 @@ module _ {B : Type 0} (told : B → List Signal) where
         granted_more (length t.base) t.grants (grant_of mid granted ∷ []) t.granted (granted.runs_on, (omega arith), tt)
 
     -- one more item was given
-    pub gave_on : GivesItem told mid after seen later → IsMidTurn told Stage.Going (count + 1) before after later.signals
+    pub gave_on : GivesItem told mid after seen later → IsBeforeLook told Stage.Going (count + 1) before after later.signals
     gave_on gives =
         let item = gives.item in
         let grant = grant_of mid gives.granted in
@@ -236,7 +236,7 @@ module _ {B : Type 0} (told : B → List Signal) where
         (t.grants ++ grant ∷ [], omega arith, one_more one.1.0, one.1.1 ∙ ap (λ l. l ++ grant ∷ []) t.grants_are ∙ append_assoc before.0.grants t.grants (grant ∷ []))
 
     -- it ended
-    pub ends_after : (how : How) → count < 64 → EndsSo told how mid after seen later → StopsAs before.0 after.0 (told_out told before.1) later.signals (Ended how) × MayEnd how (length after.0.taken) after.0.runner
+    pub ends_after : (how : How) → count < 64 → EndsAs told how mid after seen later → StopsAs before.0 after.0 (told_out told before.1) later.signals (Ended how) × MayEnd how (length after.0.taken) after.0.runner
     ends_after how short ends =
         let saw : later.signals ≡ seen.signals ++ ends.last = ap (λ (s : SeenState). s.signals) ends.saw in
         let items : mid.0.taken ++ ends.took ≡ t.base ++ (t.took ++ ends.took) = ap (λ l. l ++ ends.took) t.taken ∙ append_assoc t.base t.took ends.took in
@@ -248,7 +248,7 @@ module _ {B : Type 0} (told : B → List Signal) where
             turned = whole_turn before.0 (told_out told before.1) later.signals t.start t.base (t.took ++ ends.took) (Ended how) t.knew t.met t.opened
                 (let c = t.counted in let few = ends.few in let l = length-append t.took ends.took in omega arith)
                 last.0 last.1 last.2
-                (subst (λ (l : List Item). IsToldBy how l (t.start ++ later.signals)) items (subst (λ (s : List Signal). IsToldBy how (mid.0.taken ++ ends.took) s) signals ends.text));
+                (subst (λ (l : List Item). IsToldAtEnd how l (t.start ++ later.signals)) items (subst (λ (s : List Signal). IsToldAtEnd how (mid.0.taken ++ ends.took) s) signals ends.text));
             taken = ends.taken ∙ items;
             grants = last.3;
             misses = ends.misses ∙ t.misses;
@@ -275,7 +275,7 @@ module _ {B : Type 0} (told : B → List Signal) where
       all given took (inr h) = let clash = h.0 in cc
 
   -- a greeted task that was given items goes on
-  pub going_on : (stage : Stage) (count : ℕ) (before me : SeatOf B) (seen : List Signal) → 0 < count → IsMidTurn told stage count before me seen → IsGoing told me × TellsSoFar told count before me seen
+  pub going_on : (stage : Stage) (count : ℕ) (before me : SeatOf B) (seen : List Signal) → 0 < count → IsBeforeLook told stage count before me seen → IsGoing told me × TellsSoFar told count before me seen
   going_on Stage.Fresh count before me seen some so_far = absurd so_far
   going_on Stage.Home count before me seen some so_far = let none : count ≡ 0 = so_far.0 in absurd (omega arith)
   going_on Stage.Going count before me seen some so_far = so_far

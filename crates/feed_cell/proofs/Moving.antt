@@ -6,12 +6,12 @@ use lib.ListN.{get_elem?}
 use Rattle.atomic_table.specs.Table.{State}
 use Rattle.feed_core.specs.Prelude.{Item, Signal}
 use Rattle.feed_core.specs.World.Table.{is_over}
+use Rattle.feed_cell.specs.Types.{Causes, Runner}
 use Rattle.feed_cell.proofs.Seats.{mine, other}
 use Rattle.feed_cell.proofs.Stages.{seated}
-use Rattle.feed_cell.specs.Cell.{Lists, Lies, Cell, AsProducer, AsRunner, KnowsAway, has_seat, may_hold}
+use Rattle.feed_cell.specs.Cell.{Lists, Lies, CellRule, AsProducer, AsRunner, KnowsAway, has_seat, may_hold}
 use Rattle.feed_cell.specs.Control.{marked}
 use Rattle.feed_cell.specs.Outlooks.{IsReachedBy}
-use Rattle.feed_cell.specs.Types.{Causes, Runner}
 use Rattle.feed_cell.specs.Views.{IsRunner, has_put, has_ask, has_run}
 use Rattle.feed_cell.specs.declared.cell.Held.{Held}
 use Rattle.feed_cell.specs.declared.cell.View.{View}
@@ -22,12 +22,12 @@ knows_too taken own answers v w a b e k = record { taken_is = a ∙ k.taken_is; 
 
 module _ {B : Type 0} (told : B → List Signal) (cap : ℕ) where
   -- the rule after a step that moves the task and an item
-  pub move_kept : (s : State (Held B) View) (c : Cell told cap s) (id : ℕ) (v w : View) (stage : Runner) (item : List Item) (words : List ℕ) (homes : List (slot.Option (Held B))) → get_elem? s.views id ≡ some v → IsRunner v
+  pub move_kept : (s : State (Held B) View) (c : CellRule told cap s) (id : ℕ) (v w : View) (stage : Runner) (item : List Item) (words : List ℕ) (homes : List (slot.Option (Held B))) → get_elem? s.views id ≡ some v → IsRunner v
       → has_put w ≡ false → has_ask w ≡ false → has_seat stage ≡ true → IsReachedBy (set s.views id w) (record c.world { runner = stage }) → (may_hold stage ≡ false → item ≡ [])
       → Lists cap c.log c.taken item c.free → Lies cap c.log (length c.taken) (length c.taken + length item) c.free homes
       → words ≡ marked (is_over c.world.runner) c.world.given ∷ c.world.accepted ∷ marked c.left c.world.asked ∷ c.control ∷ []
       → AsRunner cap stage c.world.active c.control true c.taken item c.world.own c.answers w
-      → Cell told cap (record { words = words; homes = homes; views = set s.views id w })
+      → CellRule told cap (record { words = words; homes = homes; views = set s.views id w })
   move_kept s c id v w stage item words homes at is puts asks seat reached none_out lists lies words_are knows =
       let p = c.world in
       let k = (c.runners id v at is.2).1 in

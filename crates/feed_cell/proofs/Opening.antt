@@ -9,15 +9,15 @@ use Rattle.feed_core.specs.Cause.{no_causes}
 use Rattle.feed_core.specs.Prelude.{Signal, UNBOUNDED}
 use Rattle.feed_core.specs.LaneCalls.{IsCapacity}
 use Rattle.feed_core.specs.World.Runs.{made}
+use Rattle.feed_cell.specs.Types.{Free, Idle, Runner, Fresh}
 use Rattle.feed_cell.proofs.Lists.{at_replicate}
 use Rattle.feed_cell.proofs.Outlooks.{reached_made, reached_too, reached_with}
 use Rattle.feed_cell.proofs.Places.{lies_guest}
 use Rattle.feed_cell.proofs.Seats.{alone, mine, other, added, moved}
-use Rattle.feed_cell.specs.Cell.{Lies, Cell, AsProducer, AsHandle, AsRunner, LodgesAt}
-use Rattle.feed_cell.specs.Parties.{IsFresh}
+use Rattle.feed_cell.specs.Cell.{Lies, CellRule, AsProducer, AsHandle, AsRunner, LodgesAt}
+use Rattle.feed_cell.specs.Parties.{IsUngreeted}
 use Rattle.feed_cell.specs.Plays.{SeatOf, Enters}
 use Rattle.feed_cell.specs.Steps.{MayOffer, MayRequest}
-use Rattle.feed_cell.specs.Types.{Free, Idle, Runner, Fresh}
 use Rattle.feed_cell.specs.Views.{IsRunner, first_view, has_put, has_ask, has_run, without_asking, asking_alone, without_running, running_alone}
 use Rattle.feed_cell.specs.declared.cell.Held.{Held}
 use Rattle.feed_cell.specs.declared.cell.View.{View}
@@ -31,7 +31,7 @@ holds_one cap capacity =
 
 module _ {B : Type 0} (told : B → List Signal) where
   -- the table at the start
-  pub opens : (cap : ℕ) → IsCapacity cap → Cell told cap (opening (0 ∷ 0 ∷ 0 ∷ 1 ∷ []) (replicate (cap + 1) Held.Empty) (first_view cap))
+  pub opens : (cap : ℕ) → IsCapacity cap → CellRule told cap (opening (0 ∷ 0 ∷ 0 ∷ 1 ∷ []) (replicate (cap + 1) Held.Empty) (first_view cap))
   opens cap capacity =
       let sized : 0 < cap = holds_one cap capacity in
       let slots : List (Held B) = replicate (cap + 1) Held.Empty in
@@ -68,7 +68,7 @@ module _ {B : Type 0} (told : B → List Signal) where
       }
 
   -- the first task gets a seat of its own
-  pub splits_runner : (cap id : ℕ) (v : View) → v.puts ≡ true → v.asks ≡ true → v.runs ≡ true → Splits (Cell told cap) id v (without_running v) (running_alone v)
+  pub splits_runner : (cap id : ℕ) (v : View) → v.puts ≡ true → v.asks ≡ true → v.runs ≡ true → Splits (CellRule told cap) id v (without_running v) (running_alone v)
   splits_runner cap id v puts asks runs s c at =
       let p = (c.producers id v at puts).1 in
       let h = (c.handles id v at asks).1 in
@@ -103,7 +103,7 @@ module _ {B : Type 0} (told : B → List Signal) where
       }
 
   -- the handle gets a seat of its own
-  pub splits_handle : (cap id : ℕ) (v : View) → v.puts ≡ true → v.asks ≡ true → v.runs ≡ false → Splits (Cell told cap) id v (without_asking v) (asking_alone v)
+  pub splits_handle : (cap id : ℕ) (v : View) → v.puts ≡ true → v.asks ≡ true → v.runs ≡ false → Splits (CellRule told cap) id v (without_asking v) (asking_alone v)
   splits_handle cap id v puts asks runs s c at =
       let p = (c.producers id v at puts).1 in
       let h = (c.handles id v at asks).1 in
@@ -137,7 +137,7 @@ module _ {B : Type 0} (told : B → List Signal) where
       }
 
   -- a load takes the subscriber's slot out
-  pub enters : (cap n id : ℕ) (v : View) (more : List (ℕ × Held B)) → IsRunner v → v.runner ≡ Fresh → v.away ≡ false → Allows (Cell told cap) n id (v, more) 3 (λ n. n) (λ _. Enters (v, more))
+  pub enters : (cap n id : ℕ) (v : View) (more : List (ℕ × Held B)) → IsRunner v → v.runner ≡ Fresh → v.away ≡ false → Allows (CellRule told cap) n id (v, more) 3 (λ n. n) (λ _. Enters (v, more))
   enters cap n id v more is fresh home s c wide at small =
       let k = (c.runners id v at is.2).1 in
       let stage : c.world.runner ≡ Fresh = sym k.stands ∙ fresh in
@@ -180,8 +180,8 @@ module _ {B : Type 0} (told : B → List Signal) where
 
   -- the first task, with its subscriber placed in the slot
   pub lodged : (capacity : ℕ) (v : View) (b : B) (me : SeatOf B) → v.capacity ≡ capacity → v.runner ≡ Fresh → v.taken ≡ [] → v.own ≡ 0 → v.answers ≡ no_causes → told b ≡ []
-      → me ≡ (record v { away = true }, (capacity, Held.Guest (record { subscriber = b; given = 0; own = 0; answers = no_causes; how = None })) ∷ []) → IsFresh told me
-  lodged capacity v b me sized stage taken own answers untold is = subst (λ (m : SeatOf B). IsFresh told m) (sym is) (record {
+      → me ≡ (record v { away = true }, (capacity, Held.Guest (record { subscriber = b; given = 0; own = 0; answers = no_causes; how = None })) ∷ []) → IsUngreeted told me
+  lodged capacity v b me sized stage taken own answers untold is = subst (λ (m : SeatOf B). IsUngreeted told m) (sym is) (record {
     guest = record { subscriber = b; given = 0; own = 0; answers = no_causes; how = None };
     slot = ap (λ (n : ℕ). (n, Held.Guest (record { subscriber = b; given = 0; own = 0; answers = no_causes; how = None })) ∷ []) (sym sized);
     away = refl;
@@ -222,7 +222,7 @@ module _ {B : Type 0} (told : B → List Signal) where
   -- the seat of the first task, with its subscriber placed in the slot
   pub task_first : (capacity : ℕ) (b : B) (maker run me : SeatOf B) → maker ≡ (first_view capacity, []) → run ≡ (running_alone maker.0, []) → told b ≡ []
       → me ≡ (record run.0 { away = true }, (capacity, Held.Guest (record { subscriber = b; given = 0; own = 0; answers = no_causes; how = None })) ∷ [])
-      → IsRunner me.0 × (me.0.capacity ≡ capacity) × (me.0.item ≡ []) × IsFresh told me
+      → IsRunner me.0 × (me.0.capacity ≡ capacity) × (me.0.item ≡ []) × IsUngreeted told me
   task_first capacity b maker run me made run_is untold me_is =
       let is : run ≡ (running_alone (first_view capacity), []) = run_is ∙ ap (λ (m : SeatOf B). (running_alone m.0, [])) made in
       let view : me.0 ≡ record (running_alone (first_view capacity)) { away = true } = ap (λ (m : SeatOf B). m.0) me_is ∙ ap (λ (m : SeatOf B). record m.0 { away = true }) is in (

@@ -8,12 +8,12 @@ use Rattle.feed_core.specs.Prelude.{How}
 use Rattle.feed_core.specs.declared.turn.outlook.Outlook.TheVariants.{Again, Resting, Ended}
 use Rattle.feed_core.specs.World.Table.{is_started, is_over, started, IsPossible, after}
 use Rattle.feed_core.specs.World.Runs.{WorldState, nothing, world_of, made, cut_after, Steps, Leads}
-use Rattle.feed_core.specs.World.Kept.{IsKept}
+use Rattle.feed_core.specs.World.Kept.{IsKeptParts}
 use Rattle.feed_core.specs.World.Lawful.{IsLawful}
 use Rattle.feed_core.proofs.Interleavings.Reaching as Reaching
+use Rattle.feed_cell.specs.Types.{Event, Make, Rest, End, Runner, Nobody, Coming, Fresh, Ready, Looked, Saw, Measured, Taken, Over, Parts}
 use Rattle.feed_cell.proofs.Lists.{at_end}
 use Rattle.feed_cell.specs.Outlooks.{is_started_in, one_rest, rests_along, rest_in, rests_shown, one_miss, one_miss_in, misses_along, misses_shown, HasPart, IsReachedBy}
-use Rattle.feed_cell.specs.Types.{Event, Make, Rest, End, Runner, Nobody, Coming, Fresh, Ready, Looked, Saw, Measured, Taken, Over, Parts}
 use Rattle.feed_cell.specs.Views.{first_view}
 use Rattle.feed_cell.specs.declared.cell.View.{View}
 
@@ -253,7 +253,7 @@ reached_with {w} {views} new r goes none_missed =
     (λ j d there has. ⊎_elim (λ old. r.goes j d old has) (λ here. sym (ap (λ (x : View). x.outlook) here.1) ∙ goes) (at_end views new d j there))
 
 -- what follows of any list of events
-pub reached_kept : {w : Parts} {views : List View} → IsReachedBy views w → IsKept w
+pub reached_kept : {w : Parts} {views : List View} → IsReachedBy views w → IsKeptParts w
 reached_kept r = Reaching.reached_kept (record { events = r.events; cut = r.cut; leads = r.leads })
 
 pub reached_lawful : {w : Parts} {views : List View} → IsReachedBy views w → IsLawful w

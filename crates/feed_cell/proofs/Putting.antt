@@ -5,15 +5,15 @@ use mathlib.Core.Option.{some}
 use Rattle.atomic_table.specs.Table.{gives, Allows, rest}
 use Rattle.feed_core.specs.Prelude.{Item, Signal}
 use Rattle.feed_core.specs.World.Table.{is_over, after}
+use Rattle.feed_cell.specs.Types.{Put, HasRoom, HasPut}
 use Rattle.feed_cell.proofs.Outlooks.{stays_same, reached_more}
 use Rattle.feed_cell.proofs.Places.{lies_put, stays_home}
 use Rattle.feed_cell.proofs.Seats.{mine, other}
 use Rattle.feed_cell.proofs.Stages.{lodges_else}
-use Rattle.feed_cell.specs.Cell.{Lies, Cell}
+use Rattle.feed_cell.specs.Cell.{Lies, CellRule}
 use Rattle.feed_cell.specs.Control.{marked}
 use Rattle.feed_cell.specs.Plays.{SeatOf, IsPut}
-use Rattle.feed_cell.specs.Steps.{HasPlace}
-use Rattle.feed_cell.specs.Types.{Put, HasRoom, HasPut}
+use Rattle.feed_cell.specs.Steps.{HasFreeSlot}
 use Rattle.feed_cell.specs.Views.{IsProducer, has_put, has_ask, has_run}
 use Rattle.feed_cell.specs.declared.cell.Held.{Held}
 use Rattle.feed_cell.specs.declared.cell.View.{View}
@@ -21,7 +21,7 @@ use Rattle.feed_cell.specs.declared.cell.View.{View}
 module _ {B : Type 0} (told : B → List Signal) where
   -- a store of tail gives the slot back, with the next item
   pub puts_item : (cap n id : ℕ) (v : View) (i new : ℕ) (x : Item) (more : List (ℕ × Held B)) → IsProducer v → v.producing ≡ HasRoom → v.places ≡ 1 → v.closing ≡ None → i ≡ length v.put % v.capacity → new ≡ length v.put + 1
-      → Allows (Cell told cap) n id (v, (i, Held.Item x) ∷ more) 1 (λ _. new) (λ _. IsPut (v, (i, Held.Item x) ∷ more))
+      → Allows (CellRule told cap) n id (v, (i, Held.Item x) ∷ more) 1 (λ _. new) (λ _. IsPut (v, (i, Held.Item x) ∷ more))
   puts_item cap n id v i new x more is stage one closed slot_at new_is s c wide at small =
       let k = (c.producers id v at is.0).1 in
       let p = c.world in
@@ -70,9 +70,9 @@ module _ {B : Type 0} (told : B → List Signal) where
       )
 
   -- the same, of a seat that placed its item
-  pub puts_placed : (cap n id : ℕ) (capacity tail : ℕ) (before me : SeatOf B) (i new : ℕ) (x : Item) → HasPlace capacity tail before → me ≡ (before.0, (i, Held.Item x) ∷ rest before.1) → i ≡ tail % capacity → new ≡ tail + 1
-      → Allows (Cell told cap) n id me 1 (λ _. new) (λ _. IsPut me)
+  pub puts_placed : (cap n id : ℕ) (capacity tail : ℕ) (before me : SeatOf B) (i new : ℕ) (x : Item) → HasFreeSlot capacity tail before → me ≡ (before.0, (i, Held.Item x) ∷ rest before.1) → i ≡ tail % capacity → new ≡ tail + 1
+      → Allows (CellRule told cap) n id me 1 (λ _. new) (λ _. IsPut me)
   puts_placed cap n id capacity tail before me i new x h placed slot_at new_is =
       let at : i ≡ length before.0.put % before.0.capacity = slot_at ∙ ap₂ (λ (a b : ℕ). a % b) (sym h.counted) (sym h.sized) in
       let next : new ≡ length before.0.put + 1 = new_is ∙ ap (λ (m : ℕ). m + 1) (sym h.counted) in
-      subst (λ (m : SeatOf B). Allows (Cell told cap) n id m 1 (λ _. new) (λ _. IsPut m)) (sym placed) (puts_item cap n id before.0 i new x (rest before.1) h.is h.stage h.one_out h.closing at next)
+      subst (λ (m : SeatOf B). Allows (CellRule told cap) n id m 1 (λ _. new) (λ _. IsPut m)) (sym placed) (puts_item cap n id before.0 i new x (rest before.1) h.is h.stage h.one_out h.closing at next)

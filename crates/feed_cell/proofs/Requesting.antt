@@ -3,18 +3,18 @@ use Rattle.std.proofs.Common.{◌≡◌, ℕ, ◌+◌, ◌≤◌, true, false, t
 use Rattle.atomic_table.specs.Table.{keeps, Allows}
 use Rattle.feed_core.specs.Prelude.{Signal, total_after}
 use Rattle.feed_core.specs.World.Table.{is_over, after}
+use Rattle.feed_cell.specs.Types.{Ask, Idle, HasAsked}
 use Rattle.feed_cell.proofs.Outlooks.{stays_same, reached_more, reached_too}
 use Rattle.feed_cell.proofs.Seats.{mine, other}
-use Rattle.feed_cell.specs.Cell.{Cell}
+use Rattle.feed_cell.specs.Cell.{CellRule}
 use Rattle.feed_cell.specs.Control.{MARK, marked}
 use Rattle.feed_cell.specs.Plays.{SeatOf, IsAsk, Leaves}
-use Rattle.feed_cell.specs.Types.{Ask, Idle, HasAsked}
 use Rattle.feed_cell.specs.Views.{IsHandle, has_put, has_ask, has_run}
 use Rattle.feed_cell.specs.declared.cell.View.{View}
 
 module _ {B : Type 0} (told : B → List Signal) where
   -- a store of asked
-  pub asks_more : (cap n id : ℕ) (me : SeatOf B) (new m : ℕ) → IsHandle me.0 → me.0.requesting ≡ Idle → me.0.left ≡ false → 1 ≤ m → new ≡ total_after me.0.asked m → Allows (Cell told cap) n id me 2 (λ _. new) (λ _. IsAsk me new)
+  pub asks_more : (cap n id : ℕ) (me : SeatOf B) (new m : ℕ) → IsHandle me.0 → me.0.requesting ≡ Idle → me.0.left ≡ false → 1 ≤ m → new ≡ total_after me.0.asked m → Allows (CellRule told cap) n id me 2 (λ _. new) (λ _. IsAsk me new)
   asks_more cap n id me new m is idle stays some new_is s c wide at small =
       let v : View = me.0 in
       let k = (c.handles id v at is.1).1 in
@@ -54,7 +54,7 @@ module _ {B : Type 0} (told : B → List Signal) where
       )
 
   -- a store of asked with its mark
-  pub leaves : (cap n id : ℕ) (me : SeatOf B) (new : ℕ) → IsHandle me.0 → me.0.requesting ≡ Idle → new ≡ me.0.asked + MARK → Allows (Cell told cap) n id me 2 (λ _. new) (λ _. Leaves me)
+  pub leaves : (cap n id : ℕ) (me : SeatOf B) (new : ℕ) → IsHandle me.0 → me.0.requesting ≡ Idle → new ≡ me.0.asked + MARK → Allows (CellRule told cap) n id me 2 (λ _. new) (λ _. Leaves me)
   leaves cap n id me new is idle new_is s c wide at small =
       let v : View = me.0 in
       let k = (c.handles id v at is.1).1 in

@@ -9,17 +9,17 @@ use Rattle.atomic_table.specs.Table.{State, Act, keeps, gives, Valid, stepped, c
 use Rattle.feed_core.specs.Prelude.{Signal}
 use Rattle.feed_core.specs.declared.turn.outlook.Outlook.TheVariants.{Resting}
 use Rattle.feed_core.specs.World.Table.{MayRest, is_started, resting_after, after}
+use Rattle.feed_cell.specs.Types.{Rest, Nobody, Ready, Runner}
 use Rattle.feed_cell.proofs.Moving.{knows_too, move_kept}
 use Rattle.feed_cell.proofs.Outlooks.{has_none, reached_miss, reached_rest}
 use Rattle.feed_cell.proofs.Places.{lies_guest, changed}
 use Rattle.feed_cell.proofs.Reading.{reads_rest}
 use Rattle.feed_cell.proofs.Seats.{other, spent}
 use Rattle.feed_cell.proofs.Stages.{seated}
-use Rattle.feed_cell.specs.Cell.{Lies, Cell, AsProducer, greeted, has_looked}
+use Rattle.feed_cell.specs.Cell.{Lies, CellRule, AsProducer, greeted, has_looked}
 use Rattle.feed_cell.specs.Control.{Reads, number, marked}
 use Rattle.feed_cell.specs.Outlooks.{IsReachedBy, one_miss}
-use Rattle.feed_cell.specs.Plays.{Rests}
-use Rattle.feed_cell.specs.Types.{Rest, Nobody, Ready, Runner}
+use Rattle.feed_cell.specs.Plays.{IsRest}
 use Rattle.feed_cell.specs.Views.{IsRunner, has_put, has_ask, has_run}
 use Rattle.feed_cell.specs.declared.cell.Held.{Held}
 use Rattle.feed_cell.specs.declared.cell.Lodger.{Lodger}
@@ -30,7 +30,7 @@ quiet_by : (b : Bool) (word : ℕ) → bit_at word 1 ≡ number b → bit_at wor
 quiet_by false word e none_there = refl
 quiet_by true word e none_there = absurd (omega arith)
 
-module _ {B : Type 0} (told : B → List Signal) (cap : ℕ) (s : State (Held B) View) (c : Cell told cap s) (id : ℕ) (v : View) (g : Lodger B) (more : List (ℕ × Held B)) (look : ℕ) (at : get_elem? s.views id ≡ some v)
+module _ {B : Type 0} (told : B → List Signal) (cap : ℕ) (s : State (Held B) View) (c : CellRule told cap s) (id : ℕ) (v : View) (g : Lodger B) (more : List (ℕ × Held B)) (look : ℕ) (at : get_elem? s.views id ≡ some v)
     (is : IsRunner v) (out : v.away ≡ true) (may : MayRest (length v.taken) v.runner) (none_out : v.item ≡ []) (look_is : look ≡ v.look) (small : slice_index s.words 3 < 18446744073709551616) where
   there : MayRest c.world.given c.world.runner
   there =
@@ -39,8 +39,8 @@ module _ {B : Type 0} (told : B → List Signal) (cap : ℕ) (s : State (Held B)
       subst (MayRest c.world.given) k.stands (subst (λ (m : ℕ). MayRest m v.runner) (ap length know.taken_is ∙ sym c.shows.given) may)
 
   abbrev Outcome : ℕ → Type 0
-  Outcome new = (w : View) × (a : Act (Held B)) × Valid s.homes ((v.capacity, Held.Guest g) ∷ more) a × Cell told cap (stepped s 3 new id ((v.capacity, Held.Guest g) ∷ more) w a)
-      × Rests look (v, (v.capacity, Held.Guest g) ∷ more) (slice_index s.words 3) (w, carried_after ((v.capacity, Held.Guest g) ∷ more) a)
+  Outcome new = (w : View) × (a : Act (Held B)) × Valid s.homes ((v.capacity, Held.Guest g) ∷ more) a × CellRule told cap (stepped s 3 new id ((v.capacity, Held.Guest g) ∷ more) w a)
+      × IsRest look (v, (v.capacity, Held.Guest g) ∷ more) (slice_index s.words 3) (w, carried_after ((v.capacity, Held.Guest g) ∷ more) a)
 
   found_is : slice_index s.words 3 ≡ c.control
   found_is = ap (λ ws. slice_index ws 3) c.words
@@ -118,7 +118,7 @@ module _ {B : Type 0} (told : B → List Signal) where
   -- a compare-and-exchange of control, from the word after the last look to the same without the mark of the task
   pub rests : (cap n id : ℕ) (v : View) (g : Lodger B) (more : List (ℕ × Held B)) (look new : ℕ) → IsRunner v → v.away ≡ true → MayRest (length v.taken) v.runner → v.item ≡ [] → look ≡ v.look → bit_at look 1 ≡ 0 → new ≡ bit_and look 18446744073709551614
       → g.given ≡ length v.taken → g.own ≡ v.own → g.answers ≡ v.answers → g.how ≡ None → told g.subscriber ≡ greeted v.taken
-      → Allows (Cell told cap) n id (v, (v.capacity, Held.Guest g) ∷ more) 3 (λ (m : ℕ). either (m == look) new m) (Rests look (v, (v.capacity, Held.Guest g) ∷ more))
+      → Allows (CellRule told cap) n id (v, (v.capacity, Held.Guest g) ∷ more) 3 (λ (m : ℕ). either (m == look) new m) (IsRest look (v, (v.capacity, Held.Guest g) ∷ more))
   rests cap n id v g more look new is out may none_out look_is quiet new_is given_is own_is answers_are how_is told_is s c wide at small =
       exchanged (slice_index s.words 3) look new (Outcome told cap s c id v g more look at is out may none_out look_is small)
       (hit told cap s c id v g more look at is out may none_out look_is small new new_is quiet given_is own_is answers_are how_is told_is)

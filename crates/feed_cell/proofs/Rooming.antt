@@ -9,25 +9,25 @@ use Rattle.atomic_table.specs.Table.{State, Act, keeps, takes, Valid, stepped, c
 use Rattle.feed_core.specs.Prelude.{Item, Signal, total_after}
 use Rattle.feed_core.specs.World.Table.{MayBegin, is_over, has_room, shown_room, after}
 use Rattle.feed_core.proofs.Interleavings.Putting.{room_found, room_missing, room_of_ended}
+use Rattle.feed_cell.specs.Types.{Room, Free, HasRoom, Producing, Parts}
 use Rattle.feed_cell.proofs.Outlooks.{ShowsSame, stays_same, reached_more, reached_kept}
 use Rattle.feed_cell.proofs.Places.{lies_room, stays_home}
 use Rattle.feed_cell.proofs.Seats.{mine, other}
 use Rattle.feed_cell.proofs.Stages.{lodges_else}
-use Rattle.feed_cell.specs.Cell.{Lists, Lies, LodgesAt, Cell, AsProducer}
+use Rattle.feed_cell.specs.Cell.{Lists, Lies, LodgesAt, CellRule, AsProducer}
 use Rattle.feed_cell.specs.Control.{MARK, marked}
-use Rattle.feed_cell.specs.Plays.{SeatOf, FindsRoom, Stands, after_look}
-use Rattle.feed_cell.specs.Types.{Room, Free, HasRoom, Producing, Parts}
+use Rattle.feed_cell.specs.Plays.{SeatOf, FindsRoom, FindsHead, after_look}
 use Rattle.feed_cell.specs.Views.{IsProducer, has_put, has_ask, has_run}
 use Rattle.feed_cell.specs.declared.cell.Held.{Held}
 use Rattle.feed_cell.specs.declared.cell.View.{View}
 
 module _ {B : Type 0} (told : B → List Signal) (cap : ℕ) where
   -- the rule after a look, whatever slot it takes
-  room_kept : (s : State (Held B) View) (c : Cell told cap s) (id : ℕ) (v w : View) (free : ℕ) (homes : List (slot.Option (Held B))) → get_elem? s.views id ≡ some v → IsProducer v → MayBegin c.world.producer
+  room_kept : (s : State (Held B) View) (c : CellRule told cap s) (id : ℕ) (v w : View) (free : ℕ) (homes : List (slot.Option (Held B))) → get_elem? s.views id ≡ some v → IsProducer v → MayBegin c.world.producer
       → has_ask w ≡ false → has_run w ≡ false → ShowsSame v w → Lists cap c.log c.taken c.item free → Lies cap c.log (length c.taken) (length c.taken + length c.item) free homes
       → (c.away ≡ false → LodgesAt told cap c.world.runner c.taken c.world.own c.answers homes)
       → AsProducer cap c.log c.world.given free (is_over c.world.runner) c.flags.closing c.flags.state (shown_room (has_room c.world)) w
-      → Cell told cap (record { words = set s.words 0 (slice_index s.words 0); homes = homes; views = set s.views id w })
+      → CellRule told cap (record { words = set s.words 0 (slice_index s.words 0); homes = homes; views = set s.views id w })
   room_kept s c id v w free homes at is may asks runs same lists lies lodges knows = record {
     world = after Room c.world;
     reached = reached_more Room id v w c.reached may at (inl is.0) same (stays_same c.world.runner);
@@ -63,7 +63,7 @@ module _ {B : Type 0} (told : B → List Signal) (cap : ℕ) where
     pub fits : length v.put ≤ given + v.capacity
     pub stays : v.over ≡ true → ended ≡ true
 
-  finds : (s : State (Held B) View) (c : Cell told cap s) (id : ℕ) (v : View) → get_elem? s.views id ≡ some v → v.puts ≡ true → Found v (slice_index s.words 0) c.world.given (is_over c.world.runner)
+  finds : (s : State (Held B) View) (c : CellRule told cap s) (id : ℕ) (v : View) → get_elem? s.views id ≡ some v → v.puts ≡ true → Found v (slice_index s.words 0) c.world.given (is_over c.world.runner)
   finds s c id v at puts =
       let k = (c.producers id v at puts).1 in
       let kept = reached_kept c.reached in
@@ -90,7 +90,7 @@ module _ {B : Type 0} (told : B → List Signal) (cap : ℕ) where
     by true e = (let low = (room_found w (ap shown_room e)).1 in absurd (omega arith))
     by false e = refl
 
-module _ {B : Type 0} (told : B → List Signal) (cap : ℕ) (s : State (Held B) View) (c : Cell told cap s) (id : ℕ) (v : View) (more : List (ℕ × Held B)) (at : get_elem? s.views id ≡ some v)
+module _ {B : Type 0} (told : B → List Signal) (cap : ℕ) (s : State (Held B) View) (c : CellRule told cap s) (id : ℕ) (v : View) (more : List (ℕ × Held B)) (at : get_elem? s.views id ≡ some v)
     (is : IsProducer v) (none_out : v.places ≡ 0) (begins : MayBegin v.producing) where
   abbrev looked : Producing → ℕ → View
   looked producing places = after_look v c.world.given (is_over c.world.runner) producing places
@@ -111,12 +111,12 @@ module _ {B : Type 0} (told : B → List Signal) (cap : ℕ) (s : State (Held B)
   slot_is = let k = (c.producers id v at is.0).1 in ap (λ (l : List Item). length l % v.capacity) k.put ∙ ap (λ (m : ℕ). length c.log % m) k.sized
 
   -- no slot is taken
-  stays : (p : Producing) → shown_room (has_room c.world) ≡ p → Cell told cap (record { words = set s.words 0 (slice_index s.words 0); homes = s.homes; views = set s.views id (looked p 0) })
+  stays : (p : Producing) → shown_room (has_room c.world) ≡ p → CellRule told cap (record { words = set s.words 0 (slice_index s.words 0); homes = s.homes; views = set s.views id (looked p 0) })
   stays p shown = room_kept told cap s c id v (looked p 0) c.free s.homes at is may is.1 is.2 (refl, refl) c.lists c.lies c.lodges (knows p 0 c.free shown (free_is ∙ omega arith))
 
   -- the next slot is
   takes_place : length c.log < length c.taken + cap → shown_room (has_room c.world) ≡ HasRoom
-      → Cell told cap (record { words = set s.words 0 (slice_index s.words 0); homes = set s.homes (length v.put % v.capacity) slot.none; views = set s.views id (looked HasRoom 1) })
+      → CellRule told cap (record { words = set s.words 0 (slice_index s.words 0); homes = set s.homes (length v.put % v.capacity) slot.none; views = set s.views id (looked HasRoom 1) })
   takes_place room shown =
       let within : length c.taken + length c.item ≤ length c.log = c.lists.within in
       let l = c.lists in
@@ -128,7 +128,7 @@ module _ {B : Type 0} (told : B → List Signal) (cap : ℕ) (s : State (Held B)
       (knows HasRoom 1 (length c.log + 1) shown refl)
 
   abbrev Outcome : Type 0
-  Outcome = (w : View) × (a : Act (Held B)) × Valid s.homes more a × Cell told cap (stepped s 0 (slice_index s.words 0) id more w a) × FindsRoom (v, more) (slice_index s.words 0) (w, carried_after more a)
+  Outcome = (w : View) × (a : Act (Held B)) × Valid s.homes more a × CellRule told cap (stepped s 0 (slice_index s.words 0) id more w a) × FindsRoom (v, more) (slice_index s.words 0) (w, carried_after more a)
 
   decides : (over : Bool) → is_over c.world.runner ≡ over → Outcome
   decides true e =
@@ -170,7 +170,7 @@ module _ {B : Type 0} (told : B → List Signal) (cap : ℕ) (s : State (Held B)
   begun false = inl refl
 
   abbrev Standing : Type 0
-  Standing = (w : View) × (a : Act (Held B)) × Valid s.homes more a × Cell told cap (stepped s 0 (slice_index s.words 0) id more w a) × Stands (v, more) (slice_index s.words 0) (w, carried_after more a)
+  Standing = (w : View) × (a : Act (Held B)) × Valid s.homes more a × CellRule told cap (stepped s 0 (slice_index s.words 0) id more w a) × FindsHead (v, more) (slice_index s.words 0) (w, carried_after more a)
 
   stand_here : Standing
   stand_here =
@@ -184,9 +184,9 @@ module _ {B : Type 0} (told : B → List Signal) (cap : ℕ) (s : State (Held B)
 
 module _ {B : Type 0} (told : B → List Signal) where
   -- a load of head takes the next slot out where it is free
-  pub rooms : (cap n id : ℕ) (me : SeatOf B) → IsProducer me.0 → me.0.places ≡ 0 → MayBegin me.0.producing → Allows (Cell told cap) n id me 0 (λ n. n) (FindsRoom me)
+  pub rooms : (cap n id : ℕ) (me : SeatOf B) → IsProducer me.0 → me.0.places ≡ 0 → MayBegin me.0.producing → Allows (CellRule told cap) n id me 0 (λ n. n) (FindsRoom me)
   rooms cap n id me is none_out begins s c wide at small = decides told cap s c id me.0 me.1 at is none_out begins (is_over c.world.runner) refl
 
   -- a load of head
-  pub stands : (cap n id : ℕ) (me : SeatOf B) → IsProducer me.0 → me.0.places ≡ 0 → MayBegin me.0.producing → Allows (Cell told cap) n id me 0 (λ n. n) (Stands me)
+  pub stands : (cap n id : ℕ) (me : SeatOf B) → IsProducer me.0 → me.0.places ≡ 0 → MayBegin me.0.producing → Allows (CellRule told cap) n id me 0 (λ n. n) (FindsHead me)
   stands cap n id me is none_out begins s c wide at small = stand_here told cap s c id me.0 me.1 at is none_out begins

@@ -11,25 +11,25 @@ use Rattle.feed_cell.proofs.Looking.{looks}
 use Rattle.feed_cell.proofs.Resting.{rests}
 use Rattle.feed_cell.proofs.Seeing.{measures}
 use Rattle.feed_cell.proofs.Taking.{takes_item}
-use Rattle.feed_cell.specs.Cell.{Cell}
+use Rattle.feed_cell.specs.Cell.{CellRule}
 use Rattle.feed_cell.specs.Control.{MARK}
 use Rattle.feed_cell.specs.Parties.{IsGoing, IsHome}
-use Rattle.feed_cell.specs.Plays.{SeatOf, QUIET, own_out, answers_out, LooksOut, LooksFirst, Measures, IsTake, Rests, IsEnd}
-use Rattle.feed_cell.specs.Running.{HasItem, Carries, HasLooked, IsEnding}
+use Rattle.feed_cell.specs.Plays.{SeatOf, QUIET, own_out, answers_out, LooksOut, LooksFirst, Measures, IsTake, IsRest, IsEnd}
+use Rattle.feed_cell.specs.Running.{HasItem, Carries, HasLookedAt, IsEnding}
 use Rattle.feed_cell.specs.Views.{IsRunner}
 use Rattle.feed_cell.specs.declared.cell.Held.{Held}
 
 module _ {B : Type 0} (told : B → List Signal) where
   -- a look with the subscriber
-  pub looks_going : (cap n id : ℕ) (me : SeatOf B) → IsRunner me.0 → IsGoing told me → Allows (Cell told cap) n id me 3 (λ n. bit_and n 18446744073709551613) (LooksOut me)
-  looks_going cap n id me is g = subst (λ (slots : List (ℕ × Held B)). Allows (Cell told cap) n id (me.0, slots) 3 (λ n. bit_and n 18446744073709551613) (LooksOut (me.0, slots))) (sym g.slot)
+  pub looks_going : (cap n id : ℕ) (me : SeatOf B) → IsRunner me.0 → IsGoing told me → Allows (CellRule told cap) n id me 3 (λ n. bit_and n 18446744073709551613) (LooksOut me)
+  looks_going cap n id me is g = subst (λ (slots : List (ℕ × Held B)). Allows (CellRule told cap) n id (me.0, slots) 3 (λ n. bit_and n 18446744073709551613) (LooksOut (me.0, slots))) (sym g.slot)
       (looks told cap n id me.0 me.0.capacity g.guest [] g.answer is g.away g.may g.own g.answers)
 
-  pub looked_going : (before after : SeatOf B) (word : ℕ) → IsRunner before.0 → before.0.item ≡ [] → IsGoing told before → LooksOut before word after → HasLooked told word after
+  pub looked_going : (before after : SeatOf B) (word : ℕ) → IsRunner before.0 → before.0.item ≡ [] → IsGoing told before → LooksOut before word after → HasLookedAt told word after
   looked_going before after word is none_out g look =
       let own : own_out before.1 ≡ g.guest.own = ap own_out g.slot in
       let answers : answers_out before.1 ≡ g.guest.answers = ap answers_out g.slot in
-      subst (λ (m : SeatOf B). HasLooked told word m) (sym look.looked) (record {
+      subst (λ (m : SeatOf B). HasLookedAt told word m) (sym look.looked) (record {
         carries = record { guest = g.guest; slot = g.slot; is = is; away = refl; none_out = none_out; text = g.text; given = g.given; own = sym own; answers = sym answers; how = g.how };
         flags = look.flags;
         reads = look.reads;
@@ -39,8 +39,8 @@ module _ {B : Type 0} (told : B → List Signal) where
       })
 
   -- the first look of a task that was handed over
-  pub looked_first : (before after : SeatOf B) (word : ℕ) → IsRunner before.0 → before.0.item ≡ [] → IsHome before → LooksFirst told before word after → HasLooked told word after
-  looked_first before after word is none_out home look = subst (λ (m : SeatOf B). HasLooked told word m) (sym look.looked) (record {
+  pub looked_first : (before after : SeatOf B) (word : ℕ) → IsRunner before.0 → before.0.item ≡ [] → IsHome before → LooksFirst told before word after → HasLookedAt told word after
+  looked_first before after word is none_out home look = subst (λ (m : SeatOf B). HasLookedAt told word m) (sym look.looked) (record {
     carries = record { guest = look.guest; slot = ap (λ (l : List (ℕ × Held B)). (before.0.capacity, Held.Guest look.guest) ∷ l) home.slot; is = is; away = refl; none_out = none_out; text = look.told_is; given = look.given; own = refl; answers = refl; how = look.how };
     flags = look.flags;
     reads = look.reads;
@@ -50,15 +50,15 @@ module _ {B : Type 0} (told : B → List Signal) where
   })
 
   -- a measure with an item out
-  pub measures_out : (cap n id : ℕ) (me : SeatOf B) → IsRunner me.0 → me.0.away ≡ true → MayMeasure me.0.runner → HasItem me → Allows (Cell told cap) n id me 2 (λ n. n) (Measures me)
-  measures_out cap n id me is out may h = subst (λ (slots : List (ℕ × Held B)). Allows (Cell told cap) n id (me.0, slots) 2 (λ n. n) (Measures (me.0, slots))) (sym h.slot)
+  pub measures_out : (cap n id : ℕ) (me : SeatOf B) → IsRunner me.0 → me.0.away ≡ true → MayMeasure me.0.runner → HasItem me → Allows (CellRule told cap) n id me 2 (λ n. n) (Measures me)
+  measures_out cap n id me is out may h = subst (λ (slots : List (ℕ × Held B)). Allows (CellRule told cap) n id (me.0, slots) 2 (λ n. n) (Measures (me.0, slots))) (sym h.slot)
       (measures told cap n id me.0 (length me.0.taken % me.0.capacity) h.item (rest me.1) is out may h.one_out refl)
 
   -- a store of head after the item was moved out
   pub takes_out : (cap n id : ℕ) (before me : SeatOf B) (capacity given i new : ℕ) → IsRunner before.0 → before.0.away ≡ true → MayTake (length before.0.taken) before.0.runner → HasItem before → length before.0.taken ≡ given → before.0.capacity ≡ capacity
-      → me ≡ (before.0, (i, Held.Empty) ∷ rest before.1) → i ≡ given % capacity → new ≡ given + 1 → Allows (Cell told cap) n id me 0 (λ _. new) (λ _. IsTake me)
+      → me ≡ (before.0, (i, Held.Empty) ∷ rest before.1) → i ≡ given % capacity → new ≡ given + 1 → Allows (CellRule told cap) n id me 0 (λ _. new) (λ _. IsTake me)
   takes_out cap n id before me capacity given i new is out may h counted sized moved slot_at new_is =
-      subst (λ (m : SeatOf B). Allows (Cell told cap) n id m 0 (λ _. new) (λ _. IsTake m)) (sym moved)
+      subst (λ (m : SeatOf B). Allows (CellRule told cap) n id m 0 (λ _. new) (λ _. IsTake m)) (sym moved)
       (takes_item told cap n id before.0 i new h.item (rest before.1) is out may h.one_out (slot_at ∙ ap₂ (λ (a b : ℕ). a % b) (sym counted) (sym sized)) (new_is ∙ ap (λ (m : ℕ). m + 1) (sym counted)))
 
   quiet_bit : (word : ℕ) → bit_at (bit_and word QUIET) 1 ≡ 0
@@ -66,11 +66,11 @@ module _ {B : Type 0} (told : B → List Signal) where
 
   -- a compare-and-exchange of control, from the word after the last look
   pub rests_there : (cap n id : ℕ) (me : SeatOf B) (word look new : ℕ) → Carries told me → MayRest (length me.0.taken) me.0.runner → me.0.look ≡ bit_and word QUIET → look ≡ bit_and word QUIET → new ≡ bit_and look 18446744073709551614
-      → Allows (Cell told cap) n id me 3 (λ (m : ℕ). either (m == look) new m) (Rests look me)
-  rests_there cap n id me word look new c may looked look_is new_is = subst (λ (slots : List (ℕ × Held B)). Allows (Cell told cap) n id (me.0, slots) 3 (λ (m : ℕ). either (m == look) new m) (Rests look (me.0, slots))) (sym c.slot)
+      → Allows (CellRule told cap) n id me 3 (λ (m : ℕ). either (m == look) new m) (IsRest look me)
+  rests_there cap n id me word look new c may looked look_is new_is = subst (λ (slots : List (ℕ × Held B)). Allows (CellRule told cap) n id (me.0, slots) 3 (λ (m : ℕ). either (m == look) new m) (IsRest look (me.0, slots))) (sym c.slot)
       (rests told cap n id me.0 c.guest [] look new c.is c.away may c.none_out (look_is ∙ sym looked) (ap (λ (m : ℕ). bit_at m 1) look_is ∙ quiet_bit word) new_is c.given c.own c.answers c.how c.text)
 
   -- a store of head with its mark
-  pub ends_there : (cap n id : ℕ) (me : SeatOf B) (new : ℕ) (how : How) → IsEnding told how me → new ≡ length me.0.taken + MARK → Allows (Cell told cap) n id me 0 (λ _. new) (λ _. IsEnd me)
-  ends_there cap n id me new how e new_is = subst (λ (slots : List (ℕ × Held B)). Allows (Cell told cap) n id (me.0, slots) 0 (λ _. new) (λ _. IsEnd (me.0, slots))) (sym e.slot)
+  pub ends_there : (cap n id : ℕ) (me : SeatOf B) (new : ℕ) (how : How) → IsEnding told how me → new ≡ length me.0.taken + MARK → Allows (CellRule told cap) n id me 0 (λ _. new) (λ _. IsEnd me)
+  ends_there cap n id me new how e new_is = subst (λ (slots : List (ℕ × Held B)). Allows (CellRule told cap) n id (me.0, slots) 0 (λ _. new) (λ _. IsEnd (me.0, slots))) (sym e.slot)
       (ends told cap n id me.0 e.guest [] new how e.is e.away e.may e.none_out new_is e.given e.own e.answers e.how_is e.text)

@@ -8,14 +8,14 @@ use lib.ListN.{get_elem?}
 use Rattle.atomic_table.specs.Table.{keeps, takes, gives, Allows}
 use Rattle.feed_core.specs.Prelude.{Item, Signal, total_after}
 use Rattle.feed_core.specs.World.Table.{MaySee, MayMeasure, is_started, is_over, seeing, measuring, total_of}
+use Rattle.feed_cell.specs.Types.{See, Measure, Runner, Looked, Saw, Measured}
 use Rattle.feed_cell.proofs.Lists.{there, take_one_more, parted}
 use Rattle.feed_cell.proofs.Moving.{knows_too, move_kept}
 use Rattle.feed_cell.proofs.Outlooks.{ShowsSame, stays_by, reached_more, reached_kept}
 use Rattle.feed_cell.proofs.Places.{lies_out, lies_back}
-use Rattle.feed_cell.specs.Cell.{Lies, Cell, may_hold, has_looked}
+use Rattle.feed_cell.specs.Cell.{Lies, CellRule, may_hold, has_looked}
 use Rattle.feed_cell.specs.Outlooks.{IsReachedBy, one_miss}
-use Rattle.feed_cell.specs.Plays.{SeatOf, Sees, Measures, MeasuresNone}
-use Rattle.feed_cell.specs.Types.{See, Measure, Runner, Looked, Saw, Measured}
+use Rattle.feed_cell.specs.Plays.{SeatOf, SeesPut, Measures, MeasuresNone}
 use Rattle.feed_cell.specs.Views.{IsRunner}
 use Rattle.feed_cell.specs.declared.cell.Held.{Held}
 use Rattle.feed_cell.specs.declared.cell.View.{View}
@@ -26,7 +26,7 @@ lies_at cap log head full full' free homes same = subst (λ (m : ℕ). Lies cap 
 
 module _ {B : Type 0} (told : B → List Signal) where
   -- a load of tail takes the next slot out where it has an item
-  pub sees_item : (cap n id : ℕ) (me : SeatOf B) → IsRunner me.0 → me.0.away ≡ true → MaySee me.0.runner → Allows (Cell told cap) n id me 1 (λ n. n) (Sees me)
+  pub sees_item : (cap n id : ℕ) (me : SeatOf B) → IsRunner me.0 → me.0.away ≡ true → MaySee me.0.runner → Allows (CellRule told cap) n id me 1 (λ n. n) (SeesPut me)
   sees_item cap n id me is out may s c wide at small =
       let v : View = me.0 in
       let k = (c.runners id v at is.2).1 in
@@ -83,7 +83,7 @@ module _ {B : Type 0} (told : B → List Signal) where
       ))
 
   -- a load of asked, with no item out
-  pub measures_none : (cap n id : ℕ) (me : SeatOf B) → IsRunner me.0 → me.0.away ≡ true → MayMeasure me.0.runner → me.0.item ≡ [] → Allows (Cell told cap) n id me 2 (λ n. n) (MeasuresNone me)
+  pub measures_none : (cap n id : ℕ) (me : SeatOf B) → IsRunner me.0 → me.0.away ≡ true → MayMeasure me.0.runner → me.0.item ≡ [] → Allows (CellRule told cap) n id me 2 (λ n. n) (MeasuresNone me)
   measures_none cap n id me is out may none_out s c wide at small =
       let v : View = me.0 in
       let k = (c.runners id v at is.2).1 in
@@ -110,7 +110,7 @@ module _ {B : Type 0} (told : B → List Signal) where
 
   -- a load of asked gives the slot back where no more is requested
   pub measures : (cap n id : ℕ) (v : View) (i : ℕ) (x : Item) (more : List (ℕ × Held B)) → IsRunner v → v.away ≡ true → MayMeasure v.runner → v.item ≡ x ∷ [] → i ≡ length v.taken % v.capacity
-      → Allows (Cell told cap) n id (v, (i, Held.Item x) ∷ more) 2 (λ n. n) (Measures (v, (i, Held.Item x) ∷ more))
+      → Allows (CellRule told cap) n id (v, (i, Held.Item x) ∷ more) 2 (λ n. n) (Measures (v, (i, Held.Item x) ∷ more))
   measures cap n id v i x more is out may one slot_at s c wide at small =
       let k = (c.runners id v at is.2).1 in
       let p = c.world in

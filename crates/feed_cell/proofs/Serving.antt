@@ -4,12 +4,12 @@ use Rattle.feed_core.specs.Prelude.{Answer, How, Item, Signal, Next}
 use Rattle.feed_core.specs.Seen.{SeenState}
 use Rattle.feed_core.specs.World.Table.{MayEnd}
 use Rattle.feed_core.specs.declared.turn.outlook.Outlook.TheVariants.{Resting, Ended}
-use Rattle.feed_cell.specs.Cell.{greeted, IsToldBy}
+use Rattle.feed_cell.specs.Types.{Nobody, Ready, Taken}
+use Rattle.feed_cell.specs.Cell.{greeted, IsToldAtEnd}
 use Rattle.feed_cell.specs.Paused.{told_out}
 use Rattle.feed_cell.specs.Plays.{SeatOf, how_out, outlook_by}
 use Rattle.feed_cell.specs.Running.{Carries, IsEnding, HasTaken, FindsNone, TakesNext, grant_of}
-use Rattle.feed_cell.specs.Serving.{MissesRest, RestsNow, Serves, Gives, Finishes, Concludes}
-use Rattle.feed_cell.specs.Types.{Nobody, Ready, Taken}
+use Rattle.feed_cell.specs.Serving.{MissesRest, RestsNow, Serves, GivesAs, FinishesAs, Concludes}
 use Rattle.feed_cell.specs.Views.{IsRunner}
 use Rattle.feed_cell.specs.declared.cell.serving.Served.{Served}
 use Rattle.feed_cell.specs.declared.cell.View.{View}
@@ -51,15 +51,15 @@ module _ {B : Type 0} (told : B → List Signal) where
       (record { guest = c.guest; slot = c.slot; is = c.is; away = c.away; none_out = refl; stage = refl; before = before.0.taken; taken = refl; text = c.text; given = c.given; own = c.own; answers = c.answers; how = c.how })
 
   -- the text of a seat that ends
-  ending_text : (how : How) (me : SeatOf B) → IsEnding told how me → IsToldBy how me.0.taken (told_out told me.1)
-  ending_text how me e = subst (λ t. IsToldBy how me.0.taken t) (sym (ap (told_out told) e.slot)) e.text
+  ending_text : (how : How) (me : SeatOf B) → IsEnding told how me → IsToldAtEnd how me.0.taken (told_out told me.1)
+  ending_text how me e = subst (λ t. IsToldAtEnd how me.0.taken t) (sym (ap (told_out told) e.slot)) e.text
 
   -- what its seat shows after its end
   pub ending_outlook : (how : How) (me : SeatOf B) → IsEnding told how me → outlook_by (how_out me.1) ≡ Ended how
   ending_outlook how me e = ap (λ l. outlook_by (how_out l)) e.slot ∙ ap outlook_by e.how_is
 
   -- an item was given
-  pub serves_give : (x : Item) (result : Served) (before middle after : SeatOf B) (seen later : SeenState) → Carries told before → TakesNext x before middle → Gives told x result middle after seen later → Serves told result before after seen later
+  pub serves_give : (x : Item) (result : Served) (before middle after : SeatOf B) (seen later : SeenState) → Carries told before → TakesNext x before middle → GivesAs told x result middle after seen later → Serves told result before after seen later
   serves_give x Served.Gave before middle after seen later c t g =
       let view : after.0 ≡ record before.0 { runner = Taken; taken = before.0.taken ++ x ∷ []; item = []; grants = before.0.grants ++ grant_of before t.granted ∷ [] } = g.tells.view ∙ ap (λ (m : SeatOf B). m.0) t.took in
       record {
@@ -86,7 +86,7 @@ module _ {B : Type 0} (told : B → List Signal) where
         last = e.last;
         few = omega arith;
         granted = inr (refl, (t.granted, ap (λ (m : SeatOf B). m.0.grants) g.2 ∙ ap (λ (v : View). v.grants) e.tells.view ∙ ap (λ (m : SeatOf B). m.0.grants) t.took));
-        text = subst (λ l. IsToldBy how l (told_out told before.1 ++ e.last)) taken (subst (λ z. IsToldBy how g.0.0.taken z) text (ending_text how g.0 e.ending));
+        text = subst (λ l. IsToldAtEnd how l (told_out told before.1 ++ e.last)) taken (subst (λ z. IsToldAtEnd how g.0.0.taken z) text (ending_text how g.0 e.ending));
         saw = e.tells.saw;
         taken = ap (λ (m : SeatOf B). m.0.taken) g.2 ∙ taken;
         misses = ap (λ (m : SeatOf B). m.0.misses) g.2 ∙ ap (λ (v : View). v.misses) e.tells.view ∙ ap (λ (m : SeatOf B). m.0.misses) t.took;
@@ -96,7 +96,7 @@ module _ {B : Type 0} (told : B → List Signal) where
       }
 
   -- an end was told
-  pub serves_finish : (due : How) (result : Served) (before middle after : SeatOf B) (seen later : SeenState) → middle.1 ≡ before.1 → middle.0.taken ≡ before.0.taken → middle.0.misses ≡ before.0.misses → middle.0.grants ≡ before.0.grants → Finishes told due result middle after seen later → Serves told result before after seen later
+  pub serves_finish : (due : How) (result : Served) (before middle after : SeatOf B) (seen later : SeenState) → middle.1 ≡ before.1 → middle.0.taken ≡ before.0.taken → middle.0.misses ≡ before.0.misses → middle.0.grants ≡ before.0.grants → FinishesAs told due result middle after seen later → Serves told result before after seen later
   serves_finish due Served.Gave before middle after seen later slots items same still f = absurd f
   serves_finish due Served.Rested before middle after seen later slots items same still f = absurd f
   serves_finish due Served.Missed before middle after seen later slots items same still f = absurd f
@@ -109,7 +109,7 @@ module _ {B : Type 0} (told : B → List Signal) where
         last = e.last;
         few = omega arith;
         granted = inl (refl, ap (λ (m : SeatOf B). m.0.grants) f.2 ∙ ap (λ (v : View). v.grants) e.tells.view ∙ still);
-        text = subst (λ l. IsToldBy how l (told_out told before.1 ++ e.last)) taken (subst (λ z. IsToldBy how f.0.0.taken z) text (ending_text how f.0 e.ending));
+        text = subst (λ l. IsToldAtEnd how l (told_out told before.1 ++ e.last)) taken (subst (λ z. IsToldAtEnd how f.0.0.taken z) text (ending_text how f.0 e.ending));
         saw = e.tells.saw;
         taken = ap (λ (m : SeatOf B). m.0.taken) f.2 ∙ taken;
         misses = ap (λ (m : SeatOf B). m.0.misses) f.2 ∙ ap (λ (v : View). v.misses) e.tells.view ∙ same;

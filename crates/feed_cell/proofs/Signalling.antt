@@ -4,15 +4,15 @@ use Rattle.std.specs.Int.{bit_at}
 use Rattle.atomic_table.specs.Table.{State, keeps, Allows}
 use Rattle.feed_core.specs.Prelude.{Item, Ending, Signal}
 use Rattle.feed_core.specs.World.Table.{MayBegin, ProducerMay, HandleMay, joined, is_started, is_over, producing_after, requesting_after, started}
+use Rattle.feed_cell.specs.Types.{Cause, Cancel, Argument, State as Doubled, Closing, Signal as Signals, Producer, Handle, Producing, Requesting, Idle}
 use Rattle.feed_cell.proofs.Outlooks.{ShowsSame, stays_started, reached_more}
 use Rattle.feed_cell.proofs.Reading.{reads_or, adds, mask_error}
 use Rattle.feed_cell.proofs.Seats.{mine, other}
 use Rattle.feed_cell.proofs.Stages.{starts, lodges_started}
-use Rattle.feed_cell.specs.Cell.{Only, Cell, AsProducer, AsHandle}
+use Rattle.feed_cell.specs.Cell.{Only, CellRule, AsProducer, AsHandle}
 use Rattle.feed_cell.specs.Control.{Flags, number, Reads, signal_of, both, marked}
 use Rattle.feed_cell.specs.Outlooks.{IsReachedBy}
 use Rattle.feed_cell.specs.Plays.{SeatOf, sent, ProducerSignals, sent_by_handle, HandleSignals}
-use Rattle.feed_cell.specs.Types.{Cause, Cancel, Argument, State as Doubled, Closing, Signal as Signals, Producer, Handle, Producing, Requesting, Idle}
 use Rattle.feed_cell.specs.Views.{IsProducer, IsHandle, has_put, has_ask, has_run}
 use Rattle.feed_cell.specs.declared.cell.Held.{Held}
 use Rattle.feed_cell.specs.declared.cell.View.{View}
@@ -43,12 +43,12 @@ no_closing (Some (Closing ending)) h may = absurd may
 
 module _ {B : Type 0} (told : B → List Signal) (cap : ℕ) where
   -- the rule after a signal, whichever side makes it
-  signal_kept : (s : State (Held B) View) (c : Cell told cap s) (cause : Option Cause) (mask : ℕ) (producer : Producing) (handle : Requesting) (id : ℕ) (w : View) → Reads mask (signal_of cause) → (c.flags.closing ≡ None) ⊎ ((signal_of cause).closing ≡ None)
+  signal_kept : (s : State (Held B) View) (c : CellRule told cap s) (cause : Option Cause) (mask : ℕ) (producer : Producing) (handle : Requesting) (id : ℕ) (w : View) → Reads mask (signal_of cause) → (c.flags.closing ≡ None) ⊎ ((signal_of cause).closing ≡ None)
       → IsReachedBy (set s.views id w) (record c.world { causes = joined cause c.world.causes; active = true; producer = producer; handle = handle; runner = started c.world.runner })
       → (c.left ≡ true → handle ≡ Idle) → has_run w ≡ false
       → Only has_put c.producer (AsProducer cap c.log c.world.given c.free (is_over (started c.world.runner)) (both (signal_of cause) c.flags).closing (both (signal_of cause) c.flags).state producer) (set s.views id w)
       → Only has_ask c.handle (AsHandle cap c.world.asked (both (signal_of cause) c.flags).cancel (both (signal_of cause) c.flags).argument c.left handle) (set s.views id w)
-      → Cell told cap (record { words = set s.words 3 (bit_or (slice_index s.words 3) mask); homes = s.homes; views = set s.views id w })
+      → CellRule told cap (record { words = set s.words 3 (bit_or (slice_index s.words 3) mask); homes = s.homes; views = set s.views id w })
   signal_kept s c cause mask producer handle id w sets one reached settled runs producers handles =
       let p = c.world in
       let a = adds cause c.flags c.answers in
@@ -148,7 +148,7 @@ producer_knows cap log given free over f p h (Some (Closing ending)) d may k = a
 module _ {B : Type 0} (told : B → List Signal) where
   -- a fetch-or of control, with the producer's cause
   pub signals : (cap n id : ℕ) (me : SeatOf B) (mask : ℕ) (cause : Option Cause) → IsProducer me.0 → ProducerMay cause me.0.producing me.0.closing → Reads mask (signal_of cause)
-      → Allows (Cell told cap) n id me 3 (λ n. bit_or n mask) (ProducerSignals cause me)
+      → Allows (CellRule told cap) n id me 3 (λ n. bit_or n mask) (ProducerSignals cause me)
   signals cap n id me mask cause is may sets s c wide at small =
       let v : View = me.0 in
       let k = (c.producers id v at is.0).1 in
@@ -179,7 +179,7 @@ module _ {B : Type 0} (told : B → List Signal) where
 
   -- and with the handle's
   pub handle_signals : (cap n id : ℕ) (me : SeatOf B) (mask : ℕ) (cause : Option Cause) → IsHandle me.0 → HandleMay cause me.0.requesting → me.0.left ≡ false → Reads mask (signal_of cause)
-      → Allows (Cell told cap) n id me 3 (λ n. bit_or n mask) (HandleSignals cause me)
+      → Allows (CellRule told cap) n id me 3 (λ n. bit_or n mask) (HandleSignals cause me)
   handle_signals cap n id me mask cause is may stays sets s c wide at small =
       let v : View = me.0 in
       let k = (c.handles id v at is.1).1 in
@@ -208,7 +208,7 @@ module _ {B : Type 0} (told : B → List Signal) where
 
   -- with the code of a closing error, which stands from bit 32 on
   pub signals_error : (cap n id : ℕ) (me : SeatOf B) (mask code : ℕ) → IsProducer me.0 → MayBegin me.0.producing → me.0.closing ≡ None → mask ≡ code * 4294967296 + 35
-      → Allows (Cell told cap) n id me 3 (λ n. bit_or n mask) (ProducerSignals (Some (Closing (Ending.Failed (mask / 2 ^ 32)))) me)
+      → Allows (CellRule told cap) n id me 3 (λ n. bit_or n mask) (ProducerSignals (Some (Closing (Ending.Failed (mask / 2 ^ 32)))) me)
   signals_error cap n id me mask code is begins unclosed mask_is =
       let same : mask / 2 ^ 32 ≡ code = omega arith in
       signals cap n id me mask (Some (Closing (Ending.Failed (mask / 2 ^ 32)))) is (begins, unclosed)

@@ -2,11 +2,11 @@
 use Rattle.std.proofs.Common.{◌≡◌, ℕ, true, false, List, None, refl}
 use Rattle.feed_core.specs.Prelude.{Item, Signal}
 use Rattle.feed_core.specs.World.Table.{is_started, is_over, started}
+use Rattle.feed_cell.specs.Types.{Causes, Runner, Nobody, Coming, Fresh, Ready, Looked, Saw, Measured, Taken, Over}
 use mathlib.Core.Option as slot
 use mathlib.Core.Option.{some}
 use lib.ListN.{get_elem?}
 use Rattle.feed_cell.specs.declared.cell.Held.{Held}
-use Rattle.feed_cell.specs.Types.{Causes, Runner, Nobody, Coming, Fresh, Ready, Looked, Saw, Measured, Taken, Over}
 use Rattle.feed_cell.specs.Cell.{has_seat, may_hold, how_of, LodgesAt}
 
 -- a task that was started or started again

@@ -4,15 +4,15 @@ use mathlib.Core.Option.{some}
 use Rattle.atomic_table.specs.Table.{gives, Allows}
 use Rattle.feed_core.specs.Prelude.{Item, Signal}
 use Rattle.feed_core.specs.World.Table.{MayTake, after}
+use Rattle.feed_cell.specs.Types.{Take, Taken}
 use Rattle.feed_cell.proofs.Outlooks.{stays_on, reached_more}
 use Rattle.feed_cell.proofs.Places.{lies_taken}
 use Rattle.feed_cell.proofs.Seats.{mine, other}
 use Rattle.feed_cell.proofs.Seeing.{lies_at}
 use Rattle.feed_cell.proofs.Stages.{seated}
-use Rattle.feed_cell.specs.Cell.{Lies, Cell, KnowsAway}
+use Rattle.feed_cell.specs.Cell.{Lies, CellRule, KnowsAway}
 use Rattle.feed_cell.specs.Control.{marked}
 use Rattle.feed_cell.specs.Plays.{IsTake, grants_by}
-use Rattle.feed_cell.specs.Types.{Take, Taken}
 use Rattle.feed_cell.specs.Views.{IsRunner, has_put, has_ask, has_run}
 use Rattle.feed_cell.specs.declared.cell.Held.{Held}
 use Rattle.feed_cell.specs.declared.cell.View.{View}
@@ -20,7 +20,7 @@ use Rattle.feed_cell.specs.declared.cell.View.{View}
 module _ {B : Type 0} (told : B → List Signal) where
   -- a store of head gives the slot back, empty
   pub takes_item : (cap n id : ℕ) (v : View) (i new : ℕ) (x : Item) (more : List (ℕ × Held B)) → IsRunner v → v.away ≡ true → MayTake (length v.taken) v.runner → v.item ≡ x ∷ [] → i ≡ length v.taken % v.capacity → new ≡ length v.taken + 1
-      → Allows (Cell told cap) n id (v, (i, Held.Empty) ∷ more) 0 (λ _. new) (λ _. IsTake (v, (i, Held.Empty) ∷ more))
+      → Allows (CellRule told cap) n id (v, (i, Held.Empty) ∷ more) 0 (λ _. new) (λ _. IsTake (v, (i, Held.Empty) ∷ more))
   takes_item cap n id v i new x more is out may one slot_at new_is s c wide at small =
       let k = (c.runners id v at is.2).1 in
       let p = c.world in

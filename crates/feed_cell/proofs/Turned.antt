@@ -10,7 +10,7 @@ use Rattle.feed_core.specs.Turn.{EndsIn}
 use Rattle.feed_core.proofs.SignalLists.{IsTerminal, complete_last, contains_none, error_last, items_of_nexts, terminal_last}
 use Rattle.feed_core.proofs.TurnLoop.{last_contained}
 use Rattle.feed_cell.specs.Cell.{greeted}
-use Rattle.feed_cell.specs.Turned.{IsTextOf, AreGivenOf, IsBefore, AreGranted, TurnsAs}
+use Rattle.feed_cell.specs.Turned.{IsTextAfter, AreGivenOf, IsToldBefore, AreGranted, IsTurnOf}
 use Rattle.feed_cell.specs.declared.cell.Grant.{Grant}
 use Rattle.feed_cell.specs.declared.cell.View.{View}
 
@@ -27,7 +27,7 @@ IsShaped outlook taken text =
     ((text ≡ []) × (taken ≡ []))
     ⊎ ((items : List Item) × (text ≡ greeted items ++ last_of outlook) × AreGivenOf outlook items taken)
 
-pub shaped : (outlook : Outlook) (taken : List Item) (text : List Signal) → IsTextOf outlook taken text → IsShaped outlook taken text
+pub shaped : (outlook : Outlook) (taken : List Item) (text : List Signal) → IsTextAfter outlook taken text → IsShaped outlook taken text
 shaped Again taken text e = inr (taken, e ∙ sym (append-nil (greeted taken)), inl refl)
 shaped Resting taken text e = inr (taken, e ∙ sym (append-nil (greeted taken)), inl refl)
 shaped (Ended How.Completed) taken text e = inr (taken, e, inl refl)
@@ -96,17 +96,17 @@ last_by outlook taken text s terminal (inl h) inside = absurd (contains_none s (
 last_by outlook taken text s terminal (inr h) inside = terminal_last true h.0 (last_of outlook) s terminal (subst (λ t. Contains t s) h.1 inside)
 
 -- the items of what was told before
-pub base_items : (base : List Item) (start : List Signal) → IsBefore base start → items_of start ≡ base
+pub base_items : (base : List Item) (start : List Signal) → IsToldBefore base start → items_of start ≡ base
 base_items base start (inl h) = ap items_of h.0 ∙ sym h.1
 base_items base start (inr e) = ap items_of e ∙ items_of_nexts base
 
 -- how many signals they are
-pub base_length : (base : List Item) (start : List Signal) → IsBefore base start → length base ≤ length start
+pub base_length : (base : List Item) (start : List Signal) → IsToldBefore base start → length base ≤ length start
 base_length base start (inl h) = let a = ap length h.0 in let b = ap length h.1 in omega arith
 base_length base start (inr e) = let a : length start ≡ suc (length (map Next base)) = ap length e in let b = length-map base Next in omega arith
 
 -- without what came before
-pub after_base : (base took : List Item) (start seen last : List Signal) → IsBefore base start → start ++ seen ≡ greeted (base ++ took) ++ last
+pub after_base : (base took : List Item) (start seen last : List Signal) → IsToldBefore base start → start ++ seen ≡ greeted (base ++ took) ++ last
     → (first : List Signal) × (seen ≡ first ++ last)
 after_base base took start seen last (inl h) e = (greeted (base ++ took), ap (λ s. s ++ seen) (sym h.0) ∙ e)
 after_base base took start seen last (inr s) e = (
@@ -142,9 +142,9 @@ granted_more given (x ∷ first) second a b = (a.0, a.1, granted_more (given + 1
 
 -- the whole of a turn
 abbrev pub whole_turn : (old : View) (known seen start : List Signal) (base took : List Item) (outlook : Outlook)
-    → (old.away ≡ true → (start ≡ known) × (base ≡ old.taken)) → (old.away ≡ false → start ≡ greeted base) → IsBefore base start → length took ≤ 64
+    → (old.away ≡ true → (start ≡ known) × (base ≡ old.taken)) → (old.away ≡ false → start ≡ greeted base) → IsToldBefore base start → length took ≤ 64
     → (grants : List Grant) → length grants ≡ length took → AreGranted (length base) grants
-    → IsTextOf outlook (base ++ took) (start ++ seen) → TurnsAs old known seen outlook
+    → IsTextAfter outlook (base ++ took) (start ++ seen) → IsTurnOf old known seen outlook
 whole_turn old known seen start base took outlook knew met before at_most grants one_each granted text =
     let shape = shaped outlook (base ++ took) (start ++ seen) text in
     let items : items_of (start ++ seen) ≡ base ++ items_of seen = items_of_append start seen ∙ ap (λ l. l ++ items_of seen) (base_items base start before) in
@@ -170,11 +170,11 @@ whole_turn old known seen start base took outlook knew met before at_most grants
           omega arith;
       completed = (
         λ ends. completes_by outlook (last_by outlook (base ++ took) (start ++ seen) Complete tt shape (inside Complete ends)),
-        λ e. after_base base took start seen (Complete ∷ []) before (subst (λ (o : Outlook). IsTextOf o (base ++ took) (start ++ seen)) e text),
+        λ e. after_base base took start seen (Complete ∷ []) before (subst (λ (o : Outlook). IsTextAfter o (base ++ took) (start ++ seen)) e text),
       );
       errored = λ fault. (
         λ ends. errs_by outlook fault (last_by outlook (base ++ took) (start ++ seen) (Error fault) tt shape (inside (Error fault) ends)),
-        λ e. after_base base took start seen (Error fault ∷ []) before (subst (λ (o : Outlook). IsTextOf o (base ++ took) (start ++ seen)) e text),
+        λ e. after_base base took start seen (Error fault ∷ []) before (subst (λ (o : Outlook). IsTextAfter o (base ++ took) (start ++ seen)) e text),
       );
     }
   where

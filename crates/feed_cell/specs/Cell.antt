@@ -5,8 +5,8 @@ use mathlib.Core.Option.{some}
 use lib.ListN.{get_elem?}
 use Rattle.atomic_table.specs.Table.{State}
 use Rattle.feed_core.specs.Prelude.{Item, Ending, How, Signal, Subscribed, Next, Complete, Error}
-use Rattle.feed_cell.specs.Types.{Causes, Producing, Requesting, Idle, Runner, Nobody, Coming, Fresh, Looked, Saw, Measured, Over, Parts}
 use Rattle.feed_core.specs.World.Table.{is_started, is_over}
+use Rattle.feed_cell.specs.Types.{Causes, Producing, Requesting, Idle, Runner, Nobody, Coming, Fresh, Looked, Saw, Measured, Over, Parts}
 use Rattle.feed_cell.specs.declared.cell.Held.{Held}
 use Rattle.feed_cell.specs.declared.cell.Lodger.{Lodger}
 use Rattle.feed_cell.specs.declared.cell.View.{View}
@@ -64,23 +64,23 @@ abbrev pub greeted : List Item → List Signal
 greeted items = Subscribed ∷ map Next items
 
 -- what a subscriber was told that these items were taken for, by how it has ended (Reactive Streams 1.0, 1.4, 1.5 and 1.7)
-abbrev pub IsToldBy : How → List Item → List Signal → Type 0
-IsToldBy How.Completed taken told = told ≡ greeted taken ++ Complete ∷ []
-IsToldBy (How.Errored fault) taken told = told ≡ greeted taken ++ Error fault ∷ []
-IsToldBy How.Cancelled taken told = told ≡ greeted taken
-IsToldBy (How.Failed _) taken told = told ≡ greeted taken
-IsToldBy How.OutOfMemory taken told =
+abbrev pub IsToldAtEnd : How → List Item → List Signal → Type 0
+IsToldAtEnd How.Completed taken told = told ≡ greeted taken ++ Complete ∷ []
+IsToldAtEnd (How.Errored fault) taken told = told ≡ greeted taken ++ Error fault ∷ []
+IsToldAtEnd How.Cancelled taken told = told ≡ greeted taken
+IsToldAtEnd (How.Failed _) taken told = told ≡ greeted taken
+IsToldAtEnd How.OutOfMemory taken told =
     (told ≡ greeted taken)
     ⊎ (((taken ≡ []) × (told ≡ []))
     ⊎ ((before : List Item) × (x : Item) × (taken ≡ before ++ x ∷ []) × (told ≡ greeted before)))
 
 -- what a subscriber at home was told, by where its task stands
 abbrev pub IsToldAt : Runner → List Item → List Signal → Type 0
-IsToldAt (Over how) taken told = IsToldBy how taken told
+IsToldAt (Over how) taken told = IsToldAtEnd how taken told
 IsToldAt _ taken told = told ≡ greeted taken
 
 -- what the words, the lists and the flags show of the subscription
-pub record Shows (capacity : ℕ) (w : Parts) (log taken item : List Item) (f : Flags) (answers : Causes) (away left : Bool) : Type 0 where
+pub record ShowsParts (capacity : ℕ) (w : Parts) (log taken item : List Item) (f : Flags) (answers : Causes) (away left : Bool) : Type 0 where
   pub sized : w.capacity ≡ capacity
   pub accepted : w.accepted ≡ length log
   pub given : w.given ≡ length taken
@@ -149,7 +149,7 @@ pub record AsRunner (capacity : ℕ) (runner : Runner) (active : Bool) (control 
 
 module _ {B : Type 0} (told : B → List Signal) where
   -- the rule of a subscription of this capacity
-  pub record Cell (capacity : ℕ) (s : State (Held B) View) : Type 0 where
+  pub record CellRule (capacity : ℕ) (s : State (Held B) View) : Type 0 where
     -- what there is, which some list of possible events leads to; the seats show each rest and the end that are among these
     pub world : Parts
     pub reached : IsReachedBy s.views world
@@ -167,7 +167,7 @@ module _ {B : Type 0} (told : B → List Signal) where
     pub handle : ℕ
     pub runner : ℕ
     pub lists : Lists capacity log taken item free
-    pub shows : Shows capacity world log taken item flags answers away left
+    pub shows : ShowsParts capacity world log taken item flags answers away left
     pub reads : Reads control flags
     pub words : s.words ≡ words_of world left control
     pub lies : Lies capacity log (length taken) (length taken + length item) free s.homes

@@ -4,11 +4,11 @@ use Rattle.feed_core.specs.Lane.{LaneState}
 use Rattle.feed_core.specs.LeftLane.{IsLeftLane}
 use Rattle.feed_core.specs.Prelude.{Signal, total_after}
 use Rattle.feed_core.specs.declared.lane.Lane.{Lane}
+use Rattle.feed_cell.specs.Types.{Causes}
 use Rattle.flow_rules.specs.Feed.{End}
 use Rattle.feed_cell.specs.declared.cell.Held.{Held}
 use Rattle.feed_cell.specs.declared.cell.Lodger.{Lodger}
 use Rattle.feed_cell.specs.Parties.{HandleState}
-use Rattle.feed_cell.specs.Types.{Causes}
 
 -- what is left where the subscriber is at home
 abbrev pub lane_with : {B : Type 0} → Lodger B → ℕ → ℕ → ℕ → Bool → Lane B

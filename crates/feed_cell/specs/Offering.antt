@@ -5,7 +5,7 @@ use Rattle.flow_rules.specs.declared.feed.put.Put.TheVariants.{Accepted, Full, G
 use Rattle.feed_cell.specs.Control.{MARK}
 use Rattle.feed_cell.specs.Parties.{ProducerState, TaskState, IsStarted}
 use Rattle.feed_cell.specs.Plays.{SeatOf, FindsRoom}
-use Rattle.feed_cell.specs.Views.{starts_with}
+use Rattle.feed_cell.specs.Views.{starts_after}
 use Rattle.feed_cell.specs.declared.cell.offering.Found.{Found}
 
 -- what this head says to a producer that has put as many items as tail
@@ -30,7 +30,7 @@ started_in (Call.Looks standing) = None
 
 -- it is one of the same subscription, and what was there for it is spent; a call answers a task exactly if its signal has started one
 pub record DoesCall (old : ProducerState) (call : Call TaskState) (new : ProducerState) : Type 0 where
-  pub ring : new.ring ≡ old.ring
-  pub starts : IfSome (started_in call) (IsStarted old.ring old.end.capacity)
+  pub ring : new.table ≡ old.table
+  pub starts : IfSome (started_in call) (IsStarted old.table old.end.capacity)
   pub spent : IsSome (started_in call) → new.end.ready ≡ false
-  pub counts : new.started ≡ starts_with (started_in call) old.started
+  pub counts : new.started ≡ starts_after (started_in call) old.started

@@ -5,28 +5,28 @@ use Rattle.flow_rules.specs.Feed.{End}
 use Rattle.feed_core.specs.Cause.{no_causes}
 use Rattle.feed_core.specs.Prelude.{Answer, Signal, total_after}
 use Rattle.feed_core.specs.World.Table.{MayLook}
+use Rattle.feed_cell.specs.Types.{Fresh, Ready}
 use Rattle.feed_cell.specs.Cell.{greeted}
 use Rattle.feed_cell.specs.declared.cell.Held.{Held}
 use Rattle.feed_cell.specs.declared.cell.Lodger.{Lodger}
 use Rattle.feed_cell.specs.declared.cell.View.{View}
 use Rattle.feed_cell.specs.Plays.{SeatOf}
 use Rattle.feed_cell.specs.Turning.{own_after, answers_after}
-use Rattle.feed_cell.specs.Types.{Fresh, Ready}
 
 -- the producer: whose subscription it is, what its publisher knows of that, and how many tasks its calls have started
 pub record ProducerState : Type 0 where
-  pub ring : TableId
+  pub table : TableId
   pub end : End
   pub started : ℕ
 
 -- the producer's end, by what its seat knows and whether it is ready
-abbrev pub end_of : ℕ → View → Bool → End
-end_of capacity v ready = record { capacity = capacity; accepted = v.put; seen = v.seen; looks = v.looks; over = v.over; closing = v.closing; state = v.state; ready = ready }
+abbrev pub known_end : ℕ → View → Bool → End
+known_end capacity v ready = record { capacity = capacity; accepted = v.put; seen = v.seen; looks = v.looks; over = v.over; closing = v.closing; state = v.state; ready = ready }
 
 -- the handle: how many items it requested in all, whether it cancelled, whether it requested a number that is not positive, whether
 -- it has what one started task needs, and how many tasks its calls have started
 pub record HandleState : Type 0 where
-  pub ring : TableId
+  pub table : TableId
   pub capacity : ℕ
   pub asked : ℕ
   pub cancelled : Bool
@@ -36,27 +36,27 @@ pub record HandleState : Type 0 where
 
 -- the task: its seat, what it knows of the subscription, and what its subscriber was told, where that is with it
 pub record TaskState : Type 0 where
-  pub ring : TableId
+  pub table : TableId
   pub seat : ℕ
   pub knows : View
   pub told : List Signal
 
 -- a seat whose task is over: what it knew when it stopped
 pub record SpentState : Type 0 where
-  pub ring : TableId
+  pub table : TableId
   pub seat : ℕ
   pub knows : View
 
 -- a new subscription's parties
 abbrev pub new_producer : ℕ → TableId → ProducerState
-new_producer capacity ring = record { ring = ring; end = record { capacity = capacity; accepted = []; seen = 0; looks = 0; over = false; closing = None; state = false; ready = true }; started = 0 }
+new_producer capacity table = record { table = table; end = record { capacity = capacity; accepted = []; seen = 0; looks = 0; over = false; closing = None; state = false; ready = true }; started = 0 }
 
 abbrev pub new_handle : ℕ → TableId → HandleState
-new_handle capacity ring = record { ring = ring; capacity = capacity; asked = 0; cancelled = false; argument = false; ready = true; started = 0 }
+new_handle capacity table = record { table = table; capacity = capacity; asked = 0; cancelled = false; argument = false; ready = true; started = 0 }
 
 -- its task was never run, and its subscriber was told nothing
-pub record IsNewTask (ring : TableId) (capacity : ℕ) (task : TaskState) : Type 0 where
-  pub ring_is : task.ring ≡ ring
+pub record IsNewTask (table : TableId) (capacity : ℕ) (task : TaskState) : Type 0 where
+  pub table_is : task.table ≡ table
   pub sized : task.knows.capacity ≡ capacity
   pub stage : task.knows.runner ≡ Fresh
   pub taken : task.knows.taken ≡ []
@@ -66,8 +66,8 @@ pub record IsNewTask (ring : TableId) (capacity : ℕ) (task : TaskState) : Type
   pub untold : task.told ≡ []
 
 -- a task that a signal started: its subscriber is at home
-pub record IsStarted (ring : TableId) (capacity : ℕ) (task : TaskState) : Type 0 where
-  pub ring_is : task.ring ≡ ring
+pub record IsStarted (table : TableId) (capacity : ℕ) (task : TaskState) : Type 0 where
+  pub table_is : task.table ≡ table
   pub sized : task.knows.capacity ≡ capacity
   pub stage : task.knows.runner ≡ Ready
   pub home : task.knows.away ≡ false
@@ -104,7 +104,7 @@ pub record IsGoing {B : Type 0} (told : B → List Signal) (me : SeatOf B) : Typ
   pub how : guest.how ≡ None
 
 -- a task that was never run: its subscriber is with it, and was told nothing
-pub record IsFresh {B : Type 0} (told : B → List Signal) (me : SeatOf B) : Type 0 where
+pub record IsUngreeted {B : Type 0} (told : B → List Signal) (me : SeatOf B) : Type 0 where
   pub guest : Lodger B
   pub slot : me.1 ≡ (me.0.capacity, Held.Guest guest) ∷ []
   pub away : me.0.away ≡ true

@@ -3,7 +3,7 @@ use Rattle.std.specs.Prelude.{ℕ, List, [], ◌∷◌}
 use Rattle.feed_core.specs.Prelude.{Signal}
 use Rattle.feed_cell.specs.declared.cell.Held.{Held}
 use Rattle.feed_cell.specs.declared.cell.task.Stage.{Stage}
-use Rattle.feed_cell.specs.Parties.{IsFresh, IsHome, IsGoing}
+use Rattle.feed_cell.specs.Parties.{IsUngreeted, IsHome, IsGoing}
 use Rattle.feed_cell.specs.Plays.{SeatOf}
 
 module _ {B : Type 0} (told : B → List Signal) where
@@ -18,6 +18,6 @@ module _ {B : Type 0} (told : B → List Signal) where
   told_out (slot ∷ more) = told_in slot.1
 
   abbrev pub IsPaused : Stage → SeatOf B → Type 0
-  IsPaused Stage.Fresh me = IsFresh told me
+  IsPaused Stage.Fresh me = IsUngreeted told me
   IsPaused Stage.Home me = IsHome me
   IsPaused Stage.Going me = IsGoing told me

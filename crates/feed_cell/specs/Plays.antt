@@ -6,14 +6,14 @@ use Rattle.feed_core.specs.Prelude.{How, Item, Signal, UNBOUNDED, total_after}
 use Rattle.feed_core.specs.Cause.{no_causes}
 use Rattle.feed_core.specs.declared.turn.outlook.Outlook.{Outlook}
 use Rattle.feed_core.specs.declared.turn.outlook.Outlook.TheVariants.{Again, Resting, Ended}
-use Rattle.feed_cell.specs.Types.{Causes, Cause, Cancel, Argument, State, Closing, Producing, Free, HasRoom, HasPut, Hands, Requesting, Idle, HasAsked, HandsOver, Runner, Nobody, Ready, Looked, Measured, Taken}
 use Rattle.feed_core.specs.World.Table.{seeing, measuring}
+use Rattle.feed_cell.specs.Types.{Causes, Cause, Cancel, Argument, State, Closing, Producing, Free, HasRoom, HasPut, Hands, Requesting, Idle, HasAsked, HandsOver, Runner, Nobody, Ready, Looked, Measured, Taken}
 use Rattle.feed_cell.specs.declared.cell.Grant.{Grant}
 use Rattle.feed_cell.specs.declared.cell.Held.{Held}
 use Rattle.feed_cell.specs.declared.cell.Lodger.{Lodger}
 use Rattle.feed_cell.specs.declared.cell.View.{View}
 use Rattle.feed_cell.specs.Cell.{greeted}
-use Rattle.feed_cell.specs.Views.{starts_with}
+use Rattle.feed_cell.specs.Views.{starts_after}
 use Rattle.feed_cell.specs.Control.{Flags, Reads, causes_of, MARK, marked}
 
 -- what a party knows, and the slots that it has out
@@ -81,7 +81,7 @@ pub record FindsRoom {B : Type 0} (before : SeatOf B) (found : ℕ) (after : Sea
       → after ≡ (after_look before.0 head ended HasRoom 1, (length before.0.put % before.0.capacity, Held.Empty) ∷ before.1)
 
 -- the same, where no slot is taken
-pub record Stands {B : Type 0} (before : SeatOf B) (found : ℕ) (after : SeatOf B) : Type 0 where
+pub record FindsHead {B : Type 0} (before : SeatOf B) (found : ℕ) (after : SeatOf B) : Type 0 where
   pub head : ℕ
   pub ended : Bool
   pub producing : Producing
@@ -108,7 +108,7 @@ sent (Some (Closing ending)) producing v = record v { producing = producing; clo
 
 -- and where it has handed over the task that its signal started, if it did
 abbrev pub after_signal : {T : Type 0} → Option T → Option Cause → View → View
-after_signal task cause v = record (sent cause Free v) { started = starts_with task v.started }
+after_signal task cause v = record (sent cause Free v) { started = starts_after task v.started }
 
 -- its signal starts the task where the word had no mark of that, and then the producer has to hand it over
 pub record ProducerSignals {B : Type 0} (cause : Option Cause) (before : SeatOf B) (found : ℕ) (after : SeatOf B) : Type 0 where
@@ -130,7 +130,7 @@ sent_by_handle (Some State) requesting v = record v { requesting = requesting }
 sent_by_handle (Some (Closing ending)) requesting v = record v { requesting = requesting }
 
 abbrev pub handle_after_signal : {T : Type 0} → Option T → Option Cause → View → View
-handle_after_signal task cause v = record (sent_by_handle cause Idle v) { started = starts_with task v.started }
+handle_after_signal task cause v = record (sent_by_handle cause Idle v) { started = starts_after task v.started }
 
 pub record HandleSignals {B : Type 0} (cause : Option Cause) (before : SeatOf B) (found : ℕ) (after : SeatOf B) : Type 0 where
   pub requesting : Requesting
@@ -173,7 +173,7 @@ pub record LooksFirst {B : Type 0} (told : B → List Signal) (before : SeatOf B
   pub looked : after ≡ (after_causes before.0 found flags guest.own guest.answers taken, (before.0.capacity, Held.Guest guest) ∷ before.1)
 
 -- the task found this number of items put: where there is one that it did not take, the next slot is out with it
-pub record Sees {B : Type 0} (before : SeatOf B) (found : ℕ) (after : SeatOf B) : Type 0 where
+pub record SeesPut {B : Type 0} (before : SeatOf B) (found : ℕ) (after : SeatOf B) : Type 0 where
   pub put : length before.0.taken ≤ found
   pub waits : length before.0.taken < found → (x : Item) × (after ≡ (record before.0 { runner = seeing found before.0.runner; item = x ∷ [] }, (length before.0.taken % before.0.capacity, Held.Item x) ∷ before.1))
   pub empty : found ≡ length before.0.taken → after ≡ (record before.0 { runner = seeing found before.0.runner }, before.1)
@@ -207,7 +207,7 @@ abbrev pub IsTake : {B : Type 0} → SeatOf B → SeatOf B → Type 0
 IsTake before after = after ≡ (record before.0 { taken = before.0.taken ++ before.0.item; item = []; grants = before.0.grants ++ grants_by before.0.runner; runner = Taken }, rest before.1)
 
 -- the task rests where the word is the one after its look, and its subscriber is at home then; else something is new
-pub record Rests {B : Type 0} (look : ℕ) (before : SeatOf B) (found : ℕ) (after : SeatOf B) : Type 0 where
+pub record IsRest {B : Type 0} (look : ℕ) (before : SeatOf B) (found : ℕ) (after : SeatOf B) : Type 0 where
   pub rested : found ≡ look → after ≡ (record before.0 { runner = Nobody; runs = false; away = false; outlook = Resting }, rest before.1)
   pub missed : found ≢ look → after ≡ (record before.0 { runner = Ready; misses = before.0.misses + 1 }, before.1)
 

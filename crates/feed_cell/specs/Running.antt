@@ -7,16 +7,16 @@ use Rattle.feed_core.specs.Prelude.{Answer, How, Item, Signal, UNBOUNDED}
 use Rattle.feed_core.specs.Seen.{SeenState, seen_with}
 use Rattle.feed_core.specs.Steps.{HasTerminal}
 use Rattle.feed_core.specs.World.Table.{MayEnd}
+use Rattle.feed_cell.specs.Types.{Causes, Looked, Measured, Taken}
 use Rattle.feed_cell.specs.declared.cell.Grant.{Grant}
 use Rattle.feed_cell.specs.declared.cell.Held.{Held}
 use Rattle.feed_cell.specs.declared.cell.Lodger.{Lodger}
-use Rattle.feed_cell.specs.Cell.{greeted, IsToldBy}
+use Rattle.feed_cell.specs.Cell.{greeted, IsToldAtEnd}
 use Rattle.feed_cell.specs.Control.{Flags, Reads, causes_of}
 use Rattle.feed_cell.specs.Paused.{told_out}
 use Rattle.feed_cell.specs.Plays.{SeatOf, QUIET}
 use Rattle.feed_cell.specs.Turning.{own_after, answers_after}
 use Rattle.feed_cell.specs.Parties.{IsGoing}
-use Rattle.feed_cell.specs.Types.{Causes, Looked, Measured, Taken}
 use Rattle.feed_cell.specs.Views.{IsRunner}
 
 -- an answer that goes on
@@ -55,7 +55,7 @@ module _ {B : Type 0} (told : B → List Signal) where
     pub how : guest.how ≡ None
 
   -- it has looked, and found this word
-  pub record HasLooked (word : ℕ) (me : SeatOf B) : Type 0 where
+  pub record HasLookedAt (word : ℕ) (me : SeatOf B) : Type 0 where
     pub carries : Carries me
     pub flags : Flags
     pub reads : Reads word flags
@@ -71,7 +71,7 @@ module _ {B : Type 0} (told : B → List Signal) where
     pub away : me.0.away ≡ true
     pub none_out : me.0.item ≡ []
     pub may : MayEnd how (length me.0.taken) me.0.runner
-    pub text : IsToldBy how me.0.taken (told guest.subscriber)
+    pub text : IsToldAtEnd how me.0.taken (told guest.subscriber)
     pub given : guest.given ≡ length me.0.taken
     pub own : guest.own ≡ me.0.own
     pub answers : guest.answers ≡ with_cause_of how me.0.answers
@@ -180,7 +180,7 @@ module _ {B : Type 0} where
     pub took : after ≡ (record before.0 { runner = Taken; taken = before.0.taken ++ item ∷ []; item = []; grants = before.0.grants ++ grant_of before granted ∷ [] }, before.1)
 
   -- the task has measured, and has no item to give; this end waits for the items, if one does
-  pub record HasMeasured (tail : ℕ) (due : Option How) (me : SeatOf B) : Type 0 where
+  pub record HasNoneToGive (tail : ℕ) (due : Option How) (me : SeatOf B) : Type 0 where
     pub causes : Causes
     pub asked : ℕ
     pub stage : me.0.runner ≡ Measured causes tail asked

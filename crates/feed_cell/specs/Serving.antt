@@ -4,13 +4,13 @@ use Rattle.feed_core.specs.Prelude.{How, Item, Signal, Next}
 use Rattle.feed_core.specs.Seen.{SeenState, seen_with}
 use Rattle.feed_core.specs.World.Table.{MayEnd}
 use Rattle.feed_core.specs.declared.turn.outlook.Outlook.TheVariants.{Resting, Ended}
+use Rattle.feed_cell.specs.Types.{Nobody}
 use Rattle.feed_cell.specs.declared.cell.serving.Served.{Served}
-use Rattle.feed_cell.specs.Cell.{greeted, IsToldBy}
+use Rattle.feed_cell.specs.Cell.{greeted, IsToldAtEnd}
 use Rattle.feed_cell.specs.Parties.{IsGoing}
 use Rattle.feed_cell.specs.Paused.{told_out}
 use Rattle.feed_cell.specs.Plays.{SeatOf, how_out, outlook_by}
 use Rattle.feed_cell.specs.Running.{IsGranted, grant_of, EndsThere, FinishesThere, GoesOnThere}
-use Rattle.feed_cell.specs.Types.{Nobody}
 use Rattle.feed_cell.specs.Views.{IsRunner}
 
 -- the seat after it ended the subscription
@@ -60,12 +60,12 @@ module _ {B : Type 0} (told : B → List Signal) where
     pub stage : after.0.runner ≡ Nobody
 
   -- it ended the subscription: these items were taken and these signals told before
-  pub record EndsSo (how : How) (before after : SeatOf B) (seen later : SeenState) : Type 0 where
+  pub record EndsAs (how : How) (before after : SeatOf B) (seen later : SeenState) : Type 0 where
     pub took : List Item
     pub last : List Signal
     pub few : length took ≤ 1
     pub granted : IsLastGrant before after took
-    pub text : IsToldBy how (before.0.taken ++ took) (told_out told before.1 ++ last)
+    pub text : IsToldAtEnd how (before.0.taken ++ took) (told_out told before.1 ++ last)
     pub saw : later ≡ seen_with last seen
     pub taken : after.0.taken ≡ before.0.taken ++ took
     pub misses : after.0.misses ≡ before.0.misses
@@ -78,19 +78,19 @@ module _ {B : Type 0} (told : B → List Signal) where
   Serves Served.Gave before after seen later = GivesItem before after seen later
   Serves Served.Rested before after seen later = RestsNow before after × (later ≡ seen)
   Serves Served.Missed before after seen later = MissesRest before after × (later ≡ seen)
-  Serves (Served.Ended how) before after seen later = EndsSo how before after seen later
+  Serves (Served.Ended how) before after seen later = EndsAs how before after seen later
 
   -- by the answer of the callback for an item that was taken
-  abbrev pub Gives : Item → Served → SeatOf B → SeatOf B → SeenState → SeenState → Type 0
-  Gives item Served.Gave before after seen later = GoesOnThere told (Next item) before after seen later
-  Gives item Served.Rested before after seen later = ⊥
-  Gives item Served.Missed before after seen later = ⊥
-  Gives item (Served.Ended how) before after seen later = (ending : SeatOf B) × EndsThere told (Next item) how before ending seen later × HasLeft ending after
+  abbrev pub GivesAs : Item → Served → SeatOf B → SeatOf B → SeenState → SeenState → Type 0
+  GivesAs item Served.Gave before after seen later = GoesOnThere told (Next item) before after seen later
+  GivesAs item Served.Rested before after seen later = ⊥
+  GivesAs item Served.Missed before after seen later = ⊥
+  GivesAs item (Served.Ended how) before after seen later = (ending : SeatOf B) × EndsThere told (Next item) how before ending seen later × HasLeft ending after
 
   -- by the end that was due
-  abbrev pub Finishes : How → Served → SeatOf B → SeatOf B → SeenState → SeenState → Type 0
-  Finishes due (Served.Ended how) before after seen later = (ending : SeatOf B) × FinishesThere told due how before ending seen later × HasLeft ending after
-  Finishes due _ before after seen later = ⊥
+  abbrev pub FinishesAs : How → Served → SeatOf B → SeatOf B → SeenState → SeenState → Type 0
+  FinishesAs due (Served.Ended how) before after seen later = (ending : SeatOf B) × FinishesThere told due how before ending seen later × HasLeft ending after
+  FinishesAs due _ before after seen later = ⊥
 
   -- by its rest
   abbrev pub TriesRest : Served → SeatOf B → SeatOf B → Type 0
@@ -103,4 +103,4 @@ module _ {B : Type 0} (told : B → List Signal) where
   Concludes Served.Gave before after seen later = ⊥
   Concludes Served.Rested before after seen later = TriesRest Served.Rested before after × (later ≡ seen)
   Concludes Served.Missed before after seen later = TriesRest Served.Missed before after × (later ≡ seen)
-  Concludes (Served.Ended how) before after seen later = (due : How) × Finishes due (Served.Ended how) before after seen later
+  Concludes (Served.Ended how) before after seen later = (due : How) × FinishesAs due (Served.Ended how) before after seen later

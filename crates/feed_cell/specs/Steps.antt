@@ -3,15 +3,15 @@ use Rattle.std.specs.Prelude.{◌≡◌, ℕ, ◌%◌, ◌^◌, ◌<◌, [], ◌
 use Rattle.std.specs.Int.{bit_at}
 use Rattle.atomic_table.specs.Seated.{TableId}
 use Rattle.feed_core.specs.World.Table.{MayBegin}
+use Rattle.feed_cell.specs.Types.{HasRoom, Idle, Fresh}
 use Rattle.feed_cell.specs.declared.cell.Held.{Held}
 use Rattle.feed_cell.specs.declared.cell.View.{View}
 use Rattle.feed_cell.specs.Plays.{SeatOf}
-use Rattle.feed_cell.specs.Types.{HasRoom, Idle, Fresh}
 use Rattle.feed_cell.specs.Views.{IsProducer, IsHandle, IsRunner}
 
 -- a subscription's table has four words
 abbrev pub HasFourWords : TableId → Type 0
-HasFourWords ring = ring.words ≡ 4
+HasFourWords table = table.words ≡ 4
 
 -- the task was handed over exactly if the signal that found this word has started it, and else nothing changed
 abbrev pub IsHanded : {B T : Type 0} → ℕ → View → Option T → SeatOf B → SeatOf B → Type 0
@@ -25,7 +25,7 @@ pub record MayOffer {B : Type 0} (me : SeatOf B) : Type 0 where
   pub begins : MayBegin me.0.producing
 
 -- the producer has the slot of its next item out, and may put
-pub record HasPlace {B : Type 0} (capacity tail : ℕ) (me : SeatOf B) : Type 0 where
+pub record HasFreeSlot {B : Type 0} (capacity tail : ℕ) (me : SeatOf B) : Type 0 where
   pub is : IsProducer me.0
   pub stage : me.0.producing ≡ HasRoom
   pub one_out : me.0.places ≡ 1

@@ -7,29 +7,29 @@ use Rattle.feed_core.specs.declared.turn.TheConstants.{ITEMS_IN_A_TURN, SIGNALS_
 use Rattle.feed_core.specs.declared.turn.outlook.Outlook.{Outlook}
 use Rattle.feed_core.specs.declared.turn.outlook.Outlook.TheVariants.{Again, Resting, Ended}
 use Rattle.feed_core.specs.Turn.{EndsIn}
-use Rattle.feed_cell.specs.Cell.{greeted, IsToldBy}
+use Rattle.feed_cell.specs.Types.{Nobody}
+use Rattle.feed_cell.specs.Cell.{greeted, IsToldAtEnd}
 use Rattle.feed_cell.specs.Parties.{TaskState, IsGoing, IsHome}
 use Rattle.feed_cell.specs.Paused.{told_out}
 use Rattle.feed_cell.specs.Plays.{SeatOf}
-use Rattle.feed_cell.specs.Types.{Nobody}
 use Rattle.feed_cell.specs.declared.cell.Grant.{Grant}
 use Rattle.feed_cell.specs.declared.cell.View.{View}
 use Rattle.feed_cell.specs.declared.cell.task.Stage.{Stage}
 use Rattle.feed_cell.specs.declared.cell.turning.Turn.{Turn}
 
 -- all that a subscriber was told that these items were taken for, after a turn with this outlook
-abbrev pub IsTextOf : Outlook → List Item → List Signal → Type 0
-IsTextOf Again taken text = text ≡ greeted taken
-IsTextOf Resting taken text = text ≡ greeted taken
-IsTextOf (Ended how) taken text = IsToldBy how taken text
+abbrev pub IsTextAfter : Outlook → List Item → List Signal → Type 0
+IsTextAfter Again taken text = text ≡ greeted taken
+IsTextAfter Resting taken text = text ≡ greeted taken
+IsTextAfter (Ended how) taken text = IsToldAtEnd how taken text
 
 -- the items that were told are those that were taken, without the last where its onNext was refused memory
 abbrev pub AreGivenOf : Outlook → List Item → List Item → Type 0
 AreGivenOf outlook given took = (given ≡ took) ⊎ ((outlook ≡ Ended How.OutOfMemory) × ((item : Item) × (took ≡ given ++ item ∷ [])))
 
 -- what its subscriber was told before a turn, and which items were taken by then: nothing yet, or onSubscribe and those items
-abbrev pub IsBefore : List Item → List Signal → Type 0
-IsBefore base start = ((start ≡ []) × (base ≡ [])) ⊎ (start ≡ greeted base)
+abbrev pub IsToldBefore : List Item → List Signal → Type 0
+IsToldBefore base start = ((start ≡ []) × (base ≡ [])) ⊎ (start ≡ greeted base)
 
 -- each of these items was taken by a look that showed no end at once (no cancel, bad request, second subscribing or error), and by a
 -- measure that showed more items requested than were taken before it
@@ -38,14 +38,14 @@ AreGranted given [] = Unit {0}
 AreGranted given (grant ∷ more) = (stops grant.causes ≡ None) × (given < grant.asked) × AreGranted (given + 1) more
 
 -- a turn that saw these signals, of a task that knew this, and whose subscriber was known to have been told that
-pub record TurnsAs (old : View) (known seen : List Signal) (outlook : Outlook) : Type 0 where
+pub record IsTurnOf (old : View) (known seen : List Signal) (outlook : Outlook) : Type 0 where
   -- what its subscriber was told before, and the items that were taken by then: a task that has its subscriber with it knows them, and
   -- a task that a signal started has a subscriber that was greeted
   pub start : List Signal
   pub base : List Item
   pub knew : old.away ≡ true → (start ≡ known) × (base ≡ old.taken)
   pub met : old.away ≡ false → start ≡ greeted base
-  pub before : IsBefore base start
+  pub before : IsToldBefore base start
   -- the items that this turn took, in order
   pub took : List Item
   pub at_most : length took ≤ ITEMS_IN_A_TURN
@@ -54,7 +54,7 @@ pub record TurnsAs (old : View) (known seen : List Signal) (outlook : Outlook) :
   pub one_each : length grants ≡ length took
   pub granted : AreGranted (length base) grants
   -- its subscriber was told what this turn saw, after what it was told before
-  pub text : IsTextOf outlook (base ++ took) (start ++ seen)
+  pub text : IsTextAfter outlook (base ++ took) (start ++ seen)
   pub allowed : IsFlowText (start ++ seen)
   pub given : AreGivenOf outlook (items_of seen) took
   pub few : length seen ≤ SIGNALS_IN_A_TURN
@@ -64,7 +64,7 @@ pub record TurnsAs (old : View) (known seen : List Signal) (outlook : Outlook) :
 
 -- another turn is owed: this one took as many items as it may, or something was new when it would have rested
 pub record GoesOnAs (old new : View) (known later seen : List Signal) : Type 0 where
-  pub turned : TurnsAs old known seen Again
+  pub turned : IsTurnOf old known seen Again
   pub taken : new.taken ≡ turned.base ++ turned.took
   pub grants : new.grants ≡ old.grants ++ turned.grants
   pub told_is : later ≡ turned.start ++ seen
@@ -73,7 +73,7 @@ pub record GoesOnAs (old new : View) (known later seen : List Signal) : Type 0 w
 -- no turn is owed: the task rests or the subscription has ended, and its seat runs the task no more. The seat shows which, and the
 -- rule of the table counts that among the rests of its events, or has it as the end that is among them
 pub record StopsAs (old new : View) (known seen : List Signal) (outlook : Outlook) : Type 0 where
-  pub turned : TurnsAs old known seen outlook
+  pub turned : IsTurnOf old known seen outlook
   pub taken : new.taken ≡ turned.base ++ turned.took
   pub grants : new.grants ≡ old.grants ++ turned.grants
   pub misses : new.misses ≡ old.misses
@@ -87,7 +87,7 @@ module _ {B : Type 0} (told : B → List Signal) where
     pub base : List Item
     pub knew : before.0.away ≡ true → (start ≡ told_out told before.1) × (base ≡ before.0.taken)
     pub met : before.0.away ≡ false → start ≡ greeted base
-    pub opened : IsBefore base start
+    pub opened : IsToldBefore base start
     pub took : List Item
     pub counted : length took ≡ count
     pub text : start ++ seen ≡ greeted (base ++ took)
@@ -100,10 +100,10 @@ module _ {B : Type 0} (told : B → List Signal) where
     pub misses : me.0.misses ≡ before.0.misses
 
   -- before each look of a turn, by where its task stands
-  abbrev pub IsMidTurn : Stage → ℕ → SeatOf B → SeatOf B → List Signal → Type 0
-  IsMidTurn Stage.Fresh count before me seen = ⊥
-  IsMidTurn Stage.Home count before me seen = (count ≡ 0) × (seen ≡ []) × IsHome me × (before.0.away ≡ me.0.away) × (me.0.misses ≡ before.0.misses) × (me.0.grants ≡ before.0.grants)
-  IsMidTurn Stage.Going count before me seen = IsGoing told me × TellsSoFar count before me seen
+  abbrev pub IsBeforeLook : Stage → ℕ → SeatOf B → SeatOf B → List Signal → Type 0
+  IsBeforeLook Stage.Fresh count before me seen = ⊥
+  IsBeforeLook Stage.Home count before me seen = (count ≡ 0) × (seen ≡ []) × IsHome me × (before.0.away ≡ me.0.away) × (me.0.misses ≡ before.0.misses) × (me.0.grants ≡ before.0.grants)
+  IsBeforeLook Stage.Going count before me seen = IsGoing told me × TellsSoFar count before me seen
 
   -- a turn that ran on a seat, by its outlook
   abbrev pub RunsAs : Outlook → SeatOf B → SeatOf B → List Signal → Type 0
@@ -126,6 +126,6 @@ KeepsGoing Stage.Going before after = (after.1 ≡ before.1) × (after.0.taken �
 -- what came of a turn of a task: the task that goes on, or its seat, which runs nothing any more. It rested; or it ended the
 -- subscription, as what its last look saw or its last callback answered allows
 abbrev pub TurnsInto : {B : Type 0} → TaskState → List Signal → Turn B → Type 0
-TurnsInto task seen (Turn.Again next) = (next.ring ≡ task.ring) × (next.seat ≡ task.seat) × GoesOnAs task.knows next.knows task.told next.told seen
-TurnsInto task seen (Turn.Resting spent) = (spent.ring ≡ task.ring) × (spent.seat ≡ task.seat) × StopsAs task.knows spent.knows task.told seen Resting × (spent.knows.runner ≡ Nobody)
-TurnsInto task seen (Turn.Ended how spent) = (spent.ring ≡ task.ring) × (spent.seat ≡ task.seat) × StopsAs task.knows spent.knows task.told seen (Ended how) × MayEnd how (length spent.knows.taken) spent.knows.runner
+TurnsInto task seen (Turn.Again next) = (next.table ≡ task.table) × (next.seat ≡ task.seat) × GoesOnAs task.knows next.knows task.told next.told seen
+TurnsInto task seen (Turn.Resting spent) = (spent.table ≡ task.table) × (spent.seat ≡ task.seat) × StopsAs task.knows spent.knows task.told seen Resting × (spent.knows.runner ≡ Nobody)
+TurnsInto task seen (Turn.Ended how spent) = (spent.table ≡ task.table) × (spent.seat ≡ task.seat) × StopsAs task.knows spent.knows task.told seen (Ended how) × MayEnd how (length spent.knows.taken) spent.knows.runner

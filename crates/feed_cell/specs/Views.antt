@@ -70,9 +70,9 @@ abbrev pub handle_handed : View → View
 handle_handed v = record v { requesting = Idle; started = v.started + 1 }
 
 -- how many tasks were started, with this one, if there is one
-abbrev pub starts_with : {T : Type 0} → Option T → ℕ → ℕ
-starts_with None started = started
-starts_with (Some task) started = started + 1
+abbrev pub starts_after : {T : Type 0} → Option T → ℕ → ℕ
+starts_after None started = started
+starts_after (Some task) started = started + 1
 
 -- the task that was handed over is ready, and its subscriber is at home
 abbrev pub running_handed : View → View

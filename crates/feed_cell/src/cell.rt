@@ -206,10 +206,10 @@ pub struct InCell<B> {
 }
 
 impl<B: Listener> TableRule<Held<B>, View, u64> for InCell<B> {
-    ghost use Rattle.feed_cell.specs.Cell.{Cell};
+    ghost use Rattle.feed_cell.specs.Cell.{CellRule};
     ghost use Rattle.feed_cell.specs.Views.{first_view};
 
-    ghost holds = { Cell B.told };
+    ghost holds = { CellRule B.told };
 
     ghost first = { first_view };
 }

@@ -4,13 +4,13 @@ use Rattle.feed_core.specs.Prelude.{Item, Causes, IllegalArgument, IllegalState,
 use Rattle.feed_core.specs.Cause.{stops, end_where, closing_error}
 use Rattle.feed_core.specs.Lane.{LaneState}
 use Rattle.feed_core.specs.LaneCalls.{lag_of, empty_lane, lane_with_item, lane_with_closing, lane_with_demand}
-use Rattle.feed_core.specs.Sound.{IsSound}
+use Rattle.feed_core.specs.Sound.{IsSoundLane}
 use Rattle.feed_core.proofs.DeskSteps.{no_cause}
 use Rattle.feed_core.proofs.SoundLanes.{sound_asked, sound_lane_with_item, sound_lane_with_closing}
 
 -- a sound lane in its bounds that nothing ends at once, and that has not ended where a turn is owed
 pub record IsCalm (lane : LaneState) (capacity : ℕ) (owed : Bool) : Type 0 where
-  pub sound : IsSound lane
+  pub sound : IsSoundLane lane
   pub fits : length lane.accepted ≤ lane.given + capacity
   pub bounded : lane.asked ≤ UNBOUNDED
   pub calm : stops lane.causes ≡ None

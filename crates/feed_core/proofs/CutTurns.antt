@@ -4,7 +4,7 @@ use Rattle.std.proofs.lemmas.List.{append-nil}
 use Rattle.feed_core.specs.Prelude.{Item, Signal, Subscribed, Next, Complete, Error, How, Causes, Ended, items_of}
 use Rattle.feed_core.specs.Cause.{with_cause_of}
 use Rattle.feed_core.specs.Lane.{LaneState}
-use Rattle.feed_core.specs.PlainTurn.{Turn, greeting, plain_turn_of}
+use Rattle.feed_core.specs.PlainTurn.{PlainTurn, greeting, plain_turn_of}
 use Rattle.feed_core.specs.Sound.{is_begun, signals_of}
 use Rattle.feed_core.specs.Turn.{lane_after_turn, taken_in}
 use Rattle.feed_core.proofs.CalmLanes.{IsCalm}
@@ -106,7 +106,7 @@ missed_told before told items next m begins = elim m.is [
 ]
 
 -- an end of a turn has at most one signal, and no item
-ends_short : (causes : Causes) (left : List Item) (turn : Turn) → EndsSo causes left turn → (length turn.told ≤ 1) × (items_of turn.told ≡ [])
+ends_short : (causes : Causes) (left : List Item) (turn : PlainTurn) → EndsSo causes left turn → (length turn.told ≤ 1) × (items_of turn.told ≡ [])
 ends_short causes left turn (inl going) = (let none = ap length going.0 in omega (arith, none), ap items_of going.0)
 ends_short causes left turn (inr done) = (let one = ap length done.0 in omega (arith, one), ap items_of done.0)
 

@@ -7,7 +7,7 @@ use Rattle.feed_core.specs.Prelude.{Item, Signal, Subscribed, Next, Complete, Er
 use Rattle.feed_core.specs.Cause.{IsFaultOf}
 use Rattle.feed_core.specs.Lane.{LaneState, IsFlow, IsIdle, IsSettled, IsSettledAs, HasNoTerminal}
 use Rattle.feed_core.specs.PlainTurn.{terminal_of}
-use Rattle.feed_core.specs.Sound.{is_begun, terminal_part, signals_of, loss_of, IsAtRest, IsSound}
+use Rattle.feed_core.specs.Sound.{is_begun, terminal_part, signals_of, loss_of, IsAtRest, IsSoundLane}
 use Rattle.feed_core.proofs.SignalLists.{terminal_last, complete_ending, error_ending, is_terminal_part}
 
 -- the signals of items and an end are a list that the rules allow
@@ -28,7 +28,7 @@ tells_given (Some How.OutOfMemory) told given low high = elim (cases_eq told giv
   | inr other ↦ inr (refl, omega arith)
 ]
 
-module _ {lane : LaneState} (sound : IsSound lane) where
+module _ {lane : LaneState} (sound : IsSoundLane lane) where
   -- onComplete was told only where the subscription completed
   complete_told : Contains lane.told Complete → lane.how ≡ Some How.Completed
   complete_told h =

@@ -7,7 +7,7 @@ use Rattle.feed_core.specs.Prelude.{Answer, Item, Signal, Subscribed, Next, How,
 use Rattle.feed_core.specs.AnsweredTurn.{After, obeyed}
 use Rattle.feed_core.specs.Lane.{LaneState}
 use Rattle.feed_core.specs.LaneCalls.{lane_with_bad_request, lane_with_demand, lane_with_request}
-use Rattle.feed_core.specs.Sound.{IsInOrder, IsSound, is_begun, lane_of, loss_of}
+use Rattle.feed_core.specs.Sound.{IsInOrder, IsSoundLane, is_begun, lane_of, loss_of}
 use Rattle.feed_core.specs.Steps.{Asks, IsGreetedBy, IsToldBy, Obeys}
 use Rattle.feed_core.specs.Turn.{how_after}
 use Rattle.feed_core.proofs.DeskSteps.{in_order_ended}
@@ -26,11 +26,11 @@ request_refused (pos (suc n)) lane bad = absurd (not-suc-le-zero (leb_yes bad.le
 request_refused (negsuc n) lane bad = refl
 
 -- a request keeps a lane sound
-pub sound_asking : (n : ℤ) (lane : LaneState) (asked : ℕ) (causes : Causes) → IsSound lane → lane.asked ≤ asked → Asks n lane.asked asked lane.causes causes
-    → IsSound (record lane { asked = asked; causes = causes })
+pub sound_asking : (n : ℤ) (lane : LaneState) (asked : ℕ) (causes : Causes) → IsSoundLane lane → lane.asked ≤ asked → Asks n lane.asked asked lane.causes causes
+    → IsSoundLane (record lane { asked = asked; causes = causes })
 sound_asking n lane asked causes sound grows asks =
     let same = asks lane in
-    subst (λ (after : LaneState). IsSound after) same (sound_lane_with_request n lane sound (subst (λ (after : LaneState). lane.asked ≤ after.asked) (sym same) grows))
+    subst (λ (after : LaneState). IsSoundLane after) same (sound_lane_with_request n lane sound (subst (λ (after : LaneState). lane.asked ≤ after.asked) (sym same) grows))
 
 module _ {told : List Signal} {held : List Item} {given asked capacity : ℕ} {causes : Causes} {how : Option How} {started : Bool}
     (kept : IsInOrder (lane_of told held given asked causes how) held capacity started) (unended : how ≡ None) (runs : started ≡ true) (begun : is_begun told ≡ true) where

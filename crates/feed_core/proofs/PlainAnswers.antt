@@ -5,13 +5,13 @@ use Rattle.feed_core.specs.Prelude.{Item, Signal, Subscribed, Next, Complete, Er
 use Rattle.feed_core.specs.AnsweredTurn.{Reply, After, IsPlain, ArePlain, first_reply, later_replies, obeyed, ended_as, lane_taken, lane_told, called, finished, looked, and_then, looks_within, turn_after, turn_of}
 use Rattle.feed_core.specs.Cause.{stops, closes, with_cause_of}
 use Rattle.feed_core.specs.Lane.{LaneState}
-use Rattle.feed_core.specs.PlainTurn.{Turn, another_turn, turn_at_rest, end_by, close_or_rest, greeting, signals_then, terminal_of, plain_turn_of}
+use Rattle.feed_core.specs.PlainTurn.{PlainTurn, another_turn, turn_at_rest, end_by, close_or_rest, greeting, signals_then, terminal_of, plain_turn_of}
 use Rattle.feed_core.specs.Steps.{rest_of_turn, turn_within}
 use Rattle.feed_core.specs.Turn.{causes_after, how_after, taken_in, IsOutlookOf, MeetsPlainTurn}
 use Rattle.feed_core.proofs.PlainTurns.{full, gives, pauses, stopped}
 
 -- the lane after a part of a turn that told these signals of this plain one, and had this outlook
-abbrev pub lane_by : Turn → LaneState → List Signal → Outlook → LaneState
+abbrev pub lane_by : PlainTurn → LaneState → List Signal → Outlook → LaneState
 lane_by plain lane seen outlook = record {
   accepted = lane.accepted;
   given = lane.given + taken_in plain seen;
@@ -22,13 +22,13 @@ lane_by plain lane seen outlook = record {
 }
 
 -- a part of a turn told the plain one, or that cut short
-pub record Plainly (plain : Turn) (lane : LaneState) (after : After) : Type 0 where
+pub record Plainly (plain : PlainTurn) (lane : LaneState) (after : After) : Type 0 where
   pub seen : List Signal
   pub changed : after.lane ≡ lane_by plain lane seen after.outlook
   pub meets : MeetsPlainTurn plain seen after.outlook
 
 -- it ended for want of memory before it told anything
-cut_short : (plain : Turn) (lane lane' : LaneState) (next : Signal) (rest : List Signal) → plain.told ≡ next ∷ rest → lane'.accepted ≡ lane.accepted → lane'.given ≡ lane.given + length (items_of (next ∷ []))
+cut_short : (plain : PlainTurn) (lane lane' : LaneState) (next : Signal) (rest : List Signal) → plain.told ≡ next ∷ rest → lane'.accepted ≡ lane.accepted → lane'.given ≡ lane.given + length (items_of (next ∷ []))
     → lane'.asked ≡ lane.asked → lane'.causes ≡ lane.causes → lane'.told ≡ lane.told → Plainly plain lane (ended_as How.OutOfMemory lane')
 cut_short plain lane lane' next rest told accepted given asked causes same =
     let taken : lane'.given ≡ lane.given + taken_in plain [] = given ∙ ap (λ signals. lane.given + length (items_of (take 1 signals))) (sym told) in
@@ -97,12 +97,12 @@ ends_plainly (How.Failed code) reply lane = untold_end (How.Failed code) lane re
 ends_plainly How.OutOfMemory reply lane = untold_end How.OutOfMemory lane refl
 
 -- the outlook of a turn is that of what is left of it
-outlook_of_rest : (whole rest : Turn) (outlook : Outlook) (missed : List Signal) → rest.outlook ≡ whole.outlook → IsOutlookOf rest missed outlook → IsOutlookOf whole missed outlook
+outlook_of_rest : (whole rest : PlainTurn) (outlook : Outlook) (missed : List Signal) → rest.outlook ≡ whole.outlook → IsOutlookOf rest missed outlook → IsOutlookOf whole missed outlook
 outlook_of_rest whole rest outlook [] same seen = seen ∙ same
 outlook_of_rest whole rest outlook (_ ∷ _) same seen = seen
 
 -- a part that goes on with another one
-plainly_then : (next : Signal) (plain : Turn) (lane mid : LaneState) (after : After) → mid.accepted ≡ lane.accepted → mid.given ≡ lane.given + length (items_of (next ∷ [])) → mid.asked ≡ lane.asked
+plainly_then : (next : Signal) (plain : PlainTurn) (lane mid : LaneState) (after : After) → mid.accepted ≡ lane.accepted → mid.given ≡ lane.given + length (items_of (next ∷ [])) → mid.asked ≡ lane.asked
     → mid.causes ≡ lane.causes → mid.told ≡ lane.told ++ next ∷ [] → Plainly plain mid after → Plainly (signals_then (next ∷ []) plain) lane after
 plainly_then next plain lane mid after accepted given asked causes told part =
     let on : suc (length part.seen) + 1 ≡ suc (length part.seen + 1) = omega arith in
@@ -196,7 +196,7 @@ looks_plainly (suc most) replies lane unended plain runs =
           let step = ap (λ items. turn_within (suc most) lane.causes items (lane.asked - lane.given)) w
           ∙ gives most lane.causes item rest (lane.asked - lane.given) s (omega (arith, u)) in
           cut_short (rest_of_turn (suc most) lane) lane (lane_taken lane) (Next item) (turn_within most lane.causes rest (lane.asked - lane.given - 1)).told
-          (ap (λ (turn : Turn). turn.told) step) refl refl refl refl refl
+          (ap (λ (turn : PlainTurn). turn.told) step) refl refl refl refl refl
       by None later (item ∷ rest) zero reply s c w u plain then =
           let step = pauses most lane.causes (drop lane.given lane.accepted) (lane.asked - lane.given) s (omega (arith, u)) in
           subst (λ turn. Plainly turn lane (record { lane = lane; outlook = Resting })) (rests_before (closes lane.causes) item rest ∙ ap (close_or_rest (closes lane.causes)) (sym w) ∙ sym step) (at_rest lane unended)

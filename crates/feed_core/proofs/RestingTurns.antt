@@ -8,8 +8,8 @@ use Rattle.feed_core.specs.Prelude.{Item, Signal, Next, How, Causes, Again, Rest
 use Rattle.feed_core.specs.Cause.{stops, closes}
 use Rattle.feed_core.specs.Lane.{LaneState}
 use Rattle.feed_core.specs.LaneCalls.{lag_of}
-use Rattle.feed_core.specs.PlainTurn.{Turn, another_turn, greeting, signals_then, stop_or_turn, close_or_rest, items_turn, number_to_give, plain_turn_of}
-use Rattle.feed_core.specs.Sound.{IsSound, IsAtRest, is_begun}
+use Rattle.feed_core.specs.PlainTurn.{PlainTurn, another_turn, greeting, signals_then, stop_or_turn, close_or_rest, items_turn, number_to_give, plain_turn_of}
+use Rattle.feed_core.specs.Sound.{IsSoundLane, IsAtRest, is_begun}
 use Rattle.feed_core.specs.Turn.{lane_after_turn, taken_in}
 use Rattle.feed_core.proofs.StoppedTurns.{stopped_turn}
 use Rattle.feed_core.proofs.WholeTurns.{items_of_greeted, taken_all}
@@ -22,7 +22,7 @@ unstopped lane lives = by (stops lane.causes) refl where
   by (Some how) e = absurd (lives how (ap (λ turn. turn.outlook) (stopped_turn lane how e)))
 
 -- what comes after the items of a turn
-abbrev part_after : Causes → List Item → Bool → Turn
+abbrev part_after : Causes → List Item → Bool → PlainTurn
 part_after causes left full = if full then another_turn else close_or_rest (closes causes) left
 
 -- it rests after fewer items than it may give, says nothing more, and completion waits for items that are left
@@ -55,7 +55,7 @@ greeted_begun : (told more : List Signal) → is_begun (told ++ (greeting told +
 greeted_begun [] more = refl
 greeted_begun (s ∷ told) more = refl
 
-module _ (lane : LaneState) (sound : IsSound lane) (runs_on : stops lane.causes ≡ None) where
+module _ (lane : LaneState) (sound : IsSoundLane lane) (runs_on : stops lane.causes ≡ None) where
   -- the items that wait, how many of them the turn gives, and what comes after those
   abbrev waiting : List Item
   waiting = drop lane.given lane.accepted
@@ -63,7 +63,7 @@ module _ (lane : LaneState) (sound : IsSound lane) (runs_on : stops lane.causes 
   abbrev most : ℕ
   most = number_to_give waiting (lane.asked - lane.given)
 
-  abbrev last : Turn
+  abbrev last : PlainTurn
   last = part_after lane.causes (drop most waiting) (most == ITEMS_IN_A_TURN)
 
   plain : plain_turn_of lane ≡ signals_then (greeting lane.told) (signals_then (map Next (take most waiting)) last)
@@ -78,7 +78,7 @@ module _ (lane : LaneState) (sound : IsSound lane) (runs_on : stops lane.causes 
       taken_all (plain_turn_of lane) ∙ ap length items ∙ length-take-le most waiting (omega arith)
 
 -- a lane is at rest after a turn that rests
-pub at_rest_after : (lane : LaneState) → IsSound lane → (plain_turn_of lane).outlook ≡ Resting → IsAtRest (lane_after_turn lane (plain_turn_of lane).told Resting)
+pub at_rest_after : (lane : LaneState) → IsSoundLane lane → (plain_turn_of lane).outlook ≡ Resting → IsAtRest (lane_after_turn lane (plain_turn_of lane).told Resting)
 at_rest_after lane sound rests =
     let runs_on = unstopped lane (λ how e. let clash : Resting ≡ Ended how = sym rests ∙ e in cc) in
     let turn = plain lane sound runs_on in
@@ -99,7 +99,7 @@ at_rest_after lane sound rests =
     }
 
 -- fewer items wait after a turn that is to be gone on with
-pub fewer_after_again : (lane : LaneState) → IsSound lane → (plain_turn_of lane).outlook ≡ Again → lag_of (lane_after_turn lane (plain_turn_of lane).told Again) < lag_of lane
+pub fewer_after_again : (lane : LaneState) → IsSoundLane lane → (plain_turn_of lane).outlook ≡ Again → lag_of (lane_after_turn lane (plain_turn_of lane).told Again) < lag_of lane
 fewer_after_again lane sound again =
     let runs_on = unstopped lane (λ how e. let clash : Again ≡ Ended how = sym again ∙ e in cc) in
     let turn = plain lane sound runs_on in

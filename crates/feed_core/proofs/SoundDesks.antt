@@ -10,7 +10,7 @@ use Rattle.feed_core.specs.Desk.{DeskState, owes, started_after, desk_after_sign
 use Rattle.feed_core.specs.Lane.{LaneState, IsFlow, IsSettled}
 use Rattle.feed_core.specs.LaneCalls.{empty_lane, is_gone, lag_of, lane_with_item, lane_with_closing, lane_with_cancel, lane_with_request}
 use Rattle.feed_core.specs.PlainTurn.{plain_turn_of}
-use Rattle.feed_core.specs.Sound.{IsSound, IsAtRest, IsSoundDesk}
+use Rattle.feed_core.specs.Sound.{IsSoundLane, IsAtRest, IsSoundDesk}
 use Rattle.feed_core.specs.Turn.{lane_after_turn, MeetsPlainTurn, IsOutlookOf}
 use Rattle.feed_core.proofs.CalmLanes.{IsCalm, calm_empty_lane}
 use Rattle.feed_core.proofs.CutTurns.{calm_cut_turn}
@@ -126,24 +126,24 @@ calm_of : (desk : DeskState) → IsSoundDesk desk → desk.lane.how ≡ None →
 calm_of desk kept unended runs_on = record { sound = kept.sound; fits = kept.fits; bounded = kept.bounded; calm = runs_on; lives = λ e. unended }
 
 -- a lane stays sound after a turn that was told whole
-sound_whole_turn : (desk : DeskState) → IsSoundDesk desk → desk.lane.how ≡ None → IsSound (lane_after_turn desk.lane (plain_turn_of desk.lane).told (plain_turn_of desk.lane).outlook)
+sound_whole_turn : (desk : DeskState) → IsSoundDesk desk → desk.lane.how ≡ None → IsSoundLane (lane_after_turn desk.lane (plain_turn_of desk.lane).told (plain_turn_of desk.lane).outlook)
 sound_whole_turn desk kept unended = by (stops desk.lane.causes) refl where
-  by : (stop : Option How) → stops desk.lane.causes ≡ stop → IsSound (lane_after_turn desk.lane (plain_turn_of desk.lane).told (plain_turn_of desk.lane).outlook)
+  by : (stop : Option How) → stops desk.lane.causes ≡ stop → IsSoundLane (lane_after_turn desk.lane (plain_turn_of desk.lane).told (plain_turn_of desk.lane).outlook)
   by None e = (calm_whole_turn desk.lane desk.capacity (calm_of desk kept unended e)).sound
   by (Some how) e =
-      subst (λ outlook. IsSound (lane_after_turn desk.lane (plain_turn_of desk.lane).told outlook)) (sym (ap (λ turn. turn.outlook) (stopped_turn desk.lane how e)))
+      subst (λ outlook. IsSoundLane (lane_after_turn desk.lane (plain_turn_of desk.lane).told outlook)) (sym (ap (λ turn. turn.outlook) (stopped_turn desk.lane how e)))
       (sound_stopped_turn desk.lane how kept.sound unended e)
 
 -- and after one that was cut short
 sound_cut_turn : (desk : DeskState) (told : List Signal) (next : Signal) (rest : List Signal) → IsSoundDesk desk → desk.lane.how ≡ None
-    → (plain_turn_of desk.lane).told ≡ told ++ (next ∷ rest) → IsSound (lane_after_turn desk.lane told (Ended How.OutOfMemory))
+    → (plain_turn_of desk.lane).told ≡ told ++ (next ∷ rest) → IsSoundLane (lane_after_turn desk.lane told (Ended How.OutOfMemory))
 sound_cut_turn desk told next rest kept unended plain = by (stops desk.lane.causes) refl where
-  by : (stop : Option How) → stops desk.lane.causes ≡ stop → IsSound (lane_after_turn desk.lane told (Ended How.OutOfMemory))
+  by : (stop : Option How) → stops desk.lane.causes ≡ stop → IsSoundLane (lane_after_turn desk.lane told (Ended How.OutOfMemory))
   by None e = (calm_cut_turn desk.lane desk.capacity told next rest (calm_of desk kept unended e) plain).sound
   by (Some how) e = sound_cut_stop desk.lane how told next rest kept.sound unended e plain
 
 -- a lane is at rest after a turn that was told whole and does not go on
-rests_after : (lane : LaneState) (outlook : Outlook) → IsSound lane → (plain_turn_of lane).outlook ≡ outlook → started_after outlook ≡ false
+rests_after : (lane : LaneState) (outlook : Outlook) → IsSoundLane lane → (plain_turn_of lane).outlook ≡ outlook → started_after outlook ≡ false
     → IsAtRest (lane_after_turn lane (plain_turn_of lane).told outlook)
 rests_after lane Again sound is e = cc
 rests_after lane Resting sound is e = at_rest_after lane sound is

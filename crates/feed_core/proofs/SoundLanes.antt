@@ -3,11 +3,11 @@ use Rattle.std.proofs.Common.{◌≡◌, ℕ, zero, suc, ℤ, pos, negsuc, ◌�
 use Rattle.feed_core.specs.Prelude.{Item, Ending, items_of, total_after}
 use Rattle.feed_core.specs.Lane.{LaneState}
 use Rattle.feed_core.specs.LaneCalls.{lane_with_item, lane_with_closing, lane_with_duplicate, lane_with_bad_request, lane_with_cancel, lane_with_request}
-use Rattle.feed_core.specs.Sound.{IsSound}
+use Rattle.feed_core.specs.Sound.{IsSoundLane}
 use Rattle.feed_core.proofs.DeskSteps.{no_cause}
 
 -- a lane that has not ended stays sound when one more item is accepted
-pub sound_lane_with_item : (lane : LaneState) (item : Item) → IsSound lane → lane.how ≡ None → IsSound (lane_with_item item lane)
+pub sound_lane_with_item : (lane : LaneState) (item : Item) → IsSoundLane lane → lane.how ≡ None → IsSoundLane (lane_with_item item lane)
 sound_lane_with_item lane item sound unended =
     let grown = length-append lane.accepted (item ∷ []) in
     let counts = sound.counts in
@@ -22,7 +22,7 @@ sound_lane_with_item lane item sound unended =
     }
 
 -- a lane stays sound when another total is asked, which is not below what was given
-pub sound_asked : (lane : LaneState) (asked : ℕ) → IsSound lane → lane.given ≤ asked → IsSound (record lane { asked = asked })
+pub sound_asked : (lane : LaneState) (asked : ℕ) → IsSoundLane lane → lane.given ≤ asked → IsSoundLane (record lane { asked = asked })
 sound_asked lane asked sound requested =
     let counts = sound.counts in
     let cause = sound.cause in
@@ -36,7 +36,7 @@ sound_asked lane asked sound requested =
     }
 
 -- a lane stays sound when it is closed for the first time
-pub sound_lane_with_closing : (lane : LaneState) (ending : Ending) → IsSound lane → lane.causes.closing ≡ None → IsSound (lane_with_closing ending lane)
+pub sound_lane_with_closing : (lane : LaneState) (ending : Ending) → IsSoundLane lane → lane.causes.closing ≡ None → IsSoundLane (lane_with_closing ending lane)
 sound_lane_with_closing lane ending sound unclosed =
     let counts = sound.counts in
     let cause = sound.cause in
@@ -60,7 +60,7 @@ sound_lane_with_closing lane ending sound unclosed =
 
 -- a lane stays sound with more causes of an end at once
 sound_lane_with_causes : (lane : LaneState) (cancel argument state : Bool) → (lane.causes.cancel ≡ true → cancel ≡ true) → (lane.causes.argument ≡ true → argument ≡ true)
-    → (lane.causes.state ≡ true → state ≡ true) → IsSound lane → IsSound (record lane { causes = record lane.causes { cancel = cancel; argument = argument; state = state } })
+    → (lane.causes.state ≡ true → state ≡ true) → IsSoundLane lane → IsSoundLane (record lane { causes = record lane.causes { cancel = cancel; argument = argument; state = state } })
 sound_lane_with_causes lane cancel argument state cancelled refused doubled sound =
     let counts = sound.counts in
     let cause = sound.cause in
@@ -83,19 +83,19 @@ sound_lane_with_causes lane cancel argument state cancelled refused doubled soun
     }
 
 -- a lane stays sound when its subscriber subscribes a second time
-pub sound_lane_with_duplicate : (lane : LaneState) → IsSound lane → IsSound (lane_with_duplicate lane)
+pub sound_lane_with_duplicate : (lane : LaneState) → IsSoundLane lane → IsSoundLane (lane_with_duplicate lane)
 sound_lane_with_duplicate lane sound = sound_lane_with_causes lane lane.causes.cancel lane.causes.argument true (λ e. e) (λ e. e) (λ _. refl) sound
 
 -- when a number that is not positive is requested
-pub sound_lane_with_bad_request : (lane : LaneState) → IsSound lane → IsSound (lane_with_bad_request lane)
+pub sound_lane_with_bad_request : (lane : LaneState) → IsSoundLane lane → IsSoundLane (lane_with_bad_request lane)
 sound_lane_with_bad_request lane sound = sound_lane_with_causes lane lane.causes.cancel true lane.causes.state (λ e. e) (λ _. refl) (λ e. e) sound
 
 -- when it is cancelled
-pub sound_lane_with_cancel : (lane : LaneState) → IsSound lane → IsSound (lane_with_cancel lane)
+pub sound_lane_with_cancel : (lane : LaneState) → IsSoundLane lane → IsSoundLane (lane_with_cancel lane)
 sound_lane_with_cancel lane sound = sound_lane_with_causes lane true lane.causes.argument lane.causes.state (λ _. refl) (λ e. e) (λ e. e) sound
 
 -- and when any number is requested, where the total does not fall
-pub sound_lane_with_request : (n : ℤ) (lane : LaneState) → IsSound lane → lane.asked ≤ (lane_with_request n lane).asked → IsSound (lane_with_request n lane)
+pub sound_lane_with_request : (n : ℤ) (lane : LaneState) → IsSoundLane lane → lane.asked ≤ (lane_with_request n lane).asked → IsSoundLane (lane_with_request n lane)
 sound_lane_with_request (pos zero) lane sound grows = sound_lane_with_bad_request lane sound
 sound_lane_with_request (pos (suc n)) lane sound grows = let requested = sound.counts.requested in sound_asked lane (total_after lane.asked (suc n)) sound (omega arith)
 sound_lane_with_request (negsuc n) lane sound grows = sound_lane_with_bad_request lane sound

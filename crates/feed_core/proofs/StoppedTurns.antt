@@ -4,7 +4,7 @@ use Rattle.feed_core.specs.Prelude.{Signal, Next, How, Ended, items_of}
 use Rattle.feed_core.specs.Cause.{stops, with_cause_of}
 use Rattle.feed_core.specs.Lane.{LaneState}
 use Rattle.feed_core.specs.PlainTurn.{greeting, end_by, signals_then, stop_or_turn, items_turn, terminal_of, plain_turn_of}
-use Rattle.feed_core.specs.Sound.{IsSound, is_begun, signals_of}
+use Rattle.feed_core.specs.Sound.{IsSoundLane, is_begun, signals_of}
 use Rattle.feed_core.specs.Turn.{lane_after_turn, taken_in}
 use Rattle.feed_core.proofs.CutTurns.{missed_shape, missed_items, missed_told, take_next}
 use Rattle.feed_core.proofs.DeskSteps.{items_of_terminal, stops_may, has_cause}
@@ -25,8 +25,8 @@ terminal_short (How.Failed _) = omega arith
 terminal_short How.OutOfMemory = omega arith
 
 -- the lane stays sound where all of the turn was told
-pub sound_stopped_turn : (lane : LaneState) (how : How) → IsSound lane → lane.how ≡ None → stops lane.causes ≡ Some how
-    → IsSound (lane_after_turn lane (plain_turn_of lane).told (Ended how))
+pub sound_stopped_turn : (lane : LaneState) (how : How) → IsSoundLane lane → lane.how ≡ None → stops lane.causes ≡ Some how
+    → IsSoundLane (lane_after_turn lane (plain_turn_of lane).told (Ended how))
 sound_stopped_turn lane how sound unended stop =
     let plain = (plain_turn_of lane).told in
     let said : plain ≡ greeting lane.told ++ (map Next [] ++ terminal_of how) = ap (λ turn. turn.told) (stopped_turn lane how stop) in
@@ -44,8 +44,8 @@ sound_stopped_turn lane how sound unended stop =
     (λ e. cc) (λ e. cc)
 
 -- and where it was cut at a callback that met want of memory
-pub sound_cut_stop : (lane : LaneState) (how : How) (told : List Signal) (next : Signal) (rest : List Signal) → IsSound lane → lane.how ≡ None → stops lane.causes ≡ Some how
-    → (plain_turn_of lane).told ≡ told ++ (next ∷ rest) → IsSound (lane_after_turn lane told (Ended How.OutOfMemory))
+pub sound_cut_stop : (lane : LaneState) (how : How) (told : List Signal) (next : Signal) (rest : List Signal) → IsSoundLane lane → lane.how ≡ None → stops lane.causes ≡ Some how
+    → (plain_turn_of lane).told ≡ told ++ (next ∷ rest) → IsSoundLane (lane_after_turn lane told (Ended How.OutOfMemory))
 sound_cut_stop lane how told next rest sound unended stop plain =
     let said : told ++ (next ∷ rest) ≡ greeting lane.told ++ (map Next [] ++ terminal_of how) = sym plain ∙ ap (λ turn. turn.told) (stopped_turn lane how stop) in
     let m = missed_shape lane.told [] (terminal_of how) told next rest said (terminal_short how) (items_of_terminal how) in

@@ -4,8 +4,8 @@ use Rattle.std.proofs.lemmas.List.{append-nil, length-drop, length-take, take_al
 use Rattle.feed_core.specs.Prelude.{Item, Signal, Subscribed, Next, Complete, Ending, How, Causes, Outlook, Again, Resting, Ended, ITEMS_IN_A_TURN, items_of}
 use Rattle.feed_core.specs.Cause.{stops, closes, completion}
 use Rattle.feed_core.specs.Lane.{LaneState}
-use Rattle.feed_core.specs.PlainTurn.{Turn, another_turn, greeting, signals_then, stop_or_turn, items_turn, close_or_rest, number_to_give, plain_turn_of}
-use Rattle.feed_core.specs.Sound.{IsSound, HasCause, is_begun, terminal_part, signals_of, loss_of}
+use Rattle.feed_core.specs.PlainTurn.{PlainTurn, another_turn, greeting, signals_then, stop_or_turn, items_turn, close_or_rest, number_to_give, plain_turn_of}
+use Rattle.feed_core.specs.Sound.{IsSoundLane, HasCause, is_begun, terminal_part, signals_of, loss_of}
 use Rattle.feed_core.specs.Turn.{is_again, lane_after_turn, taken_in}
 use Rattle.feed_core.proofs.CalmLanes.{IsCalm}
 use Rattle.feed_core.proofs.DeskSteps.{items_of_terminal, no_cause}
@@ -33,7 +33,7 @@ signals_of_own items how signals e =
 abbrev pub IsOpenList : List Signal → Type 0
 IsOpenList told = (told ≡ []) ⊎ (told ≡ Subscribed ∷ map Next (items_of told))
 
-pub told_is_open : (lane : LaneState) → IsSound lane → lane.how ≡ None → IsOpenList lane.told
+pub told_is_open : (lane : LaneState) → IsSoundLane lane → lane.how ≡ None → IsOpenList lane.told
 told_is_open lane sound unended = by lane.told refl where
   by : (told : List Signal) → lane.told ≡ told → IsOpenList lane.told
   by [] e = inl e
@@ -59,12 +59,12 @@ items_of_greeted (_ ∷ _) items ending quiet = items_of_nexts_then items ending
 
 -- a lane is sound once some of the waiting items were told
 pub sound_after : (lane : LaneState) (told_items left : List Item) (told : List Signal) (given : ℕ) (causes : Causes) (how : Option How)
-    → IsSound lane → lane.how ≡ None → drop lane.given lane.accepted ≡ told_items ++ left → items_of told ≡ told_items
+    → IsSoundLane lane → lane.how ≡ None → drop lane.given lane.accepted ≡ told_items ++ left → items_of told ≡ told_items
     → lane.told ++ told ≡ signals_of (is_begun (lane.told ++ told)) (items_of (lane.told ++ told)) how
     → lane.given + length told_items ≤ given → given ≤ lane.given + length told_items + loss_of how → given ≤ lane.given + (length told_items + length left) → given ≤ lane.asked
     → HasCause (record { accepted = lane.accepted; given = given; asked = lane.asked; causes = causes; how = how; told = lane.told ++ told })
     → (how ≡ None → causes.failed ≡ None) → (how ≡ None → causes.memory ≡ false)
-    → IsSound (record { accepted = lane.accepted; given = given; asked = lane.asked; causes = causes; how = how; told = lane.told ++ told })
+    → IsSoundLane (record { accepted = lane.accepted; given = given; asked = lane.asked; causes = causes; how = how; told = lane.told ++ told })
 sound_after lane told_items left told given causes how sound unended parts is told_is at_least at_most waited asked cause unfailed remembered =
     let items : items_of (lane.told ++ told) ≡ items_of lane.told ++ told_items = items_of_append lane.told told ∙ ap (λ t. items_of lane.told ++ t) is in
     let as_many = all_counted sound unended in
@@ -82,7 +82,7 @@ sound_after lane told_items left told given causes how sound unended parts is to
     }
 
 -- how a turn ends after its items: it says nothing more, or it completes where no item is left
-abbrev pub EndsSo : Causes → List Item → Turn → Type 0
+abbrev pub EndsSo : Causes → List Item → PlainTurn → Type 0
 EndsSo causes left turn =
     ((turn.told ≡ []) × ((turn.outlook ≡ Again) ⊎ (turn.outlook ≡ Resting)))
     ⊎ ((turn.told ≡ Complete ∷ []) × (turn.outlook ≡ Ended How.Completed) × (causes.closing ≡ Some Ending.Normal) × (left ≡ []))
@@ -101,14 +101,14 @@ ends_so causes left false = by causes.closing refl left where
 pub record TurnParts (lane : LaneState) : Type 0 where
   pub items : List Item
   pub left : List Item
-  pub end : Turn
+  pub end : PlainTurn
   pub parts : drop lane.given lane.accepted ≡ items ++ left
   pub requested : lane.given + length items ≤ lane.asked
   pub plain : plain_turn_of lane ≡ signals_then (greeting lane.told) (signals_then (map Next items) end)
   pub ends : EndsSo lane.causes left end
 
 -- a calm lane's plain turn has these parts
-pub turn_parts : (lane : LaneState) → IsSound lane → stops lane.causes ≡ None → TurnParts lane
+pub turn_parts : (lane : LaneState) → IsSoundLane lane → stops lane.causes ≡ None → TurnParts lane
 turn_parts lane sound calm =
     let waiting = drop lane.given lane.accepted in
     let most = number_to_give waiting (lane.asked - lane.given) in
@@ -124,7 +124,7 @@ turn_parts lane sound calm =
     }
 
 -- what is taken where all of a turn was told
-pub taken_all : (turn : Turn) → taken_in turn turn.told ≡ length (items_of turn.told)
+pub taken_all : (turn : PlainTurn) → taken_in turn turn.told ≡ length (items_of turn.told)
 taken_all turn = ap (λ t. length (items_of t)) (take_all (length turn.told + 1) turn.told (omega arith))
 
 -- a lane stays calm after items that do not end it

@@ -56,17 +56,17 @@ pub record IsAtRest (lane : LaneState) : Type 0 where
   pub waits : IsSome (closes lane.causes) → lane.asked < length lane.accepted
 
 -- the numbers of a lane: what was told, given, accepted and requested
-pub record IsCounted (lane : LaneState) : Type 0 where
+pub record IsCountedLane (lane : LaneState) : Type 0 where
   pub tells : length (items_of lane.told) ≤ lane.given
   pub loses : lane.given ≤ length (items_of lane.told) + loss_of lane.how
   pub taken : lane.given ≤ length lane.accepted
   pub requested : lane.given ≤ lane.asked
 
 -- what was told is the list of its own items and its end, those are a prefix of what was accepted, the numbers fit, and an end has its cause
-pub record IsSound (lane : LaneState) : Type 0 where
+pub record IsSoundLane (lane : LaneState) : Type 0 where
   pub told_is : lane.told ≡ signals_of (is_begun lane.told) (items_of lane.told) lane.how
   pub in_order : IsPrefix (items_of lane.told) lane.accepted
-  pub counts : IsCounted lane
+  pub counts : IsCountedLane lane
   pub cause : HasCause lane
   pub unfailed : lane.how ≡ None → lane.causes.failed ≡ None
   pub remembered : lane.how ≡ None → lane.causes.memory ≡ false
@@ -79,7 +79,7 @@ lane_of told held given asked causes how =
 -- a Desk's lane is sound, it holds the accepted items that were not told, no more than its buffer may hold, and a task that was not
 -- started is at rest
 pub record IsInOrder (lane : LaneState) (held : List Item) (capacity : ℕ) (started : Bool) : Type 0 where
-  pub sound : IsSound lane
+  pub sound : IsSoundLane lane
   pub holds : lane.accepted ≡ items_of lane.told ++ held
   pub fits : length lane.accepted ≤ lane.given + capacity
   pub rests : started ≡ false → IsAtRest lane
@@ -94,7 +94,7 @@ pub record IsStored (lane : LaneState) (held : List Item) (accepted capacity roo
 
 -- a subscription is sound: its lane is, the buffer holds no more than it may, the demand is bounded, and a task that was not started is at rest
 pub record IsSoundDesk (desk : DeskState) : Type 0 where
-  pub sound : IsSound desk.lane
+  pub sound : IsSoundLane desk.lane
   pub fits : length desk.lane.accepted ≤ desk.lane.given + desk.capacity
   pub bounded : desk.lane.asked ≤ UNBOUNDED
   pub rests : desk.started ≡ false → IsAtRest desk.lane

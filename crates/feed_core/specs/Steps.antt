@@ -9,7 +9,7 @@ use Rattle.feed_core.specs.Turn.{how_after}
 use Rattle.feed_core.specs.Lane.{LaneState, IsFlow}
 use Rattle.feed_core.specs.LaneCalls.{lane_with_request}
 use Rattle.feed_core.specs.Sound.{is_begun, loss_of}
-use Rattle.feed_core.specs.PlainTurn.{Turn, another_turn, greeting, signals_then, terminal_of, stop_or_turn, close_or_rest}
+use Rattle.feed_core.specs.PlainTurn.{PlainTurn, another_turn, greeting, signals_then, terminal_of, stop_or_turn, close_or_rest}
 
 -- the first of the held items was told, and moved to what was seen
 pub record MovesNext (told told' : List Signal) (held held' : List Item) (seen seen' : List Signal) : Type 0 where
@@ -19,14 +19,14 @@ pub record MovesNext (told told' : List Signal) (held held' : List Item) (seen s
   pub seen_after : seen' ≡ seen ++ Next item ∷ []
 
 -- what a turn of at most so many items does once its subscriber was greeted
-abbrev pub turn_within : ℕ → Causes → List Item → ℕ → Turn
+abbrev pub turn_within : ℕ → Causes → List Item → ℕ → PlainTurn
 turn_within most causes waiting unmet =
     let n = min (min (length waiting) unmet) most in
     stop_or_turn (stops causes)
     (signals_then (map Next (take n waiting)) (if n == most then another_turn else close_or_rest (closes causes) (drop n waiting)))
 
 -- what a turn of a lane, of at most so many items, does once its subscriber was greeted
-abbrev pub rest_of_turn : ℕ → LaneState → Turn
+abbrev pub rest_of_turn : ℕ → LaneState → PlainTurn
 rest_of_turn most lane = turn_within most lane.causes (drop lane.given lane.accepted) (lane.asked - lane.given)
 
 -- an end is owed: one at once, or completion where every item was given
@@ -59,7 +59,7 @@ IsGreetedBy Resting told last = ⊥
 IsGreetedBy (Ended how) told last = ((last ≡ []) ⊎ (last ≡ Subscribed ∷ [])) × (terminal_of how ≡ [])
 
 -- an item was given, which was waiting
-pub record GoesOn (old new : LaneState) (last : List Signal) : Type 0 where
+pub record GivesNext (old new : LaneState) (last : List Signal) : Type 0 where
   pub item : Item
   pub told : last ≡ Next item ∷ []
   pub waited : drop old.given old.accepted ≡ item ∷ drop new.given new.accepted
@@ -99,7 +99,7 @@ pub record Looks (old new : DeskState) (seen seen' : List Signal) (outlook : Out
   pub part : IsPart old new last outlook replies
   pub few : new.lane.given ≤ old.lane.given + 1
   pub ahead : IsPrefix (items_of last) (drop old.lane.given old.lane.accepted)
-  pub again : outlook ≡ Again → GoesOn old.lane new.lane last
+  pub again : outlook ≡ Again → GivesNext old.lane new.lane last
   pub left : (most : ℕ) (more : List Reply) → looks_within (suc most) (replies ++ more) old.lane ≡ going_on outlook new.lane (looks_within most more)
 
 -- the subscriber was greeted, or that was the end

@@ -6,7 +6,7 @@ use Rattle.feed_core.specs.declared.turn.outlook.Outlook.{Outlook}
 use Rattle.feed_core.specs.declared.turn.outlook.Outlook.TheVariants.{Again, Resting, Ended}
 use Rattle.feed_core.specs.Cause.{with_cause_of}
 use Rattle.feed_core.specs.Lane.{LaneState}
-use Rattle.feed_core.specs.PlainTurn.{Turn, plain_turn_of}
+use Rattle.feed_core.specs.PlainTurn.{PlainTurn, plain_turn_of}
 
 -- how it ended, as the outlook tells it
 abbrev pub how_after : Outlook → Option How
@@ -26,7 +26,7 @@ EndsIn signals signal = (before : List Signal) × (signals ≡ before ++ signal 
 
 -- how many items were taken for onNext where this was told of the plain turn: those that were told, and the one whose
 -- onNext came next, which met want of memory
-abbrev pub taken_in : Turn → List Signal → ℕ
+abbrev pub taken_in : PlainTurn → List Signal → ℕ
 taken_in plain seen = length (items_of (take (length seen + 1) plain.told))
 
 -- whether another turn is owed
@@ -47,12 +47,12 @@ lane_after_turn lane told outlook = record {
 }
 
 -- all of the turn was told, or a callback was refused memory, which ends the subscription
-abbrev pub IsOutlookOf : Turn → List Signal → Outlook → Type 0
+abbrev pub IsOutlookOf : PlainTurn → List Signal → Outlook → Type 0
 IsOutlookOf plain [] outlook = outlook ≡ plain.outlook
 IsOutlookOf plain (_ ∷ _) outlook = outlook ≡ Ended How.OutOfMemory
 
 -- a prefix of the plain turn was told, and all of it where no callback was refused memory
-pub record MeetsPlainTurn (plain : Turn) (told : List Signal) (outlook : Outlook) : Type 0 where
+pub record MeetsPlainTurn (plain : PlainTurn) (told : List Signal) (outlook : Outlook) : Type 0 where
   pub missed : List Signal
   pub whole : plain.told ≡ told ++ missed
   pub seen : IsOutlookOf plain missed outlook

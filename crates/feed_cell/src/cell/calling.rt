@@ -4,7 +4,7 @@ ghost use Rattle.feed_core.specs.Prelude.{How, Subscribed, Next, UNBOUNDED};
 ghost use Rattle.feed_core.specs.Steps.{HasTerminal};
 ghost use Rattle.feed_core.specs.World.Table.{MayEnd};
 ghost use Rattle.feed_core.specs.declared.turn.TheConstants.{SIGNALS_IN_A_TURN};
-ghost use Rattle.feed_cell.specs.Parties.{IsFresh};
+ghost use Rattle.feed_cell.specs.Parties.{IsUngreeted};
 ghost use Rattle.feed_cell.specs.Running.{Carries, GoesOnThere, EndsThere, FinishesThere, HasTaken};
 ghost use Rattle.feed_cell.specs.Views.{IsRunner};
 
@@ -22,7 +22,7 @@ pub(crate) fn greet_there<B: Listener>(
 ) -> Option<How>
     requires table { seat.old.table_id ≡ table.now.shared.table_id }
     requires runner { IsRunner seat.old.me.0 × (seat.old.me.0.item ≡ []) × (seat.old.me.0.capacity ≡ slot) }
-    requires fresh { IsFresh B.told seat.old.me }
+    requires fresh { IsUngreeted B.told seat.old.me }
     requires room { length seen.old.signals < SIGNALS_IN_A_TURN }
     ensures table { (seat.new.table_id ≡ seat.old.table_id) × (seat.new.id ≡ seat.old.id) }
     ensures goes { IfNone result (GoesOnThere B.told Subscribed seat.old.me seat.new.me seen.old seen.new) }

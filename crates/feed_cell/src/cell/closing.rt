@@ -8,7 +8,7 @@ ghost use Rattle.feed_core.specs.World.Table.{MayBegin};
 ghost use Rattle.feed_cell.specs.Control.{MARK};
 ghost use Rattle.flow_rules.specs.Feed.{End};
 ghost use Rattle.feed_cell.specs.Left.{IsLeftOf, OnGuest, lane_with, lane_without};
-ghost use Rattle.feed_cell.specs.Parties.{HandleState, KnowsHandle, end_of};
+ghost use Rattle.feed_cell.specs.Parties.{HandleState, KnowsHandle, known_end};
 ghost use Rattle.feed_cell.specs.Steps.{HasFourWords, MayOffer};
 
 use super::handle::Handle;
@@ -34,7 +34,7 @@ use std::sync::Arc;
 /// With the handle of another, nothing is said of what this one's requested.
 pub fn close<B: Listener>(producer: Producer<B>, handle: Handle<B>) -> Result<Lane<B>, Producer<B>>
     ensures left { IfOk result (λ left. IsLeftOf B.told producer.end None left) }
-    ensures own { IfOk result (λ left. handle.ring ≡ producer.ring → IsLeftOf B.told producer.end (Some handle) left) }
+    ensures own { IfOk result (λ left. handle.table ≡ producer.table → IsLeftOf B.told producer.end (Some handle) left) }
     ensures back { IfErr result (λ back. back ≡ record producer { end = record producer.end { ready = false } }) }
 {
     let mut asking = step_out(handle);
@@ -45,7 +45,7 @@ pub fn close<B: Listener>(producer: Producer<B>, handle: Handle<B>) -> Result<La
 
 /// The handle makes its last step. Its seat, which knows what it requested, comes back.
 fn step_out<B: Listener>(handle: Handle<B>) -> CellSeat<B>
-    ensures seat { (result.table_id ≡ handle.ring) × (result.me.1 ≡ []) }
+    ensures seat { (result.table_id ≡ handle.table) × (result.me.1 ≡ []) }
     ensures knows { KnowsHandle handle result.me.0 }
 {
     let Handle {
@@ -64,9 +64,9 @@ fn step_out<B: Listener>(handle: Handle<B>) -> CellSeat<B>
 
 /// The table with the producer's seat, where nobody else shares it. Else the producer's end comes back, not ready.
 fn unshared<B: Listener>(producer: Producer<B>) -> Result<(CellTable<B>, CellSeat<B>), Producer<B>>
-    ensures table { IfOk result (λ parts. (parts.1.table_id ≡ parts.0.shared.table_id) × (parts.1.table_id ≡ producer.ring) × HasFourWords parts.1.table_id) }
+    ensures table { IfOk result (λ parts. (parts.1.table_id ≡ parts.0.shared.table_id) × (parts.1.table_id ≡ producer.table) × HasFourWords parts.1.table_id) }
     ensures may { IfOk result (λ parts. MayOffer parts.1.me) }
-    ensures knows { IfOk result (λ parts. producer.end ≡ end_of parts.1.me.0.capacity parts.1.me.0 producer.end.ready) }
+    ensures knows { IfOk result (λ parts. producer.end ≡ known_end parts.1.me.0.capacity parts.1.me.0 producer.end.ready) }
     ensures back { IfErr result (λ back. back ≡ record producer { end = record producer.end { ready = false } }) }
 {
     let Producer {
@@ -95,7 +95,7 @@ fn unshared<B: Listener>(producer: Producer<B>) -> Result<(CellTable<B>, CellSea
 fn take_apart<B: Listener>(table: CellTable<B>, seat: CellSeat<B>) -> Lane<B>
     requires table { (seat.table_id ≡ table.shared.table_id) × HasFourWords seat.table_id }
     requires may { (seat.me.0.puts ≡ true) × MayBegin seat.me.0.producing }
-    ensures left { (end : End) (handle : Option HandleState) → end ≡ end_of seat.me.0.capacity seat.me.0 end.ready → IfSome handle (λ handle. KnowsHandle handle seat.me.0) → IsLeftOf B.told end handle result }
+    ensures left { (end : End) (handle : Option HandleState) → end ≡ known_end seat.me.0.capacity seat.me.0 end.ready → IfSome handle (λ handle. KnowsHandle handle seat.me.0) → IsLeftOf B.told end handle result }
 {
     let closed = table.close_with(seat);
     let head = closed.word(HEAD);

@@ -1,7 +1,7 @@
 //! The handle of a subscription, which its owner has (`Flow.Subscription`).
 ghost use Rattle.std.specs.Prelude.{◌≡◌, true, false, None, IfSome, IsSome, IsNone, OnOk, OnErr, IsOk};
 ghost use Rattle.feed_cell.specs.Parties.{MayAsk, handle_after_request, IsStarted};
-ghost use Rattle.feed_cell.specs.Views.{starts_with};
+ghost use Rattle.feed_cell.specs.Views.{starts_after};
 
 use super::producer::start;
 use super::requesting::{ask_more, signal_argument, signal_cancel, signal_request};
@@ -35,7 +35,7 @@ impl<B: Listener> Model for Handle<B> {
 
     ghost Value = { HandleState };
 
-    ghost view = { λ h. record { ring = h.seat.table_id; capacity = h.capacity; asked = h.seat.me.0.asked; cancelled = h.seat.me.0.cancel; argument = h.seat.me.0.argument; ready = is_some h.spare; started = h.seat.me.0.started } };
+    ghost view = { λ h. record { table = h.seat.table_id; capacity = h.capacity; asked = h.seat.me.0.asked; cancelled = h.seat.me.0.cancel; argument = h.seat.me.0.argument; ready = is_some h.spare; started = h.seat.me.0.started } };
 
     ghost invariant = { λ h. ((padded_value (arc_value h.table)).shared.table_id ≡ h.seat.table_id) × IfSome h.spare (λ spare. (padded_value (arc_value spare)).shared.table_id ≡ h.seat.table_id) × HasFourWords h.seat.table_id × (0 < h.capacity) × (h.seat.me.1 ≡ []) × MayRequest h.seat.me × (h.seat.me.0.capacity ≡ h.capacity) × (h.seat.me.0.asked ≡ h.asked) × (h.asked ≤ UNBOUNDED) × (h.seat.me.0.cancel ≡ h.cancelled) };
 }
@@ -61,8 +61,8 @@ impl<B: Listener> Handle<B> {
         requires may { MayAsk self.old }
         ensures ignored { self.old.cancelled ≡ true → (self.new ≡ self.old) × IsNone result }
         ensures requested { self.old.cancelled ≡ false → self.new ≡ record (handle_after_request n self.old) { ready = self.new.ready; started = self.new.started } }
-        ensures counts { self.new.started ≡ starts_with result self.old.started }
-        ensures starts { IfSome result (IsStarted self.old.ring self.old.capacity) }
+        ensures counts { self.new.started ≡ starts_after result self.old.started }
+        ensures starts { IfSome result (IsStarted self.old.table self.old.capacity) }
         ensures spent { IsSome result → self.new.ready ≡ false }
         ensures kept { IsNone result → self.new.ready ≡ self.old.ready }
     {
@@ -86,8 +86,8 @@ impl<B: Listener> Handle<B> {
         requires may { MayAsk self.old }
         ensures ignored { self.old.cancelled ≡ true → (self.new ≡ self.old) × IsNone result }
         ensures cancelled { self.old.cancelled ≡ false → self.new ≡ record self.old { cancelled = true; ready = self.new.ready; started = self.new.started } }
-        ensures counts { self.new.started ≡ starts_with result self.old.started }
-        ensures starts { IfSome result (IsStarted self.old.ring self.old.capacity) }
+        ensures counts { self.new.started ≡ starts_after result self.old.started }
+        ensures starts { IfSome result (IsStarted self.old.table self.old.capacity) }
         ensures spent { IsSome result → self.new.ready ≡ false }
         ensures kept { IsNone result → self.new.ready ≡ self.old.ready }
     {

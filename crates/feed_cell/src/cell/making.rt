@@ -10,7 +10,7 @@ ghost use Rattle.feed_cell.specs.Views.{first_view};
 ghost use Rattle.feed_cell.specs.declared.cell.Held.TheVariants as Held;
 
 use super::handle::Handle;
-use super::plays::Enter;
+use super::plays::EnterStep;
 use super::producer::Producer;
 use super::splits::{HandleApart, RunnerApart};
 use super::task::{Stage, Task};
@@ -34,9 +34,9 @@ impl Cell {
     ) -> Result<(Producer<B>, Handle<B>, Task<B>), (NoMemory, B)>
         requires capacity { IsCapacity capacity }
         requires untold { B.told subscriber ≡ [] }
-        ensures producer { IfOk result (λ parties. parties.0 ≡ new_producer capacity parties.0.ring) }
-        ensures handle { IfOk result (λ parties. parties.1 ≡ new_handle capacity parties.0.ring) }
-        ensures task { IfOk result (λ parties. IsNewTask parties.0.ring capacity parties.2) }
+        ensures producer { IfOk result (λ parties. parties.0 ≡ new_producer capacity parties.0.table) }
+        ensures handle { IfOk result (λ parties. parties.1 ≡ new_handle capacity parties.0.table) }
+        ensures task { IfOk result (λ parties. IsNewTask parties.0.table capacity parties.2) }
         ensures err { IfErr result (λ refused. refused.1 ≡ subscriber) }
     {
         let Ok((table, mut seat)) = lay::<B>(alloc, capacity) else {
@@ -160,7 +160,7 @@ fn lodge<B: Listener>(
     ensures table { (seat.new.table_id ≡ seat.old.table_id) × (seat.new.id ≡ seat.old.id) }
     ensures lodged { seat.new.me ≡ (record seat.old.me.0 { away = true }, (capacity, Held.Guest guest) ∷ []) }
 {
-    let _ = table.shared.load::<Enter>(seat, CONTROL);
+    let _ = table.shared.load::<EnterStep>(seat, CONTROL);
     let nothing = table.shared.exchange(seat, capacity, Held::Guest(guest));
     drop(nothing);
 }

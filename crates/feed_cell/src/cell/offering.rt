@@ -3,14 +3,17 @@ ghost use Rattle.std.specs.Prelude.{◌≡◌, ◌+◌, ◌*◌, [], ◌∷◌, 
 ghost use Rattle.std.specs.Int.{bit_at};
 ghost use Rattle.feed_core.specs.Prelude.{Ending};
 ghost use Rattle.feed_core.specs.World.Table.{MayBegin, ProducerMay};
-ghost use Rattle.feed_cell.specs.Offering.{Finds};
-ghost use Rattle.feed_cell.specs.Plays.{FindsRoom, Stands, after_signal};
-ghost use Rattle.feed_cell.specs.Steps.{HasFourWords, MayOffer, HasPlace, IsHanded};
 ghost use Rattle.feed_cell.specs.Types.{State, Closing, HasPut, Hands};
+ghost use Rattle.feed_cell.specs.Offering.{Finds};
+ghost use Rattle.feed_cell.specs.Plays.{FindsRoom, FindsHead, after_signal};
+ghost use Rattle.feed_cell.specs.Steps.{HasFourWords, MayOffer, HasFreeSlot, IsHanded};
 ghost use Rattle.feed_cell.specs.Views.{IsProducer, producer_handed, running_handed};
 ghost use Rattle.feed_cell.specs.declared.cell.Held.TheVariants as Held;
 
-use super::plays::{Put, Room, SignalComplete, SignalError, SignalItem, SignalState, Stand};
+use super::plays::{
+    PutStep, RoomStep, SignalCompleteStep, SignalErrorStep, SignalItemStep, SignalStateStep,
+    StandStep,
+};
 use super::splits::ProducerHands;
 use super::{
     COMPLETE, CONTROL, CellSeat, CellTable, ERROR, ERRORS, HEAD, Held, ITEM, MARK, RUN, STATE, TAIL,
@@ -60,7 +63,7 @@ fn look_for_room<B: Listener>(table: &CellTable<B>, seat: &mut CellSeat<B>) -> u
     ensures table { (seat.new.table_id ≡ seat.old.table_id) × (seat.new.id ≡ seat.old.id) }
     ensures finds { FindsRoom seat.old.me result seat.new.me }
 {
-    table.shared.load::<Room>(seat, HEAD)
+    table.shared.load::<RoomStep>(seat, HEAD)
 }
 
 /// Loads head.
@@ -68,9 +71,9 @@ pub(crate) fn look<B: Listener>(table: &CellTable<B>, seat: &mut CellSeat<B>) ->
     requires table { (seat.old.table_id ≡ table.now.shared.table_id) × HasFourWords seat.old.table_id }
     requires may { MayOffer seat.old.me }
     ensures table { (seat.new.table_id ≡ seat.old.table_id) × (seat.new.id ≡ seat.old.id) }
-    ensures stands { Stands seat.old.me result seat.new.me }
+    ensures stands { FindsHead seat.old.me result seat.new.me }
 {
-    table.shared.load::<Stand>(seat, HEAD)
+    table.shared.load::<StandStep>(seat, HEAD)
 }
 
 /// Places the item in the slot that is out, and stores the new tail.
@@ -82,14 +85,14 @@ pub(crate) fn place<B: Listener>(
     item: Item,
 )
     requires table { (seat.old.table_id ≡ table.now.shared.table_id) × HasFourWords seat.old.table_id }
-    requires place { HasPlace capacity tail seat.old.me }
+    requires place { HasFreeSlot capacity tail seat.old.me }
     ensures table { (seat.new.table_id ≡ seat.old.table_id) × (seat.new.id ≡ seat.old.id) }
     ensures put { seat.new.me ≡ (record seat.old.me.0 { put = seat.old.me.0.put ++ item ∷ []; producing = HasPut; places = 0 }, []) }
 {
     let slot = (tail % capacity) as usize;
     let nothing = table.shared.exchange(seat, slot, Held::Item(item));
     leave(nothing);
-    table.shared.store::<Put>(seat, TAIL, tail + 1);
+    table.shared.store::<PutStep>(seat, TAIL, tail + 1);
 }
 
 /// Leaves what an empty slot held. To drop it would be to read it, which would fetch the slot from the task's cache once more.
@@ -110,7 +113,7 @@ pub(crate) fn signal_item<B: Listener>(
     ensures sent { seat.new.me ≡ (after_signal result None seat.old.me.0, seat.old.me.1) }
     ensures starts { IfSome result (λ task. (task.table_id ≡ seat.old.table_id) × (task.me ≡ (running_handed seat.old.me.0, []))) }
 {
-    let found = table.shared.fetch_or::<SignalItem>(seat, CONTROL, ITEM);
+    let found = table.shared.fetch_or::<SignalItemStep>(seat, CONTROL, ITEM);
     hand_over(table, seat, found)
 }
 
@@ -125,7 +128,9 @@ pub(crate) fn signal_state<B: Listener>(
     ensures sent { seat.new.me ≡ (after_signal result (Some State) seat.old.me.0, seat.old.me.1) }
     ensures starts { IfSome result (λ task. (task.table_id ≡ seat.old.table_id) × (task.me ≡ (running_handed seat.old.me.0, []))) }
 {
-    let found = table.shared.fetch_or::<SignalState>(seat, CONTROL, STATE);
+    let found = table
+        .shared
+        .fetch_or::<SignalStateStep>(seat, CONTROL, STATE);
     hand_over(table, seat, found)
 }
 
@@ -143,7 +148,7 @@ pub(crate) fn signal_complete<B: Listener>(
 {
     let found = table
         .shared
-        .fetch_or::<SignalComplete>(seat, CONTROL, COMPLETE);
+        .fetch_or::<SignalCompleteStep>(seat, CONTROL, COMPLETE);
     hand_over(table, seat, found)
 }
 
@@ -162,7 +167,7 @@ pub(crate) fn signal_error<B: Listener>(
 {
     let found = table
         .shared
-        .fetch_or::<SignalError>(seat, CONTROL, u64::from(code) * ERRORS + ERROR);
+        .fetch_or::<SignalErrorStep>(seat, CONTROL, u64::from(code) * ERRORS + ERROR);
     hand_over(table, seat, found)
 }
 

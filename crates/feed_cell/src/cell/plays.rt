@@ -4,36 +4,36 @@ use atomic_table::Play;
 use flow_rules::Listener;
 
 /// A put looks for room: a load of head, which takes the next slot out where it is free.
-pub(crate) struct Room;
+pub(crate) struct RoomStep;
 
-impl<B: Listener> Play<Held<B>, View> for Room {
+impl<B: Listener> Play<Held<B>, View> for RoomStep {
     ghost use Rattle.feed_cell.specs.Plays.{FindsRoom};
 
     ghost then = { λ _. FindsRoom };
 }
 
 /// The producer looks how things stand: a load of head.
-pub(crate) struct Stand;
+pub(crate) struct StandStep;
 
-impl<B: Listener> Play<Held<B>, View> for Stand {
-    ghost use Rattle.feed_cell.specs.Plays.{Stands};
+impl<B: Listener> Play<Held<B>, View> for StandStep {
+    ghost use Rattle.feed_cell.specs.Plays.{FindsHead};
 
-    ghost then = { λ _. Stands };
+    ghost then = { λ _. FindsHead };
 }
 
 /// An item is put: a store of tail, which gives its slot back.
-pub(crate) struct Put;
+pub(crate) struct PutStep;
 
-impl<B: Listener> Play<Held<B>, View> for Put {
+impl<B: Listener> Play<Held<B>, View> for PutStep {
     ghost use Rattle.feed_cell.specs.Plays.{IsPut};
 
     ghost then = { λ _ before _. IsPut before };
 }
 
 /// The producer signals an item: a fetch-or of control.
-pub(crate) struct SignalItem;
+pub(crate) struct SignalItemStep;
 
-impl<B: Listener> Play<Held<B>, View> for SignalItem {
+impl<B: Listener> Play<Held<B>, View> for SignalItemStep {
     ghost use Rattle.std.specs.Prelude.{None};
     ghost use Rattle.feed_cell.specs.Plays.{ProducerSignals};
 
@@ -41,9 +41,9 @@ impl<B: Listener> Play<Held<B>, View> for SignalItem {
 }
 
 /// The producer signals a second subscribing.
-pub(crate) struct SignalState;
+pub(crate) struct SignalStateStep;
 
-impl<B: Listener> Play<Held<B>, View> for SignalState {
+impl<B: Listener> Play<Held<B>, View> for SignalStateStep {
     ghost use Rattle.std.specs.Prelude.{Some};
     ghost use Rattle.feed_cell.specs.Types.{State};
     ghost use Rattle.feed_cell.specs.Plays.{ProducerSignals};
@@ -52,9 +52,9 @@ impl<B: Listener> Play<Held<B>, View> for SignalState {
 }
 
 /// The producer signals its close.
-pub(crate) struct SignalComplete;
+pub(crate) struct SignalCompleteStep;
 
-impl<B: Listener> Play<Held<B>, View> for SignalComplete {
+impl<B: Listener> Play<Held<B>, View> for SignalCompleteStep {
     ghost use Rattle.std.specs.Prelude.{Some};
     ghost use Rattle.feed_core.specs.Prelude.{Ending};
     ghost use Rattle.feed_cell.specs.Types.{Closing};
@@ -64,9 +64,9 @@ impl<B: Listener> Play<Held<B>, View> for SignalComplete {
 }
 
 /// The producer signals its close with an error, whose code stands from bit 32 on.
-pub(crate) struct SignalError;
+pub(crate) struct SignalErrorStep;
 
-impl<B: Listener> Play<Held<B>, View> for SignalError {
+impl<B: Listener> Play<Held<B>, View> for SignalErrorStep {
     ghost use Rattle.std.specs.Prelude.{Some, ◌/◌, ◌^◌};
     ghost use Rattle.feed_core.specs.Prelude.{Ending};
     ghost use Rattle.feed_cell.specs.Types.{Closing};
@@ -76,18 +76,18 @@ impl<B: Listener> Play<Held<B>, View> for SignalError {
 }
 
 /// More is requested: a store of asked.
-pub(crate) struct Ask;
+pub(crate) struct AskStep;
 
-impl<B: Listener> Play<Held<B>, View> for Ask {
+impl<B: Listener> Play<Held<B>, View> for AskStep {
     ghost use Rattle.feed_cell.specs.Plays.{IsAsk};
 
     ghost then = { λ _. IsAsk };
 }
 
 /// The handle signals a request.
-pub(crate) struct SignalRequest;
+pub(crate) struct SignalRequestStep;
 
-impl<B: Listener> Play<Held<B>, View> for SignalRequest {
+impl<B: Listener> Play<Held<B>, View> for SignalRequestStep {
     ghost use Rattle.std.specs.Prelude.{None};
     ghost use Rattle.feed_cell.specs.Plays.{HandleSignals};
 
@@ -95,9 +95,9 @@ impl<B: Listener> Play<Held<B>, View> for SignalRequest {
 }
 
 /// The handle signals its cancel.
-pub(crate) struct SignalCancel;
+pub(crate) struct SignalCancelStep;
 
-impl<B: Listener> Play<Held<B>, View> for SignalCancel {
+impl<B: Listener> Play<Held<B>, View> for SignalCancelStep {
     ghost use Rattle.std.specs.Prelude.{Some};
     ghost use Rattle.feed_cell.specs.Types.{Cancel};
     ghost use Rattle.feed_cell.specs.Plays.{HandleSignals};
@@ -106,9 +106,9 @@ impl<B: Listener> Play<Held<B>, View> for SignalCancel {
 }
 
 /// The handle signals a request of a number that is not positive.
-pub(crate) struct SignalArgument;
+pub(crate) struct SignalArgumentStep;
 
-impl<B: Listener> Play<Held<B>, View> for SignalArgument {
+impl<B: Listener> Play<Held<B>, View> for SignalArgumentStep {
     ghost use Rattle.std.specs.Prelude.{Some};
     ghost use Rattle.feed_cell.specs.Types.{Argument};
     ghost use Rattle.feed_cell.specs.Plays.{HandleSignals};
@@ -117,90 +117,90 @@ impl<B: Listener> Play<Held<B>, View> for SignalArgument {
 }
 
 /// The handle makes no step any more: a store of asked.
-pub(crate) struct Leave;
+pub(crate) struct LeaveStep;
 
-impl<B: Listener> Play<Held<B>, View> for Leave {
+impl<B: Listener> Play<Held<B>, View> for LeaveStep {
     ghost use Rattle.feed_cell.specs.Plays.{Leaves};
 
     ghost then = { λ _ before _. Leaves before };
 }
 
 /// The first task takes its subscriber's slot out, for the subscriber to be placed there: a load.
-pub(crate) struct Enter;
+pub(crate) struct EnterStep;
 
-impl<B: Listener> Play<Held<B>, View> for Enter {
+impl<B: Listener> Play<Held<B>, View> for EnterStep {
     ghost use Rattle.feed_cell.specs.Plays.{Enters};
 
     ghost then = { λ _ before _. Enters before };
 }
 
 /// The task looks, with its subscriber: a fetch-and of control.
-pub(crate) struct Look;
+pub(crate) struct LookStep;
 
-impl<B: Listener> Play<Held<B>, View> for Look {
+impl<B: Listener> Play<Held<B>, View> for LookStep {
     ghost use Rattle.feed_cell.specs.Plays.{LooksOut};
 
     ghost then = { λ _. LooksOut };
 }
 
 /// A task that was handed over looks for the first time, and takes its subscriber with it.
-pub(crate) struct LookFirst;
+pub(crate) struct LookFirstStep;
 
-impl<B: Listener> Play<Held<B>, View> for LookFirst {
+impl<B: Listener> Play<Held<B>, View> for LookFirstStep {
     ghost use Rattle.feed_cell.specs.Plays.{LooksFirst};
 
     ghost then = { λ _. LooksFirst B.told };
 }
 
 /// The task looks for an item: a load of tail, which takes its slot out where there is one.
-pub(crate) struct See;
+pub(crate) struct SeeStep;
 
-impl<B: Listener> Play<Held<B>, View> for See {
-    ghost use Rattle.feed_cell.specs.Plays.{Sees};
+impl<B: Listener> Play<Held<B>, View> for SeeStep {
+    ghost use Rattle.feed_cell.specs.Plays.{SeesPut};
 
-    ghost then = { λ _. Sees };
+    ghost then = { λ _. SeesPut };
 }
 
 /// The task looks for demand, with an item out: a load of asked, which gives the slot back where there is none.
-pub(crate) struct Measure;
+pub(crate) struct MeasureStep;
 
-impl<B: Listener> Play<Held<B>, View> for Measure {
+impl<B: Listener> Play<Held<B>, View> for MeasureStep {
     ghost use Rattle.feed_cell.specs.Plays.{Measures};
 
     ghost then = { λ _. Measures };
 }
 
 /// The same, with no item out.
-pub(crate) struct MeasureNone;
+pub(crate) struct MeasureNoneStep;
 
-impl<B: Listener> Play<Held<B>, View> for MeasureNone {
+impl<B: Listener> Play<Held<B>, View> for MeasureNoneStep {
     ghost use Rattle.feed_cell.specs.Plays.{MeasuresNone};
 
     ghost then = { λ _. MeasuresNone };
 }
 
 /// An item is taken: a store of head, which gives its slot back.
-pub(crate) struct Take;
+pub(crate) struct TakeStep;
 
-impl<B: Listener> Play<Held<B>, View> for Take {
+impl<B: Listener> Play<Held<B>, View> for TakeStep {
     ghost use Rattle.feed_cell.specs.Plays.{IsTake};
 
     ghost then = { λ _ before _. IsTake before };
 }
 
 /// The task rests, unless something is new: a compare-and-exchange of control, from the word after its look.
-pub(crate) struct Rest;
+pub(crate) struct RestStep;
 
-impl<B: Listener> Play<Held<B>, View> for Rest {
-    ghost use Rattle.feed_cell.specs.Plays.{Rests};
+impl<B: Listener> Play<Held<B>, View> for RestStep {
+    ghost use Rattle.feed_cell.specs.Plays.{IsRest};
 
-    ghost then = { λ step. Rests step.first };
+    ghost then = { λ step. IsRest step.first };
 }
 
 /// The subscription ends: a store of head, with its mark.
-pub(crate) struct End;
+pub(crate) struct EndStep;
 
-impl<B: Listener> Play<Held<B>, View> for End {
+impl<B: Listener> Play<Held<B>, View> for EndStep {
     ghost use Rattle.feed_cell.specs.Plays.{IsEnd};
 
     ghost then = { λ _ before _. IsEnd before };

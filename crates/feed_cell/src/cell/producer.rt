@@ -4,7 +4,7 @@ ghost use Rattle.std.specs.Arc.{arc_value};
 ghost use Rattle.crossbeam_utils.specs.Padded.{padded_value};
 ghost use Rattle.feed_cell.specs.Parties.{IsStarted};
 ghost use Rattle.feed_cell.specs.Steps.{HasFourWords};
-ghost use Rattle.feed_cell.specs.Views.{running_handed, starts_with};
+ghost use Rattle.feed_cell.specs.Views.{running_handed, starts_after};
 ghost use Rattle.feed_cell.specs.declared.cell.View.{View};
 
 use super::offering::{
@@ -34,12 +34,12 @@ impl<B: Listener> Model for Producer<B> {
     ghost use Rattle.std.specs.Prelude.{◌≡◌, ◌<◌, [], length, is_some, IfSome};
     ghost use Rattle.std.specs.Arc.{arc_value};
     ghost use Rattle.crossbeam_utils.specs.Padded.{padded_value};
-    ghost use Rattle.feed_cell.specs.Parties.{ProducerState, end_of};
+    ghost use Rattle.feed_cell.specs.Parties.{ProducerState, known_end};
     ghost use Rattle.feed_cell.specs.Steps.{HasFourWords, MayOffer};
 
     ghost Value = { ProducerState };
 
-    ghost view = { λ p. record { ring = p.seat.table_id; end = end_of p.capacity p.seat.me.0 (is_some p.spare); started = p.seat.me.0.started } };
+    ghost view = { λ p. record { table = p.seat.table_id; end = known_end p.capacity p.seat.me.0 (is_some p.spare); started = p.seat.me.0.started } };
 
     ghost invariant = { λ p. ((padded_value (arc_value p.table)).shared.table_id ≡ p.seat.table_id) × IfSome p.spare (λ spare. (padded_value (arc_value spare)).shared.table_id ≡ p.seat.table_id) × HasFourWords p.seat.table_id × (0 < p.capacity) × (p.seat.me.1 ≡ []) × MayOffer p.seat.me × (p.seat.me.0.capacity ≡ p.capacity) × (p.seat.me.0.closing ≡ p.closing) × (length p.seat.me.0.put ≡ p.tail) };
 }
@@ -129,7 +129,7 @@ pub(crate) fn start<B: Listener>(
     ensures spent { IfSome result (λ task. spare.new ≡ None) }
     ensures started { IfSome result (λ task. IfSome seat (λ seat. IsStarted seat.table_id capacity task)) }
     ensures some { IfSome result (λ task. IsSome seat) }
-    ensures counts { (started : ℕ) → starts_with result started ≡ starts_with seat started }
+    ensures counts { (started : ℕ) → starts_after result started ≡ starts_after seat started }
 {
     let seat = seat?;
     let table = spare.take()?;

@@ -2,13 +2,13 @@
 ghost use Rattle.std.specs.Prelude.{◌≡◌, ◌+◌, ◌≤◌, [], Some, None, IfSome, true, false};
 ghost use Rattle.std.specs.Int.{bit_at};
 ghost use Rattle.feed_core.specs.Prelude.{total_after};
+ghost use Rattle.feed_cell.specs.Types.{Cancel, Argument, HasAsked, HandsOver};
 ghost use Rattle.feed_cell.specs.Control.{MARK};
 ghost use Rattle.feed_cell.specs.Plays.{handle_after_signal};
 ghost use Rattle.feed_cell.specs.Steps.{HasFourWords, MayRequest, IsHanded};
-ghost use Rattle.feed_cell.specs.Types.{Cancel, Argument, HasAsked, HandsOver};
 ghost use Rattle.feed_cell.specs.Views.{IsHandle, handle_handed, running_handed};
 
-use super::plays::{Ask, Leave, SignalArgument, SignalCancel, SignalRequest};
+use super::plays::{AskStep, LeaveStep, SignalArgumentStep, SignalCancelStep, SignalRequestStep};
 use super::splits::HandleHands;
 use super::{ARGUMENT, ASKED, CANCEL, CONTROL, CellSeat, CellTable, ITEM, MARK, RUN};
 use flow_rules::{Listener, UNBOUNDED};
@@ -30,7 +30,7 @@ pub(crate) fn ask_more<B: Listener>(
     ensures stored { seat.new.me ≡ (record seat.old.me.0 { asked = result; requesting = HasAsked }, seat.old.me.1) }
 {
     let total = (asked + more).min(UNBOUNDED);
-    table.shared.store::<Ask>(seat, ASKED, total);
+    table.shared.store::<AskStep>(seat, ASKED, total);
     total
 }
 
@@ -45,7 +45,9 @@ pub(crate) fn signal_request<B: Listener>(
     ensures sent { seat.new.me ≡ (handle_after_signal result None seat.old.me.0, seat.old.me.1) }
     ensures starts { IfSome result (λ task. (task.table_id ≡ seat.old.table_id) × (task.me ≡ (running_handed seat.old.me.0, []))) }
 {
-    let found = table.shared.fetch_or::<SignalRequest>(seat, CONTROL, ITEM);
+    let found = table
+        .shared
+        .fetch_or::<SignalRequestStep>(seat, CONTROL, ITEM);
     hand_over(table, seat, found)
 }
 
@@ -60,7 +62,9 @@ pub(crate) fn signal_cancel<B: Listener>(
     ensures sent { seat.new.me ≡ (handle_after_signal result (Some Cancel) seat.old.me.0, seat.old.me.1) }
     ensures starts { IfSome result (λ task. (task.table_id ≡ seat.old.table_id) × (task.me ≡ (running_handed seat.old.me.0, []))) }
 {
-    let found = table.shared.fetch_or::<SignalCancel>(seat, CONTROL, CANCEL);
+    let found = table
+        .shared
+        .fetch_or::<SignalCancelStep>(seat, CONTROL, CANCEL);
     hand_over(table, seat, found)
 }
 
@@ -77,7 +81,7 @@ pub(crate) fn signal_argument<B: Listener>(
 {
     let found = table
         .shared
-        .fetch_or::<SignalArgument>(seat, CONTROL, ARGUMENT);
+        .fetch_or::<SignalArgumentStep>(seat, CONTROL, ARGUMENT);
     hand_over(table, seat, found)
 }
 
@@ -90,7 +94,7 @@ pub(crate) fn leave<B: Listener>(table: &CellTable<B>, seat: &mut CellSeat<B>, a
     ensures table { (seat.new.table_id ≡ seat.old.table_id) × (seat.new.id ≡ seat.old.id) }
     ensures left { seat.new.me ≡ (record seat.old.me.0 { left = true }, seat.old.me.1) }
 {
-    table.shared.store::<Leave>(seat, ASKED, asked + MARK);
+    table.shared.store::<LeaveStep>(seat, ASKED, asked + MARK);
 }
 
 /// Hands the task over that the signal that found this word has started, if it has.

@@ -6,16 +6,18 @@ ghost use Rattle.feed_core.specs.Cause.{stops};
 ghost use Rattle.feed_core.specs.Prelude.{Item, How, UNBOUNDED};
 ghost use Rattle.feed_core.specs.World.Table.{MaySee, MayMeasure, MayTake, MayRest};
 ghost use Rattle.feed_core.specs.declared.turn.outlook.Outlook.TheVariants.{Resting};
+ghost use Rattle.feed_cell.specs.Types.{Nobody, Ready, Taken};
 ghost use Rattle.feed_cell.specs.Control.{MARK};
 ghost use Rattle.feed_cell.specs.Parties.{IsGoing, IsHome};
-ghost use Rattle.feed_cell.specs.Plays.{Sees, Measures, MeasuresNone, QUIET, grants_by, how_out, outlook_by};
-ghost use Rattle.feed_cell.specs.Running.{HasItem, Carries, HasLooked, IsEnding};
+ghost use Rattle.feed_cell.specs.Plays.{SeesPut, Measures, MeasuresNone, QUIET, grants_by, how_out, outlook_by};
+ghost use Rattle.feed_cell.specs.Running.{HasItem, Carries, HasLookedAt, IsEnding};
 ghost use Rattle.feed_cell.specs.Steps.{HasFourWords};
-ghost use Rattle.feed_cell.specs.Types.{Nobody, Ready, Taken};
 ghost use Rattle.feed_cell.specs.Views.{IsRunner};
 ghost use Rattle.feed_cell.specs.declared.cell.Held.TheVariants as Held;
 
-use super::plays::{End, Look, LookFirst, Measure, MeasureNone, Rest, See, Take};
+use super::plays::{
+    EndStep, LookFirstStep, LookStep, MeasureNoneStep, MeasureStep, RestStep, SeeStep, TakeStep,
+};
 use super::{ASKED, CONTROL, CellSeat, CellTable, HEAD, Held, MARK, QUIET, RESTING, TAIL};
 use flow_rules::{Item, Listener};
 
@@ -25,10 +27,10 @@ pub(crate) fn look<B: Listener>(table: &CellTable<B>, seat: &mut CellSeat<B>) ->
     requires runner { IsRunner seat.old.me.0 × (seat.old.me.0.item ≡ []) }
     requires going { IsGoing B.told seat.old.me }
     ensures table { (seat.new.table_id ≡ seat.old.table_id) × (seat.new.id ≡ seat.old.id) }
-    ensures looked { HasLooked B.told result seat.new.me }
+    ensures looked { HasLookedAt B.told result seat.new.me }
     ensures same { (seat.new.me.1 ≡ seat.old.me.1) × (seat.new.me.0.taken ≡ seat.old.me.0.taken) × (seat.new.me.0.misses ≡ seat.old.me.0.misses) × (seat.new.me.0.capacity ≡ seat.old.me.0.capacity) × (seat.new.me.0.grants ≡ seat.old.me.0.grants) }
 {
-    table.shared.fetch_and::<Look>(seat, CONTROL, QUIET)
+    table.shared.fetch_and::<LookStep>(seat, CONTROL, QUIET)
 }
 
 /// The first look of a task that was handed over. It takes the subscriber out of its slot.
@@ -37,10 +39,12 @@ pub(crate) fn look_first<B: Listener>(table: &CellTable<B>, seat: &mut CellSeat<
     requires runner { IsRunner seat.old.me.0 × (seat.old.me.0.item ≡ []) }
     requires home { IsHome seat.old.me }
     ensures table { (seat.new.table_id ≡ seat.old.table_id) × (seat.new.id ≡ seat.old.id) }
-    ensures looked { HasLooked B.told result seat.new.me }
+    ensures looked { HasLookedAt B.told result seat.new.me }
     ensures same { (seat.new.me.0.misses ≡ seat.old.me.0.misses) × (seat.new.me.0.capacity ≡ seat.old.me.0.capacity) × (seat.new.me.0.grants ≡ seat.old.me.0.grants) }
 {
-    table.shared.fetch_and::<LookFirst>(seat, CONTROL, QUIET)
+    table
+        .shared
+        .fetch_and::<LookFirstStep>(seat, CONTROL, QUIET)
 }
 
 /// Sees how many items were put, and takes the slot of the next one out where there is one.
@@ -48,9 +52,9 @@ pub(crate) fn see<B: Listener>(table: &CellTable<B>, seat: &mut CellSeat<B>) -> 
     requires table { (seat.old.table_id ≡ table.now.shared.table_id) × HasFourWords seat.old.table_id }
     requires may { IsRunner seat.old.me.0 × (seat.old.me.0.away ≡ true) × MaySee seat.old.me.0.runner }
     ensures table { (seat.new.table_id ≡ seat.old.table_id) × (seat.new.id ≡ seat.old.id) }
-    ensures sees { Sees seat.old.me result seat.new.me }
+    ensures sees { SeesPut seat.old.me result seat.new.me }
 {
-    table.shared.load::<See>(seat, TAIL)
+    table.shared.load::<SeeStep>(seat, TAIL)
 }
 
 /// Measures how many items were requested by the handle, with an item out, whose slot it gives back where no more are.
@@ -61,7 +65,7 @@ pub(crate) fn measure<B: Listener>(table: &CellTable<B>, seat: &mut CellSeat<B>)
     ensures table { (seat.new.table_id ≡ seat.old.table_id) × (seat.new.id ≡ seat.old.id) }
     ensures measures { Measures seat.old.me result seat.new.me }
 {
-    table.shared.load::<Measure>(seat, ASKED)
+    table.shared.load::<MeasureStep>(seat, ASKED)
 }
 
 /// The same, with no item out.
@@ -72,7 +76,7 @@ pub(crate) fn measure_none<B: Listener>(table: &CellTable<B>, seat: &mut CellSea
     ensures table { (seat.new.table_id ≡ seat.old.table_id) × (seat.new.id ≡ seat.old.id) }
     ensures measures { (found : ℕ) × MeasuresNone seat.old.me found seat.new.me }
 {
-    let _ = table.shared.load::<MeasureNone>(seat, ASKED);
+    let _ = table.shared.load::<MeasureNoneStep>(seat, ASKED);
 }
 
 /// Takes the item that is out, and stores the new head.
@@ -93,7 +97,7 @@ pub(crate) fn take<B: Listener>(
 {
     let slot = (given % capacity) as usize;
     let held = table.shared.exchange(seat, slot, Held::Empty);
-    table.shared.store::<Take>(seat, HEAD, given + 1);
+    table.shared.store::<TakeStep>(seat, HEAD, given + 1);
     match held {
         Held::Item(item) => item,
         _ => unreachable!(),
@@ -113,7 +117,7 @@ pub(crate) fn try_rest<B: Listener>(table: &CellTable<B>, seat: &mut CellSeat<B>
     let look = word & QUIET;
     table
         .shared
-        .compare_exchange::<Rest>(seat, CONTROL, look, look & RESTING)
+        .compare_exchange::<RestStep>(seat, CONTROL, look, look & RESTING)
         == look
 }
 
@@ -125,5 +129,5 @@ pub(crate) fn end<B: Listener>(table: &CellTable<B>, seat: &mut CellSeat<B>, giv
     ensures table { (seat.new.table_id ≡ seat.old.table_id) × (seat.new.id ≡ seat.old.id) }
     ensures ended { seat.new.me ≡ (record seat.old.me.0 { runs = false; away = false; outlook = outlook_by (how_out seat.old.me.1) }, []) }
 {
-    table.shared.store::<End>(seat, HEAD, given + MARK);
+    table.shared.store::<EndStep>(seat, HEAD, given + MARK);
 }

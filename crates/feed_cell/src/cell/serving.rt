@@ -5,8 +5,8 @@ ghost use Rattle.feed_core.specs.Steps.{HasTerminal};
 ghost use Rattle.feed_core.specs.World.Table.{MayEnd, MayRest};
 ghost use Rattle.feed_core.specs.declared.turn.TheConstants.{SIGNALS_IN_A_TURN};
 ghost use Rattle.feed_cell.specs.Plays.{QUIET};
-ghost use Rattle.feed_cell.specs.Running.{Carries, HasLooked, HasTaken, HasMeasured};
-ghost use Rattle.feed_cell.specs.Serving.{Serves, Gives, Finishes, TriesRest, Concludes};
+ghost use Rattle.feed_cell.specs.Running.{Carries, HasLookedAt, HasTaken, HasNoneToGive};
+ghost use Rattle.feed_cell.specs.Serving.{Serves, GivesAs, FinishesAs, TriesRest, Concludes};
 ghost use Rattle.feed_cell.specs.Steps.{HasFourWords};
 
 use super::calling::{finish_there, give_there, notes};
@@ -39,7 +39,7 @@ pub(crate) fn serve<B: Listener>(
     seen: &mut Seen,
 ) -> Served
     requires table { (seat.old.table_id ≡ table.now.shared.table_id) × HasFourWords seat.old.table_id }
-    requires looked { HasLooked B.told word seat.old.me }
+    requires looked { HasLookedAt B.told word seat.old.me }
     requires sized { (seat.old.me.0.capacity ≡ capacity) × (0 < capacity) }
     requires room { length seen.old.signals < SIGNALS_IN_A_TURN }
     ensures table { (seat.new.table_id ≡ seat.old.table_id) × (seat.new.id ≡ seat.old.id) }
@@ -71,7 +71,7 @@ fn close_or_rest<B: Listener>(
 ) -> Served
     requires table { (seat.old.table_id ≡ table.now.shared.table_id) × HasFourWords seat.old.table_id }
     requires carries { Carries B.told seat.old.me }
-    requires measured { HasMeasured tail due seat.old.me }
+    requires measured { HasNoneToGive tail due seat.old.me }
     requires counted { (length seat.old.me.0.taken ≡ given) × (given ≤ UNBOUNDED) }
     requires slot { seat.old.me.0.capacity ≡ slot }
     requires look { seat.old.me.0.look ≡ bit_and word QUIET }
@@ -100,7 +100,7 @@ fn give<B: Listener>(
     requires slot { seat.old.me.0.capacity ≡ slot }
     requires room { length seen.old.signals < SIGNALS_IN_A_TURN }
     ensures table { (seat.new.table_id ≡ seat.old.table_id) × (seat.new.id ≡ seat.old.id) }
-    ensures gives { Gives B.told item result seat.old.me seat.new.me seen.old seen.new }
+    ensures gives { GivesAs B.told item result seat.old.me seat.new.me seen.old seen.new }
 {
     match give_there(table, seat, slot, item, seen) {
         None => Served::Gave,
@@ -128,7 +128,7 @@ fn finish<B: Listener>(
     requires slot { seat.old.me.0.capacity ≡ slot }
     requires room { length seen.old.signals < SIGNALS_IN_A_TURN }
     ensures table { (seat.new.table_id ≡ seat.old.table_id) × (seat.new.id ≡ seat.old.id) }
-    ensures finishes { Finishes B.told due result seat.old.me seat.new.me seen.old seen.new }
+    ensures finishes { FinishesAs B.told due result seat.old.me seat.new.me seen.old seen.new }
 {
     let how = finish_there(table, seat, slot, due, seen);
     end(table, seat, given);

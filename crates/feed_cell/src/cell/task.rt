@@ -35,7 +35,7 @@ impl<B: Listener> Model for Task<B> {
 
     ghost Value = { TaskState };
 
-    ghost view = { λ t. record { ring = t.seat.table_id; seat = t.seat.id; knows = t.seat.me.0; told = told_out B.told t.seat.me.1 } };
+    ghost view = { λ t. record { table = t.seat.table_id; seat = t.seat.id; knows = t.seat.me.0; told = told_out B.told t.seat.me.1 } };
 
     ghost invariant = { λ t. ((padded_value (arc_value t.table)).shared.table_id ≡ t.seat.table_id) × HasFourWords t.seat.table_id × (0 < t.capacity) × IsRunner t.seat.me.0 × (t.seat.me.0.capacity ≡ t.capacity) × (t.seat.me.0.item ≡ []) × IsPaused B.told t.stage t.seat.me };
 }
@@ -51,5 +51,5 @@ impl<B: Listener> Model for Spent<B> {
 
     ghost Value = { SpentState };
 
-    ghost view = { λ s. record { ring = s.seat.table_id; seat = s.seat.id; knows = s.seat.me.0 } };
+    ghost view = { λ s. record { table = s.seat.table_id; seat = s.seat.id; knows = s.seat.me.0 } };
 }

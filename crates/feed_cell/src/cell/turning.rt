@@ -2,9 +2,9 @@
 ghost use Rattle.std.specs.Prelude.{◌≡◌, ◌<◌, [], IfOk, IfErr};
 ghost use Rattle.feed_core.specs.declared.turn.outlook.Outlook.TheVariants.{Again, Ended};
 ghost use Rattle.feed_cell.specs.Paused.{IsPaused};
-ghost use Rattle.feed_cell.specs.Running.{HasLooked};
+ghost use Rattle.feed_cell.specs.Running.{HasLookedAt};
 ghost use Rattle.feed_cell.specs.Steps.{HasFourWords};
-ghost use Rattle.feed_cell.specs.Turned.{IsMidTurn, RunsAs, TurnsInto, MayLookNext, KeepsGoing};
+ghost use Rattle.feed_cell.specs.Turned.{IsBeforeLook, RunsAs, TurnsInto, MayLookNext, KeepsGoing};
 ghost use Rattle.feed_cell.specs.Views.{IsRunner};
 
 use super::calling::greet_there;
@@ -104,7 +104,7 @@ fn greet<B: Listener>(
     requires paused { IsPaused B.told stage seat.old.me }
     requires nothing { seen.old.signals ≡ [] }
     ensures table { (seat.new.table_id ≡ seat.old.table_id) × (seat.new.id ≡ seat.old.id) }
-    ensures goes { IfOk result (λ stage. IsRunner seat.new.me.0 × (seat.new.me.0.item ≡ []) × (seat.new.me.0.capacity ≡ capacity) × IsMidTurn B.told stage 0 seat.old.me seat.new.me seen.new.signals) }
+    ensures goes { IfOk result (λ stage. IsRunner seat.new.me.0 × (seat.new.me.0.item ≡ []) × (seat.new.me.0.capacity ≡ capacity) × IsBeforeLook B.told stage 0 seat.old.me seat.new.me seen.new.signals) }
     ensures ends { IfErr result (λ how. RunsAs B.told (Ended how) seat.old.me seat.new.me seen.new.signals) }
     ensures room { seen.new.room ≡ seen.old.room }
 {
@@ -126,7 +126,7 @@ fn look_next<B: Listener>(table: &CellTable<B>, seat: &mut CellSeat<B>, stage: S
     requires runner { IsRunner seat.old.me.0 × (seat.old.me.0.item ≡ []) }
     requires may { MayLookNext B.told stage seat.old.me }
     ensures table { (seat.new.table_id ≡ seat.old.table_id) × (seat.new.id ≡ seat.old.id) }
-    ensures looked { HasLooked B.told result seat.new.me }
+    ensures looked { HasLookedAt B.told result seat.new.me }
     ensures same { (seat.new.me.0.misses ≡ seat.old.me.0.misses) × (seat.new.me.0.capacity ≡ seat.old.me.0.capacity) × KeepsGoing stage seat.old.me seat.new.me }
     ensures grants { seat.new.me.0.grants ≡ seat.old.me.0.grants }
 {

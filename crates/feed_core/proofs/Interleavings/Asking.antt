@@ -2,11 +2,11 @@
 use Rattle.std.proofs.Common.{◌≡◌, ℕ, refl, ap, arith}
 use Rattle.feed_core.specs.World.Types.{Ask, Parts}
 use Rattle.feed_core.specs.World.Table.{IsPossible, after}
-use Rattle.feed_core.specs.World.Kept.{IsKept, handle_hands}
+use Rattle.feed_core.specs.World.Kept.{IsKeptParts, handle_hands}
 use Rattle.feed_core.proofs.Interleavings.Causing.{within_same}
 use Rattle.feed_core.proofs.Interleavings.Growing.{Grows, stage_at, stage_kept}
 
-pub ask_kept : (n : ℕ) (w : Parts) → IsKept w → IsPossible (Ask n) w → IsKept (after (Ask n) w)
+pub ask_kept : (n : ℕ) (w : Parts) → IsKeptParts w → IsPossible (Ask n) w → IsKeptParts (after (Ask n) w)
 ask_kept n w k may =
     let idle : handle_hands w.handle ≡ 0 = ap handle_hands may.0 in let handed = k.handed in
     let requested = k.requested in let bounded = k.asked_bounded in

@@ -4,7 +4,7 @@ use Rattle.feed_core.specs.LaneCalls.{IsCapacity}
 use Rattle.feed_core.specs.World.Types.{Producer, Handle, Event, Make, Room, Put, See, Take, Ask, Signal, Hand, Look, Measure, Rest, End, Parts}
 use Rattle.feed_core.specs.World.Table.{IsPossible, after}
 use Rattle.feed_core.specs.World.Runs.{made}
-use Rattle.feed_core.specs.World.Kept.{IsKept}
+use Rattle.feed_core.specs.World.Kept.{IsKeptParts}
 use Rattle.feed_core.proofs.Interleavings.Asking.{ask_kept}
 use Rattle.feed_core.proofs.Interleavings.Ending.{end_kept}
 use Rattle.feed_core.proofs.Interleavings.Handing.{producer_hand_kept, handle_hand_kept}
@@ -14,7 +14,7 @@ use Rattle.feed_core.proofs.Interleavings.Running.{look_kept, see_kept, measure_
 use Rattle.feed_core.proofs.Interleavings.Signalling.{producer_signal_kept, handle_signal_kept}
 
 -- a new subscription has it
-pub made_kept : (n : ℕ) → IsCapacity n → IsKept (made n)
+pub made_kept : (n : ℕ) → IsCapacity n → IsKeptParts (made n)
 made_kept n sized = record {
   sized = sized;
   asked_bounded = omega arith;
@@ -29,7 +29,7 @@ made_kept n sized = record {
   stage = refl;
 }
 
-pub event_kept : (event : Event) (w : Parts) → IsKept w → IsPossible event w → IsKept (after event w)
+pub event_kept : (event : Event) (w : Parts) → IsKeptParts w → IsPossible event w → IsKeptParts (after event w)
 event_kept (Make n) w k may = absurd may
 event_kept Room w k may = room_kept w k may
 event_kept Put w k may = put_kept w k may

@@ -5,7 +5,7 @@ use Rattle.feed_core.specs.Prelude.{Published, IllegalArgument, IllegalState, En
 use Rattle.feed_core.specs.Cause.{stops, closes}
 use Rattle.feed_core.specs.World.Types.{Causes, HasPut, HasAsked, Runner, Nobody, Coming, Fresh, Ready, Looked, Saw, Measured, Taken, Over, Parts}
 use Rattle.feed_core.specs.World.Table.{total_of}
-use Rattle.feed_core.specs.World.Kept.{IsWithin, HasEnded, HasRested, HasLooked, HasSeen, HasMeasured, IsAt, IsKept}
+use Rattle.feed_core.specs.World.Kept.{IsWithin, EndHasCause, HasRested, HasLooked, HasSeen, HasMeasured, IsAt, IsKeptParts}
 use Rattle.feed_core.proofs.Interleavings.Causing.{within_step, closes_within, normal_closes}
 
 -- what another side's step does
@@ -20,7 +20,7 @@ pub record Grows (w v : Parts) : Type 0 where
   pub closed : IsSome (closes w.causes) → v.accepted ≡ w.accepted
 
 -- what holds at a known stage
-pub stage_at : {w : Parts} {r : Runner} → IsKept w → w.runner ≡ r → IsAt r w
+pub stage_at : {w : Parts} {r : Runner} → IsKeptParts w → w.runner ≡ r → IsAt r w
 stage_at {w} {r} k e = subst (λ runner. IsAt runner w) e k.stage
 
 rested_kept : {w v : Parts} → Grows w v → v.active ≡ false → HasRested w → HasRested v
@@ -58,7 +58,7 @@ measured_kept {w} {v} g s = record {
   all_asked = λ quiet asked. (let one = g.asked quiet asked in s.all_asked (g.quiet quiet).0 one.0 ∙ sym one.1);
 }
 
-ended_kept : {w v : Parts} → Grows w v → (how : How) → HasEnded how w → HasEnded how v
+ended_kept : {w v : Parts} → Grows w v → (how : How) → EndHasCause how w → EndHasCause how v
 ended_kept {w} {v} g How.Completed s = (g.causes.closing Ending.Normal s.0, g.given ∙ s.1 ∙ sym (g.closed (normal_closes w.causes s.0)))
 ended_kept g (How.Errored (Published code)) s = g.causes.closing (Ending.Failed code) s
 ended_kept g (How.Errored IllegalArgument) s = g.causes.argument s

@@ -2,7 +2,7 @@
 use Rattle.std.proofs.Common.{◌≡◌, ◌+◌, ◌≤◌, false, refl, ap, arith}
 use Rattle.feed_core.specs.World.Types.{Producer, Handle, Hand, Producing, Free, HasRoom, Requesting, Idle, Runner, Nobody, Coming, Fresh, Ready, Looked, Saw, Measured, Taken, Over, Parts}
 use Rattle.feed_core.specs.World.Table.{is_over, IsPossible, after}
-use Rattle.feed_core.specs.World.Kept.{IsKept, producer_hands, handle_hands, coming}
+use Rattle.feed_core.specs.World.Kept.{IsKeptParts, producer_hands, handle_hands, coming}
 
 -- at most one task is to come
 pub coming_few : (r : Runner) → coming r ≤ 1
@@ -28,9 +28,9 @@ is_coming Taken e = absurd (omega arith)
 is_coming (Over how) e = absurd (omega arith)
 
 -- the task is ready once it is handed over, whoever had it
-hand_kept : (w : Parts) (producer : Producing) (handle : Requesting) → IsKept w → coming w.runner ≡ 1
+hand_kept : (w : Parts) (producer : Producing) (handle : Requesting) → IsKeptParts w → coming w.runner ≡ 1
     → (producer ≡ HasRoom → w.producer ≡ HasRoom) → producer_hands producer + handle_hands handle ≡ 0
-    → IsKept (record w { producer = producer; handle = handle; runner = Ready })
+    → IsKeptParts (record w { producer = producer; handle = handle; runner = Ready })
 hand_kept w producer handle k comes roomy handed =
     let unended : is_over w.runner ≡ false = ap is_over (is_coming w.runner comes) in
     record {
@@ -47,12 +47,12 @@ hand_kept w producer handle k comes roomy handed =
       stage = tt;
     }
 
-pub producer_hand_kept : (w : Parts) → IsKept w → IsPossible (Hand Producer) w → IsKept (after (Hand Producer) w)
+pub producer_hand_kept : (w : Parts) → IsKeptParts w → IsPossible (Hand Producer) w → IsKeptParts (after (Hand Producer) w)
 producer_hand_kept w k may =
     let hands : producer_hands w.producer ≡ 1 = ap producer_hands may in let handed = k.handed in let few = coming_few w.runner in
     hand_kept w Free w.handle k (omega arith) (λ e. cc) (omega arith)
 
-pub handle_hand_kept : (w : Parts) → IsKept w → IsPossible (Hand Handle) w → IsKept (after (Hand Handle) w)
+pub handle_hand_kept : (w : Parts) → IsKeptParts w → IsPossible (Hand Handle) w → IsKeptParts (after (Hand Handle) w)
 handle_hand_kept w k may =
     let hands : handle_hands w.handle ≡ 1 = ap handle_hands may in let handed = k.handed in let few = coming_few w.runner in
     hand_kept w w.producer Idle k (omega arith) (λ e. e) (omega arith)

@@ -3,7 +3,7 @@ use Rattle.std.proofs.Common.{◌≡◌, ℕ, ◌+◌, refl, ap, ◌∙◌, arit
 use Rattle.std.specs.Prelude.{◌⊎◌}
 use Rattle.feed_core.specs.World.Types.{Producing, Free, HasRoom, HasPut, Hands, Requesting, Idle, HasAsked, HandsOver, Coming, Parts}
 use Rattle.feed_core.specs.World.Table.{is_over}
-use Rattle.feed_core.specs.World.Kept.{IsKept, IsCutAt, IsKeptIn, producer_hands, handle_hands, coming}
+use Rattle.feed_core.specs.World.Kept.{IsKeptParts, IsCutAt, IsKeptIn, producer_hands, handle_hands, coming}
 use Rattle.feed_core.specs.World.Lawful.{IsLawful, IsLawfulIn, FollowsCut}
 use Rattle.feed_core.proofs.Interleavings.Cutting.{may_follow_few}
 use Rattle.feed_core.proofs.Interleavings.Growing.{stage_at}
@@ -22,11 +22,11 @@ hands_one Free HasAsked e = absurd (omega arith)
 hands_one HasRoom HasAsked e = absurd (omega arith)
 hands_one HasPut HasAsked e = absurd (omega arith)
 
-handed_comes : {w : Parts} → IsKept w → (w.producer ≡ Hands) ⊎ (w.handle ≡ HandsOver) → w.runner ≡ Coming
+handed_comes : {w : Parts} → IsKeptParts w → (w.producer ≡ Hands) ⊎ (w.handle ≡ HandsOver) → w.runner ≡ Coming
 handed_comes {w} k (inl e) = let hands : producer_hands w.producer ≡ 1 = ap producer_hands e in let handed = k.handed in let few = coming_few w.runner in is_coming w.runner (omega arith)
 handed_comes {w} k (inr e) = let hands : handle_hands w.handle ≡ 1 = ap handle_hands e in let handed = k.handed in let few = coming_few w.runner in is_coming w.runner (omega arith)
 
-pub lawful : {w : Parts} → IsKept w → IsLawful w
+pub lawful : {w : Parts} → IsKeptParts w → IsLawful w
 lawful {w} k = record {
   taken = k.taken;
   fits = k.fits;

@@ -2,13 +2,13 @@
 use Rattle.std.proofs.Common.{ℕ, refl, sym, subst, arith, Option, Some, None, List, [], ◌∷◌, inl, inr}
 use Rattle.feed_core.specs.World.Types.{Event, Parts}
 use Rattle.feed_core.specs.World.Runs.{WorldState, nothing, world_of, IsPossibleIn, given_before, next_of, Steps, Leads}
-use Rattle.feed_core.specs.World.Kept.{IsKept, IsCut}
+use Rattle.feed_core.specs.World.Kept.{IsKeptParts, IsCut}
 use Rattle.feed_core.specs.World.Laws.{IsResting, ForgetsNothing, NothingIsForgotten, EndsWithinOneItem}
 use Rattle.feed_core.proofs.Interleavings.Cutting.{may_follow_few, cut_kept, fresh_cut}
 use Rattle.feed_core.proofs.Interleavings.Growing.{stage_at}
 use Rattle.feed_core.proofs.Interleavings.Reaching.{leads_kept}
 
-resting_forgets_nothing : {w : Parts} → IsKept w → IsResting w → ForgetsNothing w
+resting_forgets_nothing : {w : Parts} → IsKeptParts w → IsResting w → ForgetsNothing w
 resting_forgets_nothing {w} k rests =
     let s = stage_at k rests.unserved in
     let all = s.all_given rests.quiet.put rests.quiet.asked in

@@ -4,7 +4,7 @@ use Rattle.std.specs.Prelude.{nat_lt}
 use Rattle.std.proofs.lemmas.Bool.Decides.{nat_tests}
 use Rattle.feed_core.specs.World.Types.{Room, Put, Producing, Free, HasRoom, HasPut, Parts}
 use Rattle.feed_core.specs.World.Table.{is_over, MayBegin, IsPossible, has_room, shown_room, after}
-use Rattle.feed_core.specs.World.Kept.{IsKept, producer_hands}
+use Rattle.feed_core.specs.World.Kept.{IsKeptParts, producer_hands}
 use Rattle.feed_core.proofs.Interleavings.Causing.{within_same, unclosed_waits}
 use Rattle.feed_core.proofs.Interleavings.Growing.{Grows, stage_at, stage_kept}
 
@@ -45,7 +45,7 @@ room_missing w unended e = by (nat_lt (w.accepted - w.given) w.capacity) refl (a
 pub room_of_ended : (w : Parts) → is_over w.runner ≡ true → shown_room (has_room w) ≡ Free
 room_of_ended w ended = ap (λ over. shown_room (not over && nat_lt (w.accepted - w.given) w.capacity)) ended
 
-pub room_kept : (w : Parts) → IsKept w → IsPossible Room w → IsKept (after Room w)
+pub room_kept : (w : Parts) → IsKeptParts w → IsPossible Room w → IsKeptParts (after Room w)
 room_kept w k may =
     let idle = begins_idle may in let shown = shown_hands (has_room w) in let handed = k.handed in
     let grows : Grows w (after Room w) = record {
@@ -72,7 +72,7 @@ room_kept w k may =
       stage = stage_kept grows w.runner (λ e. (stage_at k e).quiet) k.stage;
     }
 
-pub put_kept : (w : Parts) → IsKept w → IsPossible Put w → IsKept (after Put w)
+pub put_kept : (w : Parts) → IsKeptParts w → IsPossible Put w → IsKeptParts (after Put w)
 put_kept w k may =
     let room = k.roomy may.0 in let idle : producer_hands w.producer ≡ 0 = ap producer_hands may.0 in let handed = k.handed in
     let taken = k.taken in

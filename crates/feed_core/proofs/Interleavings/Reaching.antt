@@ -4,7 +4,7 @@ use Rattle.feed_core.specs.LaneCalls.{IsCapacity}
 use Rattle.feed_core.specs.World.Types.{Event, Make, Room, Put, See, Take, Ask, Signal, Hand, Look, Measure, Rest, End, Parts}
 use Rattle.feed_core.specs.World.Table.{IsPossible, after}
 use Rattle.feed_core.specs.World.Runs.{WorldState, nothing, world_of, made, IsPossibleIn, cut_after, next_of, Steps, Leads, IsReached}
-use Rattle.feed_core.specs.World.Kept.{IsKept, IsKeptIn}
+use Rattle.feed_core.specs.World.Kept.{IsKeptParts, IsKeptIn}
 use Rattle.feed_core.specs.World.Lawful.{IsLawful}
 use Rattle.feed_core.proofs.Interleavings.Cutting.{cut_at_kept}
 use Rattle.feed_core.proofs.Interleavings.Events.{made_kept, event_kept}
@@ -62,7 +62,7 @@ reached_made n sized = record { events = Make n ∷ []; cut = None; leads = (wor
 pub reached_more : (event : Event) {w : Parts} → IsReached w → IsPossible event w → IsReached (after event w)
 reached_more event {w} r may = record { events = r.events ++ event ∷ []; cut = cut_after event w r.cut; leads = leads_event r.events w r.cut event r.leads may }
 
-pub reached_kept : {w : Parts} → IsReached w → IsKept w
+pub reached_kept : {w : Parts} → IsReached w → IsKeptParts w
 reached_kept {w} r = (leads_kept nothing r.events (world_of w r.cut) refl r.leads).0
 
 pub reached_lawful : {w : Parts} → IsReached w → IsLawful w

@@ -4,13 +4,13 @@ use Rattle.std.specs.Prelude.{IsSome, ◌⊎◌}
 use Rattle.feed_core.specs.Cause.{stops, closes}
 use Rattle.feed_core.specs.World.Types.{Causes, Rest, Nobody, Ready, Parts}
 use Rattle.feed_core.specs.World.Table.{total_of, is_over, IsPossible, resting_after, after}
-use Rattle.feed_core.specs.World.Kept.{IsKept, HasRested, HasMeasured, coming}
+use Rattle.feed_core.specs.World.Kept.{IsKeptParts, HasRested, HasMeasured, coming}
 use Rattle.feed_core.proofs.Interleavings.Causing.{none_some}
 use Rattle.feed_core.proofs.Interleavings.Growing.{stage_at}
 use Rattle.feed_core.proofs.Interleavings.Running.{moved_kept}
 
 -- where nothing is new since the look, there is nothing to do
-rested : (w : Parts) (c : Causes) (t a : ℕ) → IsKept w → HasMeasured c t a w → w.active ≡ false
+rested : (w : Parts) (c : Causes) (t a : ℕ) → IsKeptParts w → HasMeasured c t a w → w.active ≡ false
     → (t ≤ w.given) ⊎ (a ≤ w.given) → (closes c ≡ None) ⊎ (w.given ≡ t → ⊥) → HasRested (record w { runner = Nobody })
 rested w c t a k s quiet done waits =
     let same = s.seen.looked.newest quiet in
@@ -28,8 +28,8 @@ rested w c t a k s quiet done waits =
       all (inl few) put asked = let taken = k.taken in let requested = k.requested in omega arith
       all (inr few) put asked = let taken = k.taken in let requested = k.requested in omega arith
 
-pub rest_kept : (w : Parts) → IsKept w → IsPossible Rest w → IsKept (after Rest w)
+pub rest_kept : (w : Parts) → IsKeptParts w → IsPossible Rest w → IsKeptParts (after Rest w)
 rest_kept w k may = by w.active refl where
-  by : (active : Bool) → w.active ≡ active → IsKept (record w { runner = resting_after active })
+  by : (active : Bool) → w.active ≡ active → IsKeptParts (record w { runner = resting_after active })
   by true e = moved_kept w Ready k (ap coming may.3) refl (ap is_over may.3) tt
   by false e = moved_kept w Nobody k (ap coming may.3) refl (ap is_over may.3) (rested w may.0 may.1 may.2 k (stage_at k may.3) e may.4 may.5)

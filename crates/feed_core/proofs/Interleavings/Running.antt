@@ -3,13 +3,13 @@ use Rattle.std.proofs.Common.{◌≡◌, ℕ, zero, suc, ℤ, pos, negsuc, ◌�
 use Rattle.feed_core.specs.Prelude.{UNBOUNDED, Answer, total_after}
 use Rattle.feed_core.specs.World.Types.{Causes, Look, See, Measure, Take, Runner, Looked, Saw, Measured, Parts}
 use Rattle.feed_core.specs.World.Table.{total_of, is_over, MayLook, IsPossible, requested, answered, looking, seeing, measuring, after}
-use Rattle.feed_core.specs.World.Kept.{IsAt, IsKept, HasSeen, HasMeasured, coming}
+use Rattle.feed_core.specs.World.Kept.{IsAt, IsKeptParts, HasSeen, HasMeasured, coming}
 use Rattle.feed_core.proofs.Interleavings.Causing.{within_same}
 use Rattle.feed_core.proofs.Interleavings.Growing.{stage_at}
 
 -- where the task goes on by itself, only what holds at its new stage is to be shown
-pub moved_kept : (w : Parts) (r : Runner) → IsKept w → coming w.runner ≡ 0 → coming r ≡ 0 → is_over w.runner ≡ false
-    → IsAt r (record w { runner = r }) → IsKept (record w { runner = r })
+pub moved_kept : (w : Parts) (r : Runner) → IsKeptParts w → coming w.runner ≡ 0 → coming r ≡ 0 → is_over w.runner ≡ false
+    → IsAt r (record w { runner = r }) → IsKeptParts (record w { runner = r })
 moved_kept w r k before after unended stage =
     let handed = k.handed in
     record {
@@ -27,9 +27,9 @@ moved_kept w r k before after unended stage =
     }
 
 -- after a look, which may bring a request or the cause of a bad one
-looked_kept : (w : Parts) (own : ℕ) (causes : Causes) → IsKept w → coming w.runner ≡ 0 → is_over w.runner ≡ false
+looked_kept : (w : Parts) (own : ℕ) (causes : Causes) → IsKeptParts w → coming w.runner ≡ 0 → is_over w.runner ≡ false
     → own ≤ UNBOUNDED → w.own ≤ own → causes.failed ≡ w.causes.failed → causes.memory ≡ w.causes.memory
-    → IsKept (record w { own = own; causes = causes; active = false; runner = Looked causes })
+    → IsKeptParts (record w { own = own; causes = causes; active = false; runner = Looked causes })
 looked_kept w own causes k quiet unended bounded grows failed memory =
     let handed = k.handed in let requested = k.requested in
     record {
@@ -56,22 +56,22 @@ looks (Answer.Request n) r (inr e) = (ap coming e, ap is_over e)
 looks Answer.Cancel r may = absurd may
 looks (Answer.Fail _) r may = absurd may
 
-requested_kept : (n : ℤ) (w : Parts) → IsKept w → coming w.runner ≡ 0 → is_over w.runner ≡ false → IsKept (looking (requested n w))
+requested_kept : (n : ℤ) (w : Parts) → IsKeptParts w → coming w.runner ≡ 0 → is_over w.runner ≡ false → IsKeptParts (looking (requested n w))
 requested_kept (pos zero) w k quiet unended = looked_kept w w.own (record w.causes { argument = true }) k quiet unended k.own_bounded (omega arith) refl refl
 requested_kept (pos (suc n)) w k quiet unended =
     let bounded = k.own_bounded in
     looked_kept w (total_after w.own (suc n)) w.causes k quiet unended (omega arith) (omega arith) refl refl
 requested_kept (negsuc n) w k quiet unended = looked_kept w w.own (record w.causes { argument = true }) k quiet unended k.own_bounded (omega arith) refl refl
 
-pub look_kept : (answer : Answer) (w : Parts) → IsKept w → IsPossible (Look answer) w → IsKept (after (Look answer) w)
+pub look_kept : (answer : Answer) (w : Parts) → IsKeptParts w → IsPossible (Look answer) w → IsKeptParts (after (Look answer) w)
 look_kept answer w k may = by answer (looks answer w.runner may) where
-  by : (answer : Answer) → (coming w.runner ≡ 0) × (is_over w.runner ≡ false) → IsKept (looking (answered answer w))
+  by : (answer : Answer) → (coming w.runner ≡ 0) × (is_over w.runner ≡ false) → IsKeptParts (looking (answered answer w))
   by Answer.Go has = looked_kept w w.own w.causes k has.0 has.1 k.own_bounded (omega arith) refl refl
   by (Answer.Request n) has = requested_kept n w k has.0 has.1
   by Answer.Cancel has = looked_kept w w.own w.causes k has.0 has.1 k.own_bounded (omega arith) refl refl
   by (Answer.Fail _) has = looked_kept w w.own w.causes k has.0 has.1 k.own_bounded (omega arith) refl refl
 
-pub see_kept : (w : Parts) → IsKept w → IsPossible See w → IsKept (after See w)
+pub see_kept : (w : Parts) → IsKeptParts w → IsPossible See w → IsKeptParts (after See w)
 see_kept w k may =
     let c = may.0 in let at : w.runner ≡ Looked c = may.1 in let s = stage_at k at in
     let runner : Runner = Saw c w.accepted in
@@ -82,9 +82,9 @@ see_kept w k may =
       last = λ some. refl;
       all_put = λ quiet put. refl;
     } in
-    subst (λ r. IsKept (record w { runner = r })) (sym (ap (seeing w.accepted) at)) (moved_kept w runner k (ap coming at) refl (ap is_over at) seen)
+    subst (λ r. IsKeptParts (record w { runner = r })) (sym (ap (seeing w.accepted) at)) (moved_kept w runner k (ap coming at) refl (ap is_over at) seen)
 
-pub measure_kept : (w : Parts) → IsKept w → IsPossible Measure w → IsKept (after Measure w)
+pub measure_kept : (w : Parts) → IsKeptParts w → IsPossible Measure w → IsKeptParts (after Measure w)
 measure_kept w k may =
     let c = may.0 in let t = may.1 in let at : w.runner ≡ Saw c t = may.2 in let s = stage_at k at in
     let runner : Runner = Measured c t (total_of w) in
@@ -99,9 +99,9 @@ measure_kept w k may =
       asked = omega arith;
       all_asked = λ quiet asked. refl;
     } in
-    subst (λ r. IsKept (record w { runner = r })) (sym (ap (measuring (total_of w)) at)) (moved_kept w runner k (ap coming at) refl (ap is_over at) measured)
+    subst (λ r. IsKeptParts (record w { runner = r })) (sym (ap (measuring (total_of w)) at)) (moved_kept w runner k (ap coming at) refl (ap is_over at) measured)
 
-pub take_kept : (w : Parts) → IsKept w → IsPossible Take w → IsKept (after Take w)
+pub take_kept : (w : Parts) → IsKeptParts w → IsPossible Take w → IsKeptParts (after Take w)
 take_kept w k may =
     let at : w.runner ≡ Measured may.0 may.1 may.2 = may.3 in
     let s = stage_at k at in

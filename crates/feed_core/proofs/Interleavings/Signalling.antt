@@ -2,7 +2,7 @@
 use Rattle.std.proofs.Common.{◌≡◌, ℕ, ◌+◌, Bool, true, false, refl, sym, ap, ◌∙◌, arith, Option, Some, None}
 use Rattle.feed_core.specs.World.Types.{Causes, Producer, Handle, Cause, Cancel, Argument, State, Closing, Signal, Producing, HasRoom, Requesting, Runner, Nobody, Coming, Fresh, Ready, Looked, Saw, Measured, Taken, Over, Parts}
 use Rattle.feed_core.specs.World.Table.{is_over, is_started, started, ProducerMay, HandleMay, IsPossible, producing_after, requesting_after, joined, after}
-use Rattle.feed_core.specs.World.Kept.{IsKept, IsAt, IsWithin, producer_hands, handle_hands, coming, may_follow}
+use Rattle.feed_core.specs.World.Kept.{IsKeptParts, IsAt, IsWithin, producer_hands, handle_hands, coming, may_follow}
 use Rattle.feed_core.proofs.Interleavings.Causing.{within_producer, within_handle, joined_failed, joined_memory}
 use Rattle.feed_core.proofs.Interleavings.Growing.{Grows, stage_kept}
 use Rattle.feed_core.proofs.Interleavings.Putting.{begins_idle}
@@ -122,10 +122,10 @@ handle_idle (Some State) handle may = absurd may
 handle_idle (Some (Closing _)) handle may = absurd may
 
 -- whichever side signals
-signal_kept : (w : Parts) (causes : Causes) (producer : Producing) (handle : Requesting) → IsKept w → IsWithin w.causes causes
+signal_kept : (w : Parts) (causes : Causes) (producer : Producing) (handle : Requesting) → IsKeptParts w → IsWithin w.causes causes
     → causes.failed ≡ w.causes.failed → causes.memory ≡ w.causes.memory
     → (producer ≡ HasRoom → w.producer ≡ HasRoom) → producer_hands producer + handle_hands handle ≡ coming (started w.runner)
-    → IsKept (record w { causes = causes; active = true; producer = producer; handle = handle; runner = started w.runner })
+    → IsKeptParts (record w { causes = causes; active = true; producer = producer; handle = handle; runner = started w.runner })
 signal_kept w causes producer handle k within failed memory roomy handed =
     let v : Parts = record w { causes = causes; active = true; producer = producer; handle = handle; runner = started w.runner } in
     let grows : Grows w v = record {
@@ -152,14 +152,14 @@ signal_kept w causes producer handle k within failed memory roomy handed =
       stage = stage_kept grows (started w.runner) (λ e. absurd (started_never w.runner e)) (stage_started w w.runner k.stage);
     }
 
-pub producer_signal_kept : (cause : Option Cause) (w : Parts) → IsKept w → IsPossible (Signal Producer cause) w → IsKept (after (Signal Producer cause) w)
+pub producer_signal_kept : (cause : Option Cause) (w : Parts) → IsKeptParts w → IsPossible (Signal Producer cause) w → IsKeptParts (after (Signal Producer cause) w)
 producer_signal_kept cause w k may =
     let idle = producer_idle cause w.producer w may in let handed = k.handed in
     signal_kept w (joined cause w.causes) (producing_after (is_started w.runner)) w.handle k (within_producer cause w.producer w.causes may)
     (joined_failed cause w.causes) (joined_memory cause w.causes) (λ e. absurd (no_room (is_started w.runner) e))
     (signal_handed w.runner (handle_hands w.handle) (omega arith))
 
-pub handle_signal_kept : (cause : Option Cause) (w : Parts) → IsKept w → IsPossible (Signal Handle cause) w → IsKept (after (Signal Handle cause) w)
+pub handle_signal_kept : (cause : Option Cause) (w : Parts) → IsKeptParts w → IsPossible (Signal Handle cause) w → IsKeptParts (after (Signal Handle cause) w)
 handle_signal_kept cause w k may =
     let idle = handle_idle cause w.handle may in let handed = k.handed in
     let same = same_hands (is_started w.runner) in let one = signal_handed w.runner (producer_hands w.producer) (omega arith) in

@@ -16,12 +16,12 @@ pub record IsWithin (some all : Causes) : Type 0 where
   pub memory : some.memory ≡ true → all.memory ≡ true
 
 -- an end has its cause, and completion has given every item
-abbrev pub HasEnded : How → Parts → Type 0
-HasEnded How.Completed w = (w.causes.closing ≡ Some Ending.Normal) × (w.given ≡ w.accepted)
-HasEnded (How.Errored fault) w = IsFaultOf w.causes fault
-HasEnded How.Cancelled w = w.causes.cancel ≡ true
-HasEnded (How.Failed code) w = w.causes.failed ≡ Some code
-HasEnded How.OutOfMemory w = w.causes.memory ≡ true
+abbrev pub EndHasCause : How → Parts → Type 0
+EndHasCause How.Completed w = (w.causes.closing ≡ Some Ending.Normal) × (w.given ≡ w.accepted)
+EndHasCause (How.Errored fault) w = IsFaultOf w.causes fault
+EndHasCause How.Cancelled w = w.causes.cancel ≡ true
+EndHasCause (How.Failed code) w = w.causes.failed ≡ Some code
+EndHasCause How.OutOfMemory w = w.causes.memory ≡ true
 
 -- at rest nothing is new, nothing ends the subscription, and an end that waits for the items has some to wait for;
 -- all that was requested was given, but for an item or a request that is yet to be signalled
@@ -58,7 +58,7 @@ IsAt (Looked c) w = HasLooked c w
 IsAt (Saw c t) w = HasSeen c t w
 IsAt (Measured c t a) w = HasMeasured c t a w
 IsAt Taken w = 0 < w.given
-IsAt (Over how) w = HasEnded how w
+IsAt (Over how) w = EndHasCause how w
 IsAt _ w = Unit {0}
 
 -- how many tasks the producer has to hand over, the handle has to hand over, and are to come
@@ -75,7 +75,7 @@ coming Coming = 1
 coming _ = 0
 
 -- what every event keeps
-pub record IsKept (w : Parts) : Type 0 where
+pub record IsKeptParts (w : Parts) : Type 0 where
   pub sized : IsCapacity w.capacity
   pub asked_bounded : w.asked ≤ UNBOUNDED
   pub own_bounded : w.own ≤ UNBOUNDED
@@ -111,4 +111,4 @@ IsCutAt (Some cut) w = IsCut w cut
 -- of a World
 abbrev pub IsKeptIn : Option Parts → Option ℕ → Type 0
 IsKeptIn None cut = cut ≡ None
-IsKeptIn (Some w) cut = IsKept w × IsCutAt cut w
+IsKeptIn (Some w) cut = IsKeptParts w × IsCutAt cut w

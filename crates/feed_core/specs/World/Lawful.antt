@@ -4,7 +4,7 @@ use Rattle.feed_core.specs.Prelude.{How}
 use Rattle.feed_core.specs.Cause.{stops, closes}
 use Rattle.feed_core.specs.World.Types.{HasPut, Hands, HasAsked, HandsOver, Nobody, Coming, Over, Parts}
 use Rattle.feed_core.specs.World.Table.{total_of}
-use Rattle.feed_core.specs.World.Kept.{HasEnded}
+use Rattle.feed_core.specs.World.Kept.{EndHasCause}
 
 -- a side has the task to hand over
 abbrev pub IsHandedBy : Parts → Type 0
@@ -27,7 +27,7 @@ pub record IsLawful (w : Parts) : Type 0 where
   pub unfailed : w.runner ≡ Nobody → (w.causes.failed ≡ None) × (w.causes.memory ≡ false)
   pub all_given : w.runner ≡ Nobody → IsQuiet w → w.given ≡ min w.accepted (total_of w)
   pub waits : w.runner ≡ Nobody → IsSome (closes w.causes) → w.given < w.accepted
-  pub ended : (how : How) → w.runner ≡ Over how → HasEnded how w
+  pub ended : (how : How) → w.runner ≡ Over how → EndHasCause how w
 
 -- at most one item follows the cut
 abbrev pub FollowsCut : Option ℕ → Parts → Type 0

@@ -1,7 +1,7 @@
 //! What there is after an event: the second half of the table, in code.
 ghost use Rattle.std.specs.Prelude.{◌≡◌, ◌≤◌};
 ghost use Rattle.feed_core.specs.Prelude.{UNBOUNDED};
-ghost use Rattle.feed_core.specs.World.Kept.{IsKept};
+ghost use Rattle.feed_core.specs.World.Kept.{IsKeptParts};
 ghost use Rattle.feed_core.specs.World.Runs.{given_before};
 ghost use Rattle.feed_core.specs.World.Table.{IsPossible, total_of, is_started, is_over, has_room, shown_room, joined, producing_after, requesting_after, started, answered, seeing, measuring, resting_after, after};
 ghost use Rattle.feed_core.specs.World.Types.{Signal, Look};
@@ -23,7 +23,7 @@ impl Parts {
 
     /// Does what the event does, where it is possible.
     pub(crate) fn advance(&mut self, event: Event)
-        requires kept { IsKept self.old }
+        requires kept { IsKeptParts self.old }
         requires possible { IsPossible event self.old }
         ensures { self.new ≡ after event self.old }
     {
@@ -64,7 +64,7 @@ impl Parts {
 
     /// What the producer's look shows.
     fn look_for_room(&self) -> Producing
-        requires kept { IsKept self.now }
+        requires kept { IsKeptParts self.now }
         ensures { result ≡ shown_room (has_room self.now) }
     {
         let has_room = self.accepted - self.given < self.capacity as u64;

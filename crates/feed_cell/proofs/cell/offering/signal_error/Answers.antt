@@ -1,9 +1,9 @@
 use Rattle.std.proofs.Common.{◌≡◌, ◌+◌, ◌*◌, ◌/◌, ◌^◌, ◌∙◌, ℕ, Some, rules, ap, arith}
 use Rattle.feed_cell.proofs.Signalling.{signals_error}
 use Rattle.feed_core.specs.Prelude.{Ending}
+use Rattle.feed_cell.specs.Types.{Closing}
 use Rattle.feed_cell.proofs.Starting.{signalled}
 use Rattle.feed_cell.specs.Plays.{after_signal}
-use Rattle.feed_cell.specs.Types.{Closing}
 use Rattle.feed_cell.proofs.cell.offering.signal_error.Goals as goal
 
 pub fetch_or-found-requires : goal.fetch_or-found-requires
