@@ -219,6 +219,7 @@ module _ {B : Type 0} (told : B → List Signal) where
           turned = whole_turn before.0 (told_out told before.1) seen.signals t.start t.base t.took Again t.knew t.met t.opened (let c = t.counted in omega arith) t.grants (t.one_each ∙ sym t.counted) t.granted t.text;
           taken = missed.taken ∙ t.taken;
           grants = missed.grants ∙ t.grants_are;
+          away = missed.going.away;
           told_is = missed.text ∙ t.told_is;
           why = inr (missed.misses ∙ ap (λ n. n + 1) t.misses);
         })
@@ -259,13 +260,14 @@ module _ {B : Type 0} (told : B → List Signal) where
         )
 
   -- a turn is over after 64 items
-  pub full : (before me : SeatOf B) (seen : List Signal) → TellsSoFar told 64 before me seen → GoesOnAs before.0 me.0 (told_out told before.1) (told_out told me.1) seen
-  full before me seen t =
+  pub full : (before me : SeatOf B) (seen : List Signal) → IsGoing told me → TellsSoFar told 64 before me seen → GoesOnAs before.0 me.0 (told_out told before.1) (told_out told me.1) seen
+  full before me seen going t =
       let turned = whole_turn before.0 (told_out told before.1) seen t.start t.base t.took Again t.knew t.met t.opened (let c = t.counted in omega arith) t.grants (t.one_each ∙ sym t.counted) t.granted t.text in
       record {
         turned = turned;
         taken = t.taken;
         grants = t.grants_are;
+        away = going.away;
         told_is = t.told_is;
         why = inl (all (items_of seen) t.took turned.given ∙ t.counted, t.misses);
       }

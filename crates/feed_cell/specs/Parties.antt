@@ -54,7 +54,7 @@ new_producer capacity table = record { table = table; end = record { capacity = 
 abbrev pub new_handle : ℕ → TableId → HandleState
 new_handle capacity table = record { table = table; capacity = capacity; asked = 0; cancelled = false; argument = false; ready = true; started = 0 }
 
--- its task was never run, and its subscriber was told nothing
+-- its task was never run, and has its subscriber with it, which was told nothing
 pub record IsNewTask (table : TableId) (capacity : ℕ) (task : TaskState) : Type 0 where
   pub table_is : task.table ≡ table
   pub sized : task.knows.capacity ≡ capacity
@@ -63,6 +63,7 @@ pub record IsNewTask (table : TableId) (capacity : ℕ) (task : TaskState) : Typ
   pub own : task.knows.own ≡ 0
   pub answers : task.knows.answers ≡ no_causes
   pub misses : task.knows.misses ≡ 0
+  pub away : task.knows.away ≡ true
   pub untold : task.told ≡ []
 
 -- a task that a signal started: its subscriber is at home

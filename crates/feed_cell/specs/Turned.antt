@@ -67,6 +67,8 @@ pub record GoesOnAs (old new : View) (known later seen : List Signal) : Type 0 w
   pub turned : IsTurnOf old known seen Again
   pub taken : new.taken ≡ turned.base ++ turned.took
   pub grants : new.grants ≡ old.grants ++ turned.grants
+  -- its subscriber stays with it, so that it knows what that was told
+  pub away : new.away ≡ true
   pub told_is : later ≡ turned.start ++ seen
   pub why : ((length (items_of seen) ≡ ITEMS_IN_A_TURN) × (new.misses ≡ old.misses)) ⊎ (new.misses ≡ old.misses + 1)
 

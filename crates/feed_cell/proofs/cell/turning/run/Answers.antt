@@ -99,7 +99,7 @@ returns-clause-runs g c =
     let at_end = c.loop-test.false in
     let end : c.loop.counter ≡ 64 = let most = c.loop.auto.counter-end in omega arith in
     let going = going_on g.B.Listener.told c.loop.stage c.loop.counter c.args.seat.now.me c.loop.seat.me c.loop.seen.signals (omega arith) c.loop.invariant.0 in
-    (going.0, full g.B.Listener.told c.args.seat.now.me c.loop.seat.me c.loop.seen.signals (subst (λ (n : ℕ). TellsSoFar g.B.Listener.told n c.args.seat.now.me c.loop.seat.me c.loop.seen.signals) end going.1))
+    (going.0, full g.B.Listener.told c.args.seat.now.me c.loop.seat.me c.loop.seen.signals going.0 (subst (λ (n : ℕ). TellsSoFar g.B.Listener.told n c.args.seat.now.me c.loop.seat.me c.loop.seen.signals) end going.1))
 
 pub returns-clause-room : goal.returns-clause-room
 returns-clause-room g c = c.loop.invariant.1
