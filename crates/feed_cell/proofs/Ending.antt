@@ -6,11 +6,12 @@ use Rattle.feed_core.specs.Cause.{with_cause_of}
 use Rattle.feed_core.specs.Prelude.{How, Item, Signal}
 use Rattle.feed_core.specs.World.Table.{MayEnd, after}
 use Rattle.feed_cell.specs.Types.{Causes, End}
-use Rattle.feed_cell.proofs.Outlooks.{has_none, reached_end}
+use Rattle.feed_cell.proofs.Outlooks.{reached_end}
 use Rattle.feed_cell.proofs.Places.{lies_guest, changed}
 use Rattle.feed_cell.proofs.Reading.{or_true}
 use Rattle.feed_cell.proofs.Seats.{other, spent}
 use Rattle.feed_cell.proofs.Stages.{seated}
+use Rattle.feed_cell.proofs.Tallies.{has_none}
 use Rattle.feed_cell.specs.Cell.{Lies, CellRule, IsToldAtEnd}
 use Rattle.feed_cell.specs.Control.{Flags, MARK, causes_of, marked}
 use Rattle.feed_cell.specs.Plays.{outlook_by, IsEnd}
@@ -47,7 +48,7 @@ module _ {B : Type 0} (told : B → List Signal) where
         tt,
         record {
           world = after (End how) p;
-          reached = reached_end how id v w c.reached here at (inr (inr is.2)) (ap outlook_by how_is) refl (has_none w is.0 is.1 refl) seat.over;
+          reached = reached_end how id v w c.reached here at (inr (inr is.2)) (ap outlook_by how_is) refl refl (has_none w is.0 is.1 refl) seat.over;
           log = c.log;
           taken = c.taken;
           item = c.item;

@@ -37,7 +37,7 @@ module _ {B : Type 0} (told : B → List Signal) where
       let was : get_elem? s.views from ≡ some w = ⊎_elim (λ here. absurd (apart here.0)) (λ else. else.1) (at_set s.views id from (with_asking v w) w later) in
       record {
         world = c.world;
-        reached = reached_joined id from v (with_asking v w) w no_part c.reached at (inl puts) later (c.reached.goes from w was (inr (inl asks))) refl refl refl refl;
+        reached = reached_joined id from v (with_asking v w) w no_part c.reached at (inl puts) later (c.reached.goes from w was (inr (inl asks))) refl refl refl refl refl refl;
         log = c.log;
         taken = c.taken;
         item = c.item;

@@ -8,11 +8,11 @@ use Rattle.atomic_table.specs.Table.{Splits}
 use Rattle.feed_core.specs.Prelude.{Signal}
 use Rattle.feed_core.specs.World.Table.{is_started, is_over}
 use Rattle.feed_cell.specs.Types.{Hand, Producer, Handle, Producing, Free, Hands, Requesting, Idle, HandsOver, Runner, Coming, Ready}
-use Rattle.feed_cell.proofs.Outlooks.{stays_by, reached_more, reached_with, reached_lawful}
+use Rattle.feed_cell.proofs.Outlooks.{reached_hand, reached_with, reached_lawful}
 use Rattle.feed_cell.proofs.Seats.{mine, other, added, comes}
 use Rattle.feed_cell.specs.Cell.{Only, CellRule, AsProducer, AsHandle, has_seat, may_hold, LodgesAt}
 use Rattle.feed_cell.specs.Control.{marked}
-use Rattle.feed_cell.specs.Outlooks.{IsReachedBy, one_miss}
+use Rattle.feed_cell.specs.Outlooks.{IsReachedBy}
 use Rattle.feed_cell.specs.Views.{IsProducer, IsHandle, has_put, has_ask, has_run, producer_handed, handle_handed, running_handed}
 use Rattle.feed_cell.specs.declared.cell.Held.{Held}
 use Rattle.feed_cell.specs.declared.cell.View.{View}
@@ -63,7 +63,7 @@ module _ {B : Type 0} (told : B → List Signal) (cap : ℕ) where
       let hands : p.producer ≡ Hands = sym k.stands ∙ stage in
       let coming : p.runner ≡ Coming = (reached_lawful c.reached).coming.1 (inl hands) in
       hand_kept s c id v (producer_handed v) Free p.handle coming k.sized is.2
-      (reached_with (running_handed v) (reached_more (Hand Producer) id v (producer_handed v) c.reached hands at (inl is.0) (refl, refl) (stays_by p.runner Ready (ap is_over coming) refl (ap (λ (r : Runner). one_miss r Ready) coming))) refl refl) c.shows.settled
+      (reached_with (running_handed v) (reached_hand (Hand Producer) id v (producer_handed v) c.reached hands at (inl is.0) refl refl refl coming refl) refl refl refl) c.shows.settled
       (mine has_put c.producer _ _ s.views id v (producer_handed v) c.producers at is.0 (record { sized = k.sized; put = k.put; seen = k.seen; places = k.places; over = λ e. (let never : true ≡ false = sym (k.over e) ∙ ap is_over coming in cc); closed = k.closed; doubled = k.doubled; stands = refl }))
       (other has_ask c.handle _ _ s.views id (producer_handed v) c.handles is.1 (λ d h. h))
 
@@ -75,7 +75,7 @@ module _ {B : Type 0} (told : B → List Signal) (cap : ℕ) where
       let hands : p.handle ≡ HandsOver = sym k.stands ∙ stage in
       let coming : p.runner ≡ Coming = (reached_lawful c.reached).coming.1 (inr hands) in
       hand_kept s c id v (handle_handed v) p.producer Idle coming k.sized is.2
-      (reached_with (running_handed v) (reached_more (Hand Handle) id v (handle_handed v) c.reached hands at (inr (inl is.1)) (refl, refl) (stays_by p.runner Ready (ap is_over coming) refl (ap (λ (r : Runner). one_miss r Ready) coming))) refl refl) (λ _. refl)
+      (reached_with (running_handed v) (reached_hand (Hand Handle) id v (handle_handed v) c.reached hands at (inr (inl is.1)) refl refl refl coming refl) refl refl refl) (λ _. refl)
       (other has_put c.producer _ _ s.views id (handle_handed v) c.producers is.0 (λ d o. subst (λ (r : Runner). AsProducer cap c.log p.given c.free (is_over r) c.flags.closing c.flags.state p.producer d) coming o))
       (mine has_ask c.handle _ _ s.views id v (handle_handed v) c.handles at is.1 (record { sized = k.sized; total = k.total; cancels = k.cancels; bad = k.bad; leaves = k.leaves; stands = refl }))
 

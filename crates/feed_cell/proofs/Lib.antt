@@ -31,4 +31,5 @@ pub mod Signalling
 pub mod Stages
 pub mod Starting
 pub mod Taking
+pub mod Tallies
 pub mod Turned

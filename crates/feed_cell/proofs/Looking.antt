@@ -7,11 +7,12 @@ use Rattle.atomic_table.specs.Table.{State, keeps, takes, Allows}
 use Rattle.feed_core.specs.Prelude.{Answer, Item, Signal, UNBOUNDED, total_after}
 use Rattle.feed_core.specs.World.Table.{MayLook, total_of, after}
 use Rattle.feed_cell.specs.Types.{Causes, Look, Runner, Ready, Looked, Parts}
-use Rattle.feed_cell.proofs.Outlooks.{stays_on, reached_more, reached_kept}
+use Rattle.feed_cell.proofs.Outlooks.{reached_more, reached_kept}
 use Rattle.feed_cell.proofs.Places.{lies_guest}
 use Rattle.feed_cell.proofs.Reading.{reads_look, or_true}
 use Rattle.feed_cell.proofs.Seats.{mine, other}
 use Rattle.feed_cell.proofs.Stages.{seated}
+use Rattle.feed_cell.proofs.Tallies.{stays_on}
 use Rattle.feed_cell.specs.Cell.{Lies, CellRule, AsProducer, AsRunner, LodgesAt, may_hold}
 use Rattle.feed_cell.specs.Control.{Flags, Reads, causes_of, marked}
 use Rattle.feed_cell.specs.Outlooks.{IsReachedBy}
@@ -107,7 +108,7 @@ module _ {B : Type 0} (told : B → List Signal) where
       let w : View = after_causes v found c.flags g.own g.answers v.taken in
       let reached : IsReachedBy (set s.views id w) (looked_with g.own (causes_of c.flags g.answers) p) =
       subst (IsReachedBy (set s.views id w)) (effect answer p c.flags c.answers c.shows.causes ∙ ap₂ (λ (a : ℕ) (b : Causes). looked_with a (causes_of c.flags b) p) own_there answers_there)
-      (reached_more (Look answer) id v w c.reached here at (inr (inr is.2)) (refl, refl) (stays_on p.runner (after (Look answer) p).runner (seated p.runner k.seated).over refl (λ e. cc))) in (
+      (reached_more (Look answer) id v w c.reached here at (inr (inr is.2)) (refl, refl, refl) (stays_on p.runner (after (Look answer) p).runner (seated p.runner k.seated).over refl (λ e. cc))) in (
         w,
         keeps,
         tt,
@@ -133,7 +134,7 @@ module _ {B : Type 0} (told : B → List Signal) where
       let w : View = after_causes v found c.flags g.own g.answers c.taken in
       let reached : IsReachedBy (set s.views id w) (looked_with g.own (causes_of c.flags g.answers) p) =
       subst (IsReachedBy (set s.views id w)) (effect Answer.Go p c.flags c.answers c.shows.causes ∙ ap₂ (λ (a : ℕ) (b : Causes). looked_with a (causes_of c.flags b) p) (sym lodge.own_is) (sym lodge.answers_are))
-      (reached_more (Look Answer.Go) id v w c.reached here at (inr (inr is.2)) (refl, refl) (stays_on p.runner (after (Look Answer.Go) p).runner (seated p.runner k.seated).over refl (λ e. cc))) in (
+      (reached_more (Look Answer.Go) id v w c.reached here at (inr (inr is.2)) (refl, refl, refl) (stays_on p.runner (after (Look Answer.Go) p).runner (seated p.runner k.seated).over refl (λ e. cc))) in (
         w,
         takes v.capacity (Held.Guest g),
         ap (λ (j : ℕ). get_elem? s.homes j) k.sized ∙ lodge.at,

@@ -75,7 +75,7 @@ module _ {B : Type 0} (told : B → List Signal) where
       let r = (c.runners id v at runs).1 in
       record {
         world = c.world;
-        reached = reached_with (running_alone v) (reached_too id v (without_running v) c.reached at (inl puts) (refl, refl)) (c.reached.goes id v at (inl puts)) refl;
+        reached = reached_with (running_alone v) (reached_too id v (without_running v) c.reached at (inl puts) (refl, refl, refl)) (c.reached.goes id v at (inl puts)) refl refl;
         log = c.log;
         taken = c.taken;
         item = c.item;
@@ -109,7 +109,7 @@ module _ {B : Type 0} (told : B → List Signal) where
       let h = (c.handles id v at asks).1 in
       record {
         world = c.world;
-        reached = reached_with (asking_alone v) (reached_too id v (without_asking v) c.reached at (inl puts) (refl, refl)) (c.reached.goes id v at (inl puts)) refl;
+        reached = reached_with (asking_alone v) (reached_too id v (without_asking v) c.reached at (inl puts) (refl, refl, refl)) (c.reached.goes id v at (inl puts)) refl refl;
         log = c.log;
         taken = c.taken;
         item = c.item;
@@ -150,7 +150,7 @@ module _ {B : Type 0} (told : B → List Signal) where
         ap (λ (j : ℕ). get_elem? s.homes j) k.sized ∙ vacant,
         record {
           world = c.world;
-          reached = reached_too id v w c.reached at (inr (inr is.2)) (refl, refl);
+          reached = reached_too id v w c.reached at (inr (inr is.2)) (refl, refl, refl);
           log = c.log;
           taken = c.taken;
           item = c.item;

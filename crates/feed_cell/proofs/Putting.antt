@@ -6,10 +6,11 @@ use Rattle.atomic_table.specs.Table.{gives, Allows, rest}
 use Rattle.feed_core.specs.Prelude.{Item, Signal}
 use Rattle.feed_core.specs.World.Table.{is_over, after}
 use Rattle.feed_cell.specs.Types.{Put, HasRoom, HasPut}
-use Rattle.feed_cell.proofs.Outlooks.{stays_same, reached_more}
+use Rattle.feed_cell.proofs.Outlooks.{reached_more}
 use Rattle.feed_cell.proofs.Places.{lies_put, stays_home}
 use Rattle.feed_cell.proofs.Seats.{mine, other}
 use Rattle.feed_cell.proofs.Stages.{lodges_else}
+use Rattle.feed_cell.proofs.Tallies.{stays_same}
 use Rattle.feed_cell.specs.Cell.{Lies, CellRule}
 use Rattle.feed_cell.specs.Control.{marked}
 use Rattle.feed_cell.specs.Plays.{SeatOf, IsPut}
@@ -41,7 +42,7 @@ module _ {B : Type 0} (told : B → List Signal) where
         tt,
         record {
           world = after Put p;
-          reached = reached_more Put id v w c.reached (stage_is, closing_is) at (inl is.0) (refl, refl) (stays_same p.runner);
+          reached = reached_more Put id v w c.reached (stage_is, closing_is) at (inl is.0) (refl, refl, refl) (stays_same p.runner);
           log = log;
           taken = c.taken;
           item = c.item;

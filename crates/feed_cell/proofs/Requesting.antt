@@ -4,8 +4,9 @@ use Rattle.atomic_table.specs.Table.{keeps, Allows}
 use Rattle.feed_core.specs.Prelude.{Signal, total_after}
 use Rattle.feed_core.specs.World.Table.{is_over, after}
 use Rattle.feed_cell.specs.Types.{Ask, Idle, HasAsked}
-use Rattle.feed_cell.proofs.Outlooks.{stays_same, reached_more, reached_too}
+use Rattle.feed_cell.proofs.Outlooks.{reached_more, reached_too}
 use Rattle.feed_cell.proofs.Seats.{mine, other}
+use Rattle.feed_cell.proofs.Tallies.{stays_same}
 use Rattle.feed_cell.specs.Cell.{CellRule}
 use Rattle.feed_cell.specs.Control.{MARK, marked}
 use Rattle.feed_cell.specs.Plays.{SeatOf, IsAsk, Leaves}
@@ -27,7 +28,7 @@ module _ {B : Type 0} (told : B → List Signal) where
         tt,
         record {
           world = after (Ask m) p;
-          reached = reached_more (Ask m) id v w c.reached (sym k.stands ∙ idle, some) at (inr (inl is.1)) (refl, refl) (stays_same p.runner);
+          reached = reached_more (Ask m) id v w c.reached (sym k.stands ∙ idle, some) at (inr (inl is.1)) (refl, refl, refl) (stays_same p.runner);
           log = c.log;
           taken = c.taken;
           item = c.item;
@@ -66,7 +67,7 @@ module _ {B : Type 0} (told : B → List Signal) where
         tt,
         record {
           world = p;
-          reached = reached_too id v w c.reached at (inr (inl is.1)) (refl, refl);
+          reached = reached_too id v w c.reached at (inr (inl is.1)) (refl, refl, refl);
           log = c.log;
           taken = c.taken;
           item = c.item;

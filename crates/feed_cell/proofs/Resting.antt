@@ -11,14 +11,15 @@ use Rattle.feed_core.specs.declared.turn.outlook.Outlook.TheVariants.{Resting}
 use Rattle.feed_core.specs.World.Table.{MayRest, is_started, resting_after, after}
 use Rattle.feed_cell.specs.Types.{Rest, Nobody, Ready, Runner}
 use Rattle.feed_cell.proofs.Moving.{knows_too, move_kept}
-use Rattle.feed_cell.proofs.Outlooks.{has_none, reached_miss, reached_rest}
+use Rattle.feed_cell.proofs.Outlooks.{reached_miss, reached_rest}
 use Rattle.feed_cell.proofs.Places.{lies_guest, changed}
 use Rattle.feed_cell.proofs.Reading.{reads_rest}
 use Rattle.feed_cell.proofs.Seats.{other, spent}
 use Rattle.feed_cell.proofs.Stages.{seated}
+use Rattle.feed_cell.proofs.Tallies.{has_none}
 use Rattle.feed_cell.specs.Cell.{Lies, CellRule, AsProducer, greeted, has_looked}
 use Rattle.feed_cell.specs.Control.{Reads, number, marked}
-use Rattle.feed_cell.specs.Outlooks.{IsReachedBy, one_miss}
+use Rattle.feed_cell.specs.Outlooks.{IsReachedBy, miss_between, hand_between}
 use Rattle.feed_cell.specs.Plays.{IsRest}
 use Rattle.feed_cell.specs.Views.{IsRunner, has_put, has_ask, has_run}
 use Rattle.feed_cell.specs.declared.cell.Held.{Held}
@@ -57,7 +58,7 @@ module _ {B : Type 0} (told : B → List Signal) (cap : ℕ) (s : State (Held B)
       let item_is : c.item ≡ [] = sym k.item_is ∙ none_out in
       let w : View = record v { runner = Nobody; runs = false; away = false; outlook = Resting } in
       let reached : IsReachedBy (set s.views id w) (record p { runner = Nobody }) = subst (IsReachedBy (set s.views id w)) (ap (λ b. record p { runner = resting_after b }) idle)
-      (reached_rest id v w c.reached there at (inr (inr is.2)) refl refl (has_none w is.0 is.1 refl) seat.runs seat.over (ap (λ b. is_started (resting_after b)) idle)) in (
+      (reached_rest id v w c.reached there at (inr (inr is.2)) refl refl refl (has_none w is.0 is.1 refl) seat.runs seat.over (ap (λ b. is_started (resting_after b)) idle)) in (
         w,
         gives,
         tt,
@@ -100,7 +101,8 @@ module _ {B : Type 0} (told : B → List Signal) (cap : ℕ) (s : State (Held B)
       let busy : p.active ≡ true = by p.active refl in
       let w : View = record v { runner = Ready; misses = v.misses + 1 } in
       let reached : IsReachedBy (set s.views id w) (record p { runner = Ready }) = subst (IsReachedBy (set s.views id w)) (ap (λ b. record p { runner = resting_after b }) busy)
-      (reached_miss id v w c.reached there at (inr (inr is.2)) refl refl (seated p.runner k.seated).over (ap (λ b. is_started (resting_after b)) busy) (ap (λ b. one_miss p.runner (resting_after b)) busy ∙ ap (λ (r : Runner). one_miss r Ready) stage)) in
+      (reached_miss id v w c.reached there at (inr (inr is.2)) refl refl refl (seated p.runner k.seated).over (ap (λ b. is_started (resting_after b)) busy) (ap (λ b. miss_between p.runner (resting_after b)) busy ∙ ap (λ (r : Runner). miss_between r Ready) stage)
+      (ap (λ b. hand_between p.runner (resting_after b)) busy ∙ ap (λ (r : Runner). hand_between r Ready) stage)) in
       let item_is : c.item ≡ [] = sym k.item_is ∙ none_out in (
         w,
         keeps,

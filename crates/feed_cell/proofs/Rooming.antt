@@ -10,10 +10,11 @@ use Rattle.feed_core.specs.Prelude.{Item, Signal, total_after}
 use Rattle.feed_core.specs.World.Table.{MayBegin, is_over, has_room, shown_room, after}
 use Rattle.feed_core.proofs.Interleavings.Putting.{room_found, room_missing, room_of_ended}
 use Rattle.feed_cell.specs.Types.{Room, Free, HasRoom, Producing, Parts}
-use Rattle.feed_cell.proofs.Outlooks.{ShowsSame, stays_same, reached_more, reached_kept}
+use Rattle.feed_cell.proofs.Outlooks.{ShowsSame, reached_more, reached_kept}
 use Rattle.feed_cell.proofs.Places.{lies_room, stays_home}
 use Rattle.feed_cell.proofs.Seats.{mine, other}
 use Rattle.feed_cell.proofs.Stages.{lodges_else}
+use Rattle.feed_cell.proofs.Tallies.{stays_same}
 use Rattle.feed_cell.specs.Cell.{Lists, Lies, LodgesAt, CellRule, AsProducer}
 use Rattle.feed_cell.specs.Control.{MARK, marked}
 use Rattle.feed_cell.specs.Plays.{SeatOf, FindsRoom, FindsHead, after_look}
@@ -112,7 +113,7 @@ module _ {B : Type 0} (told : B → List Signal) (cap : ℕ) (s : State (Held B)
 
   -- no slot is taken
   stays : (p : Producing) → shown_room (has_room c.world) ≡ p → CellRule told cap (record { words = set s.words 0 (slice_index s.words 0); homes = s.homes; views = set s.views id (looked p 0) })
-  stays p shown = room_kept told cap s c id v (looked p 0) c.free s.homes at is may is.1 is.2 (refl, refl) c.lists c.lies c.lodges (knows p 0 c.free shown (free_is ∙ omega arith))
+  stays p shown = room_kept told cap s c id v (looked p 0) c.free s.homes at is may is.1 is.2 (refl, refl, refl) c.lists c.lies c.lodges (knows p 0 c.free shown (free_is ∙ omega arith))
 
   -- the next slot is
   takes_place : length c.log < length c.taken + cap → shown_room (has_room c.world) ≡ HasRoom
@@ -120,7 +121,7 @@ module _ {B : Type 0} (told : B → List Signal) (cap : ℕ) (s : State (Held B)
   takes_place room shown =
       let within : length c.taken + length c.item ≤ length c.log = c.lists.within in
       let l = c.lists in
-      room_kept told cap s c id v (looked HasRoom 1) (length c.log + 1) (set s.homes (length v.put % v.capacity) slot.none) at is may is.1 is.2 (refl, refl)
+      room_kept told cap s c id v (looked HasRoom 1) (length c.log + 1) (set s.homes (length v.put % v.capacity) slot.none) at is may is.1 is.2 (refl, refl, refl)
       (record { sized = l.sized; begins = l.begins; one_out = l.one_out; within = l.within; above = omega arith; below = omega arith })
       (lies_room cap c.log s.homes (length c.taken) (length c.taken + length c.item) (length v.put % v.capacity) l.sized (omega arith) (omega arith) room slot_is
       (subst (λ (m : ℕ). Lies cap c.log (length c.taken) (length c.taken + length c.item) m s.homes) free_is c.lies))

@@ -8,13 +8,14 @@ use lib.ListN.{get_elem?}
 use Rattle.atomic_table.specs.Table.{keeps, takes, gives, Allows}
 use Rattle.feed_core.specs.Prelude.{Item, Signal, total_after}
 use Rattle.feed_core.specs.World.Table.{MaySee, MayMeasure, is_started, is_over, seeing, measuring, total_of}
-use Rattle.feed_cell.specs.Types.{See, Measure, Runner, Looked, Saw, Measured}
+use Rattle.feed_cell.specs.Types.{See, Measure, Runner, Ready, Looked, Saw, Measured}
 use Rattle.feed_cell.proofs.Lists.{there, take_one_more, parted}
 use Rattle.feed_cell.proofs.Moving.{knows_too, move_kept}
-use Rattle.feed_cell.proofs.Outlooks.{ShowsSame, stays_by, reached_more, reached_kept}
+use Rattle.feed_cell.proofs.Outlooks.{ShowsSame, reached_more, reached_kept}
 use Rattle.feed_cell.proofs.Places.{lies_out, lies_back}
+use Rattle.feed_cell.proofs.Tallies.{stays_on}
 use Rattle.feed_cell.specs.Cell.{Lies, CellRule, may_hold, has_looked}
-use Rattle.feed_cell.specs.Outlooks.{IsReachedBy, one_miss}
+use Rattle.feed_cell.specs.Outlooks.{IsReachedBy}
 use Rattle.feed_cell.specs.Plays.{SeatOf, SeesPut, Measures, MeasuresNone}
 use Rattle.feed_cell.specs.Views.{IsRunner}
 use Rattle.feed_cell.specs.declared.cell.Held.{Held}
@@ -38,7 +39,7 @@ module _ {B : Type 0} (told : B → List Signal) where
       let words_are = ap (λ (ws : List ℕ). set ws 1 (slice_index ws 1)) c.words in
       let reached : (w : View) → ShowsSame v w → IsReachedBy (set s.views id w) (record p { runner = Saw may.0 p.accepted }) =
       λ w same. subst (IsReachedBy (set s.views id w)) (ap (λ (r : Runner). record p { runner = seeing p.accepted r }) stage)
-      (reached_more See id v w c.reached (may.0, stage, may.2) at (inr (inr is.2)) same (stays_by p.runner (seeing p.accepted p.runner) (ap is_over stage) (ap (λ (r : Runner). is_started (seeing p.accepted r)) stage) (ap (λ (r : Runner). one_miss r (seeing p.accepted r)) stage))) in
+      (reached_more See id v w c.reached (may.0, stage, may.2) at (inr (inr is.2)) same (stays_on p.runner (seeing p.accepted p.runner) (ap is_over stage) (ap (λ (r : Runner). is_started (seeing p.accepted r)) stage) (λ e. (let clash : Saw may.0 p.accepted ≡ Ready = sym (ap (seeing p.accepted) stage) ∙ e in cc)))) in
       let stands : seeing found v.runner ≡ Saw may.0 p.accepted = ap (seeing found) may.1 ∙ ap (Saw may.0) found_is in
       let taken_is : length v.taken ≡ length c.taken = ap length know.taken_is in
       let slot_is : length v.taken % v.capacity ≡ length c.taken % cap = ap (λ (m : ℕ). m % v.capacity) taken_is ∙ ap (λ (m : ℕ). length c.taken % m) k.sized in
@@ -57,7 +58,7 @@ module _ {B : Type 0} (told : B → List Signal) where
         w,
         takes (length v.taken % v.capacity) (Held.Item x),
         ap (λ (j : ℕ). get_elem? s.homes j) slot_is ∙ lies.items (length c.taken) x (omega arith) next.1,
-        move_kept told cap s c id v w (Saw may.0 p.accepted) (x ∷ []) _ (set s.homes (length v.taken % v.capacity) none) at is is.0 is.1 refl (reached w (refl, refl)) (λ e. cc)
+        move_kept told cap s c id v w (Saw may.0 p.accepted) (x ∷ []) _ (set s.homes (length v.taken % v.capacity) none) at is is.0 is.1 refl (reached w (refl, refl, refl)) (λ e. cc)
             (record {
               sized = c.lists.sized;
               begins = ap (λ (l : List Item). l ++ x ∷ []) (sym (append-nil c.taken) ∙ ap (λ (l : List Item). c.taken ++ l) (sym item_is) ∙ c.lists.begins ∙ ap (λ (m : ℕ). take m c.log) (omega arith))
@@ -77,7 +78,7 @@ module _ {B : Type 0} (told : B → List Signal) where
         w,
         keeps,
         tt,
-        move_kept told cap s c id v w (Saw may.0 p.accepted) c.item _ s.homes at is is.0 is.1 refl (reached w (refl, refl)) (λ e. cc) c.lists c.lies words_are
+        move_kept told cap s c id v w (Saw may.0 p.accepted) c.item _ s.homes at is is.0 is.1 refl (reached w (refl, refl, refl)) (λ e. cc) c.lists c.lies words_are
             (record { sized = k.sized; seated = refl; stands = stands; out = out; knows = λ _. knows_too c.taken p.own c.answers v w refl refl refl know; fresh = λ e. cc; item_is = k.item_is; latest = λ _ quiet. k.latest (ap has_looked stage) quiet }),
         record { put = omega arith; waits = λ more. absurd (omega (arith, none_more)); empty = λ _. refl },
       ))
@@ -94,7 +95,7 @@ module _ {B : Type 0} (told : B → List Signal) where
       let total : total_after p.asked v.own ≡ total_of p = ap (total_after p.asked) know.own_is in
       let reached : (w : View) → ShowsSame v w → IsReachedBy (set s.views id w) (record p { runner = Measured may.0 may.1 (total_of p) }) =
       λ w same. subst (IsReachedBy (set s.views id w)) (ap (λ (r : Runner). record p { runner = measuring (total_of p) r }) stage)
-      (reached_more Measure id v w c.reached (may.0, may.1, stage) at (inr (inr is.2)) same (stays_by p.runner (measuring (total_of p) p.runner) (ap is_over stage) (ap (λ (r : Runner). is_started (measuring (total_of p) r)) stage) (ap (λ (r : Runner). one_miss r (measuring (total_of p) r)) stage))) in
+      (reached_more Measure id v w c.reached (may.0, may.1, stage) at (inr (inr is.2)) same (stays_on p.runner (measuring (total_of p) p.runner) (ap is_over stage) (ap (λ (r : Runner). is_started (measuring (total_of p) r)) stage) (λ e. (let clash : Measured may.0 may.1 (total_of p) ≡ Ready = sym (ap (measuring (total_of p)) stage) ∙ e in cc)))) in
       let stands : measuring (total_after p.asked v.own) v.runner ≡ Measured may.0 may.1 (total_of p) = ap (measuring (total_after p.asked v.own)) may.2 ∙ ap (Measured may.0 may.1) total in
       let taken_is : length v.taken ≡ length c.taken = ap length know.taken_is in
       let given : p.given ≡ length c.taken = c.shows.given in
@@ -103,7 +104,7 @@ module _ {B : Type 0} (told : B → List Signal) where
         w,
         keeps,
         tt,
-        move_kept told cap s c id v w (Measured may.0 may.1 (total_of p)) c.item _ s.homes at is is.0 is.1 refl (reached w (refl, refl)) (λ e. cc) c.lists c.lies (ap (λ (ws : List ℕ). set ws 2 (slice_index ws 2)) c.words)
+        move_kept told cap s c id v w (Measured may.0 may.1 (total_of p)) c.item _ s.homes at is is.0 is.1 refl (reached w (refl, refl, refl)) (λ e. cc) c.lists c.lies (ap (λ (ws : List ℕ). set ws 2 (slice_index ws 2)) c.words)
             (record { sized = k.sized; seated = refl; stands = stands; out = out; knows = λ _. knows_too c.taken p.own c.answers v w refl refl refl know; fresh = λ e. cc; item_is = k.item_is; latest = λ _ quiet. k.latest (ap has_looked stage) quiet }),
         record { asked = p.asked; left = c.left; found_is = ap (λ ws. slice_index ws 2) c.words; bounded = kept.asked_bounded; met = omega arith; measured = refl },
       )
@@ -120,7 +121,7 @@ module _ {B : Type 0} (told : B → List Signal) where
       let total : total_after p.asked v.own ≡ total_of p = ap (total_after p.asked) know.own_is in
       let reached : (w : View) → ShowsSame v w → IsReachedBy (set s.views id w) (record p { runner = Measured may.0 may.1 (total_of p) }) =
       λ w same. subst (IsReachedBy (set s.views id w)) (ap (λ (r : Runner). record p { runner = measuring (total_of p) r }) stage)
-      (reached_more Measure id v w c.reached (may.0, may.1, stage) at (inr (inr is.2)) same (stays_by p.runner (measuring (total_of p) p.runner) (ap is_over stage) (ap (λ (r : Runner). is_started (measuring (total_of p) r)) stage) (ap (λ (r : Runner). one_miss r (measuring (total_of p) r)) stage))) in
+      (reached_more Measure id v w c.reached (may.0, may.1, stage) at (inr (inr is.2)) same (stays_on p.runner (measuring (total_of p) p.runner) (ap is_over stage) (ap (λ (r : Runner). is_started (measuring (total_of p) r)) stage) (λ e. (let clash : Measured may.0 may.1 (total_of p) ≡ Ready = sym (ap (measuring (total_of p)) stage) ∙ e in cc)))) in
       let stands : measuring (total_after p.asked v.own) v.runner ≡ Measured may.0 may.1 (total_of p) = ap (measuring (total_after p.asked v.own)) may.2 ∙ ap (Measured may.0 may.1) total in
       let taken_is : length v.taken ≡ length c.taken = ap length know.taken_is in
       let given : p.given ≡ length c.taken = c.shows.given in
@@ -138,7 +139,7 @@ module _ {B : Type 0} (told : B → List Signal) where
         w,
         keeps,
         tt,
-        move_kept told cap s c id v w (Measured may.0 may.1 (total_of p)) c.item _ s.homes at is is.0 is.1 refl (reached w (refl, refl)) (λ e. cc) c.lists c.lies words_are
+        move_kept told cap s c id v w (Measured may.0 may.1 (total_of p)) c.item _ s.homes at is is.0 is.1 refl (reached w (refl, refl, refl)) (λ e. cc) c.lists c.lies words_are
             (record { sized = k.sized; seated = refl; stands = stands; out = out; knows = λ _. knows_too c.taken p.own c.answers v w refl refl refl know; fresh = λ e. cc; item_is = k.item_is; latest = λ _ quiet. k.latest (ap has_looked stage) quiet }),
         record { asked = p.asked; left = c.left; found_is = ap (λ ws. slice_index ws 2) c.words; bounded = kept.asked_bounded; met = omega arith; wanted = λ _. refl; enough = λ e. absurd (omega arith) },
       ))
@@ -151,7 +152,7 @@ module _ {B : Type 0} (told : B → List Signal) where
         w,
         gives,
         tt,
-        move_kept told cap s c id v w (Measured may.0 may.1 (total_of p)) [] _ (set s.homes i (some (Held.Item x))) at is is.0 is.1 refl (reached w (refl, refl)) (λ _. refl)
+        move_kept told cap s c id v w (Measured may.0 may.1 (total_of p)) [] _ (set s.homes i (some (Held.Item x))) at is is.0 is.1 refl (reached w (refl, refl, refl)) (λ _. refl)
             (record { sized = c.lists.sized; begins = append-nil c.taken ∙ parts.0 ∙ ap (λ (m : ℕ). take m c.log) (omega arith); one_out = omega arith; within = omega arith; above = above; below = below })
             (lies_at cap c.log (length c.taken) (length c.taken) (length c.taken + 0) c.free _ (omega arith)
             (lies_back cap c.log s.homes (length c.taken) c.free i x c.lists.sized (omega arith) (omega arith) slot_is (next.1 ∙ ap (λ (y : Item). some y) (sym parts.1))

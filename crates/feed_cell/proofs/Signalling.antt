@@ -5,10 +5,11 @@ use Rattle.atomic_table.specs.Table.{State, keeps, Allows}
 use Rattle.feed_core.specs.Prelude.{Item, Ending, Signal}
 use Rattle.feed_core.specs.World.Table.{MayBegin, ProducerMay, HandleMay, joined, is_started, is_over, producing_after, requesting_after, started}
 use Rattle.feed_cell.specs.Types.{Cause, Cancel, Argument, State as Doubled, Closing, Signal as Signals, Producer, Handle, Producing, Requesting, Idle}
-use Rattle.feed_cell.proofs.Outlooks.{ShowsSame, stays_started, reached_more}
+use Rattle.feed_cell.proofs.Outlooks.{ShowsSame, reached_more}
 use Rattle.feed_cell.proofs.Reading.{reads_or, adds, mask_error}
 use Rattle.feed_cell.proofs.Seats.{mine, other}
 use Rattle.feed_cell.proofs.Stages.{starts, lodges_started}
+use Rattle.feed_cell.proofs.Tallies.{stays_started}
 use Rattle.feed_cell.specs.Cell.{Only, CellRule, AsProducer, AsHandle}
 use Rattle.feed_cell.specs.Control.{Flags, number, Reads, signal_of, both, marked}
 use Rattle.feed_cell.specs.Outlooks.{IsReachedBy}
@@ -90,11 +91,11 @@ sent_kind (Some Doubled) p v is = is
 sent_kind (Some (Closing ending)) p v is = is
 
 sent_outlook : (cause : Option Cause) (p : Producing) (v : View) → ShowsSame v (sent cause p v)
-sent_outlook None p v = (refl, refl)
-sent_outlook (Some Cancel) p v = (refl, refl)
-sent_outlook (Some Argument) p v = (refl, refl)
-sent_outlook (Some Doubled) p v = (refl, refl)
-sent_outlook (Some (Closing ending)) p v = (refl, refl)
+sent_outlook None p v = (refl, refl, refl)
+sent_outlook (Some Cancel) p v = (refl, refl, refl)
+sent_outlook (Some Argument) p v = (refl, refl, refl)
+sent_outlook (Some Doubled) p v = (refl, refl, refl)
+sent_outlook (Some (Closing ending)) p v = (refl, refl, refl)
 
 sent_knows : (cap : ℕ) (log : List Item) (given free : ℕ) (over : Bool) (f : Flags) (before p : Producing) (closing : Option Ending) (cause : Option Cause) (v : View) → ProducerMay cause before closing → AsProducer cap log given free over f.closing f.state before v
     → AsProducer cap log given free over (both (signal_of cause) f).closing (both (signal_of cause) f).state p (sent cause p v)
@@ -122,11 +123,11 @@ sent_handle_kind (Some Doubled) p v is = is
 sent_handle_kind (Some (Closing ending)) p v is = is
 
 sent_handle_outlook : (cause : Option Cause) (p : Requesting) (v : View) → ShowsSame v (sent_by_handle cause p v)
-sent_handle_outlook None p v = (refl, refl)
-sent_handle_outlook (Some Cancel) p v = (refl, refl)
-sent_handle_outlook (Some Argument) p v = (refl, refl)
-sent_handle_outlook (Some Doubled) p v = (refl, refl)
-sent_handle_outlook (Some (Closing ending)) p v = (refl, refl)
+sent_handle_outlook None p v = (refl, refl, refl)
+sent_handle_outlook (Some Cancel) p v = (refl, refl, refl)
+sent_handle_outlook (Some Argument) p v = (refl, refl, refl)
+sent_handle_outlook (Some Doubled) p v = (refl, refl, refl)
+sent_handle_outlook (Some (Closing ending)) p v = (refl, refl, refl)
 
 sent_handle_knows : (cap asked : ℕ) (f : Flags) (left : Bool) (before h : Requesting) (cause : Option Cause) (v : View) → HandleMay cause before → AsHandle cap asked f.cancel f.argument left before v
     → AsHandle cap asked (both (signal_of cause) f).cancel (both (signal_of cause) f).argument left h (sent_by_handle cause h v)

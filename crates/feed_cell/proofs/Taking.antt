@@ -5,11 +5,12 @@ use Rattle.atomic_table.specs.Table.{gives, Allows}
 use Rattle.feed_core.specs.Prelude.{Item, Signal}
 use Rattle.feed_core.specs.World.Table.{MayTake, after}
 use Rattle.feed_cell.specs.Types.{Take, Taken}
-use Rattle.feed_cell.proofs.Outlooks.{stays_on, reached_more}
+use Rattle.feed_cell.proofs.Outlooks.{reached_more}
 use Rattle.feed_cell.proofs.Places.{lies_taken}
 use Rattle.feed_cell.proofs.Seats.{mine, other}
 use Rattle.feed_cell.proofs.Seeing.{lies_at}
 use Rattle.feed_cell.proofs.Stages.{seated}
+use Rattle.feed_cell.proofs.Tallies.{stays_on}
 use Rattle.feed_cell.specs.Cell.{Lies, CellRule, KnowsAway}
 use Rattle.feed_cell.specs.Control.{marked}
 use Rattle.feed_cell.specs.Plays.{IsTake, grants_by}
@@ -45,7 +46,7 @@ module _ {B : Type 0} (told : B → List Signal) where
         tt,
         record {
           world = after Take p;
-          reached = reached_more Take id v w c.reached here at (inr (inr is.2)) (refl, refl) (stays_on p.runner Taken seat.over refl (λ e. cc));
+          reached = reached_more Take id v w c.reached here at (inr (inr is.2)) (refl, refl, refl) (stays_on p.runner Taken seat.over refl (λ e. cc));
           log = c.log;
           taken = taken;
           item = [];

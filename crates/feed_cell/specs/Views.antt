@@ -53,14 +53,14 @@ abbrev pub without_asking : View → View
 without_asking v = record v { asks = false }
 
 abbrev pub asking_alone : View → View
-asking_alone v = record v { puts = false; runs = false; misses = 0 }
+asking_alone v = record v { puts = false; runs = false; misses = 0; started = 0 }
 
 -- the first task's part goes to a seat of its own
 abbrev pub without_running : View → View
 without_running v = record v { runs = false }
 
 abbrev pub running_alone : View → View
-running_alone v = record v { puts = false; asks = false; misses = 0 }
+running_alone v = record v { puts = false; asks = false; misses = 0; started = 0 }
 
 -- a side has handed over the task that its signal started
 abbrev pub producer_handed : View → View
@@ -80,7 +80,7 @@ running_handed v = record (first_view v.capacity) { puts = false; asks = false; 
 
 -- the producer's seat takes in what the handle's knows, and that has no part any more
 abbrev pub with_asking : View → View → View
-with_asking v h = record v { asks = h.asks; asked = h.asked; requesting = h.requesting; cancel = h.cancel; argument = h.argument; left = h.left; misses = v.misses + h.misses }
+with_asking v h = record v { asks = h.asks; asked = h.asked; requesting = h.requesting; cancel = h.cancel; argument = h.argument; left = h.left; misses = v.misses + h.misses; started = v.started + h.started }
 
 abbrev pub no_part : View
 no_part = record (first_view 0) { puts = false; asks = false; runs = false }
