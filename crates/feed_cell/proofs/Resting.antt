@@ -8,8 +8,8 @@ use Rattle.atomic_table.proofs.Lists.{exchanged}
 use Rattle.atomic_table.specs.Table.{State, Act, keeps, gives, Valid, stepped, carried_after, Allows}
 use Rattle.feed_core.specs.Prelude.{Signal}
 use Rattle.feed_core.specs.declared.turn.outlook.Outlook.TheVariants.{Resting}
-use Rattle.feed_core.specs.World.Table.{MayRest, is_started, resting_after, after}
-use Rattle.feed_cell.specs.Types.{Rest, Nobody, Ready, Runner}
+use Rattle.feed_core.specs.World.Table.{MayRest, is_started, resting_after}
+use Rattle.feed_cell.specs.Types.{Nobody, Ready, Runner}
 use Rattle.feed_cell.proofs.Moving.{knows_too, move_kept}
 use Rattle.feed_cell.proofs.Outlooks.{reached_miss, reached_rest}
 use Rattle.feed_cell.proofs.Places.{lies_guest, changed}

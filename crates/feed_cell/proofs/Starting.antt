@@ -1,11 +1,9 @@
 -- A signal with the hand-over of the task that it started, as one.
-use Rattle.std.proofs.Common.{◌≡◌, ℕ, Option, None, Some, refl, ap, ◌∙◌, arith}
-use Rattle.std.specs.Int.{bit_at}
-use Rattle.feed_core.specs.Prelude.{Ending}
+use Rattle.std.proofs.Common.{◌≡◌, ℕ, Option, None, Some, refl, ap, ◌∙◌}
 use Rattle.feed_cell.specs.Types.{Cause, Cancel, Argument, State, Closing, Producing, Free, Hands, Requesting, Idle, HandsOver}
 use Rattle.feed_cell.specs.Plays.{SeatOf, ProducerSignals, HandleSignals, sent, sent_by_handle, after_signal, handle_after_signal}
 use Rattle.feed_cell.specs.Steps.{IsHanded}
-use Rattle.feed_cell.specs.Views.{producer_handed, handle_handed, starts_after}
+use Rattle.feed_cell.specs.Views.{producer_handed, handle_handed}
 use Rattle.feed_cell.specs.declared.cell.View.{View}
 
 -- one that started none, and one that started a task
