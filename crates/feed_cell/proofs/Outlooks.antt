@@ -12,8 +12,8 @@ use Rattle.feed_core.specs.World.Kept.{IsKeptParts}
 use Rattle.feed_core.specs.World.Lawful.{IsLawful}
 use Rattle.feed_core.proofs.Interleavings.Reaching as Reaching
 use Rattle.feed_cell.proofs.Lists.{at_end}
-use Rattle.feed_cell.proofs.Tallies.{Stays, none_on, unmissed, unhanded, shown_set, shown_end, leads_more}
-use Rattle.feed_cell.specs.Outlooks.{one_rest, rest_between, miss_between, hand_between, rest_in, rest_of, misses_of, starts_of, shown, HasPart, IsReachedBy}
+use Rattle.feed_cell.proofs.Tallies.{Stays, none_on, unmissed, unhanded, shown_count-set, shown_count-append, leads_more}
+use Rattle.feed_cell.specs.Outlooks.{one_rest, rest_between, miss_between, hand_between, rest_in, rest_of, misses_of, starts_of, shown_count, HasPart, IsReachedBy}
 use Rattle.feed_cell.specs.Types.{Event, Make, Rest, End, Runner, Coming, Ready, Over, Parts}
 use Rattle.feed_cell.specs.Views.{first_view}
 use Rattle.feed_cell.specs.declared.cell.View.{View}
@@ -44,13 +44,13 @@ reached_step event {w} {views} id v new r may at part rested missed handed ended
     let went : rest_of v ≡ 0 = ap rest_in (r.goes id v at part) in
     let before = r.rests in
     let counted = more.1 rest_between in
-    let later = shown_set rest_of views id v new at in
+    let later = shown_count-set rest_of views id v new at in
     let missed_before = r.misses in
     let missed_more = more.1 miss_between in
-    let missed_later = shown_set misses_of views id v new at in
+    let missed_later = shown_count-set misses_of views id v new at in
     let handed_before = r.hands in
     let handed_more = more.1 hand_between in
-    let handed_later = shown_set starts_of views id v new at in
+    let handed_later = shown_count-set starts_of views id v new at in
     record {
       events = r.events ++ event ∷ [];
       cut = cut_after event w r.cut;
@@ -121,7 +121,7 @@ reached_end how {w} id v new r may at part shown kept still none unended =
     same_end a b e = cc
 
 -- the same events, and other seats that show as much
-reached_by : {w : Parts} {views later : List View} → IsReachedBy views w → shown rest_of later ≡ shown rest_of views → shown misses_of later ≡ shown misses_of views → shown starts_of later ≡ shown starts_of views → ((j : ℕ) (d : View) (how : How) → get_elem? later j ≡ some d → d.outlook ≡ Ended how → w.runner ≡ Over how)
+reached_by : {w : Parts} {views later : List View} → IsReachedBy views w → shown_count rest_of later ≡ shown_count rest_of views → shown_count misses_of later ≡ shown_count misses_of views → shown_count starts_of later ≡ shown_count starts_of views → ((j : ℕ) (d : View) (how : How) → get_elem? later j ≡ some d → d.outlook ≡ Ended how → w.runner ≡ Over how)
     → ((j : ℕ) (d : View) → get_elem? later j ≡ some d → HasPart d → d.outlook ≡ Again) → IsReachedBy later w
 reached_by r same missed handed ends goes = record { events = r.events; cut = r.cut; leads = r.leads; rests = r.rests ∙ sym same; misses = r.misses ∙ sym missed; hands = r.hands ∙ sym handed; ends = ends; goes = goes }
 
@@ -133,11 +133,11 @@ goes_unended new d how goes same shows = let clash : Again ≡ Ended how = sym g
 pub reached_too : {w : Parts} {views : List View} (id : ℕ) (v new : View) → IsReachedBy views w → get_elem? views id ≡ some v → HasPart v → ShowsSame v new → IsReachedBy (set views id new) w
 reached_too {w} {views} id v new r at part same =
     let goes : new.outlook ≡ Again = same.0 ∙ r.goes id v at part in
-    let later = shown_set rest_of views id v new at in
+    let later = shown_count-set rest_of views id v new at in
     let quiet : rest_of new ≡ rest_of v = ap rest_in same.0 in
-    let missed = shown_set misses_of views id v new at in
+    let missed = shown_count-set misses_of views id v new at in
     let kept = same.1 in
-    let handed = shown_set starts_of views id v new at in
+    let handed = shown_count-set starts_of views id v new at in
     let still = same.2 in
     reached_by r (omega arith) (omega arith) (omega arith)
     (λ j d how there shows. ⊎_elim (λ here. goes_unended new d how goes here.1 shows) (λ else. r.ends j d how else.1 shows) (at_set views id j new d there))
@@ -148,15 +148,15 @@ pub reached_joined : {w : Parts} {views : List View} (id from : ℕ) (v both h s
     → both.outlook ≡ v.outlook → both.misses ≡ v.misses + h.misses → both.started ≡ v.started + h.started → spent.outlook ≡ Again → spent.misses ≡ 0 → spent.started ≡ 0 → IsReachedBy (set (set views id both) from spent) w
 reached_joined {w} {views} id from v both h spent r at part there quiet same sum all off empty none =
     let goes : both.outlook ≡ Again = same ∙ r.goes id v at part in
-    let first = shown_set rest_of views id v both at in
-    let second = shown_set rest_of (set views id both) from h spent there in
+    let first = shown_count-set rest_of views id v both at in
+    let second = shown_count-set rest_of (set views id both) from h spent there in
     let alike : rest_of both ≡ rest_of v = ap rest_in same in
     let nothing_there : rest_of h ≡ 0 = ap rest_in quiet in
     let nothing : rest_of spent ≡ 0 = ap rest_in off in
-    let missed = shown_set misses_of views id v both at in
-    let missed_later = shown_set misses_of (set views id both) from h spent there in
-    let handed = shown_set starts_of views id v both at in
-    let handed_later = shown_set starts_of (set views id both) from h spent there in
+    let missed = shown_count-set misses_of views id v both at in
+    let missed_later = shown_count-set misses_of (set views id both) from h spent there in
+    let handed = shown_count-set starts_of views id v both at in
+    let handed_later = shown_count-set starts_of (set views id both) from h spent there in
     reached_by r (omega arith) (omega arith) (omega arith)
     (λ j d how there shows. ⊎_elim (λ gone. goes_unended spent d how off gone.1 shows) (λ else. ⊎_elim (λ here. goes_unended both d how goes here.1 shows) (λ old. r.ends j d how old.1 shows) (at_set views id j both d else.1)) (at_set (set views id both) from j spent d there))
     (λ j d there has. ⊎_elim (λ gone. sym (ap (λ (x : View). x.outlook) gone.1) ∙ off) (λ else. ⊎_elim (λ here. sym (ap (λ (x : View). x.outlook) here.1) ∙ goes) (λ old. r.goes j d old.1 has) (at_set views id j both d else.1)) (at_set (set views id both) from j spent d there))
@@ -164,10 +164,10 @@ reached_joined {w} {views} id from v both h spent r at part there quiet same sum
 -- a seat comes
 pub reached_with : {w : Parts} {views : List View} (new : View) → IsReachedBy views w → new.outlook ≡ Again → new.misses ≡ 0 → new.started ≡ 0 → IsReachedBy (views ++ new ∷ []) w
 reached_with {w} {views} new r goes none_missed none_started =
-    let later = shown_end rest_of views new in
+    let later = shown_count-append rest_of views new in
     let none : rest_of new ≡ 0 = ap rest_in goes in
-    let missed = shown_end misses_of views new in
-    let handed = shown_end starts_of views new in
+    let missed = shown_count-append misses_of views new in
+    let handed = shown_count-append starts_of views new in
     reached_by r (omega arith) (omega arith) (omega arith)
     (λ j d how there shows. ⊎_elim (λ old. r.ends j d how old shows) (λ here. goes_unended new d how goes here.1 shows) (at_end views new d j there))
     (λ j d there has. ⊎_elim (λ old. r.goes j d old has) (λ here. sym (ap (λ (x : View). x.outlook) here.1) ∙ goes) (at_end views new d j there))

@@ -6,7 +6,7 @@ use Rattle.feed_core.specs.Prelude.{How}
 use Rattle.feed_core.specs.World.Table.{is_started, is_over, started}
 use Rattle.feed_core.specs.World.Runs.{WorldState, Steps, Leads}
 use Rattle.feed_cell.specs.Types.{Event, Runner, Nobody, Coming, Fresh, Ready, Looked, Saw, Measured, Taken, Over}
-use Rattle.feed_cell.specs.Outlooks.{one_rest, rest_between, miss_between, hand_between, count_in, count_along, shown, HasPart}
+use Rattle.feed_cell.specs.Outlooks.{one_rest, rest_between, miss_between, hand_between, count_in, count_along, shown_count, HasPart}
 use Rattle.feed_cell.specs.declared.cell.View.{View}
 
 -- nothing is counted, and an end stays
@@ -115,15 +115,15 @@ has_none v puts asks runs (inr (inl e)) = let clash : true ≡ false = sym e ∙
 has_none v puts asks runs (inr (inr e)) = let clash : true ≡ false = sym e ∙ runs in cc
 
 -- one seat makes a step
-pub shown_set : (count : View → ℕ) (views : List View) (id : ℕ) (v new : View) → get_elem? views id ≡ some v → shown count (set views id new) + count v ≡ shown count views + count new
-shown_set count [] id v new at = absurd (some-ne-none v (sym at))
-shown_set count (x ∷ views) zero v new at = let same : count x ≡ count v = ap count (some-injective x v at) in omega arith
-shown_set count (x ∷ views) (suc id) v new at = let later = shown_set count views id v new at in omega arith
+pub shown_count-set : (count : View → ℕ) (views : List View) (id : ℕ) (v new : View) → get_elem? views id ≡ some v → shown_count count (set views id new) + count v ≡ shown_count count views + count new
+shown_count-set count [] id v new at = absurd (some-ne-none v (sym at))
+shown_count-set count (x ∷ views) zero v new at = let same : count x ≡ count v = ap count (some-injective x v at) in omega arith
+shown_count-set count (x ∷ views) (suc id) v new at = let later = shown_count-set count views id v new at in omega arith
 
 -- a seat comes
-pub shown_end : (count : View → ℕ) (views : List View) (new : View) → shown count (views ++ new ∷ []) ≡ shown count views + count new
-shown_end count [] new = omega arith
-shown_end count (x ∷ views) new = let later = shown_end count views new in omega arith
+pub shown_count-append : (count : View → ℕ) (views : List View) (new : View) → shown_count count (views ++ new ∷ []) ≡ shown_count count views + count new
+shown_count-append count [] new = omega arith
+shown_count-append count (x ∷ views) new = let later = shown_count-append count views new in omega arith
 
 -- one event more, and what it counts
 pub leads_more : (old : WorldState) (events : List Event) (event : Event) (between new : WorldState) (leads : Leads old events between) → Steps event between new

@@ -29,12 +29,12 @@ abbrev pub hand_between : Runner → Runner → ℕ
 hand_between Coming Ready = 1
 hand_between _ _ = 0
 
--- the count of one event
+-- what one event counts, by where the task stood before and after it
 abbrev pub count_in : (Runner → Runner → ℕ) → Option Parts → Option Parts → ℕ
 count_in between (Some w) (Some v) = between w.runner v.runner
 count_in between _ _ = 0
 
--- that of the events that led from there
+-- what the events count that led from there
 abbrev pub count_along : (Runner → Runner → ℕ) → (old : WorldState) (events : List Event) (new : WorldState) → Leads old events new → ℕ
 count_along between old [] new leads = 0
 count_along between old (event ∷ events) new leads = count_in between old.parts leads.0.parts + count_along between leads.0 events new leads.2
@@ -55,10 +55,10 @@ misses_of v = v.misses
 abbrev pub starts_of : View → ℕ
 starts_of v = v.started
 
--- what all seats show
-abbrev pub shown : (View → ℕ) → List View → ℕ
-shown count [] = 0
-shown count (v ∷ views) = count v + shown count views
+-- what all seats show together
+abbrev pub shown_count : (View → ℕ) → List View → ℕ
+shown_count count [] = 0
+shown_count count (v ∷ views) = count v + shown_count count views
 
 -- a seat that has a part
 abbrev pub HasPart : View → Type 0
@@ -70,9 +70,9 @@ pub record IsReachedBy (views : List View) (w : Parts) : Type 0 where
   pub events : List Event
   pub cut : Option ℕ
   pub leads : Leads nothing events (world_of w cut)
-  pub rests : count_along rest_between nothing events (world_of w cut) leads ≡ shown rest_of views
-  pub misses : count_along miss_between nothing events (world_of w cut) leads ≡ shown misses_of views
-  pub hands : count_along hand_between nothing events (world_of w cut) leads ≡ shown starts_of views
+  pub rests : count_along rest_between nothing events (world_of w cut) leads ≡ shown_count rest_of views
+  pub misses : count_along miss_between nothing events (world_of w cut) leads ≡ shown_count misses_of views
+  pub hands : count_along hand_between nothing events (world_of w cut) leads ≡ shown_count starts_of views
   pub ends : (j : ℕ) (d : View) (how : How) → get_elem? views j ≡ some d → d.outlook ≡ Ended how → w.runner ≡ Over how
   -- as long as a seat has a part, it shows neither rest nor end
   pub goes : (j : ℕ) (d : View) → get_elem? views j ≡ some d → HasPart d → d.outlook ≡ Again

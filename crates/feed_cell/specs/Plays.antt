@@ -106,7 +106,7 @@ sent (Some Argument) producing v = record v { producing = producing }
 sent (Some State) producing v = record v { producing = producing; state = true }
 sent (Some (Closing ending)) producing v = record v { producing = producing; closing = Some ending }
 
--- and where it has handed over the task that its signal started, if it did
+-- the same, once it has handed over the task that the signal started, if it did
 abbrev pub after_signal : {T : Type 0} → Option T → Option Cause → View → View
 after_signal task cause v = record (sent cause Free v) { started = starts_after task v.started }
 
@@ -129,9 +129,11 @@ sent_by_handle (Some Argument) requesting v = record v { requesting = requesting
 sent_by_handle (Some State) requesting v = record v { requesting = requesting }
 sent_by_handle (Some (Closing ending)) requesting v = record v { requesting = requesting }
 
+-- the same, once it has handed over the task that the signal started, if it did
 abbrev pub handle_after_signal : {T : Type 0} → Option T → Option Cause → View → View
 handle_after_signal task cause v = record (sent_by_handle cause Idle v) { started = starts_after task v.started }
 
+-- its signal starts the task as one of the producer's does
 pub record HandleSignals {B : Type 0} (cause : Option Cause) (before : SeatOf B) (found : ℕ) (after : SeatOf B) : Type 0 where
   pub requesting : Requesting
   pub runs : bit_at found 0 ≡ 1 → requesting ≡ Idle
