@@ -16,18 +16,18 @@ use Rattle.publisher.specs.declared.state.subscribing.Subscribed.{Subscribed}
 use Rattle.publisher.proofs.LeavingRounds.{get_last}
 
 -- a close leaves a producer's end that of its subscription
-same_subscription : (ending : Option Ending) (feed after : ProducerState) (start : Option TaskState) → ClosesNew producer_end DoesCall ending feed start after → after.ring ≡ feed.ring
-same_subscription None feed after start closes = ap (λ (p : ProducerState). p.ring) closes.1
+same_subscription : (ending : Option Ending) (feed after : ProducerState) (start : Option TaskState) → ClosesNew producer_end DoesCall ending feed start after → after.table ≡ feed.table
+same_subscription None feed after start closes = ap (λ (p : ProducerState). p.table) closes.1
 same_subscription (Some ending) feed after start closes = closes.1.ring
 
 pub subscribed_is : {B : Type 0} (name : List ℕ) (producer : ProducerState) (ticket : Option Ticket) (due_before due_after : List (Work TaskState)) (old new : PublisherState) (subscribed : Subscribed B)
-    → Admits producer_end DoesCall name producer ticket subscribed.entry due_before due_after old.hub new.hub → subscribed.handle ≡ new_handle old.hub.capacity producer.ring → IsNewTask producer.ring old.hub.capacity subscribed.task
+    → Admits producer_end DoesCall name producer ticket subscribed.entry due_before due_after old.hub new.hub → subscribed.handle ≡ new_handle old.hub.capacity producer.table → IsNewTask producer.table old.hub.capacity subscribed.task
     → IsSubscription name subscribed new
 subscribed_is name producer ticket due_before due_after old new subscribed admits handle task =
     let first = first_entry name old.hub.next admits.after ticket in
     let long : length admits.middle.entries.items ≡ length old.hub.entries.items = sym (length-map admits.middle.entries.items (entry_of producer_end)) ∙ admits.seen.kept.as_long ∙ length-map old.hub.entries.items (entry_of producer_end) in
     let number : subscribed.entry ≡ length admits.middle.entries.items = admits.is_next ∙ sym long in
-    let ring : admits.after.ring ≡ producer.ring = same_subscription old.hub.ending producer admits.after admits.start admits.closes in
+    let table : admits.after.table ≡ producer.table = same_subscription old.hub.ending producer admits.after admits.start admits.closes in
     let capacity : new.hub.capacity ≡ old.hub.capacity = ap (λ (h : HubState). h.progress.capacity) admits.rest in
     record {
       entry = first;
@@ -35,6 +35,6 @@ subscribed_is name producer ticket due_before due_after old new subscribed admit
       stands = ap (slice_get new.hub.entries.items) number ∙ ap (λ items. slice_get items (length admits.middle.entries.items)) admits.entries ∙ get_last admits.middle.entries.items first;
       named = refl;
       there = refl;
-      handle_is = handle ∙ ap (λ n. new_handle n producer.ring) (sym capacity) ∙ ap (λ r. new_handle new.hub.capacity r) (sym ring);
-      task_is = subst (λ r. IsNewTask r new.hub.capacity subscribed.task) (sym ring) (subst (λ n. IsNewTask producer.ring n subscribed.task) (sym capacity) task);
+      handle_is = handle ∙ ap (λ n. new_handle n producer.table) (sym capacity) ∙ ap (λ t. new_handle new.hub.capacity t) (sym table);
+      task_is = subst (λ t. IsNewTask t new.hub.capacity subscribed.task) (sym table) (subst (λ n. IsNewTask producer.table n subscribed.task) (sym capacity) task);
     }

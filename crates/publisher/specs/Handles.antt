@@ -15,12 +15,12 @@ pub record SubscriptionState : Type 0 where
 
 -- a request of this number, of a handle: after a cancel it does nothing (Reactive Streams 1.0, 3.6 and 3.8)
 pub record Requests (n : ℤ) (old new : HandleState) : Type 0 where
-  pub requested : old.cancelled ≡ false → new ≡ record (handle_after_request n old) { ready = new.ready }
+  pub requested : old.cancelled ≡ false → new ≡ record (handle_after_request n old) { ready = new.ready; started = new.started }
   pub ignored : old.cancelled ≡ true → new ≡ record old { ready = new.ready }
 
 -- a cancel of a handle: only the first does anything (Reactive Streams 1.0, 3.5 and 3.7)
 pub record Cancels (old new : HandleState) : Type 0 where
-  pub cancelled : new ≡ record old { cancelled = true; ready = new.ready }
+  pub cancelled : new ≡ record old { cancelled = true; ready = new.ready; started = new.started }
 
 -- a submitter: its number; what it was told of the close; how many items it published; and how many of its offers found a buffer full
 pub record SubmitterState : Type 0 where

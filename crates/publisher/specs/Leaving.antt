@@ -24,7 +24,7 @@ module _ {B : Type 0} (told : B → List Signal) where
     pub late : left.late ≡ taken.late
     pub lane : IsLeftOf told taken.producer.end None left.lane
     -- if they are the ends of one subscription, it counts what its handle did
-    pub own : taken.handle.ring ≡ taken.producer.ring → IsLeftOf told taken.producer.end (Some taken.handle) left.lane
+    pub own : taken.handle.table ≡ taken.producer.table → IsLeftOf told taken.producer.end (Some taken.handle) left.lane
 
   -- a subscription was closed, if both its ends were there
   abbrev pub ClosesOne : ℕ → Found B → Closed B → Type 0

@@ -13,5 +13,5 @@ pub record IsSubscription {B : Type 0} (name : List ℕ) (subscribed : Subscribe
   pub stands : slice_get new.hub.entries.items subscribed.entry ≡ Some entry
   pub named : entry.name ≡ name
   pub there : entry.feed ≡ Some producer
-  pub handle_is : subscribed.handle ≡ new_handle new.hub.capacity producer.ring
-  pub task_is : IsNewTask producer.ring new.hub.capacity subscribed.task
+  pub handle_is : subscribed.handle ≡ new_handle new.hub.capacity producer.table
+  pub task_is : IsNewTask producer.table new.hub.capacity subscribed.task

@@ -91,11 +91,13 @@ impl<L: Ledger + Send, D: Ledger + Send, B: Listener + Send> State<L, D, B> {
     fn nothing(&self, alloc: Global) -> Outcome<B>
         ensures { IsNothing result }
     {
+        let published = self.hub.next_serial();
+        let drained = self.last.is_some();
         Outcome {
             lanes: Vec::new(alloc),
             held: Vec::new(alloc),
-            published: self.hub.next_serial(),
-            drained: self.last.is_some(),
+            published,
+            drained,
         }
     }
 }
