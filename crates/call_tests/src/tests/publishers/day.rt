@@ -1,30 +1,53 @@
 //! What is done to a publisher in a test.
 
-// One call.
+// One call, or one wait.
 #[derive(Clone, Copy)]
 pub enum Step {
     // One more subscription of this name, which requests so many items, if any.
     Subscribe(&'static str, i64),
-    // The subscription of this place is cancelled.
+    // The subscription of this place requests so many items more, or is cancelled.
+    Request(usize, i64),
     Cancel(usize),
+    // It is cancelled once all subscribers together were told so many signals, while more are told.
+    CancelAmid(usize, u64),
     // One more submitter, from the note that the closes get.
     Source,
     // The submitter of this place submits, or offers, a text of so many bytes.
     Submit(usize, usize),
     Offer(usize, usize),
+    // It offers a text of one byte with a handler of drops that always answers so, and is asked about the subscribers of these names,
+    // each of one letter.
+    Ask(usize, bool, &'static str),
+    // The last submitter goes to a thread of its own, and submits so many texts of one byte there.
+    Send(u64),
+    // The threads had time enough to find no room, and to sleep.
+    Nap,
+    // Some turns of this thread, another number in each round.
+    Turns,
+    // The subscription of this place requests one item after the other, so many times, each once its buffer is full.
+    Serve(usize, u64),
+    // The subscription of this place, for which no item waits, requests one item after the other, so many times.
+    Stir(usize, u64),
+    // The threads end, and their submitters come back in order.
+    Join,
     // The publisher is closed, or closed with this code.
     Close,
     Fail(u32),
     // A note that knows nothing asks how the publisher is closed.
     Closing,
+    // All subscribers together were told so many signals, so many subscriptions are live, and nobody has anything to do.
+    Rest(u64, usize),
     // What is asked of all subscriptions.
     Looks,
+    // The subscription, or the submitter, of this place is not handed in at the end.
+    KeepSubscription(usize),
+    KeepSubmitter(usize),
 }
 
-// The calls, in order; what is not handed in at the end, by its place; and what all of that answers.
+// The capacity that is asked for, the calls, in order, and what all of that answers.
+#[derive(Drop)]
 pub struct Day {
+    pub capacity: usize,
     pub steps: &'static [Step],
-    pub subscription_kept: Option<usize>,
-    pub submitter_kept: Option<usize>,
     pub report: &'static str,
 }

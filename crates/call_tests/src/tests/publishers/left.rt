@@ -1,39 +1,83 @@
 //! What is left of a publisher, as a line.
-use flow_rules::{Collector, Shown, Signal, Subscriber};
+use super::heard::Heard;
+use flow_rules::{How, Signal, audit};
 use publisher::{NamedLane, Outcome};
 use std::alloc::{AllocError, Global};
 use std::test::Fail;
 
-// What is left, after the answer of `finish`.
+// As many signals as a line lists.
+const LISTED: usize = 8;
+
+// What is left, after the answer of `finish`. Where subscriptions were cancelled amid signals, it has how many were told when the cancel
+// was made.
 pub fn outcome_line(
     alloc: Global,
     answer: &str,
-    outcome: &Outcome<Shown<Collector>>,
+    outcome: &Outcome<Heard>,
+    amid: Option<u64>,
 ) -> Result<String, Fail> {
     let count = if outcome.drained { "drained" } else { "open" };
     let mut line = format!(in alloc; "{answer}, published {}, {count}", outcome.published)?;
     for left in outcome.lanes.iter() {
-        add_lane(alloc, &mut line, left)?;
+        if amid.is_some_and(|told| is_cancelled_amid(left, told)) {
+            line.push_str(&format!(in alloc; "; {} {:?} amid", left.name, left.lane.ending)?)?;
+        } else {
+            add_lane(alloc, &mut line, left)?;
+        }
     }
     Ok(line)
 }
 
-// One lane: its name, how it ended, how many items it accepted and dropped, and what was told.
-fn add_lane(
-    alloc: Global,
-    line: &mut String,
-    left: &NamedLane<Shown<Collector>>,
-) -> Result<(), Fail> {
+// Whether one that was cancelled when so many signals were told was told in order, and one item more at most, of those that it accepted.
+fn is_cancelled_amid(left: &NamedLane<Heard>, told: u64) -> bool {
+    let lane = &left.lane;
+    let Some(heard) = &lane.subscriber else {
+        return false;
+    };
+    let signals = heard.told();
+    lane.ending == Some(How::Cancelled)
+        && audit(signals)
+        && items_in_order(signals) == Some(lane.given)
+        && lane.given <= lane.accepted
+        && signals.len() as u64 <= told.saturating_add(1)
+}
+
+// How many items are told, if they are the first publications in order.
+fn items_in_order(signals: &[Signal]) -> Option<u64> {
+    let mut items: u64 = 0;
+    for signal in signals {
+        if let Signal::Next(item) = signal {
+            if item.serial != items {
+                return None;
+            }
+            items = items.saturating_add(1);
+        }
+    }
+    Some(items)
+}
+
+// One lane: its name, how it ended, how many items it accepted, dropped and requested, and what was told, or how much that is.
+fn add_lane(alloc: Global, line: &mut String, left: &NamedLane<Heard>) -> Result<(), Fail> {
     let lane = &left.lane;
     let numbers = format!(in alloc;
-        "; {} {:?} {} + {}:",
-        left.name, lane.ending, lane.accepted, left.dropped
+        "; {} {:?} {} + {} of {}:",
+        left.name, lane.ending, lane.accepted, left.dropped, lane.asked
     )?;
     line.push_str(&numbers)?;
-    if let Some(Shown(subscriber)) = &lane.subscriber {
-        for signal in subscriber.told() {
-            add_signal(alloc, line, signal)?;
-        }
+    if let Some(heard) = &lane.subscriber {
+        add_signals(alloc, line, heard.told())?;
+    }
+    Ok(())
+}
+
+// Each of a few signals, or how many they are.
+fn add_signals(alloc: Global, line: &mut String, told: &[Signal]) -> Result<(), Fail> {
+    if told.len() > LISTED {
+        line.push_str(&format!(in alloc; " {} signals", told.len())?)?;
+        return Ok(());
+    }
+    for signal in told {
+        add_signal(alloc, line, signal)?;
     }
     Ok(())
 }

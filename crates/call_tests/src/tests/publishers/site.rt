@@ -2,98 +2,137 @@
 ghost use Rattle.std.specs.Prelude.{◌≡◌};
 ghost use Rattle.publisher.specs.declared.state.TheConstants.{PARTS};
 
+mod publishing;
+mod senders;
+mod waiting;
+
 use super::day::{Day, Step};
+use super::heard::{Count, Heard};
 use super::left::outcome_line;
-use flow_rules::{Collector, Name, Refusal, Shown};
+use flow_rules::{Name, Refusal};
 use publisher::{Note, Publisher, Submitter, Subscription, finish};
+use senders::{Senders, Sent};
 use std::alloc::Global;
 use std::fmt::Debug;
-use std::sync::Wait;
+use std::sync::atomic::AtomicU64;
 use std::sync::ledger::{Blank, Ledger};
+use std::sync::{Arc, Wait};
 use std::test::Fail;
 use std::thread::Threads;
-
-type Told = Shown<Collector>;
+use std::time::Clock;
 
 #[derive(Drop)]
 struct Site<L: Ledger + Send + Sync + 'static, D: Ledger + Send + Sync + 'static> {
     alloc: Global,
-    publisher: Publisher<L, D, Told>,
+    publisher: Publisher<L, D, Heard>,
     note: Note,
-    submitters: Vec<Submitter<L, D, Told>>,
-    subscriptions: Vec<Subscription<L, D, Told>>,
+    submitters: Vec<Submitter<L, D, Heard>>,
+    subscriptions: Vec<Subscription<L, D, Heard>>,
+    // Those that are not handed in.
+    kept_submitters: Vec<Submitter<L, D, Heard>>,
+    kept_subscriptions: Vec<Subscription<L, D, Heard>>,
+    // How many signals were told.
+    told: Count,
+    senders: Senders<L, D>,
+    round: u64,
+    // Whether a wait did not end.
+    is_stuck: bool,
+    // How many signals were told when a subscription was cancelled amid these.
+    amid: Option<u64>,
 }
 
-// What the steps of a day answer, and what is left at its end.
+// What the steps of a day answer in a round of it, and what is left at its end.
 pub fn report<
     L: Ledger + Send + Sync + 'static,
     D: Ledger + Send + Sync + 'static,
-    R: Threads + Wait + Copy + Send + 'static,
+    R: Clock + Threads + Wait + Copy + Send + 'static,
 >(
     rt: R,
     alloc: Global,
     publications: Blank,
     drops: Blank,
     workers: usize,
+    round: u64,
     day: &Day,
 ) -> Result<String, Fail>
     requires publications { (publications.name ≡ L.name) × ((publications.parts ≡ L.parts) × (L.parts ≡ PARTS)) }
     requires drops { (drops.name ≡ D.name) × ((drops.parts ≡ D.parts) × (D.parts ≡ PARTS)) }
 {
-    let publisher: Publisher<L, D, Told> = Publisher::new(
+    let publisher: Publisher<L, D, Heard> = Publisher::new(
         rt,
         alloc,
         publications,
         drops,
         workers,
-        1,
+        day.capacity,
     )?;
-    let mut site = Site {
-        alloc,
-        publisher,
-        note: Publisher::<L, D, Told>::note(),
-        submitters: Vec::new(alloc),
-        subscriptions: Vec::new(alloc),
-    };
+    let mut site = new_site(alloc, publisher, round)?;
     let mut report = String::new(alloc);
     for step in day.steps {
-        let line = site.play(&rt, *step)?;
-        report.push_str(&line)?;
+        report.push_str(&site.play(rt, *step)?)?;
+        if site.is_stuck {
+            return Ok(report);
+        }
     }
-    let line = site.end(&rt, day)?;
-    report.push_str(&line)?;
+    report.push_str(&site.end(&rt)?)?;
     Ok(report)
+}
+
+fn new_site<L: Ledger + Send + Sync + 'static, D: Ledger + Send + Sync + 'static>(
+    alloc: Global,
+    publisher: Publisher<L, D, Heard>,
+    round: u64,
+) -> Result<Site<L, D>, Fail> {
+    Ok(Site {
+        alloc,
+        publisher,
+        note: Publisher::<L, D, Heard>::note(),
+        submitters: Vec::new(alloc),
+        subscriptions: Vec::new(alloc),
+        kept_submitters: Vec::new(alloc),
+        kept_subscriptions: Vec::new(alloc),
+        told: Arc::new(alloc, AtomicU64::new(0))?,
+        senders: Senders::new(alloc)?,
+        round,
+        is_stuck: false,
+        amid: None,
+    })
 }
 
 impl<L: Ledger + Send + Sync + 'static, D: Ledger + Send + Sync + 'static> Site<L, D> {
     // What a step answers.
-    fn play<R: Wait>(&mut self, rt: &R, step: Step) -> Result<String, Fail> {
+    fn play<R: Clock + Threads + Wait + Copy + Send + 'static>(
+        &mut self,
+        rt: R,
+        step: Step,
+    ) -> Result<String, Fail> {
         match step {
-            Step::Subscribe(name, demand) => self.subscribe(rt, name, demand),
-            Step::Cancel(place) => self.cancel(rt, place),
-            Step::Source => self.add_source(rt),
-            Step::Submit(place, bytes) => self.submit(rt, place, bytes),
-            Step::Offer(place, bytes) => self.offer(rt, place, bytes),
-            Step::Close => {
-                let closed = self.publisher.close(rt, self.alloc, &mut self.note);
-                closed_line(self.alloc, closed)
-            }
-            Step::Fail(code) => {
-                let closed = self
-                    .publisher
-                    .close_exceptionally(rt, self.alloc, &mut self.note, code);
-                closed_line(self.alloc, closed)
-            }
-            Step::Closing => self.closing(rt),
-            Step::Looks => self.looks(rt),
+            Step::Subscribe(name, demand) => self.subscribe(&rt, name, demand),
+            Step::Request(place, n) => self.request(&rt, place, n),
+            Step::Cancel(place) => self.cancel(&rt, place),
+            Step::Source => self.add_source(&rt),
+            Step::Submit(place, bytes) => self.submit(&rt, place, bytes),
+            Step::Offer(place, bytes) => self.offer(&rt, place, bytes),
+            Step::Ask(place, answer, names) => self.ask(&rt, place, answer, names),
+            Step::Send(texts) => self.send(rt, texts),
+            Step::Close | Step::Fail(_) => self.close(&rt, step),
+            Step::Closing => self.closing(&rt),
+            Step::Looks => self.looks(&rt),
+            Step::KeepSubscription(_) | Step::KeepSubmitter(_) => self.keep(step),
+            wait => self.wait(&rt, wait),
         }
     }
 
+    // Subscribes, a second time where memory was refused.
     fn subscribe<R: Wait>(&mut self, rt: &R, name: &str, demand: i64) -> Result<String, Fail> {
         let alloc = self.alloc;
         let named = name_of(name)?;
-        let subscriber = Shown(Collector::new(alloc));
-        match self.publisher.subscribe(rt, alloc, named, subscriber) {
+        let subscriber = Heard::new(alloc, &self.told)?;
+        let subscribed = match self.publisher.subscribe(rt, alloc, named, subscriber) {
+            Err((Refusal::NoMemory, back)) => self.publisher.subscribe(rt, alloc, named, back),
+            other => other,
+        };
+        match subscribed {
             Ok(mut subscription) => {
                 if demand != 0 {
                     subscription.request(rt, demand)?;
@@ -103,6 +142,13 @@ impl<L: Ledger + Send + Sync + 'static, D: Ledger + Send + Sync + 'static> Site<
             }
             Err((refusal, _)) => refused_line(alloc, &refusal),
         }
+    }
+
+    fn request<R: Wait>(&mut self, rt: &R, place: usize, n: i64) -> Result<String, Fail> {
+        if let Some(subscription) = self.subscriptions.get_mut(place) {
+            subscription.request(rt, n)?;
+        }
+        Ok(String::new(self.alloc))
     }
 
     fn cancel<R: Wait>(&mut self, rt: &R, place: usize) -> Result<String, Fail> {
@@ -118,33 +164,20 @@ impl<L: Ledger + Send + Sync + 'static, D: Ledger + Send + Sync + 'static> Site<
         Ok(String::new(self.alloc))
     }
 
-    fn submit<R: Wait>(&mut self, rt: &R, place: usize, bytes: usize) -> Result<String, Fail> {
-        let alloc = self.alloc;
-        let text = vec![in alloc; b'x'; bytes]?;
-        let Some(submitter) = self.submitters.get_mut(place) else {
-            return Ok(String::new(alloc));
-        };
-        match submitter.submit(rt, alloc, &text) {
-            Ok(lag) => Ok(format!(in alloc; "lag {lag}; ")?),
-            Err(refusal) => refused_line(alloc, &refusal),
+    // Closes the publisher, with a code where the step has one.
+    fn close<R: Wait>(&mut self, rt: &R, step: Step) -> Result<String, Fail> {
+        let (alloc, note) = (self.alloc, &mut self.note);
+        if let Step::Fail(code) = step {
+            self.publisher.close_exceptionally(rt, alloc, note, code)?;
+        } else {
+            self.publisher.close(rt, alloc, note)?;
         }
-    }
-
-    fn offer<R: Wait>(&mut self, rt: &R, place: usize, bytes: usize) -> Result<String, Fail> {
-        let alloc = self.alloc;
-        let text = vec![in alloc; b'x'; bytes]?;
-        let Some(submitter) = self.submitters.get_mut(place) else {
-            return Ok(String::new(alloc));
-        };
-        match submitter.offer(rt, alloc, &text, None) {
-            Ok(answer) => Ok(format!(in alloc; "answer {answer}; ")?),
-            Err(refusal) => refused_line(alloc, &refusal),
-        }
+        Ok(format!(in alloc; "ok; ")?)
     }
 
     // What a note that knew nothing is told, and whether that says that the publisher is closed.
     fn closing<R: Wait>(&self, rt: &R) -> Result<String, Fail> {
-        let mut note = Publisher::<L, D, Told>::note();
+        let mut note = Publisher::<L, D, Heard>::note();
         let is_closed = self.publisher.is_closed(rt, &mut note);
         let ending = self.publisher.closed_with(rt, &mut note);
         Ok(format!(in self.alloc; "closed {is_closed} {ending:?}; ")?)
@@ -162,39 +195,46 @@ impl<L: Ledger + Send + Sync + 'static, D: Ledger + Send + Sync + 'static> Site<
         )?)
     }
 
-    // What is left, where a subscription or a submitter is kept.
-    fn end<R: Wait>(self, rt: &R, day: &Day) -> Result<String, Fail>
+    // Keeps a subscription, or a submitter, so that it is not handed in.
+    fn keep(&mut self, step: Step) -> Result<String, Fail> {
+        match step {
+            Step::KeepSubscription(place) if place < self.subscriptions.len() => {
+                let kept = self.subscriptions.remove(place);
+                self.kept_subscriptions.push(kept)?;
+            }
+            Step::KeepSubmitter(place) if place < self.submitters.len() => {
+                let kept = self.submitters.remove(place);
+                self.kept_submitters.push(kept)?;
+            }
+            _ => (),
+        }
+        Ok(String::new(self.alloc))
+    }
+
+    // What is left. What was kept lives on until then.
+    fn end<R: Wait>(self, rt: &R) -> Result<String, Fail>
         requires { (L.parts ≡ PARTS) × (D.parts ≡ PARTS) }
     {
         let Site {
             alloc,
             publisher,
-            note: _,
-            mut submitters,
-            mut subscriptions,
+            submitters,
+            subscriptions,
+            kept_submitters,
+            kept_subscriptions,
+            amid,
+            ..
         } = self;
-        let submitter = take_at(&mut submitters, day.submitter_kept);
-        let subscription = take_at(&mut subscriptions, day.subscription_kept);
         let line = match finish(rt, alloc, publisher, submitters, subscriptions) {
-            Ok(outcome) => outcome_line(alloc, "done", &outcome),
+            Ok(outcome) => outcome_line(alloc, "done", &outcome, amid),
             Err((refusal, outcome)) => {
                 let why = format!(in alloc; "{refusal:?}")?;
-                outcome_line(alloc, &why, &outcome)
+                outcome_line(alloc, &why, &outcome, amid)
             }
         };
-        drop(submitter);
-        drop(subscription);
+        drop(kept_submitters);
+        drop(kept_subscriptions);
         line
-    }
-}
-
-// The one of this place, if one is to be taken out.
-fn take_at<T>(all: &mut Vec<T>, place: Option<usize>) -> Option<T> {
-    let place = place?;
-    if place < all.len() {
-        Some(all.remove(place))
-    } else {
-        None
     }
 }
 
@@ -204,9 +244,4 @@ fn name_of(name: &str) -> Result<Name, Refusal> {
 
 fn refused_line<T: Debug>(alloc: Global, refusal: &T) -> Result<String, Fail> {
     Ok(format!(in alloc; "{refusal:?}; ")?)
-}
-
-fn closed_line(alloc: Global, closed: Result<(), Refusal>) -> Result<String, Fail> {
-    closed?;
-    Ok(format!(in alloc; "ok; ")?)
 }

@@ -1,4 +1,4 @@
-use Rattle.call_tests.proofs.tests.publishers.each_day_leaves_what_it_should.Given as goal
+use Rattle.call_tests.proofs.tests.publishers.played.Given as goal
 
 abbrev pub ghosts-report-L-Ledger : goal.ghosts-report-L-Ledger
 ghosts-report-L-Ledger g a = record { name = a.publications.name; parts = a.publications.parts }

@@ -1,0 +1,73 @@
+//! A subscriber whose signals are counted where others see it.
+ghost use Rattle.std.specs.Prelude.{◌≡◌, [], IfOk};
+
+use flow_rules::{Answer, Collector, Fault, Item, Listener, NoMemory, Signal, Subscriber};
+use std::alloc::Global;
+use std::sync::Arc;
+use std::sync::atomic::AtomicU64;
+use std::sync::atomic::Ordering::SeqCst;
+
+// How many signals all subscribers of a publisher were told.
+pub type Count = Arc<AtomicU64, Global>;
+
+// A collector that counts what it is told, once it keeps it.
+#[derive(Drop)]
+pub struct Heard {
+    subscriber: Collector,
+    count: Count,
+}
+
+impl Heard {
+    // One that was told nothing.
+    pub fn new(alloc: Global, count: &Count) -> Result<Heard, NoMemory>
+        ensures { IfOk result (λ heard. heard.subscriber.told ≡ []) }
+    {
+        Ok(Heard {
+            subscriber: Collector::new(alloc),
+            count: Arc::try_clone(count)?,
+        })
+    }
+
+    // What it was told, in order.
+    pub fn told(&self) -> &[Signal] {
+        self.subscriber.told()
+    }
+
+    // Counts a signal that was kept.
+    fn counted(&self, kept: Result<Answer, NoMemory>) -> Result<Answer, NoMemory>
+        ensures { result ≡ kept }
+    {
+        if kept.is_ok() {
+            self.count.fetch_add(1, SeqCst);
+        }
+        kept
+    }
+}
+
+impl Listener for Heard {
+    ghost use Rattle.std.specs.Prelude.{is_none};
+
+    ghost told = { λ h. h.subscriber.told };
+
+    ghost is_steady = { λ h. is_none h.subscriber.requests };
+
+    fn on_subscribe(&mut self) -> Result<Answer, NoMemory> {
+        let kept = Listener::on_subscribe(&mut self.subscriber);
+        self.counted(kept)
+    }
+
+    fn on_next(&mut self, item: &Item) -> Result<Answer, NoMemory> {
+        let kept = Listener::on_next(&mut self.subscriber, item);
+        self.counted(kept)
+    }
+
+    fn on_error(&mut self, fault: Fault) -> Result<Answer, NoMemory> {
+        let kept = Listener::on_error(&mut self.subscriber, fault);
+        self.counted(kept)
+    }
+
+    fn on_complete(&mut self) -> Result<Answer, NoMemory> {
+        let kept = Listener::on_complete(&mut self.subscriber);
+        self.counted(kept)
+    }
+}
