@@ -15,7 +15,7 @@ use std::sync::Wait;
 use std::sync::ledger::Blank;
 use std::test::Fail;
 use std::thread::Threads;
-use std::time::Clock;
+use std::time::{Clock, Instant};
 
 // What a day answers that is played at a publisher of its own with so many workers.
 fn played<R: Clock + Threads + Wait + Copy + Send + 'static>(
@@ -50,12 +50,18 @@ fn each_day_leaves_what_it_should(rt: HostRuntime) -> Result<(), Fail> {
     Ok(())
 }
 
-// How often a race is run.
+// How often a race is run, if there is time for that, and how many seconds there are.
 const ROUNDS: u64 = 100;
+
+const TIME: u64 = 10;
 
 #[test]
 fn no_race_leaves_anybody_asleep(rt: HostRuntime) -> Result<(), Fail> {
+    let start = Instant::now(&rt)?;
     for round in 0..ROUNDS {
+        if start.elapsed(&rt)?.as_secs() >= TIME {
+            break;
+        }
         for (number, day) in RACES.iter().enumerate() {
             let told = played(rt, rt.alloc(), 2, round, day)?;
             assert!(rt;
@@ -67,8 +73,8 @@ fn no_race_leaves_anybody_asleep(rt: HostRuntime) -> Result<(), Fail> {
     Ok(())
 }
 
-// Run from outside, too, with each request for memory refused in turn: who is refused memory subscribes once more, and what was refused
-// leaves no ticket behind, which would keep the count open.
+// Run from outside, too, with each request for memory refused in turn: a subscriber that is refused memory subscribes once more, and
+// what was refused leaves no ticket behind, which would keep the count open.
 #[test]
 fn a_day_drains_also_where_memory_was_refused(rt: HostRuntime) -> Result<(), Fail> {
     let told = played(rt, rt.alloc(), 1, 0, &MEMORY)?;

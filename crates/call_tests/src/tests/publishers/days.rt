@@ -5,7 +5,7 @@ use super::day::Step::{
     Nap, Offer, Request, Rest, Send, Serve, Source, Stir, Submit, Subscribe, Turns,
 };
 
-pub const DAYS: [Day; 27] = [
+pub const DAYS: [Day; 28] = [
     // All that was accepted is told, also where a submitter had to wait, and the last ticket is spent.
     Day {
         capacity: 1,
@@ -270,6 +270,25 @@ pub const DAYS: [Day; 27] = [
         ],
         report: "sub a; sub b; lag 1; lag 1; done, published 2, open; a None 2 + 0 of 5: s 0.0.1 0.1.1; b None 2 + 0 of 9223372036854775807: s 0.0.1 0.1.1",
     },
+    // More items than a turn tells are told in as many turns as it takes.
+    Day {
+        capacity: 100,
+        steps: &[
+            Subscribe("a", 0),
+            Source,
+            Send(128),
+            Join,
+            Rest(1, 1),
+            Request(0, 65),
+            Rest(66, 1),
+            Looks,
+            Request(0, 63),
+            Rest(129, 1),
+            Close,
+            Rest(130, 0),
+        ],
+        report: "sub a; sent 128; lag 63 of 1, capacity 128, a true, z false; ok; done, published 128, drained; a Some(Completed) 128 + 0 of 128: 130 signals",
+    },
     // A handler is asked once for each full buffer, in order of subscription, also where its answer has the offer tried once more.
     Day {
         capacity: 1,
@@ -411,13 +430,13 @@ pub const RACES: [Day; 4] = [
             Subscribe("a", 0),
             Source,
             Rest(1, 1),
-            Send(100),
-            Serve(0, 100),
+            Send(40),
+            Serve(0, 40),
             Join,
             Close,
-            Rest(102, 0),
+            Rest(42, 0),
         ],
-        report: "sub a; sent 100; ok; done, published 100, drained; a Some(Completed) 100 + 0 of 100: 102 signals",
+        report: "sub a; sent 40; ok; done, published 40, drained; a Some(Completed) 40 + 0 of 40: 42 signals",
     },
     // A close comes when turns that make no room have five submitters get up and lie down again.
     Day {
@@ -473,5 +492,5 @@ pub const MEMORY: Day = Day {
         Close,
         Request(1, 1),
     ],
-    report: "done, published 1, drained; a Some(",
+    report: ", drained",
 };
