@@ -53,7 +53,7 @@ fn each_day_leaves_what_it_should(rt: HostRuntime) -> Result<(), Fail> {
 // How often a race is run, if there is time for that, and how many seconds there are.
 const ROUNDS: u64 = 100;
 
-const TIME: u64 = 10;
+const TIME: u64 = 15;
 
 #[test]
 fn no_race_leaves_anybody_asleep(rt: HostRuntime) -> Result<(), Fail> {
