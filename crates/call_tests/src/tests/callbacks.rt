@@ -1,0 +1,44 @@
+//! Callbacks and handlers of drops that wait for what other threads do.
+mod acting;
+mod meeting;
+
+use flow_rules::{Name, Refusal};
+use meeting::meet;
+use publisher::PARTS;
+use std::alloc::Global;
+use std::marker::Brand;
+use std::sync::Arc;
+use std::sync::atomic::Ordering::SeqCst;
+use std::sync::atomic::{AtomicBool, AtomicU64};
+use std::sync::ledger::Blank;
+use std::test::Fail;
+use std::thread;
+
+type Flag = Arc<AtomicBool, Global>;
+
+type Count = Arc<AtomicU64, Global>;
+
+// How often a thread looks for what another one does before it gives up.
+const MOST_LOOKS: u64 = 10_000_000;
+
+// Waits until another thread raises a flag, but not for ever.
+fn wait_for(flag: &AtomicBool) -> bool {
+    for _ in 0..MOST_LOOKS {
+        if flag.load(SeqCst) {
+            return true;
+        }
+        thread::yield_now();
+    }
+    false
+}
+
+fn name_of(name: &str) -> Result<Name, Refusal> {
+    Name::new(name.as_bytes()).ok_or(Refusal::Unknown)
+}
+
+#[test]
+fn two_callbacks_meet(rt: HostRuntime) -> Result<(), Fail> {
+    let met = meet::<Brand, Brand, _>(rt, rt.alloc(), Blank::new(PARTS), Blank::new(PARTS))?;
+    assert!(rt; met == 2, "{met} met");
+    Ok(())
+}
