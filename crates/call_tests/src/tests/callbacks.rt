@@ -1,6 +1,7 @@
 //! Callbacks and handlers of drops that wait for what other threads do.
 mod acting;
 mod meeting;
+mod waiting;
 
 use flow_rules::{Name, Refusal};
 use meeting::meet;
@@ -13,6 +14,7 @@ use std::sync::atomic::{AtomicBool, AtomicU64};
 use std::sync::ledger::Blank;
 use std::test::Fail;
 use std::thread;
+use waiting::call_all;
 
 type Flag = Arc<AtomicBool, Global>;
 
@@ -40,5 +42,13 @@ fn name_of(name: &str) -> Result<Name, Refusal> {
 fn two_callbacks_meet(rt: HostRuntime) -> Result<(), Fail> {
     let met = meet::<Brand, Brand, _>(rt, rt.alloc(), Blank::new(PARTS), Blank::new(PARTS))?;
     assert!(rt; met == 2, "{met} met");
+    Ok(())
+}
+
+#[test]
+fn each_call_returns_while_a_callback_runs(rt: HostRuntime) -> Result<(), Fail> {
+    let told = call_all::<Brand, Brand, _>(rt, rt.alloc(), Blank::new(PARTS), Blank::new(PARTS))?;
+    let wanted = "in true, lag 1, answer 2, lag 2 of 2, a true; went on 0, 2";
+    assert!(rt; told.as_str() == wanted, "{told}");
     Ok(())
 }
