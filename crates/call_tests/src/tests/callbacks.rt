@@ -1,9 +1,11 @@
 //! Callbacks and handlers of drops that wait for what other threads do.
 mod acting;
+mod handling;
 mod meeting;
 mod waiting;
 
 use flow_rules::{Name, Refusal};
+use handling::offer_twice;
 use meeting::meet;
 use publisher::PARTS;
 use std::alloc::Global;
@@ -34,6 +36,17 @@ fn wait_for(flag: &AtomicBool) -> bool {
     false
 }
 
+// Waits until a count is so high, but not for ever.
+fn comes_to(count: &AtomicU64, number: u64) -> bool {
+    for _ in 0..MOST_LOOKS {
+        if count.load(SeqCst) >= number {
+            return true;
+        }
+        thread::yield_now();
+    }
+    false
+}
+
 fn name_of(name: &str) -> Result<Name, Refusal> {
     Name::new(name.as_bytes()).ok_or(Refusal::Unknown)
 }
@@ -50,5 +63,17 @@ fn each_call_returns_while_a_callback_runs(rt: HostRuntime) -> Result<(), Fail> 
     let told = call_all::<Brand, Brand, _>(rt, rt.alloc(), Blank::new(PARTS), Blank::new(PARTS))?;
     let wanted = "in true, lag 1, answer 2, lag 2 of 2, a true; went on 0, 2";
     assert!(rt; told.as_str() == wanted, "{told}");
+    Ok(())
+}
+
+#[test]
+fn a_handler_finds_room_that_is_made_meanwhile(rt: HostRuntime) -> Result<(), Fail> {
+    let answer = offer_twice::<Brand, Brand, _>(
+        rt,
+        rt.alloc(),
+        Blank::new(PARTS),
+        Blank::new(PARTS),
+    )?;
+    assert!(rt; answer == 1, "answer {answer}");
     Ok(())
 }

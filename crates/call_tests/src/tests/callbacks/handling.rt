@@ -1,0 +1,86 @@
+//! A handler of drops for whom room is made while it is asked.
+ghost use Rattle.std.specs.Prelude.{◌≡◌};
+ghost use Rattle.publisher.specs.declared.state.TheConstants.{PARTS};
+
+use super::acting::{Act, Acting};
+use super::{Count, Flag, comes_to, name_of, wait_for};
+use flow_rules::{DropHandler, Item, Name};
+use publisher::{Publisher, finish};
+use std::alloc::Global;
+use std::sync::atomic::Ordering::SeqCst;
+use std::sync::atomic::{AtomicBool, AtomicU64};
+use std::sync::ledger::{Blank, Ledger};
+use std::sync::{Arc, Wait};
+use std::test::Fail;
+use std::thread;
+use std::thread::Threads;
+
+// Counts the items that it is told.
+#[derive(Drop)]
+struct Counts(Count);
+
+impl Act for Counts {
+    fn act(&mut self) {
+        self.0.fetch_add(1, SeqCst);
+    }
+}
+
+// Raises a flag, and has the offer tried once more where an item was told then.
+#[derive(Drop)]
+struct Asks {
+    is_asked: Flag,
+    told: Count,
+}
+
+impl DropHandler for Asks {
+    fn on_drop(&mut self, _: Name, _: &Item) -> bool {
+        self.is_asked.store(true, SeqCst);
+        comes_to(&self.told, 1)
+    }
+}
+
+// What the second of two offers answers, at a buffer of one place, when another thread requests an item once the handler is asked.
+pub fn offer_twice<
+    L: Ledger + Send + Sync + 'static,
+    D: Ledger + Send + Sync + 'static,
+    R: Threads + Wait + Copy + Send + 'static,
+>(rt: R, alloc: Global, publications: Blank, drops: Blank) -> Result<i64, Fail>
+    requires publications { (publications.name ≡ L.name) × ((publications.parts ≡ L.parts) × (L.parts ≡ PARTS)) }
+    requires drops { (drops.name ≡ D.name) × ((drops.parts ≡ D.parts) × (D.parts ≡ PARTS)) }
+{
+    let publisher: Publisher<L, D, Acting<Counts>> = Publisher::new(
+        rt,
+        alloc,
+        publications,
+        drops,
+        1,
+        1,
+    )?;
+    let told = Arc::new(alloc, AtomicU64::new(0))?;
+    let is_asked = Arc::new(alloc, AtomicBool::new(false))?;
+    let act = Acting::new(Counts(Arc::try_clone(&told)?));
+    let Ok(mut subscription) = publisher.subscribe(&rt, alloc, name_of("a")?, act) else {
+        return Err(Fail::new("it can't subscribe"));
+    };
+    let mut note = Publisher::<L, D, Acting<Counts>>::note();
+    let mut submitter = publisher.submitter(&rt, alloc, &mut note)?;
+    submitter.submit(&rt, alloc, b"x")?;
+    let asks = Asks {
+        is_asked: Arc::try_clone(&is_asked)?,
+        told,
+    };
+    let mut handler: Box<dyn DropHandler> = Box::new(alloc, asks)?;
+    let owner = thread::spawn(&rt, move || {
+        if wait_for(&is_asked) {
+            let _ = subscription.request(&rt, 1);
+        }
+        subscription
+    })?;
+    let answer = submitter.offer(&rt, alloc, b"y", Some(&mut handler))?;
+    let mut submitters = Vec::new(alloc);
+    submitters.push(submitter)?;
+    let mut subscriptions = Vec::new(alloc);
+    subscriptions.push(owner.join(&rt))?;
+    let _ = finish(&rt, alloc, publisher, submitters, subscriptions);
+    Ok(answer)
+}
