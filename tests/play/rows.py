@@ -1,0 +1,399 @@
+"""Runs ./play, and compares what it writes and its status.
+
+usage: rows.py PROGRAM FOLDER
+
+A row has a copy of ./play in a folder of its own below FOLDER, with the native program PROGRAM or without it, and a PATH of the commands
+that play needs. Where `rt` is among them, it is rt_stand_in, which does what STAND_IN says. After a row nothing may be left in the folder for
+temporary files, and no stand-in may run. The rows run side by side, since most of them wait.
+"""
+
+import os
+import pty
+import shutil
+import signal
+import subprocess
+import sys
+import time
+from concurrent.futures import ThreadPoolExecutor
+
+SECONDS = 20
+HERE = os.path.dirname(os.path.realpath(__file__))
+TOP = os.path.realpath(f"{HERE}/../..")
+COMMANDS = "awk bash cat chmod dirname find grep head mkdir mktemp readlink rm sed sh sleep sort tac tail touch".split()
+MOST = 16777216
+SLOW = 2.3  # rt itself reads no further once a pipe was silent for two seconds.
+
+
+def contents(file):
+    with open(file, "rb") as it:
+        return it.read()
+
+
+SCRIPT = contents(f"{TOP}/examples/first.script")
+PLAYED = contents(f"{TOP}/examples/first.expected")
+LINES = contents(f"{TOP}/examples/lines.txt")
+REPORT = b"a 1 q\na 2 p\na 2 r\na complete 3\ndrained 1\n"
+THREADS = ["threads", "--workers", "2", "--cap", "1", "a:3"]
+
+
+class Site:
+    """A folder with ./play in it."""
+
+    def __init__(self, folder, program, stand_in):
+        self.folder, self.stand_in = folder, stand_in
+        for name in ("tests", "crates/flow_rules/src", "crates/lines_demo/src", "crates/lines_demo/out", "tmp", "bin"):
+            os.makedirs(f"{folder}/{name}")
+        for name in ("play", "crates.txt", "tests/program.sh"):
+            shutil.copy(f"{TOP}/{name}", f"{folder}/{name}")
+        for name in COMMANDS:
+            os.symlink(shutil.which(name), f"{folder}/bin/{name}")
+        if stand_in:
+            shutil.copy(f"{HERE}/rt_stand_in", f"{folder}/bin/rt")
+        if program:
+            shutil.copy(program, self.built())
+
+    def built(self):
+        return f"{self.folder}/crates/lines_demo/out/lines_demo"
+
+    def start(self, words, stdin, stderr=subprocess.PIPE):
+        env = {"PATH": f"{self.folder}/bin", "TMPDIR": f"{self.folder}/tmp", "STAND_IN": self.stand_in or ""}
+        how = {"stdin": stdin, "stdout": subprocess.PIPE, "stderr": stderr, "env": env, "cwd": self.folder}
+        return subprocess.Popen(["./play", *words], **how, start_new_session=True)
+
+    def end(self, process):
+        """The status, the output and standard error, once it has ended."""
+        try:
+            output, said = process.communicate(timeout=SECONDS)
+        except subprocess.TimeoutExpired:
+            os.killpg(process.pid, signal.SIGKILL)
+            process.communicate()
+            return None, b"", b""
+        return process.returncode, output, said
+
+    def run(self, words, given=b""):
+        """A run on a pipe with these bytes."""
+        read, write = os.pipe()
+        process = self.start(words, read)
+        os.close(read)
+        with ThreadPoolExecutor(1) as pool:
+            pool.submit(feed, write, [given])
+            return self.end(process)
+
+    def left(self):
+        """What a row must not leave behind."""
+        files = os.listdir(f"{self.folder}/tmp")
+        calls = contents(f"{self.folder}/bin/calls").split(b"\n") if os.path.exists(f"{self.folder}/bin/calls") else []
+        alive = [it for it in calls if it and os.path.exists(b"/proc/" + it.split()[0])]
+        return (f"leaves {files}; " if files else "") + (f"{alive} run still; " if alive else "")
+
+
+def feed(write, parts):
+    """Writes the parts to a pipe, the second and each further one after a silence."""
+    try:
+        with os.fdopen(write, "wb", 0) as it:
+            for number, part in enumerate(parts):
+                time.sleep(SLOW if number else 0)
+                it.write(part)
+    except BrokenPipeError:
+        pass
+
+
+def differs(got, status, output, said):
+    """What is wrong with what a run did; SAID is the whole of standard error, or a function of it."""
+    if got[0] != status:
+        return f"status {got[0]}, where it should be {status}: {got[2]!r:.300}"
+    if got[1] != output:
+        return f"output {got[1]!r:.300}, where it should be {output!r:.300}"
+    if not (said(got[2]) if callable(said) else got[2] == said):
+        return f"standard error {got[2]!r:.600}"
+    return ""
+
+
+def has(*words):
+    return lambda said: all(it in said for it in words)
+
+
+def refuses(*words):
+    """A row of what is refused: status 125, nothing on standard output, and these words on standard error."""
+    return 125, b"", has(b"play: ", *words)
+
+
+USAGE = b"usage: ./play"
+
+
+# Rows with the native program.
+
+
+def plays_a_file(site):
+    shutil.copy(f"{TOP}/examples/first.script", f"{site.folder}/threads")
+    return differs(site.run(["./threads"]), 0, PLAYED, b"")
+
+
+def plays_a_pipe(site):
+    return differs(site.run([], SCRIPT), 0, PLAYED, b"")
+
+
+def plays_nothing(site):
+    return differs(site.run([]), 0, b"", b"")
+
+
+def plays_from_elsewhere(site):
+    os.symlink(f"{site.folder}/play", f"{site.folder}/bin/elsewhere")
+    got = subprocess.run(
+        ["./elsewhere"], input=SCRIPT, capture_output=True, cwd=f"{site.folder}/bin", env={"PATH": f"{site.folder}/bin"}
+    )
+    return differs((got.returncode, got.stdout, got.stderr), 0, PLAYED, b"")
+
+
+def plays_a_slow_pipe(site):
+    read, write = os.pipe()
+    process = site.start([], read)
+    os.close(read)
+    with ThreadPoolExecutor(1) as pool:
+        pool.submit(feed, write, [SCRIPT[:20], SCRIPT[20:]])
+        return differs(site.end(process), 0, PLAYED, b"")
+
+
+def typed(site, words, text):
+    """A run at a terminal at which this text is typed, and then Ctrl-D."""
+    master, slave = pty.openpty()
+    process = site.start(words, slave)
+    os.close(slave)
+    os.write(master, text + b"\x04")
+    got = site.end(process)
+    os.close(master)
+    return got
+
+
+def plays_a_terminal(site):
+    return differs(typed(site, [], SCRIPT), 0, PLAYED, b"play: reading the script, end it with Ctrl-D\n")
+
+
+def plays_lines(site):
+    return differs(site.run(THREADS, LINES), 0, REPORT, b"")
+
+
+def plays_lines_of_a_terminal(site):
+    return differs(typed(site, THREADS, LINES), 0, REPORT, b"play: reading the lines, end them with Ctrl-D\n")
+
+
+def plays_lines_to_an_open_end(site):
+    return differs(site.run([*THREADS[:-1], "a:2"], LINES[:8]), 0, b"a 1 q\na 2 p\na complete 2\ndrained 1\n", b"") or differs(
+        site.run([*THREADS[:-1], "a:2"], LINES), 3, b"a 2 p\na 2 r\na open 2\ndrained 0\n", b""
+    )
+
+
+def refuses_lines(site):
+    return differs(site.run([*THREADS, "a:1"], LINES), 2, b"", b"lines_demo: refused 3 duplicate\n")
+
+
+def explains_threads(site):
+    """Nothing is read for it, here from a pipe that nobody closes."""
+    read, write = os.pipe()
+    try:
+        got = site.end(site.start(["threads", "--help"], read))
+        more = site.end(site.start(["threads"], read))
+    finally:
+        os.close(read)
+        os.close(write)
+    if got[0] != 0 or got[2] or b"--workers" not in got[1]:
+        return f"--help: {got!r:.300}"
+    return differs(more, 2, b"", has(b"--workers"))
+
+
+def reads_no_further_than_the_program(site):
+    """An input without an end."""
+    with open("/dev/zero", "rb") as zero:
+        got = site.end(site.start([], zero))
+    return differs(got, 1, b"", b"lines_demo: read fault\n")
+
+
+def plays_the_longest_script(site):
+    return differs(site.run([], b"\n" * MOST), 0, b"", b"")
+
+
+def refuses_wrong_words(site):
+    why = ""
+    os.mkdir(f"{site.folder}/folder")
+    for words, refusal in (
+        (["folder"], refuses(b"folder is a folder", USAGE)),
+        ([""], refuses(b"empty", USAGE)),
+        (["one", "two"], refuses(b"more than one", USAGE)),
+        (["--build", "two"], refuses(b"more than one", USAGE)),
+        (["--more"], refuses(b"--more", USAGE)),
+        (["nothing"], refuses(b"there is no file nothing")),
+    ):
+        it = differs(site.run(words), *refusal)
+        why += f"{words}: {it}; " if it else ""
+    return why
+
+
+def refuses_what_cannot_be_read(site):
+    with_folder = os.open("/", os.O_RDONLY)
+    got = site.end(site.start([], with_folder))
+    os.close(with_folder)
+    return differs(got, *refuses(b"can't be read"))
+
+
+def explains_itself(site):
+    got = site.run(["--help"])
+    return differs((*got[:1], b"", got[2]), 0, b"", b"") or ("" if got[1].startswith(USAGE) else f"output {got[1]!r:.100}")
+
+
+# Rows with the stand-in.
+
+
+def words_given(site):
+    return [it.split(b" ", 1)[1] for it in contents(f"{site.folder}/bin/calls").splitlines()]
+
+
+def tries(site):
+    """The program's status, output and standard error come through, and its input is whole."""
+    read, write = os.pipe()
+    process = site.start([], read)
+    os.close(read)
+    with ThreadPoolExecutor(1) as pool:
+        pool.submit(feed, write, [SCRIPT[:20], SCRIPT[20:]])
+        got = site.end(process)
+    lines = got[2].splitlines()
+    steps = [it for it in lines if it.startswith((b"play: 1 of 3, ", b"play: 2 of 3, ", b"play: 3 of 3, "))]
+    if len(steps) < 2 or any(not it.endswith(b" s") for it in steps) or steps != sorted(steps):
+        return f"the steps are {steps}"
+    why = differs(got, 3, b"out\n", has(b"proves nothing", b"./play --build", b"\nlines_demo: a word\n"))
+    if why or lines[-1] != b"lines_demo: a word":
+        return why or f"the last line is {lines[-1]!r}"
+    if contents(f"{site.folder}/bin/given") != SCRIPT:
+        return "it was given another script"
+    return "" if words_given(site) == [b"try -- script"] else f"rt was given {words_given(site)}"
+
+
+def drained(master):
+    """What a terminal that nobody writes to any more shows."""
+    said = b""
+    while True:
+        try:
+            more = os.read(master, 65536)
+        except OSError:
+            more = b""
+        if not more:
+            os.close(master)
+            return said
+        said += more
+
+
+def tries_at_a_terminal(site):
+    """One line takes the place of the other, and none is left."""
+    master, slave = pty.openpty()
+    with open(f"{site.folder}/lines", "wb") as it:
+        it.write(LINES)
+    with open(f"{site.folder}/lines", "rb") as it:
+        process = site.start(THREADS, it, slave)
+    os.close(slave)
+    status, output, _ = site.end(process)
+    said = drained(master)
+    shown = said.split(b"\r\x1b[K")
+    if len(shown) < 4 or any(b"\n" in it for it in shown[1:-1]) or shown[-1] != b"lines_demo: a word\r\n":
+        return f"the terminal shows {said!r}"
+    if words_given(site) != [b"try -- " + " ".join(THREADS).encode()]:
+        return f"rt was given {words_given(site)}"
+    return differs((status, output, b""), 3, b"out\n", b"")
+
+
+def says_that_the_output_is_large(site):
+    return differs(site.run([], SCRIPT), 125, b"", lambda said: b"1 MiB" in said and b"a next x" not in said and b"checked:" not in said)
+
+
+def says_what_rt_says(site):
+    return differs(site.run([], SCRIPT), *refuses(b"error: a source is wrong\n", b"./play --build"))
+
+
+def ends_what_it_started(site):
+    process = site.start([], subprocess.DEVNULL)
+    for _ in range(100):
+        if os.path.exists(f"{site.folder}/bin/calls"):
+            break
+        time.sleep(0.1)
+    process.terminate()
+    return differs((*site.end(process)[:2], b""), 143, b"", b"")
+
+
+def tries_what_is_old(site):
+    source = f"{site.folder}/crates/lines_demo/src/main.rt"
+    with open(source, "wb"):
+        os.utime(site.built(), (1, 1))
+    return differs(site.run([], SCRIPT), *refuses(b"1 MiB"))
+
+
+def builds(site):
+    got = site.run(["--build"])
+    crates = [b"play: 1 of 3, proving flow_rules", b"play: 2 of 3, proving lines_demo", b"play: 3 of 3, building the native program"]
+    lines = got[2].splitlines()
+    shown = [it for it in lines if it.startswith(crates[0] + b", 1 of 2 functions, ") and it.endswith(b" s")]
+    if [it for it in lines if it in crates] != crates or not shown:
+        return f"standard error {got[2]!r}"
+    why = differs(got, 0, b"", has(b"half an hour", b"built: crates/lines_demo/out/lines_demo"))
+    if why or words_given(site) != [b"check", b"check", b"run -- script"]:
+        return why or f"rt was given {words_given(site)}"
+    return "" if os.access(site.built(), os.X_OK) else "there is no program"
+
+
+def shows_why_it_was_not_built(site):
+    return differs(site.run(["--build"]), *refuses(b"error: not proved", b"was not built"))
+
+
+def needs_rt(site):
+    return differs(site.run([], SCRIPT), *refuses(b"rt of the toolchain")) or differs(
+        site.run(["--build"]), *refuses(b"rt of the toolchain")
+    )
+
+
+NATIVE = (
+    plays_a_file,
+    plays_a_pipe,
+    plays_nothing,
+    plays_from_elsewhere,
+    plays_a_slow_pipe,
+    plays_a_terminal,
+    plays_lines,
+    plays_lines_of_a_terminal,
+    plays_lines_to_an_open_end,
+    refuses_lines,
+    explains_threads,
+    reads_no_further_than_the_program,
+    plays_the_longest_script,
+    refuses_wrong_words,
+    refuses_what_cannot_be_read,
+    explains_itself,
+)
+TRIED = (
+    (tries, "ends"),
+    (tries_at_a_terminal, "ends"),
+    (says_that_the_output_is_large, "large"),
+    (says_what_rt_says, "refused"),
+    (ends_what_it_started, "hangs"),
+    (builds, "ends"),
+    (shows_why_it_was_not_built, "refused"),
+    (needs_rt, None),
+)
+
+
+def main(program, folder):
+    rows = [(row, program, None) for row in NATIVE] + [(row, None, stand_in) for row, stand_in in TRIED]
+    rows.append((tries_what_is_old, program, "large"))
+
+    def faults_of(row, program, stand_in):
+        site = Site(f"{folder}/{row.__name__}", program, stand_in)
+        try:
+            why = row(site)
+        except (OSError, ValueError) as error:
+            why = f"{type(error).__name__}: {error}"
+        return "; ".join(it for it in (why, site.left()) if it)
+
+    with ThreadPoolExecutor(8) as pool:
+        faults = [f"{row[0].__name__}: {why}" for row, why in zip(rows, pool.map(lambda row: faults_of(*row), rows)) if why]
+    print("\n".join(faults or [f"all {len(rows)} rows are as they should be"]))
+    return 1 if faults else 0
+
+
+if __name__ == "__main__":
+    sys.exit(main(*sys.argv[1:]))
