@@ -178,9 +178,8 @@ def plays_lines_of_a_terminal(site):
 
 
 def plays_lines_to_an_open_end(site):
-    return differs(site.run([*THREADS[:-1], "a:2"], LINES[:8]), 0, b"a 1 q\na 2 p\na complete 2\ndrained 1\n", b"") or differs(
-        site.run([*THREADS[:-1], "a:2"], LINES), 3, b"a 2 p\na 2 r\na open 2\ndrained 0\n", b""
-    )
+    words = [*THREADS[:-1], "a:2"]
+    return differs(site.run(words, b"7 v\n7 w\n7 x\n"), 3, b"a 7 v\na 7 w\na open 2\ndrained 0\n", b"")
 
 
 def refuses_lines(site):
