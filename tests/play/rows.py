@@ -379,9 +379,10 @@ TRIED = (
 def main(program, folder):
     rows = [(row, program, None) for row in NATIVE] + [(row, None, stand_in) for row, stand_in in TRIED]
     rows.append((tries_what_is_old, program, "large"))
+    # All files are written before the first row starts a process: one that is being started holds what others write.
+    sites = [(row, Site(f"{folder}/{row.__name__}", program, stand_in)) for row, program, stand_in in rows]
 
-    def faults_of(row, program, stand_in):
-        site = Site(f"{folder}/{row.__name__}", program, stand_in)
+    def faults_of(row, site):
         try:
             why = row(site)
         except (OSError, ValueError) as error:
@@ -389,7 +390,7 @@ def main(program, folder):
         return "; ".join(it for it in (why, site.left()) if it)
 
     with ThreadPoolExecutor(8) as pool:
-        faults = [f"{row[0].__name__}: {why}" for row, why in zip(rows, pool.map(lambda row: faults_of(*row), rows)) if why]
+        faults = [f"{row[0].__name__}: {why}" for row, why in zip(sites, pool.map(lambda it: faults_of(*it), sites)) if why]
     print("\n".join(faults or [f"all {len(rows)} rows are as they should be"]))
     return 1 if faults else 0
 
