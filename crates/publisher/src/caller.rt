@@ -115,17 +115,8 @@ impl<L: Ledger + Send, D: Ledger + Send, B: Listener + Send> Caller<L, D, B> {
             backoff.snooze();
             return looks + 1;
         }
-        self.wait_for_room(rt);
+        self.worker.shared.wait_for_room(rt);
         0
-    }
-
-    /// Sleeps until another thread tells, if a publication would still have to wait.
-    fn wait_for_room<R: Wait>(&self, rt: &R) {
-        let shared = &self.worker.shared;
-        let mut state = shared.state.lock(rt);
-        if let Err(reason) = state.look_for_room() {
-            shared.wait(rt, state, reason);
-        }
     }
 
     /// Hands a task to the pool, or runs it if it comes back.

@@ -11,7 +11,7 @@
 //! |---|---|---|
 //! | a publication, a subscribing, a close | whoever calls it | for the publisher's lock, behind which stand the list of subscriptions and the numbers of the publications; and `submit`, as long as a buffer is full |
 //! | a request, a cancel | whoever has the subscription | only if that starts a task, which is handed to the pool |
-//! | a turn, with its callbacks | a worker; a blocked submitter; or whoever started the task, if the pool takes none | for no lock. After it, for the publisher's lock, to wake who waits for room |
+//! | a turn, with its callbacks | a worker; a blocked submitter; or whoever started the task, if the pool takes none | for no lock. After it, if the subscription has ended or somebody waits for room, for the publisher's lock |
 //!
 //! Each subscription has a buffer that its publisher and its task share without a lock (`feed_cell`). So callbacks run outside every lock: one
 //! may publish, request, subscribe or close, and may wait for what another subscriber's callback does. A callback still may not wait for

@@ -16,6 +16,7 @@ use crate::subscription::Subscription;
 use async_pool::{MOST_WORKERS, Pool, Wide};
 use flow_rules::{Ending, Listener, Name, NoMemory, Refusal};
 use std::alloc::Global;
+use std::sync::atomic::AtomicU64;
 use std::sync::ledger::{Blank, Ledger};
 use std::sync::{Arc, Condvar, Mutex, Wait};
 use std::thread;
@@ -85,6 +86,7 @@ impl<
                     capacity: state.capacity(),
                     state: Mutex::new(state),
                     changed: Condvar::new(),
+                    awaiting: AtomicU64::new(0),
                 },
             )?,
             pool: Arc::new(alloc, pool)?,

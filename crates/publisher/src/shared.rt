@@ -6,6 +6,8 @@ use feed_core::Seen;
 use flow_rules::{Listener, NoMemory};
 use std::alloc::Global;
 use std::marker::PhantomData;
+use std::sync::atomic::AtomicU64;
+use std::sync::atomic::Ordering::SeqCst;
 use std::sync::ledger::Ledger;
 use std::sync::{Arc, Condvar, Mutex, MutexGuard, Wait};
 
@@ -17,6 +19,8 @@ pub struct Shared<L: Ledger, D: Ledger, B: Listener> {
     pub state: Mutex<State<L, D, B>>,
     /// A turn was run, the publisher was closed, or the loop of a worker has ended.
     pub changed: Condvar,
+    /// How many threads look for room before they sleep, or sleep.
+    pub awaiting: AtomicU64,
 }
 
 impl<L: Ledger, D: Ledger, B: Listener> Shared<L, D, B> {
@@ -43,9 +47,26 @@ impl<L: Ledger, D: Ledger, B: Listener> Shared<L, D, B> {
         state
     }
 
+    /// Sleeps until another thread tells, if a publication would still have to wait.
+    ///
+    /// It is counted before it looks. So a turn that makes room after that look finds it counted, and takes the lock to tell; and the lock is
+    /// free only once this thread sleeps.
+    pub fn wait_for_room<R: Wait>(&self, rt: &R) {
+        self.awaiting.fetch_add(1, SeqCst);
+        let mut state = self.state.lock(rt);
+        if let Err(reason) = state.look_for_room() {
+            state = self.wait(rt, state, reason);
+        }
+        drop(state);
+        self.awaiting.fetch_sub(1, SeqCst);
+    }
+
     /// Does what is to be done after a turn of the subscription of this number: if that has ended, its ticket is spent; and those who wait
-    /// are woken, since the turn may have made room.
+    /// for room are woken, since the turn may have made some. Where neither is to be done the lock is left alone.
     pub fn after_turn<R: Wait>(&self, rt: &R, entry: u32, has_ended: bool) {
+        if !has_ended && self.awaiting.load(SeqCst) == 0 {
+            return;
+        }
         let mut state = self.state.lock(rt);
         if has_ended {
             state.spend_ticket(entry);
