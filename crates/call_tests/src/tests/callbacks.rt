@@ -2,9 +2,9 @@
 mod acting;
 mod handling;
 mod meeting;
+mod stand;
 mod waiting;
 
-use flow_rules::{Name, Refusal};
 use handling::offer_twice;
 use meeting::meet;
 use publisher::PARTS;
@@ -47,10 +47,6 @@ fn comes_to(count: &AtomicU64, number: u64) -> bool {
     false
 }
 
-fn name_of(name: &str) -> Result<Name, Refusal> {
-    Name::new(name.as_bytes()).ok_or(Refusal::Unknown)
-}
-
 #[test]
 fn two_callbacks_meet(rt: HostRuntime) -> Result<(), Fail> {
     let met = meet::<Brand, Brand, _>(rt, rt.alloc(), Blank::new(PARTS), Blank::new(PARTS))?;
@@ -61,7 +57,7 @@ fn two_callbacks_meet(rt: HostRuntime) -> Result<(), Fail> {
 #[test]
 fn each_call_returns_while_a_callback_runs(rt: HostRuntime) -> Result<(), Fail> {
     let told = call_all::<Brand, Brand, _>(rt, rt.alloc(), Blank::new(PARTS), Blank::new(PARTS))?;
-    let wanted = "in true, lag 1, answer 2, lag 2 of 2, a true; went on 0, 2";
+    let wanted = "lag 1, answer 2, lag 2 of 2, a true; 0 and 2 went on";
     assert!(rt; told.as_str() == wanted, "{told}");
     Ok(())
 }

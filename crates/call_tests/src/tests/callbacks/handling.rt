@@ -3,9 +3,9 @@ ghost use Rattle.std.specs.Prelude.{◌≡◌};
 ghost use Rattle.publisher.specs.declared.state.TheConstants.{PARTS};
 
 use super::acting::{Act, Acting};
-use super::{Count, Flag, comes_to, name_of, wait_for};
+use super::stand::Stand;
+use super::{Count, Flag, comes_to, wait_for};
 use flow_rules::{DropHandler, Item, Name};
-use publisher::{Publisher, finish};
 use std::alloc::Global;
 use std::sync::atomic::Ordering::SeqCst;
 use std::sync::atomic::{AtomicBool, AtomicU64};
@@ -48,39 +48,28 @@ pub fn offer_twice<
     requires publications { (publications.name ≡ L.name) × ((publications.parts ≡ L.parts) × (L.parts ≡ PARTS)) }
     requires drops { (drops.name ≡ D.name) × ((drops.parts ≡ D.parts) × (D.parts ≡ PARTS)) }
 {
-    let publisher: Publisher<L, D, Acting<Counts>> = Publisher::new(
-        rt,
-        alloc,
-        publications,
-        drops,
-        1,
-        1,
-    )?;
     let told = Arc::new(alloc, AtomicU64::new(0))?;
     let is_asked = Arc::new(alloc, AtomicBool::new(false))?;
     let act = Acting::new(Counts(Arc::try_clone(&told)?));
-    let Ok(mut subscription) = publisher.subscribe(&rt, alloc, name_of("a")?, act) else {
-        return Err(Fail::new("it can't subscribe"));
-    };
-    let mut note = Publisher::<L, D, Acting<Counts>>::note();
-    let mut submitter = publisher.submitter(&rt, alloc, &mut note)?;
-    submitter.submit(&rt, alloc, b"x")?;
+    let mut stand: Stand<L, D, Acting<Counts>> = Stand::new(rt, alloc, publications, drops, 1, 1)?;
+    stand.subscribe(&rt, "a", act)?;
+    stand.submitter.submit(&rt, alloc, b"x")?;
     let asks = Asks {
         is_asked: Arc::try_clone(&is_asked)?,
         told,
     };
     let mut handler: Box<dyn DropHandler> = Box::new(alloc, asks)?;
+    let Some(mut subscription) = stand.subscriptions.pop() else {
+        return Err(Fail::new("there is no subscription"));
+    };
     let owner = thread::spawn(&rt, move || {
         if wait_for(&is_asked) {
             let _ = subscription.request(&rt, 1);
         }
         subscription
     })?;
-    let answer = submitter.offer(&rt, alloc, b"y", Some(&mut handler))?;
-    let mut submitters = Vec::new(alloc);
-    submitters.push(submitter)?;
-    let mut subscriptions = Vec::new(alloc);
-    subscriptions.push(owner.join(&rt))?;
-    let _ = finish(&rt, alloc, publisher, submitters, subscriptions);
+    let answer = stand.submitter.offer(&rt, alloc, b"y", Some(&mut handler))?;
+    stand.subscriptions.push(owner.join(&rt))?;
+    stand.end(&rt)?;
     Ok(answer)
 }

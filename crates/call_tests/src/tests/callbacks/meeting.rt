@@ -1,10 +1,10 @@
 //! Two callbacks that wait for one another.
-ghost use Rattle.std.specs.Prelude.{◌≡◌};
+ghost use Rattle.std.specs.Prelude.{◌≡◌, [], IfOk};
 ghost use Rattle.publisher.specs.declared.state.TheConstants.{PARTS};
 
 use super::acting::{Act, Acting};
-use super::{Count, Flag, name_of, wait_for};
-use publisher::{Publisher, finish};
+use super::stand::Stand;
+use super::{Count, Flag, wait_for};
 use std::alloc::{AllocError, Global};
 use std::sync::atomic::Ordering::SeqCst;
 use std::sync::atomic::{AtomicBool, AtomicU64};
@@ -31,7 +31,9 @@ impl Act for Meets {
 }
 
 // One that meets another.
-fn one_that_meets(mine: &Flag, other: &Flag, met: &Count) -> Result<Acting<Meets>, AllocError> {
+fn one_that_meets(mine: &Flag, other: &Flag, met: &Count) -> Result<Acting<Meets>, AllocError>
+    ensures { IfOk result (λ acting. acting ≡ []) }
+{
     Ok(Acting::new(Meets {
         mine: Arc::try_clone(mine)?,
         other: Arc::try_clone(other)?,
@@ -48,33 +50,15 @@ pub fn meet<
     requires publications { (publications.name ≡ L.name) × ((publications.parts ≡ L.parts) × (L.parts ≡ PARTS)) }
     requires drops { (drops.name ≡ D.name) × ((drops.parts ≡ D.parts) × (D.parts ≡ PARTS)) }
 {
-    let publisher: Publisher<L, D, Acting<Meets>> = Publisher::new(
-        rt,
-        alloc,
-        publications,
-        drops,
-        2,
-        1,
-    )?;
     let one = Arc::new(alloc, AtomicBool::new(false))?;
     let other = Arc::new(alloc, AtomicBool::new(false))?;
     let met = Arc::new(alloc, AtomicU64::new(0))?;
-    let mut subscriptions = Vec::new(alloc);
-    for (name, act) in [
-        ("a", one_that_meets(&one, &other, &met)?),
-        ("b", one_that_meets(&other, &one, &met)?),
-    ] {
-        let Ok(mut subscription) = publisher.subscribe(&rt, alloc, name_of(name)?, act) else {
-            return Err(Fail::new("it can't subscribe"));
-        };
-        subscription.request(&rt, 1)?;
-        subscriptions.push(subscription)?;
-    }
-    let mut note = Publisher::<L, D, Acting<Meets>>::note();
-    let mut submitter = publisher.submitter(&rt, alloc, &mut note)?;
-    submitter.submit(&rt, alloc, b"x")?;
-    let mut submitters = Vec::new(alloc);
-    submitters.push(submitter)?;
-    let _ = finish(&rt, alloc, publisher, submitters, subscriptions);
+    let mut stand: Stand<L, D, Acting<Meets>> = Stand::new(rt, alloc, publications, drops, 2, 1)?;
+    stand.subscribe(&rt, "a", one_that_meets(&one, &other, &met)?)?;
+    stand.subscribe(&rt, "b", one_that_meets(&other, &one, &met)?)?;
+    stand.request(&rt, 0, 1)?;
+    stand.request(&rt, 1, 1)?;
+    stand.submitter.submit(&rt, alloc, b"x")?;
+    stand.end(&rt)?;
     Ok(met.load(SeqCst))
 }

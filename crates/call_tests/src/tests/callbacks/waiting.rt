@@ -3,8 +3,8 @@ ghost use Rattle.std.specs.Prelude.{◌≡◌, []};
 ghost use Rattle.publisher.specs.declared.state.TheConstants.{PARTS};
 
 use super::acting::{Act, Acting};
-use super::{Count, Flag, name_of, wait_for};
-use publisher::{Publisher, finish};
+use super::stand::{Stand, name_of};
+use super::{Count, Flag, wait_for};
 use std::alloc::{AllocError, Global};
 use std::sync::atomic::Ordering::SeqCst;
 use std::sync::atomic::{AtomicBool, AtomicU64};
@@ -41,7 +41,8 @@ impl Waits {
     }
 }
 
-// How many callbacks go on that wait until each call of the publisher has returned, and what these calls answer.
+// What the calls of a publisher answer while a callback runs, and how many callbacks had gone on before the last of them returned, and
+// at the end. A callback goes on only once it is let, after all calls.
 pub fn call_all<
     L: Ledger + Send + Sync + 'static,
     D: Ledger + Send + Sync + 'static,
@@ -50,51 +51,59 @@ pub fn call_all<
     requires publications { (publications.name ≡ L.name) × ((publications.parts ≡ L.parts) × (L.parts ≡ PARTS)) }
     requires drops { (drops.name ≡ D.name) × ((drops.parts ≡ D.parts) × (D.parts ≡ PARTS)) }
 {
-    let publisher: Publisher<L, D, Acting<Waits>> = Publisher::new(
-        rt,
-        alloc,
-        publications,
-        drops,
-        1,
-        8,
-    )?;
-    let waits = Waits {
+    let waits = new_waits(alloc)?;
+    let mut stand: Stand<L, D, Acting<Waits>> = Stand::new(rt, alloc, publications, drops, 1, 8)?;
+    stand.subscribe(&rt, "a", Acting::new(waits.share()?))?;
+    stand.request(&rt, 0, 1)?;
+    stand.submitter.submit(&rt, alloc, b"x")?;
+    if !wait_for(&waits.is_in) {
+        return Err(Fail::new("nothing is told"));
+    }
+    let act = Acting::new(waits.share()?);
+    let answers = stand.answers(&rt, act)?;
+    let before = waits.went_on.load(SeqCst);
+    waits.may_go.store(true, SeqCst);
+    stand.end(&rt)?;
+    let after = waits.went_on.load(SeqCst);
+    Ok(format!(in alloc; "{answers}; {before} and {after} went on")?)
+}
+
+fn new_waits(alloc: Global) -> Result<Waits, AllocError> {
+    Ok(Waits {
         is_in: Arc::new(alloc, AtomicBool::new(false))?,
         may_go: Arc::new(alloc, AtomicBool::new(false))?,
         went_on: Arc::new(alloc, AtomicU64::new(0))?,
-    };
-    let mut note = Publisher::<L, D, Acting<Waits>>::note();
-    let mut submitter = publisher.submitter(&rt, alloc, &mut note)?;
-    let mut subscriptions = Vec::new(alloc);
-    let act = Acting::new(waits.share()?);
-    if let Ok(mut subscription) = publisher.subscribe(&rt, alloc, name_of("a")?, act) {
-        subscription.request(&rt, 1)?;
-        subscriptions.push(subscription)?;
+    })
+}
+
+impl<L: Ledger + Send + Sync + 'static, D: Ledger + Send + Sync + 'static> Stand<
+    L,
+    D,
+    Acting<Waits>,
+> {
+    // Makes each call, and says what it answers.
+    fn answers<R: Wait>(&mut self, rt: &R, act: Acting<Waits>) -> Result<String, Fail>
+        requires { act ≡ [] }
+    {
+        let alloc = self.alloc;
+        self.request(rt, 0, 1)?;
+        let lag = self.submitter.submit(rt, alloc, b"y")?;
+        let answer = self.submitter.offer(rt, alloc, b"z", None)?;
+        self.subscribe(rt, "b", act)?;
+        let looks = self.looks(rt)?;
+        if let Some(mut subscription) = self.subscriptions.pop() {
+            subscription.cancel(rt)?;
+            self.subscriptions.push(subscription)?;
+        }
+        self.publisher.close(rt, alloc, &mut self.note)?;
+        Ok(format!(in alloc; "lag {lag}, answer {answer}, {looks}")?)
     }
-    submitter.submit(&rt, alloc, b"x")?;
-    let is_in = wait_for(&waits.is_in);
-    // Its callback runs. From here on each call has to return, or it gives up.
-    for subscription in subscriptions.iter_mut() {
-        subscription.request(&rt, 1)?;
+
+    // What is asked of all subscriptions.
+    fn looks<R: Wait>(&self, rt: &R) -> Result<String, Fail> {
+        let lag = self.publisher.estimate_maximum_lag(rt);
+        let live = self.publisher.number_of_subscribers(rt);
+        let is_there = self.publisher.is_subscribed(rt, name_of("a")?);
+        Ok(format!(in self.alloc; "lag {lag} of {live}, a {is_there}")?)
     }
-    let lag = submitter.submit(&rt, alloc, b"y")?;
-    let answer = submitter.offer(&rt, alloc, b"z", None)?;
-    let act = Acting::new(waits.share()?);
-    if let Ok(mut subscription) = publisher.subscribe(&rt, alloc, name_of("b")?, act) {
-        subscription.cancel(&rt)?;
-        subscriptions.push(subscription)?;
-    }
-    let most = publisher.estimate_maximum_lag(&rt);
-    let live = publisher.number_of_subscribers(&rt);
-    let is_there = publisher.is_subscribed(&rt, name_of("a")?);
-    publisher.close(&rt, alloc, &mut note)?;
-    let went_on = waits.went_on.load(SeqCst);
-    waits.may_go.store(true, SeqCst);
-    let mut submitters = Vec::new(alloc);
-    submitters.push(submitter)?;
-    let _ = finish(&rt, alloc, publisher, submitters, subscriptions);
-    let after = waits.went_on.load(SeqCst);
-    Ok(format!(in alloc;
-        "in {is_in}, lag {lag}, answer {answer}, lag {most} of {live}, a {is_there}; went on {went_on}, {after}"
-    )?)
 }
