@@ -8,9 +8,9 @@
 # With OTHER_CHECKOUT, another clone of this repository, the same program runs over that one's publisher, too, in turns with this one's.
 # A row has the figures of both, and their ratios, this one's to the other's.
 # Usage: bench/deliveries.sh [OTHER_CHECKOUT [RUNS [ITEMS]]]; '' for no other checkout. Each figure is the median of RUNS runs of ITEMS items
-# (5 and 400,000). The programs are built in a temporary folder, over what each checkout has proved already: without that, the
-# proofs take some half an hour of a processor. KEEP names a file in which the program over this checkout is kept; such a file may stand for
-# a checkout: as OTHER_CHECKOUT, and as PROGRAM for this one. It needs GNU time.
+# (5 and 400,000). The programs are proved and built in a temporary folder, each in some eight minutes of a processor over what its checkout
+# has proved already (what is in crates/*/out), and else in half an hour more. KEEP names a file in which the program over this checkout is
+# kept; such a file may stand for a checkout: as OTHER_CHECKOUT, and as PROGRAM for this one. It needs GNU time.
 set -eu
 other=${1:-}
 [ -z "$other" ] || other=$(realpath -e "$other")

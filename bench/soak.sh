@@ -7,8 +7,8 @@
 # It prints what was checked, how much, and the rate, and ends with status 1 where anything was not as it should be, or a run has not ended
 # after LIMIT seconds.
 # Usage: bench/soak.sh [DELIVERIES [WORKERS [CAPACITY [LIMIT]]]]; 1,000,000, 4, 16 and 3,600. DELIVERIES are 4,000,000,000 at most.
-# The program is built in a temporary folder, over what this checkout has proved already: without that, the proofs take some half an hour of
-# a processor. PROGRAM names one that was built before, and KEEP a file in which this one is kept.
+# The program is proved and built in a temporary folder, in some eight minutes of a processor over what this checkout has proved already
+# (what is in crates/*/out), and else in half an hour more. PROGRAM names one that was built before, and KEEP a file in which this one is kept.
 set -eu
 [ -z "${PROGRAM-}" ] || PROGRAM=$(realpath -e "$PROGRAM")
 [ -z "${KEEP-}" ] || KEEP=$(realpath "$KEEP")
