@@ -1,11 +1,11 @@
 #!/bin/sh
-# Publishes from 8 threads to 8 subscribers at a time until so many deliveries were made, an item told to one subscriber being a delivery,
-# and checks each of them. Six sources submit, and two offer. Eight more threads own the subscriptions: of the subscribers one asks for
-# everything, one asks by its callback for one item more each time, three are asked for by their owners (1,000 or 64 items once these were
-# told, 1 to 4,096 before they were); and three come and go: one cancels by its callback, one is cancelled or gets a bad request by its owner
-# while items come, and one is cancelled by its owner once its demand is used up and its buffer is full.
-# It prints what was checked, how much, and the rate, and ends with status 1 where anything was not as it should be, or a run has not ended
-# after LIMIT seconds.
+# Publishes from 8 threads to 8 subscribers at a time until so many deliveries were made, and checks each of them; an item told to one
+# subscriber is a delivery. Six sources submit, two offer. Eight more threads own the subscriptions, one each. The first subscriber requests
+# everything; the second requests one item more in each callback; the owners of the next three request 1,000 or 64 items whenever these were
+# told, or 1 to 4,096 while some are left. The last three come and go: one cancels in its callback; one is cancelled by its owner, or gets a
+# bad request, while items come; and one is cancelled by its owner once its demand is used up.
+# It prints what was checked, how much, and the rate, and ends with status 1 if anything was not as it should be, or if the run has not
+# ended after LIMIT seconds.
 # Usage: bench/soak.sh [DELIVERIES [WORKERS [CAPACITY [LIMIT]]]]; 1,000,000, 4, 16 and 3,600. DELIVERIES are 4,000,000,000 at most.
 # The program is proved and built in a temporary folder, in some eight minutes of a processor over what this checkout has proved already
 # (what is in crates/*/out), and else in half an hour more. PROGRAM names one that was built before, and KEEP a file in which this one is kept.
