@@ -1,5 +1,5 @@
 #!/bin/sh
-# Runs native tests of counts, pools and cells with the Nth request for memory refused, for N from 1 up to a run
+# Runs native tests of counts, pools, cells and publishers with the Nth request for memory refused, for N from 1 up to a run
 # that meets none. Each run has to end by itself, within a minute, either well or with the error that a refusal gives.
 #
 # It fails, too, where a run does not say that its test was run, and where no request of a test was refused, as when the
@@ -81,5 +81,6 @@ for name in alone::a_refusal_is_answered alone::a_full_pool_gives_the_job_back a
     each "$tests" "tests::pool::$name"
 done
 each "$tests" tests::cells::a_life_is_whole_or_is_refused_memory
+each "$tests" tests::publishers::a_day_drains_also_where_memory_was_refused
 echo "$tried tests, $failures failed"
 [ "$tried" -gt 0 ] && [ "$failures" -eq 0 ]
