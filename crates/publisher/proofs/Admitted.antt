@@ -1,5 +1,5 @@
 -- The tickets of a publisher whose subscriptions are one more.
-use Rattle.std.proofs.Common.{◌≡◌, ◌⊎◌, inl, inr, ℕ, ◌≤◌, Option, None, Some, Result, Ok, Err, List, length, refl, sym, ap, subst, ◌∙◌, arith}
+use Rattle.std.proofs.Common.{◌≡◌, ◌⊎◌, inl, inr, ℕ, Option, None, Some, Result, Ok, Err, List, length, refl, sym, ap, subst, ◌∙◌, arith}
 use Rattle.std.specs.Prelude.{IfOk, IsSome, OnErr, slice_get}
 use Rattle.std.proofs.lemmas.List.{length-map}
 use Rattle.close_count.specs.Count.{CountId}

@@ -1,6 +1,6 @@
 -- How a publisher's end is concluded: the lanes, and the answer.
-use Rattle.std.proofs.Common.{◌≡◌, ◌⊎◌, inl, inr, ℕ, ◌+◌, ◌<◌, ◌≤◌, ◌||◌, ◌&&◌, is_none, Bool, true, false, Option, None, Some, Result, Ok, Err, List, [], ◌∷◌, length, refl, sym, ap, subst, ◌∙◌, arith}
-use Rattle.std.specs.Prelude.{IsSome, slice_get, sum_by}
+use Rattle.std.proofs.Common.{◌≡◌, ◌⊎◌, inl, inr, ℕ, ◌||◌, ◌&&◌, is_none, Bool, true, false, Option, None, Some, Result, Ok, Err, List, [], length, refl, sym, ap, subst, ◌∙◌, arith}
+use Rattle.std.specs.Prelude.{IsSome, slice_get}
 use Rattle.std.specs.Option.{option_or}
 use Rattle.std.proofs.lemmas.Option.{same_Some, slice_get_within}
 use Rattle.feed_core.specs.Prelude.{How, Signal}
@@ -10,11 +10,10 @@ use Rattle.publisher.specs.Finding.{IsHandedIn}
 use Rattle.publisher.specs.Finishing.{AreAudited, AreTakenOut, IsNothing}
 use Rattle.publisher.specs.Handles.{SubmitterState, SubscriptionState}
 use Rattle.publisher.specs.Leaving.{ClosesAll, Concludes, FindsFirst}
-use Rattle.publisher.specs.Outcome.{AnyKnows, AreDone, AreHandedIn, AreNumbered, Finishes, HasLane, IsFirstGap, IsHeld, IsMissing, IsOutcome, IsRestGiven, IsWhole, Judges, NamesUndone, is_undone, outcome_of}
+use Rattle.publisher.specs.Outcome.{AnyKnows, AreDone, AreHandedIn, Finishes, HasLane, IsHeld, IsMissing, IsOutcome, IsRestGiven, IsWhole, Judges, NamesUndone, is_undone, outcome_of}
 use Rattle.publisher.specs.declared.outcome.NamedLane.{NamedLane}
 use Rattle.publisher.specs.declared.outcome.Outcome.{Outcome}
 use Rattle.publisher.specs.declared.state.finding.Found.{Found}
-use Rattle.publisher.specs.declared.state.finding.Found.TheVariants as Found
 use Rattle.publisher.specs.declared.state.finding.Taken.{Taken}
 use Rattle.publisher.specs.declared.state.finishing.Books.{Books}
 use Rattle.publisher.proofs.Outcomes.{drops_at, is_outcome}

@@ -1,25 +1,24 @@
 -- How the two ends of each subscription are brought together, one subscription after the other.
-use Rattle.std.proofs.Common.{◌≡◌, ◌⊎◌, inl, inr, ℕ, zero, suc, ◌+◌, ◌<◌, ◌≤◌, ◌||◌, ◌&&◌, Bool, true, false, is_some, Option, None, Some, option_map, List, [], ◌∷◌, ◌++◌, length, refl, sym, ap, subst, ◌∙◌, arith}
+use Rattle.std.proofs.Common.{◌≡◌, ◌⊎◌, inl, inr, ℕ, ◌+◌, ◌<◌, ◌≤◌, ◌||◌, ◌&&◌, Bool, true, false, is_some, Option, None, Some, option_map, List, [], ◌∷◌, ◌++◌, length, refl, sym, ap, subst, ◌∙◌, arith}
 use Rattle.std.specs.Prelude.{slice_get, slice_set}
 use Rattle.std.proofs.lemmas.List.{length-append, length-map, length-set}
-use Rattle.std.proofs.lemmas.Option.{same_Some, slice_get_within}
+use Rattle.std.proofs.lemmas.Option.{same_Some}
 use Rattle.feed_cell.specs.Parties.{HandleState, ProducerState}
 use Rattle.publisher_hub.specs.Entry.{EntryState, entry_of}
 use Rattle.publisher_hub.specs.Hub.{HubState, hub_of}
 use Rattle.publisher_hub.specs.Lists.{Each}
 use Rattle.publisher_hub.specs.Sound.{IsSound}
-use Rattle.publisher_hub.specs.Taking.{TakesOutAt, entry_without_feed}
+use Rattle.publisher_hub.specs.Taking.{entry_without_feed}
 use Rattle.publisher_hub.specs.declared.entry.Entry.{Entry}
 use Rattle.publisher_hub.specs.declared.hub.Hub.{Hub}
 use Rattle.publisher_hub.proofs.Grown.{get_elsewhere, get_grown}
 use Rattle.publisher_hub.proofs.LiveRounds.{get_before_map, get_mapped}
 use Rattle.publisher_hub.proofs.Places.{there}
 use Rattle.publisher_hub.proofs.Replaced.{set_or_stood, set_same}
-use Rattle.publisher.specs.Finding.{AreFoundIn, FindsAll, FindsBy, FindsOne, IsFoundOf, IsSameOrLeft, IsTakenOf, TakesBoth, is_missing}
+use Rattle.publisher.specs.Finding.{FindsAll, FindsBy, FindsOne, IsFoundOf, IsSameOrLeft, TakesBoth, is_missing}
 use Rattle.publisher.specs.State.{producer_end}
 use Rattle.publisher.specs.Tickets.{IsLate}
 use Rattle.publisher.specs.declared.state.finding.Found.{Found}
-use Rattle.publisher.specs.declared.state.finding.Found.TheVariants as Found
 use Rattle.publisher.specs.declared.state.finding.Taken.{Taken}
 
 left_false : (a b : Bool) → (a || b) ≡ false → a ≡ false

@@ -248,12 +248,12 @@ module _ (old new : Hub ProducerState) (ending : Ending) (sums : Sums) (is : IsS
         let closing = first e in
         let closed = state_closed_looking (hub_of producer_end old) (hub_of producer_end new) ending sums is sound closing in
         subst (λ n. IsState (hub_of producer_end new) (record sums { counted = Some n; last = last_after spent true sums.last })) (sym is.entries_are) (
-          state_with_last (hub_of producer_end new) (record sums { counted = Some (length (hub_of producer_end old).entries) }) (last_after spent true sums.last) closed (
-            is.tickets.0,
-            of_count_after is.tickets.0 (hub_of producer_end new) spent true (Some (length (hub_of producer_end old).entries)) sums.last
-                (tickets_closed is.tickets.0 (hub_of producer_end old) (hub_of producer_end new) ending sums.counted sums.last is.tickets.1 is.counted_is closing) (same ∙ is.tickets.1.opening opening (sym (first_came e) ∙ is_there))
-                (λ _. subst IsSome (sym (ap (λ (h : HubState). h.progress.ending) closing.closed.rest)) refl),
-          )
+        state_with_last (hub_of producer_end new) (record sums { counted = Some (length (hub_of producer_end old).entries) }) (last_after spent true sums.last) closed (
+          is.tickets.0,
+          of_count_after is.tickets.0 (hub_of producer_end new) spent true (Some (length (hub_of producer_end old).entries)) sums.last
+              (tickets_closed is.tickets.0 (hub_of producer_end old) (hub_of producer_end new) ending sums.counted sums.last is.tickets.1 is.counted_is closing) (same ∙ is.tickets.1.opening opening (sym (first_came e) ∙ is_there))
+              (λ _. subst IsSome (sym (ap (λ (h : HubState). h.progress.ending) closing.closed.rest)) refl),
+        )
         )
     by (Some known) e = absurd (none_came came opening is_there (later_came (rw e refl)))
 

@@ -1,8 +1,8 @@
 -- How the subscriptions are closed, one after the other.
-use Rattle.std.proofs.Common.{◌≡◌, ◌⊎◌, inl, inr, ℕ, zero, suc, ◌+◌, ◌<◌, ◌≤◌, Option, None, Some, List, [], ◌∷◌, ◌++◌, length, refl, sym, ap, subst, ◌∙◌, arith}
+use Rattle.std.proofs.Common.{◌≡◌, ◌⊎◌, inl, inr, ℕ, zero, suc, ◌+◌, ◌<◌, Option, None, Some, List, [], ◌∷◌, ◌++◌, length, refl, sym, ap, subst, ◌∙◌, arith}
 use Rattle.std.specs.Prelude.{slice_get}
 use Rattle.std.proofs.lemmas.List.{length-append}
-use Rattle.std.proofs.lemmas.Option.{same_Some, slice_get_within}
+use Rattle.std.proofs.lemmas.Option.{slice_get_within}
 use Rattle.feed_core.specs.Prelude.{Signal}
 use Rattle.publisher_hub.proofs.Grown.{get_grown}
 use Rattle.publisher_hub.proofs.Places.{there}
@@ -11,7 +11,6 @@ use Rattle.publisher.specs.Outcome.{AreNumbered, HasLane, IsFirstGap, IsHeld}
 use Rattle.publisher.specs.declared.leaving.Closed.TheVariants as Closed
 use Rattle.publisher.specs.declared.outcome.NamedLane.{NamedLane}
 use Rattle.publisher.specs.declared.state.finding.Found.{Found}
-use Rattle.publisher.specs.declared.state.finding.Found.TheVariants as Found
 use Rattle.publisher.specs.declared.state.finding.Taken.{Taken}
 
 -- what stands in a list stands there still once one more was added, which stands at its end
@@ -144,9 +143,9 @@ module _ {B : Type 0} (told : B → List Signal) where
           (most, (omega arith, (gap_here finds.0 finds.1.0, inr (length held, get_last held most))))
       finds_held (Some it) e finds = subst (λ f. FindsFirst told (founds ++ Found.Both taken ∷ []) (most + 1) lanes (held ++ most ∷ []) f) (sym (some it e))
           (finds.0, (let less = finds.1.0 in omega arith, (finds.1.1.0, missing finds.1.1.1))) where
-        missing : (slice_get founds finds.0 ≡ Some (Found.Missing it)) ⊎ IsHeld finds.0 held → (slice_get (founds ++ Found.Both taken ∷ []) finds.0 ≡ Some (Found.Missing it)) ⊎ IsHeld finds.0 (held ++ most ∷ [])
-        missing (inl at) = inl (get_still founds (Found.Both taken) finds.0 (Found.Missing it) at)
-        missing (inr is_held) = inr (held_still most finds.0 is_held)
+            missing : (slice_get founds finds.0 ≡ Some (Found.Missing it)) ⊎ IsHeld finds.0 held → (slice_get (founds ++ Found.Both taken ∷ []) finds.0 ≡ Some (Found.Missing it)) ⊎ IsHeld finds.0 (held ++ most ∷ [])
+            missing (inl at) = inl (get_still founds (Found.Both taken) finds.0 (Found.Missing it) at)
+            missing (inr is_held) = inr (held_still most finds.0 is_held)
 
       pub closes_held : ClosesAll told (founds ++ Found.Both taken ∷ []) (most + 1) lanes (held ++ most ∷ []) first_then
       closes_held = record {
@@ -180,9 +179,9 @@ module _ {B : Type 0} (told : B → List Signal) where
           (most, (omega arith, (gap_here finds.0 finds.1.0, inl (at_last (Found.Missing name)))))
       finds_missing (Some it) e finds = subst (λ f. FindsFirst told (founds ++ Found.Missing name ∷ []) (most + 1) lanes held f) (sym (some it e))
           (finds.0, (let less = finds.1.0 in omega arith, (finds.1.1.0, missing finds.1.1.1))) where
-        missing : (slice_get founds finds.0 ≡ Some (Found.Missing it)) ⊎ IsHeld finds.0 held → (slice_get (founds ++ Found.Missing name ∷ []) finds.0 ≡ Some (Found.Missing it)) ⊎ IsHeld finds.0 held
-        missing (inl at) = inl (get_still founds (Found.Missing name) finds.0 (Found.Missing it) at)
-        missing (inr is_held) = inr is_held
+            missing : (slice_get founds finds.0 ≡ Some (Found.Missing it)) ⊎ IsHeld finds.0 held → (slice_get (founds ++ Found.Missing name ∷ []) finds.0 ≡ Some (Found.Missing it)) ⊎ IsHeld finds.0 held
+            missing (inl at) = inl (get_still founds (Found.Missing name) finds.0 (Found.Missing it) at)
+            missing (inr is_held) = inr is_held
 
       pub closes_missing : ClosesAll told (founds ++ Found.Missing name ∷ []) (most + 1) lanes held first_then
       closes_missing = record {

@@ -1,12 +1,10 @@
 -- What is left of the subscriptions of a publisher keeps the rules of Flow, and agrees.
-use Rattle.std.proofs.Common.{◌≡◌, ◌⊎◌, inl, inr, ℕ, zero, suc, ◌+◌, ◌<◌, ◌≤◌, is_none, Bool, true, false, Option, None, Some, List, ◌∷◌, ◌++◌, [], length, map, refl, sym, ap, subst, ◌∙◌, arith}
-use Rattle.std.specs.Prelude.{IfSome, IsSome, slice_get, Contains}
+use Rattle.std.proofs.Common.{◌≡◌, ◌⊎◌, inl, inr, ℕ, zero, suc, ◌<◌, ◌≤◌, Bool, true, false, Option, None, Some, List, ◌∷◌, [], length, map, refl, sym, ap, subst, ◌∙◌, arith}
+use Rattle.std.specs.Prelude.{IsSome, slice_get, Contains}
 use Rattle.std.proofs.lemmas.Option.{same_Some, slice_get_within}
-use Rattle.feed_cell.specs.Left.{IsLeftOf}
-use Rattle.feed_core.specs.Prelude.{Item, Signal, Subscribed, Next, Complete, How}
-use Rattle.feed_core.specs.Lane.{LaneState, IsFlow, IsSettled, IsSettledAs}
+use Rattle.feed_core.specs.Prelude.{Signal, Subscribed, Next, Complete, How}
+use Rattle.feed_core.specs.Lane.{LaneState, IsSettled, IsSettledAs}
 use Rattle.feed_core.proofs.TurnLoop.{last_contained}
-use Rattle.flow_rules.specs.Feed.{End}
 use Rattle.publisher_hub.proofs.Places.{there}
 use Rattle.publisher.specs.Finishing.{AreTakenOut, IsCountedIn}
 use Rattle.publisher.specs.Handles.{SubscriptionState}
@@ -15,7 +13,6 @@ use Rattle.publisher.specs.Outcome.{IsLane, IsOutcome, TookPart}
 use Rattle.publisher.specs.declared.outcome.NamedLane.{NamedLane}
 use Rattle.publisher.specs.declared.outcome.Outcome.{Outcome}
 use Rattle.publisher.specs.declared.state.finding.Found.{Found}
-use Rattle.publisher.specs.declared.state.finding.Found.TheVariants as Found
 use Rattle.publisher.specs.declared.state.finding.Taken.{Taken}
 
 -- a completed lane was closed
@@ -77,8 +74,7 @@ module _ {B : Type 0} (told : B → List Signal) (subscriptions : List Subscript
     (out : AreTakenOut subscriptions founds outcome.published dropping drained) (same : outcome.drained ≡ drained) (closes : ClosesAll told founds (length founds) outcome.lanes.items outcome.held.items first) where
   lane_at : (i : ℕ) (left : NamedLane B) → slice_get outcome.lanes.items i ≡ Some left → (lane : LaneState) × HasLaneState told outcome.published founds left lane
   lane_at i left at =
-      let it = closes.each i left at in
-      (
+      let it = closes.each i left at in (
         it.1.1.1.lane.lane,
         record {
           taken = it.0;

@@ -1,8 +1,8 @@
 -- What was taken out of a sound Hub at the end of its publisher.
-use Rattle.std.proofs.Common.{◌≡◌, ◌⊎◌, inl, inr, ℕ, ◌+◌, ◌<◌, ◌≤◌, ◌||◌, ◌&&◌, not, is_some, Bool, true, false, Option, None, Some, List, [], length, map, option_map, refl, sym, ap, subst, ◌∙◌, arith}
+use Rattle.std.proofs.Common.{◌≡◌, ◌⊎◌, inl, inr, ℕ, ◌<◌, ◌||◌, not, is_some, Bool, true, false, Option, None, Some, List, [], length, map, option_map, refl, sym, ap, subst, ◌∙◌, arith}
 use Rattle.std.specs.Prelude.{IsSome, slice_get}
 use Rattle.std.proofs.lemmas.List.{length-map}
-use Rattle.std.proofs.lemmas.Option.{same_Some, slice_get_within}
+use Rattle.std.proofs.lemmas.Option.{slice_get_within}
 use Rattle.close_count.specs.declared.spent.Spent.{Spent}
 use Rattle.feed_cell.specs.Parties.{HandleState, ProducerState}
 use Rattle.feed_core.specs.Prelude.{Item}
@@ -11,12 +11,12 @@ use Rattle.flow_rules.specs.declared.ending.Ending.{Ending}
 use Rattle.publisher_hub.specs.Entry.{EntryState, entry_of, until_of}
 use Rattle.publisher_hub.specs.Hub.{HubState, hub_of}
 use Rattle.publisher_hub.specs.Lists.{Each}
-use Rattle.publisher_hub.specs.Sound.{IsAccepted, IsCounted, IsSound}
+use Rattle.publisher_hub.specs.Sound.{IsAccepted}
 use Rattle.publisher_hub.specs.declared.entry.Entry.{Entry}
 use Rattle.publisher_hub.specs.declared.hub.Hub.{Hub}
 use Rattle.publisher_hub.proofs.LiveRounds.{get_before_map}
 use Rattle.publisher_hub.proofs.Places.{there}
-use Rattle.publisher.specs.Finding.{AreFoundIn, ArePlaced, FindsAll, IsHandedIn, IsHandedWith, IsSameOrLeft, IsTakenOf}
+use Rattle.publisher.specs.Finding.{AreFoundIn, ArePlaced, FindsAll, IsSameOrLeft, IsTakenOf}
 use Rattle.publisher.specs.Finishing.{AreAudited, AreTakenOut, IsCountedIn}
 use Rattle.publisher.specs.Handles.{SubmitterState, SubscriptionState}
 use Rattle.publisher.specs.Outcome.{AnyKnows}
@@ -24,7 +24,6 @@ use Rattle.publisher.specs.State.{IsState, Sums, producer_end}
 use Rattle.publisher.specs.Tickets.{AreOfOneCount, AreSpent, IsLate, IsOver}
 use Rattle.publisher.specs.Together.{AreTogether, Audits}
 use Rattle.publisher.specs.declared.state.finding.Found.{Found}
-use Rattle.publisher.specs.declared.state.finding.Found.TheVariants as Found
 use Rattle.publisher.specs.declared.state.finding.Taken.{Taken}
 use Rattle.publisher.proofs.KeptStates.{state_stays, stays_by}
 use Rattle.publisher.proofs.Ticketed.{AllKeep, KeepsTicket, keeps_over, keeps_same}

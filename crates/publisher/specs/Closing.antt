@@ -1,5 +1,5 @@
 -- What the first close of a publisher does.
-use Rattle.std.specs.Prelude.{◌≡◌, ℕ, Option, Some, List, length}
+use Rattle.std.specs.Prelude.{◌≡◌, Some, List, length}
 use Rattle.feed_cell.specs.Offering.{DoesCall}
 use Rattle.feed_cell.specs.Parties.{TaskState}
 use Rattle.flow_rules.specs.declared.ending.Ending.{Ending}

@@ -12,7 +12,6 @@ use Rattle.publisher.specs.Handles.{SubscriptionState}
 use Rattle.publisher.specs.State.{producer_end}
 use Rattle.publisher.specs.Tickets.{IsLate}
 use Rattle.publisher.specs.declared.state.finding.Found.{Found}
-use Rattle.publisher.specs.declared.state.finding.Found.TheVariants as Found
 use Rattle.publisher.specs.declared.state.finding.Taken.{Taken}
 
 -- one of these subscriptions has this number

@@ -10,7 +10,6 @@ use Rattle.publisher.specs.State.{PublisherState, producer_end}
 use Rattle.publisher.specs.declared.outcome.Outcome.{Outcome}
 use Rattle.publisher.specs.declared.state.TheConstants.{SOURCES}
 use Rattle.publisher.specs.declared.state.finding.Found.{Found}
-use Rattle.publisher.specs.declared.state.finding.Found.TheVariants as Found
 use Rattle.publisher.specs.declared.state.finding.Taken.{Taken}
 use Rattle.publisher.specs.declared.state.finishing.Books.{Books}
 use Rattle.publisher.specs.declared.state.finishing.Room.{Room}

@@ -6,11 +6,9 @@ use Rattle.feed_core.specs.Prelude.{Signal}
 use Rattle.flow_rules.specs.declared.refusal.Refusal.{Refusal}
 use Rattle.publisher.specs.Outcome.{AreNumbered, HasLane, IsFirstGap, IsHeld, Judges, StillHolds, outcome_of}
 use Rattle.publisher.specs.declared.leaving.Closed.{Closed}
-use Rattle.publisher.specs.declared.leaving.Closed.TheVariants as Closed
 use Rattle.publisher.specs.declared.outcome.NamedLane.{NamedLane}
 use Rattle.publisher.specs.declared.outcome.Outcome.{Outcome}
 use Rattle.publisher.specs.declared.state.finding.Found.{Found}
-use Rattle.publisher.specs.declared.state.finding.Found.TheVariants as Found
 use Rattle.publisher.specs.declared.state.finding.Taken.{Taken}
 use Rattle.publisher.specs.declared.state.finishing.Books.{Books}
 

@@ -2,7 +2,6 @@
 use Rattle.std.specs.Prelude.{◌≡◌, ◌<◌}
 use Rattle.publisher.specs.declared.state.waiters.Waiters.{Waiters}
 use Rattle.publisher.specs.declared.state.waiters.Wake.{Wake}
-use Rattle.publisher.specs.declared.state.waiters.Wake.TheVariants as Wake
 
 -- all are woken if anybody waits, and else nobody
 abbrev pub Tells : Waiters → Wake → Type 0

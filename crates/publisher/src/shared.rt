@@ -125,11 +125,7 @@ impl<L: Ledger + Send, D: Ledger + Send, B: Listener + Send> Job for ConsumerTas
     type Context = Worker<L, D, B>;
 
     /// Runs one turn, outside every lock, and then does what is to be done after it. It is run again if another turn is owed.
-    fn run<R: Wait>(
-        self,
-        rt: &R,
-        worker: &mut Worker<L, D, B>,
-    ) -> Option<ConsumerTask<L, D, B>> {
+    fn run<R: Wait>(self, rt: &R, worker: &mut Worker<L, D, B>) -> Option<ConsumerTask<L, D, B>> {
         let ConsumerTask { entry, task, of: _ } = self;
         let Worker { shared, seen } = worker;
         let (again, has_ended) = match task.turn(seen) {

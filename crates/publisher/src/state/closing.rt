@@ -21,11 +21,7 @@ impl<L: Ledger, D: Ledger, B: Listener> State<L, D, B> {
     }
 
     /// Closes the publisher in this way, unless it is closed already, and then spends the opening ticket. The answer is how it is closed.
-    pub fn close(
-        &mut self,
-        ending: Ending,
-        due: &mut Vec<Work<Task<B>>>,
-    ) -> Result<Ending, Refusal>
+    pub fn close(&mut self, ending: Ending, due: &mut Vec<Work<Task<B>>>) -> Result<Ending, Refusal>
         ensures closed { IfOk result (λ how. self.new.hub.ending ≡ Some how) }
         ensures first { self.old.hub.ending ≡ None → IfOk result (λ how. (how ≡ ending) × ClosesFirst ending due.old.items due.new.items self.old self.new) }
         ensures later { IsSome self.old.hub.ending → (self.new ≡ self.old) × (due.new ≡ due.old) }

@@ -3,8 +3,8 @@ ghost use Rattle.std.specs.Prelude.{◌≡◌, ◌≤◌, [], IfErr, IfOk, None,
 ghost use Rattle.publisher.specs.declared.state.TheConstants.{PARTS};
 ghost use Rattle.publisher.specs.Finishing.{HasRoom, IsNothing, TakesOut};
 
-use super::finding::{Found, find_all, place_all};
 use super::State;
+use super::finding::{Found, find_all, place_all};
 use super::tickets::compare_tickets;
 use crate::outcome::{NamedLane, Outcome};
 use crate::submitter::Submitter;
@@ -59,11 +59,13 @@ impl<L: Ledger + Send, D: Ledger + Send, B: Listener + Send> State<L, D, B> {
         ensures ok { IfOk result (λ books. TakesOut submitters.items subscriptions.items self.old books) }
         ensures err { IfErr result (λ outcome. IsNothing outcome) }
     {
-        let Ok(Places {
-            mut handles,
-            mut founds,
-            room,
-        }) = new_places(alloc, self.entries as usize)
+        let Ok(
+            Places {
+                mut handles,
+                mut founds,
+                room,
+            },
+        ) = new_places(alloc, self.entries as usize)
         else {
             return Err(self.nothing(alloc));
         };

@@ -1,4 +1,4 @@
-use Rattle.publisher.proofs.Concluding.{finishes_is, handed_is, nothing_handed, nothing_is, outcome_is}
+use Rattle.publisher.proofs.Concluding.{finishes_is, handed_is, nothing_is, outcome_is}
 use Rattle.publisher.proofs.the_end.finish.Goals as goal
 
 pub returns-in-Ok-clause-outcome : goal.returns-in-Ok-clause-outcome

@@ -1,4 +1,4 @@
-use Rattle.std.proofs.Common.{◌≡◌, ◌∙◌, ℕ, ◌<◌, List, [], length, refl, sym, ap, subst, rules}
+use Rattle.std.proofs.Common.{◌≡◌, ◌∙◌, ℕ, ◌<◌, List, [], length, refl, subst, rules}
 use Rattle.std.proofs.lemmas.List.{length-set}
 use Rattle.feed_cell.specs.Parties.{HandleState}
 use Rattle.publisher.specs.Handles.{SubscriptionState}
