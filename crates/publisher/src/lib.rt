@@ -14,9 +14,10 @@
 //! | a turn, with its callbacks | a worker; a blocked submitter; or whoever started the task, if the pool takes none | for no lock. After it, if the subscription has ended or somebody waits for room, for the publisher's lock |
 //!
 //! Each subscription has a buffer that its publisher and its task share without a lock (`feed_cell`). So callbacks run outside every lock: one
-//! may publish, request, subscribe or close, and may wait for what another subscriber's callback does. A callback still may not wait for
-//! what its own subscription is to be told, nor `submit` to its own publisher unless others make room; and a drop handler runs while the
-//! lock is held, so it may not call its publisher.
+//! may wait for what another subscriber's callback does, and each call of the publisher returns meanwhile. It may publish, request, subscribe
+//! or close itself; such a listener runs, but the toolchain proves none yet: it states no type that holds its own [`Subscription`], and checks
+//! no borrows in a callback that calls a [`Submitter`]. A callback may not wait for what its own subscription is to be told, nor `submit`
+//! to its own publisher unless others make room; and a drop handler runs while the lock is held, so it may not call its publisher.
 //!
 //! A caller works in a function over two ledgers, which name the publisher: a submitter or a subscription of another one does not fit.
 #![tactic(auto)]

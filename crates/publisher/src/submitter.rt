@@ -57,8 +57,8 @@ impl<L: Ledger + Send, D: Ledger + Send, B: Listener + Send> Submitter<L, D, B> 
     /// Publishes a text to all live subscriptions at once, and waits as long as one of them has no room
     /// (`SubmissionPublisher.submit`). The answer is the greatest lag, in items.
     ///
-    /// Refused 2 where it knows of the close; 6 where the text has more than [`Text::LONGEST`] bytes; 5 where a growth is refused; 2
-    /// where the publisher is closed, and from then on it knows; and 13 once as many publications were made as may be.
+    /// Refused 2 if it knows of the close; 6 if the text has more than [`Text::LONGEST`] bytes; 5 if a growth is refused; 2 if the
+    /// publisher is closed, and from then on it knows; and 13 once as many publications were made as may be.
     pub fn submit<R: Wait>(&mut self, rt: &R, alloc: Global, text: &[u8]) -> Result<u64, Refusal>
         ensures known { IfSome self.old.known (λ ending. (result ≡ Err (Refusal.Closed ending)) × (self.new ≡ self.old)) }
         ensures long { self.old.known ≡ None → (result ≡ Err Refusal.LineTooLong) ↔ (LONGEST < length text.now) }
@@ -73,9 +73,13 @@ impl<L: Ledger + Send, D: Ledger + Send, B: Listener + Send> Submitter<L, D, B> 
         }
     }
 
-    /// Gives a text to all live subscriptions that have room, and drops it at the others (`SubmissionPublisher.offer`). Where a
-    /// buffer is full the handler is asked, and where that answers true the text is offered once more. The answer is the greatest lag, in
-    /// items, or minus the number of drops.
+    /// Gives a text to all live subscriptions that have room, and drops it at the others (`SubmissionPublisher.offer`). If a buffer is
+    /// full the handler is asked, and if that answers true the text is offered once more. The answer is the greatest lag, in items, or
+    /// minus the number of drops.
+    ///
+    /// The handler runs while the publisher's lock is held, which turns, requests and cancels of other threads don't need. So it may wait
+    /// until another thread has made room, and the second try succeeds then. It may not call the publisher; and a request or a cancel
+    /// of its own waits for ever where the pool takes no task: once [`finish`](crate::finish) was called, or while 1,024 tasks wait.
     ///
     /// It is refused as [`submit`](Submitter::submit) is.
     pub fn offer<R: Wait>(
@@ -104,7 +108,7 @@ impl<L: Ledger + Send, D: Ledger + Send, B: Listener + Send> Submitter<L, D, B> 
         }
     }
 
-    /// The text of a publication, where it need not be refused before the lock.
+    /// The text of a publication, if it need not be refused before the lock.
     fn admit(&self, alloc: Global, text: &[u8]) -> Result<Text, Refusal>
         ensures unknown { OnOk result (self.now.known ≡ None) }
         ensures fits { OnOk result (length text.now ≤ LONGEST) }

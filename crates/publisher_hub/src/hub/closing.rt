@@ -17,7 +17,8 @@ use flow_rules::{Ending, Feed, NoMemory, Refusal};
 
 impl<F: Feed> Hub<F> {
     /// Closes the publisher (`SubmissionPublisher.close` and `closeExceptionally`, Java SE 17): each live subscription is closed, and
-    /// the opening ticket comes out, where there is one. What was accepted is still told before the ending.
+    /// the opening ticket comes out, where there is one. After a normal close what was accepted is told before the
+    /// ending; an error overtakes it.
     ///
     /// Only the first call does anything: a later one answers `None` and changes nothing.
     ///
