@@ -18,7 +18,7 @@ use Rattle.publisher.proofs.LeavingRounds.{get_last}
 -- a close leaves a producer's end that of its subscription
 same_subscription : (ending : Option Ending) (feed after : ProducerState) (start : Option TaskState) → ClosesNew producer_end DoesCall ending feed start after → after.table ≡ feed.table
 same_subscription None feed after start closes = ap (λ (p : ProducerState). p.table) closes.1
-same_subscription (Some ending) feed after start closes = closes.1.ring
+same_subscription (Some ending) feed after start closes = closes.1.table
 
 pub subscribed_is : {B : Type 0} (name : List ℕ) (producer : ProducerState) (ticket : Option Ticket) (due_before due_after : List (Work TaskState)) (old new : PublisherState) (subscribed : Subscribed B)
     → Admits producer_end DoesCall name producer ticket subscribed.entry due_before due_after old.hub new.hub → subscribed.handle ≡ new_handle old.hub.capacity producer.table → IsNewTask producer.table old.hub.capacity subscribed.task
