@@ -14,11 +14,13 @@ use Rattle.publisher_hub.specs.Hub.{HubState, Progress, hub_of}
 use Rattle.publisher_hub.specs.Lists.{Each}
 use Rattle.publisher_hub.specs.Looking.{Glances, IsKept, IsLookedAt, LooksAtAll}
 use Rattle.publisher_hub.specs.Sound.{IsSound}
+use Rattle.publisher_hub.specs.Standing.{LooksAtOne}
 use Rattle.publisher_hub.specs.Subscribing.{IsSeen, IsSeenInPart, Refuses, FindsNoPlace, TellsAt, TellsOne}
 use Rattle.publisher_hub.specs.declared.hub.Hub.{Hub}
 use Rattle.publisher_hub.specs.declared.work.Work.{Work}
 use Rattle.publisher_hub.proofs.Kept.{each_mapped, glance_kept}
 use Rattle.publisher_hub.proofs.LiveRounds.{get_mapped}
+use Rattle.publisher_hub.proofs.LooksAtOne.{one_is_looked_at}
 use Rattle.publisher_hub.proofs.Telling.{was_told}
 use Rattle.publisher.specs.State.{IsCountedAtClose, IsState, Sums, producer_end}
 use Rattle.publisher.specs.Tickets.{IsOfCount}
@@ -135,3 +137,8 @@ module _ (name : List ℕ) (due_before due_after : List (Work TaskState)) (old n
   stays_refused Refusal.WouldWait refuses = stays_no_place Refusal.WouldWait refuses.0
   stays_refused Refusal.BadCommand refuses = stays_no_place Refusal.BadCommand refuses.0
   stays_refused Refusal.Exhausted refuses = stays_no_place Refusal.Exhausted refuses.0
+
+pub state_looked_at_one : (old new : Hub ProducerState) (number : ℕ) (glance : Option Standing) (sums : Sums) → IsState (hub_of producer_end old) sums → IsSound (hub_of producer_end new)
+    → LooksAtOne producer_end DoesCall number glance old new → IsState (hub_of producer_end new) sums
+state_looked_at_one old new number glance sums is sound looks = state_stays (hub_of producer_end old) (hub_of producer_end new) sums is sound
+    (stays_looked (hub_of producer_end old) (hub_of producer_end new) (one_is_looked_at producer_end DoesCall number glance old new is.sound looks))

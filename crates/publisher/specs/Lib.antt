@@ -1,3 +1,4 @@
+pub mod Blanks
 pub mod Closing
 pub mod Finding
 pub mod Finishing
@@ -7,6 +8,7 @@ pub mod Note
 pub mod Outcome
 pub mod Publishing
 pub mod Spending
+pub mod Standing
 pub mod State
 pub mod Subscribing
 pub mod Tickets

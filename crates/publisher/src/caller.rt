@@ -80,12 +80,12 @@ impl<L: Ledger + Send, D: Ledger + Send, B: Listener + Send> Caller<L, D, B> {
     }
 
     /// Gives a text to all live subscriptions that have room, and schedules the started tasks.
-    pub fn offer<R: Wait>(
+    pub fn offer<R: Wait, H: DropHandler>(
         &mut self,
         rt: &R,
         own: &mut Own<L, D>,
         text: Text,
-        handler: Option<&mut Box<dyn DropHandler>>,
+        handler: Option<&mut H>,
         due: &mut Vec<Work<Task<B>>>,
     ) -> Result<i64, Refusal>
         ensures reasons { IfErr result (λ refusal. IsHubRefusal refusal) }

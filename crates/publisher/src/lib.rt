@@ -25,8 +25,10 @@
 mod caller;
 mod leaving;
 mod note;
+mod options;
 mod outcome;
 mod publisher;
+mod session;
 mod shared;
 mod state;
 mod submitter;
@@ -34,8 +36,10 @@ mod subscription;
 mod the_end;
 
 pub use note::Note;
+pub use options::PublisherOptions;
 pub use outcome::{NamedLane, Outcome};
 pub use publisher::Publisher;
+pub use session::{Ended, HandedIn, Session, with_publisher};
 pub use state::PARTS;
 pub use submitter::Submitter;
 pub use subscription::Subscription;

@@ -4,8 +4,8 @@ ghost use Rattle.std.specs.Arc.{arc_value};
 ghost use Rattle.flow_rules.specs.declared.refusal.Refusal.TheVariants as Refusal;
 ghost use Rattle.async_pool.specs.Crew.{IsWorkerCount};
 ghost use Rattle.async_pool.specs.Pool.{pool_workers};
+ghost use Rattle.publisher.specs.Blanks.{IsBlankOf};
 ghost use Rattle.publisher.specs.Handles.{RefusesSubscribing};
-ghost use Rattle.publisher.specs.declared.state.TheConstants.{PARTS};
 
 use crate::caller::Caller;
 use crate::note::Note;
@@ -47,8 +47,8 @@ impl<
         workers: usize,
         capacity: usize,
     ) -> Result<Publisher<L, D, B>, Refusal>
-        requires publications { (publications.name ≡ L.name) × ((publications.parts ≡ L.parts) × (L.parts ≡ PARTS)) }
-        requires drops { (drops.name ≡ D.name) × ((drops.parts ≡ D.parts) × (D.parts ≡ PARTS)) }
+        requires publications { IsBlankOf publications L.name L.parts }
+        requires drops { IsBlankOf drops D.name D.parts }
         ensures bad_workers { (result ≡ Err Refusal.BadWorkers) ↔ (¬ IsWorkerCount workers) }
         ensures bad_capacity { IsWorkerCount workers → (result ≡ Err Refusal.BadCapacity) ↔ (capacity ≡ 0) }
         ensures refusals { IfErr result (λ refusal. (refusal ≡ Refusal.BadWorkers) ⊎ ((refusal ≡ Refusal.BadCapacity) ⊎ (refusal ≡ Refusal.NoMemory))) }
@@ -246,6 +246,12 @@ impl<L: Ledger + Send, D: Ledger + Send, B: Listener + Send> Publisher<L, D, B> 
         ensures refusals { IfErr result (λ refusal. refusal ≡ Refusal.NoMemory) }
     {
         self.end(rt, alloc, note, Ending::Failed(code))
+    }
+
+    /// Waits until the publisher is closed and each subscription from before the close has ended. It requests, cancels and closes nothing by
+    /// itself: if a subscriber requests less than was published, it waits for ever.
+    pub fn wait_drained<R: Wait>(&self, rt: &R) {
+        self.shared.wait_for_drain(rt);
     }
 
     /// Closes the publisher in this way.

@@ -61,6 +61,28 @@ impl<L: Ledger, D: Ledger, B: Listener> Shared<L, D, B> {
         self.awaiting.fetch_sub(1, SeqCst);
     }
 
+    /// Sleeps until the subscription of this number has ended.
+    pub fn wait_for_end<R: Wait>(&self, rt: &R, entry: u32) {
+        let mut state = self.state.lock(rt);
+        for _ in rt.forever() {
+            match state.look_for_end(entry) {
+                Ok(()) => return,
+                Err(reason) => state = self.wait(rt, state, reason),
+            }
+        }
+    }
+
+    /// Sleeps until the last ticket of the count is spent.
+    pub fn wait_for_drain<R: Wait>(&self, rt: &R) {
+        let mut state = self.state.lock(rt);
+        for _ in rt.forever() {
+            match state.look_for_drain() {
+                Ok(()) => return,
+                Err(reason) => state = self.wait(rt, state, reason),
+            }
+        }
+    }
+
     /// Does what is to be done after a turn of the subscription of this number: if that has ended, its ticket is spent; and those who wait
     /// for room are woken, since the turn may have made some. Where neither is to be done the lock is left alone.
     pub fn after_turn<R: Wait>(&self, rt: &R, entry: u32, has_ended: bool) {

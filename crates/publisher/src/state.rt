@@ -5,12 +5,14 @@ mod finishing;
 mod naming;
 mod publishing;
 mod shares;
+mod standing;
 mod subscribing;
 mod tickets;
 mod waiters;
 
 ghost use Rattle.std.specs.Prelude.{◌≡◌, ◌⊎◌, ◌<◌, ◌↔◌, zero, Err, IfErr, IfOk};
 ghost use Rattle.flow_rules.specs.declared.refusal.Refusal.TheVariants as Refusal;
+ghost use Rattle.publisher.specs.Blanks.{IsBlankOf};
 
 use close_count::{Count, Spent};
 use feed_cell::Producer;
@@ -84,8 +86,8 @@ impl<L: Ledger, D: Ledger, B: Listener> State<L, D, B> {
         publications: Blank,
         drops: Blank,
     ) -> Result<State<L, D, B>, Refusal>
-        requires publications { (publications.name ≡ L.name) × ((publications.parts ≡ L.parts) × (L.parts ≡ PARTS)) }
-        requires drops { (drops.name ≡ D.name) × ((drops.parts ≡ D.parts) × (D.parts ≡ PARTS)) }
+        requires publications { IsBlankOf publications L.name L.parts }
+        requires drops { IsBlankOf drops D.name D.parts }
         ensures zero { (result ≡ Err Refusal.BadCapacity) ↔ (asked ≡ 0) }
         ensures refusals { IfErr result (λ refusal. (refusal ≡ Refusal.BadCapacity) ⊎ (refusal ≡ Refusal.NoMemory)) }
     {

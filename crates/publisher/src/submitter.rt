@@ -95,6 +95,42 @@ impl<L: Ledger + Send, D: Ledger + Send, B: Listener + Send> Submitter<L, D, B> 
         ensures err { IfErr result (λ refusal. self.new ≡ told_by refusal self.old) }
         ensures refusals { IfErr result (λ refusal. RefusesPublication refusal self.new.known) }
     {
+        self.offer_to(rt, alloc, text, handler)
+    }
+
+    /// Does what [`offer`](Submitter::offer) does with a drop handler of any type, which the caller can look at afterwards.
+    ///
+    /// It is refused as [`submit`](Submitter::submit) is.
+    pub fn offer_with<R: Wait, H: DropHandler>(
+        &mut self,
+        rt: &R,
+        alloc: Global,
+        text: &[u8],
+        handler: &mut H,
+    ) -> Result<i64, Refusal>
+        ensures known { IfSome self.old.known (λ ending. (result ≡ Err (Refusal.Closed ending)) × (self.new ≡ self.old)) }
+        ensures long { self.old.known ≡ None → (result ≡ Err Refusal.LineTooLong) ↔ (LONGEST < length text.now) }
+        ensures ok { IfOk result (λ answer. self.new ≡ record self.old { published = self.old.published + 1; dropping = self.old.dropping + drop_of answer }) }
+        ensures err { IfErr result (λ refusal. self.new ≡ told_by refusal self.old) }
+        ensures refusals { IfErr result (λ refusal. RefusesPublication refusal self.new.known) }
+    {
+        self.offer_to(rt, alloc, text, Some(handler))
+    }
+
+    /// Gives a text to all live subscriptions that have room, and asks the handler about the others.
+    fn offer_to<R: Wait, H: DropHandler>(
+        &mut self,
+        rt: &R,
+        alloc: Global,
+        text: &[u8],
+        handler: Option<&mut H>,
+    ) -> Result<i64, Refusal>
+        ensures known { IfSome self.old.known (λ ending. (result ≡ Err (Refusal.Closed ending)) × (self.new ≡ self.old)) }
+        ensures long { self.old.known ≡ None → (result ≡ Err Refusal.LineTooLong) ↔ (LONGEST < length text.now) }
+        ensures ok { IfOk result (λ answer. self.new ≡ record self.old { published = self.old.published + 1; dropping = self.old.dropping + drop_of answer }) }
+        ensures err { IfErr result (λ refusal. self.new ≡ told_by refusal self.old) }
+        ensures refusals { IfErr result (λ refusal. RefusesPublication refusal self.new.known) }
+    {
         let text = self.admit(alloc, text)?;
         let Submitter {
             caller,

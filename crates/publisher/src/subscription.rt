@@ -80,6 +80,31 @@ impl<L: Ledger + Send, D: Ledger + Send, B: Listener + Send> Subscription<L, D, 
         Ok(())
     }
 
+    /// Tells how many items wait for the subscriber; 0 once the subscription has ended.
+    pub fn lag<R: Wait>(&self, rt: &R) -> u64 {
+        self.caller.worker.shared.state.lock(rt).lag(self.entry)
+    }
+
+    /// Tells how many items were requested with this subscription, saturated at 2^63-1. What the subscriber requests by its answers is not
+    /// among them.
+    pub fn requested(&self) -> u64
+        ensures { result ≡ self.now.handle.asked }
+    {
+        self.handle.requested()
+    }
+
+    /// Tells whether the subscription has ended: the subscriber was told `onComplete` or `onError`, it was cancelled, or a callback failed or
+    /// was refused memory.
+    pub fn has_ended<R: Wait>(&self, rt: &R) -> bool {
+        self.caller.worker.shared.state.lock(rt).has_ended(self.entry)
+    }
+
+    /// Waits until the subscription has ended. It requests and cancels nothing by itself: if items or a completion wait for demand that nobody
+    /// requests, it waits for ever.
+    pub fn wait_end<R: Wait>(&self, rt: &R) {
+        self.caller.worker.shared.wait_for_end(rt, self.entry);
+    }
+
     /// Its number and its handle.
     pub(crate) fn into_parts(self) -> (u32, Handle<B>)
         ensures { result ≡ (self.entry, self.handle) }

@@ -12,6 +12,7 @@ pub mod LiveRounds
 pub mod Looking
 pub mod Looks
 pub mod LooksAtAll
+pub mod LooksAtOne
 pub mod Missed
 pub mod Naming
 pub mod Offered

@@ -13,6 +13,7 @@ pub mod Overview
 pub mod Publishing
 pub mod Readiness
 pub mod Sound
+pub mod Standing
 pub mod Steps
 pub mod Subscribing
 pub mod Taking

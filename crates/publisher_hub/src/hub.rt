@@ -11,6 +11,7 @@ mod preparing;
 mod publishing;
 mod seeing;
 mod sources;
+mod standing;
 mod subscribing;
 mod taking;
 mod tickets;

@@ -41,6 +41,13 @@ impl<B: Listener> Model for Handle<B> {
 }
 
 impl<B: Listener> Handle<B> {
+    /// Tells how many items this handle has requested in all, saturated at 2^63-1.
+    pub fn requested(&self) -> u64
+        ensures { result ≡ self.now.asked }
+    {
+        self.asked
+    }
+
     /// Takes what one started task needs. Where that is there, it is not refused.
     pub fn ready(&mut self) -> Result<(), NoMemory>
         ensures ok { OnOk result (self.new ≡ record self.old { ready = true }) }

@@ -8,3 +8,9 @@ pub trait DropHandler: Send + Drop {
     /// more.
     fn on_drop(&mut self, name: Name, item: &Item) -> bool;
 }
+
+impl DropHandler for Box<dyn DropHandler> {
+    fn on_drop(&mut self, name: Name, item: &Item) -> bool {
+        (**self).on_drop(name, item)
+    }
+}

@@ -90,11 +90,11 @@ impl<L: Ledger, D: Ledger, B: Listener> State<L, D, B> {
 
     /// Gives a text to all live subscriptions that have room, and drops it at the others. Only then the submitter's share rises, by one, and
     /// that of the drops where any dropped.
-    pub fn offer(
+    pub fn offer<H: DropHandler>(
         &mut self,
         own: &mut Own<L, D>,
         text: Text,
-        handler: Option<&mut Box<dyn DropHandler>>,
+        handler: Option<&mut H>,
         due: &mut Vec<Work<Task<B>>>,
     ) -> Result<i64, Refusal>
         ensures ok { IfOk result (λ answer. OffersItem producer_end DoesCall own.old.source text (is_none handler.entry) self.old.hub self.new.hub due.old.items due.new.items answer) }
@@ -112,7 +112,7 @@ impl<L: Ledger, D: Ledger, B: Listener> State<L, D, B> {
             dropping,
             ..
         } = self;
-        let answer = hub.offer(own.source, text, handler, due)?;
+        let answer = hub.offer_with(own.source, text, handler, due)?;
         published.add(&mut own.publications, 1);
         count_drop(dropping, &mut own.drops, answer);
         Ok(answer)

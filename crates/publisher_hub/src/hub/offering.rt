@@ -38,6 +38,25 @@ impl<F: Feed> Hub<F> {
         ensures nothing_due { OnErr result (due.new.items ≡ due.old.items) }
         ensures no_share { self.new.giving.shares.items ≡ [] }
     {
+        self.offer_with(source, text, handler, due)
+    }
+
+    /// Does what [`offer`](Hub::offer) does, with a drop handler of any type.
+    pub fn offer_with<H: DropHandler>(
+        &mut self,
+        source: u32,
+        text: Text,
+        handler: Option<&mut H>,
+        due: &mut Vec<Work<F::Task>>,
+    ) -> Result<i64, Refusal>
+        requires sound { IsSound (hub_of F.meaning self.old) }
+        requires source { source < SOURCES }
+        ensures sound { IsSound (hub_of F.meaning self.new) }
+        ensures ok { IfOk result (λ answer. OffersItem F.meaning F.does source text (is_none handler.entry) self.old self.new due.old.items due.new.items answer) }
+        ensures err { IfErr result (λ refusal. RefusesOffer F.meaning F.does self.old self.new refusal) }
+        ensures nothing_due { OnErr result (due.new.items ≡ due.old.items) }
+        ensures no_share { self.new.giving.shares.items ≡ [] }
+    {
         let item = self.next_item(source, text);
         let _ = self.prepare(&item, due)?;
         if let Some(refusal) = self.refusal() {
@@ -53,10 +72,10 @@ impl<F: Feed> Hub<F> {
     }
 
     /// Asks about each subscription that missed the item, and offers it once more where the answer is to try again.
-    fn try_again(
+    fn try_again<H: DropHandler>(
         &mut self,
         item: &Item,
-        handler: Option<&mut Box<dyn DropHandler>>,
+        handler: Option<&mut H>,
         due: &mut Vec<Work<F::Task>>,
     )
         requires numbers { AreNumbers self.old.giving.missed.items (length self.old.entries.items) }

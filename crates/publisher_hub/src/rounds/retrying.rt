@@ -16,10 +16,10 @@ use crate::work::Work;
 use flow_rules::{DropHandler, Feed, Item, Put};
 
 /// Asks a handler about each subscription whose buffer was full, in order, and where it says so offers a share of the item once more.
-pub(crate) fn retry_all<F: Feed>(
+pub(crate) fn retry_all<F: Feed, H: DropHandler>(
     entries: &mut [Entry<F>],
     item: &Item,
-    handler: &mut Box<dyn DropHandler>,
+    handler: &mut H,
     giving: &mut Giving,
     due: &mut Vec<Work<F::Task>>,
 )
@@ -46,11 +46,11 @@ pub(crate) fn retry_all<F: Feed>(
 
 /// Asks a handler about a subscription whose buffer was full, offers a share of the item once more where it says so, and gathers what
 /// came of it.
-fn retry_one<F: Feed>(
+fn retry_one<F: Feed, H: DropHandler>(
     entry: &mut Entry<F>,
     number: u32,
     item: &Item,
-    handler: &mut Box<dyn DropHandler>,
+    handler: &mut H,
     giving: &mut Giving,
     due: &mut Vec<Work<F::Task>>,
 )
@@ -68,10 +68,10 @@ fn retry_one<F: Feed>(
 
 /// Asks a handler about a subscription whose buffer was full, and offers a share of the item once more where it says so.
 #[must_use]
-fn try_again<F: Feed>(
+fn try_again<F: Feed, H: DropHandler>(
     entry: &mut Entry<F>,
     item: &Item,
-    handler: &mut Box<dyn DropHandler>,
+    handler: &mut H,
     giving: &mut Giving,
 ) -> Option<Put<F::Task>>
     requires can { CanTryAgain (entry_of F.meaning entry.old) }

@@ -11,10 +11,10 @@ not_none None x is none = cc
 not_none (Some y) x is none = cc
 
 pub retry_all-requires-clause-numbers : goal.retry_all-requires-clause-numbers
-retry_all-requires-clause-numbers g c = rw c.deref_mut.ensures.value c.requires.numbers
+retry_all-requires-clause-numbers g c _ _ = rw c.deref_mut.ensures.value c.requires.numbers
 
 pub retry_all-requires-clause-can : goal.retry_all-requires-clause-can
-retry_all-requires-clause-can g c = rw c.deref_mut.ensures.value c.requires.can
+retry_all-requires-clause-can g c _ _ = rw c.deref_mut.ensures.value c.requires.can
 
 pub returns-in-Some-clause-passes : goal.returns-in-Some-clause-passes
 returns-in-Some-clause-passes g c puts are long =

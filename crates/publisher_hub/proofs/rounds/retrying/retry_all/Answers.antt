@@ -32,7 +32,7 @@ bounds-entries-number g c =
     c.requires.numbers at c.loop-place.invariant.given.upto
 
 pub retry_one-requires-clause-can : goal.retry_one-requires-clause-can
-retry_one-requires-clause-can g c =
+retry_one-requires-clause-can g c _ _ =
     let missed = c.args.giving.now.missed.items in
     let here : c.loop-place.place < length missed = omega arith in
     let at = number_read missed c.loop-place.giving.missed.items c.loop-place.place c.index-number.result.now (ap (λ v. v.items) c.loop-place.invariant.missed) here c.index-number.ensures in
@@ -41,7 +41,7 @@ retry_one-requires-clause-can g c =
     c.requires.can c.loop-place.place c.index-number.result.now _ at (get_mapped (entry_of g.F.Feed.meaning) c.args.entries.now c.index-number.result.now _ stood)
 
 pub retry_one-requires-clause-room : goal.retry_one-requires-clause-room
-retry_one-requires-clause-room g c =
+retry_one-requires-clause-room g c _ _ =
     let within = c.loop-place-test.true in
     (c.len-place-end.result - (c.loop-place.place + 1), subst (λ left. HasRoomAgain left c.loop-place.giving c.loop-place.due) (omega arith) c.loop-place.invariant.room)
 

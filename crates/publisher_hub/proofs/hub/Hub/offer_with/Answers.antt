@@ -10,7 +10,7 @@ use Rattle.publisher_hub.proofs.Publications.{can_all_give}
 use Rattle.publisher_hub.proofs.Published.{below_most, known_of}
 use Rattle.publisher_hub.proofs.SecondOffers.{can_each_try_again}
 use Rattle.publisher_hub.proofs.WholeOffers.{answer_fits, few_missed, offers_item}
-use Rattle.publisher_hub.proofs.hub.Hub.offer.Goals as goal
+use Rattle.publisher_hub.proofs.hub.Hub.offer_with.Goals as goal
 
 pub give-requires-clause-can : goal.give-requires-clause-can
 give-requires-clause-can g c =
@@ -21,18 +21,18 @@ give-requires-clause-can g c =
     (below_most seen.next sound.few_items c.in_default.ensures.1) looks.1.0
 
 pub try_again-requires-clause-numbers : goal.try_again-requires-clause-numbers
-try_again-requires-clause-numbers g c =
+try_again-requires-clause-numbers g c _ _ =
     let given = c.give.ensures.given in
     subst (λ numbers. AreNumbers numbers (length c.give.new.self.entries.items)) (sym given.1.1.missed)
     (subst (λ many. AreNumbers (missed given.0) many) (given.1.0.answered ∙ sym given.1.0.as_long) (missed_numbers given.0))
 
 pub try_again-requires-clause-few : goal.try_again-requires-clause-few
-try_again-requires-clause-few g c =
+try_again-requires-clause-few g c _ _ =
     let given = c.give.ensures.given in
     few_missed g.F.Feed.meaning g.F.Feed.does c.give.new.self.giving given.0 c.prepare.new.self.entries.items given.1.1.missed given.1.0.answered c.prepare.ensures.sound.few_entries
 
 pub try_again-requires-clause-can : goal.try_again-requires-clause-can
-try_again-requires-clause-can g c i k entry at stands =
+try_again-requires-clause-can g c _ _ i k entry at stands =
     let meaning = g.F.Feed.meaning in
     let seen = c.prepare.new.self in
     let looks = c.in_ok-prepare.ensures.ok in
