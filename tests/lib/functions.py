@@ -71,6 +71,12 @@ def functions_of(text):
     return found
 
 
+def with_tuples(types):
+    """Names tuples as rt does: `(A, B)` is Tuple2 and its parts, and `()` is Unit."""
+    name = lambda it: f"Tuple{it[1].count(',') + 1} {it[1]}" if it[1].strip() else "Unit"
+    return re.sub(r"\(([^()]*)\)", name, types)
+
+
 def owner_of(head, left_out=("dyn", "mut", "const")):
     """The words that rt joins to the name of an impl's or a trait's methods, but for these, and whether it is the impl of a trait."""
     head = re.split(r"\bwhere\b", re.sub(r"^.*?\b(?=(?:impl|trait)\b)", "", head))[0]
@@ -85,7 +91,7 @@ def owner_of(head, left_out=("dyn", "mut", "const")):
         parameters = re.findall(r"(?:^|,)\s*(?:const\s+)?([A-Za-z_]\w*)", head[1:end])
         head = head[end:]
     trait, _, kind = head.rpartition(" for ")
-    words = re.findall(r"(?<!')\b[A-Za-z_]\w*\b(?!::)", f"{kind} {trait}")
+    words = re.findall(r"(?<!')\b[A-Za-z_]\w*\b(?!::)", with_tuples(f"{kind} {trait}"))
     words = [it for it in words if it not in (*parameters, *left_out)]
     return (words if trait else words[:1]), bool(trait)
 

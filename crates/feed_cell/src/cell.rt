@@ -21,7 +21,8 @@ ghost use Rattle.std.specs.Prelude.{◌≡◌};
 
 use atomic_table::{Seat, Table, TableRule};
 use crossbeam_utils::CachePadded;
-use feed_core::{Causes, Outlook, Producing, Requesting, Runner};
+use feed_core::world::{Producing, Requesting, Runner};
+use feed_core::{Causes, Outlook};
 use flow_rules::{Ending, How, Item, Listener};
 use std::alloc::Global;
 use std::collections::LinkedList;

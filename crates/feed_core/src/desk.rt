@@ -25,7 +25,7 @@ use std::marker::Model;
 
 /// One subscription: the buffer of its items, what was requested, why it may end, and its subscriber (`Flow.Subscription`, and the
 /// buffer that `SubmissionPublisher` keeps for it, Java SE 17).
-#[derive(Drop)]
+#[derive(Debug, Drop)]
 pub struct Desk<B: Listener> {
     /// Who is told.
     subscriber: B,

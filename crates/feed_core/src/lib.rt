@@ -1,4 +1,16 @@
 //! One subscription as plain state: its lane, what a turn tells of it, and why it ends.
+//!
+//! ```
+//! let mut seen = Seen::new(alloc)?;
+//! let mut desk = Desk::new(alloc, 4, Tally::new())?;      // it owes its first turn
+//! let put = desk.put(item);                               // Put::Accepted { lag: 1, start: None }
+//! let greeted = desk.turn(&mut seen);                     // Outlook::Resting: nothing was requested yet
+//! let woken = desk.request(1);                            // Some(()): the caller has to run a turn
+//! let served = desk.turn(&mut seen);                      // tells the item, and rests
+//! let items = desk.subscriber().items();                  // 1
+//! ```
+//!
+//! [`world`] has the steps of a subscription that threads share, over all their interleavings.
 #![tactic(auto)]
 
 mod cause;
@@ -6,7 +18,7 @@ mod desk;
 mod lane;
 mod laws;
 mod turn;
-mod world;
+pub mod world;
 
 pub use cause::Causes;
 pub use desk::Desk;
@@ -14,8 +26,4 @@ pub use lane::Lane;
 pub use laws::desks_keep_the_flow_rules;
 pub use turn::{
     ITEMS_IN_A_TURN, Outlook, SIGNALS_IN_A_TURN, Seen, tell_next, tell_subscribed, tell_terminal,
-};
-pub use world::{
-    Cause, Event, Parts, Producing, Requesting, Runner, Side, World, all_runs,
-    at_most_one_item_follows_an_end, worlds_at_rest_forget_nothing,
 };

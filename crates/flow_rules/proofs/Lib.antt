@@ -1,3 +1,4 @@
 pub mod Items
 pub mod Machine
+pub mod Names
 pub mod Sizes

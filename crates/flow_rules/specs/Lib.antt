@@ -10,3 +10,4 @@ pub mod Padding
 pub mod Printed
 pub mod Refusal
 pub mod Signals
+pub mod Watched

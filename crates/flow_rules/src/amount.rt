@@ -2,6 +2,7 @@
 ghost use Rattle.std.specs.Prelude.{◌≡◌, ◌+◌};
 
 use boxcar::tag::{Names, Tag};
+use std::fmt;
 
 /// How many there were: of jobs that an inbox took, or of looks that a publisher made. It is a value of no bytes that a proof keeps a
 /// number in, so it costs nothing when the program runs, and it never wraps. Clauses read it by `amount_of`.
@@ -44,5 +45,11 @@ impl Amount {
         ensures { amount_of self.new ≡ amount_of self.old + 1 }
     {
         self.tag = Tag::of::<Amount, OneMore>(self);
+    }
+}
+
+impl fmt::Debug for Amount {
+    fn fmt<W: fmt::Write>(&self, f: &mut fmt::Formatter<W>) -> fmt::Result {
+        f.write_str("Amount")
     }
 }

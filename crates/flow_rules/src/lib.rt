@@ -1,5 +1,19 @@
 //! The rules of `java.util.concurrent.Flow` as plain values: items and signals, what a subscriber promises,
 //! capacity, demand, and the check that a list of signals is one that the rules allow.
+//!
+//! ```
+//! let text = Text::new(alloc, b"x")?;
+//! let item = Item { source: 0, seq: 0, serial: 0, text };
+//! let mut collector = Collector::asking(alloc, 1);
+//! let first = Subscriber::on_subscribe(&mut collector)?;      // Answer::Request(1)
+//! let next = Subscriber::on_next(&mut collector, &item)?;     // Answer::Go
+//! let _ = Subscriber::on_complete(&mut collector)?;
+//! let is_allowed = audit(collector.told());                   // true
+//! ```
+//!
+//! A type of one's own that is told is a [`Watch`], which promises nothing and needs no proof; or a [`Listener`], whose promise is proved.
+//! A [`Subscriber`] also keeps the list of its signals and shows it, as [`Collector`] does. A `Box<dyn Listener + Send>` is a listener too,
+//! so that one publisher can have listeners of different types.
 #![tactic(auto)]
 
 mod amount;
@@ -21,6 +35,7 @@ mod subscriber;
 mod tally;
 mod text;
 mod told;
+mod watching;
 
 pub use amount::Amount;
 pub use answer::Answer;
@@ -35,9 +50,10 @@ pub use item::{Item, PUBLICATIONS};
 pub use listener::{GoesOn, Listener, Shown};
 pub use name::Name;
 pub use printer::Printer;
-pub use refusal::{BadCapacity, NoMemory, Refusal};
+pub use refusal::{BadCapacity, Explained, NoMemory, Refusal};
 pub use signal::{Fault, Signal};
 pub use subscriber::Subscriber;
 pub use tally::Tally;
 pub use text::Text;
 pub use told::Told;
+pub use watching::{Watch, Watching};

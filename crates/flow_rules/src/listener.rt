@@ -1,4 +1,6 @@
 //! Who is told.
+mod sent;
+
 use crate::answer::Answer;
 use crate::item::Item;
 use crate::refusal::NoMemory;

@@ -1,11 +1,15 @@
 //! The name that a subscriber subscribes with.
 ghost use Rattle.std.specs.Prelude.{◌≡◌, ◌≤◌, ◌↔◌, ◌==◌, List, ℕ, length, IsSome, IfSome, Some, true};
 ghost use Rattle.std.specs.List.{list_all};
-ghost use Rattle.std.specs.Cmp.Lexicographic.{pointwise};
+ghost use Rattle.std.specs.Cmp.Lexicographic.{pointwise, slice_cmp, nat_list_cmp_total, texts_ties, texts_po};
 ghost use Rattle.std.specs.Cmp.Rules.{comparing};
+ghost use Rattle.std.specs.Ordering.{nat_cmp};
+ghost use Rattle.std.specs.Hash as fed;
 ghost use Rattle.std.proofs.Common.{rules};
 ghost use Rattle.flow_rules.specs.Name.{is_name, is_name_byte};
 
+use std::cmp::Ordering;
+use std::hash::{Hash, Hasher};
 use std::marker::Model;
 use std::{fmt, str};
 
@@ -17,19 +21,19 @@ pub struct Name {
 }
 
 impl Model for Name {
-    ghost use Rattle.std.specs.Prelude.{List, ℕ, take, length};
-    ghost use Rattle.flow_rules.specs.Name.{IsPadded, padded};
+    ghost use Rattle.std.specs.Prelude.{◌≡◌, List, ℕ, take, length, true};
+    ghost use Rattle.flow_rules.specs.Name.{IsPadded, is_name, padded};
     ghost use Rattle.flow_rules.specs.Padding.{padded_take};
 
     ghost Value = { List ℕ };
 
     ghost view = { λ n. take n.len n.bytes };
 
-    ghost invariant = { λ n. IsPadded n.bytes n.len };
+    ghost invariant = { λ n. IsPadded n.bytes n.len × (is_name (take n.len n.bytes) ≡ true) };
 
     ghost inverse = { λ name. record { bytes = padded name; len = length name } };
 
-    ghost inverse_ok = { λ n kept. padded_take n kept };
+    ghost inverse_ok = { λ n kept. padded_take n kept.0 };
 }
 
 impl Name {
@@ -52,11 +56,28 @@ impl Name {
         })
     }
 
+    /// The name that is this text, or `None` if the text is not 1 to 32 ASCII letters, digits, `-` and `_`.
+    pub fn parse(text: &str) -> Option<Name>
+        ensures allowed { IsSome result ↔ (is_name text.now ≡ true) }
+        ensures value { IfSome result (λ name. name ≡ text.now) }
+    {
+        Name::new(text.as_bytes())
+    }
+
     /// The bytes of the name.
     pub fn as_bytes(&self) -> &[u8]
         ensures { result.now ≡ self.now }
     {
         &self.bytes[..self.len]
+    }
+
+    /// The name as a text.
+    #[tactic(auto, using(crate::proofs::Names::name_is_utf8))]
+    pub fn as_str(&self) -> &str
+        ensures value { result.now ≡ self.now }
+        ensures allowed { is_name self.now ≡ true }
+    {
+        str::from_utf8(&self.bytes[..self.len]).unwrap()
     }
 }
 
@@ -95,14 +116,47 @@ impl Eq for Name {
     ghost laws = { Prim.search (comparing, rules) };
 }
 
+/// Names come in the order of their bytes.
+impl PartialOrd for Name {
+    ghost partial_cmp = { λ x y. Some (slice_cmp nat_cmp x y) };
+
+    ghost laws = { texts_po };
+
+    fn partial_cmp(&self, other: &Name) -> Option<Ordering> {
+        Some(self.cmp(other))
+    }
+}
+
+impl Ord for Name {
+    ghost cmp = { slice_cmp nat_cmp };
+
+    ghost total = { nat_list_cmp_total };
+
+    ghost matches_partial_cmp = { Prim.search rules };
+
+    ghost matches_eq = { texts_ties };
+
+    fn cmp(&self, other: &Name) -> Ordering {
+        self.as_str().cmp(other.as_str())
+    }
+}
+
+/// A name is hashed as its text.
+impl Hash for Name {
+    ghost hash_input = { fed.str };
+
+    ghost respects_eq = { Prim.search rules };
+
+    fn hash<H: Hasher>(&self, state: &mut H) {
+        self.as_str().hash(state);
+    }
+}
+
 impl fmt::Display for Name {
     ghost output = { λ name. Some name };
 
     fn fmt<W: fmt::Write>(&self, f: &mut fmt::Formatter<W>) -> fmt::Result {
-        match str::from_utf8(self.as_bytes()) {
-            Ok(text) => f.write_str(text),
-            Err(_) => Err(fmt::Error),
-        }
+        f.write_str(self.as_str())
     }
 }
 

@@ -11,6 +11,7 @@ use crate::signal::{Fault, Signal};
 use crate::text::Text;
 use crate::told::Told;
 use boxcar::tag::{Names, Tag};
+use std::fmt;
 use std::io::Write;
 use std::marker::Model;
 
@@ -98,6 +99,14 @@ impl<W: Write> Printer<W> {
         } else {
             Answer::Go
         }
+    }
+}
+
+impl<W: Write> fmt::Debug for Printer<W> {
+    fn fmt<F: fmt::Write>(&self, f: &mut fmt::Formatter<F>) -> fmt::Result {
+        f.debug_struct("Printer")
+            .field("has_failed", &self.has_failed)
+            .finish_non_exhaustive()
     }
 }
 

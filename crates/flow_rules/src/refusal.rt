@@ -1,11 +1,14 @@
 //! Why a call is refused.
+mod conversions;
+mod explained;
+
 ghost use Rattle.std.specs.Prelude.{◌≡◌, Some, codes};
 ghost use Rattle.std.specs.declared.string.String.{String};
 ghost use Rattle.flow_rules.specs.Refusal.{refusal_number, refusal_word, refusal_line};
 
 use crate::ending::Ending;
 use crate::name::Name;
-use std::alloc::{AllocError, AllocFailed};
+pub use explained::Explained;
 use std::error::Error;
 use std::fmt;
 
@@ -70,6 +73,14 @@ impl Refusal {
         }
     }
 
+    /// The refusal in words for people, which name what it carries: the end of a close, the name of what is still held, or the names of
+    /// what is unsettled. Programs print [`Refusal`] itself, `refused N WORD`.
+    pub fn explain(&self) -> Explained<'_>
+        ensures { result ≡ self.now }
+    {
+        Explained { refusal: self }
+    }
+
     /// The word that is printed beside the number.
     pub fn word(&self) -> &'static str
         ensures { result.now ≡ refusal_word self.now }
@@ -122,37 +133,3 @@ impl fmt::Display for BadCapacity {
 }
 
 impl Error for BadCapacity {}
-
-impl From<AllocError> for NoMemory {
-    fn from(_refused: AllocError) -> NoMemory {
-        NoMemory
-    }
-}
-
-impl<T: Drop> From<AllocFailed<T>> for NoMemory {
-    fn from(_refused: AllocFailed<T>) -> NoMemory {
-        NoMemory
-    }
-}
-
-impl From<NoMemory> for Refusal {
-    ghost use Rattle.std.specs.Prelude.{◌≡◌};
-    ghost use Rattle.flow_rules.specs.declared.refusal.Refusal.TheVariants.{NoMemory};
-
-    ghost from_gives = { λ _ refusal. refusal ≡ NoMemory };
-
-    fn from(_refused: NoMemory) -> Refusal {
-        Refusal::NoMemory
-    }
-}
-
-impl From<BadCapacity> for Refusal {
-    ghost use Rattle.std.specs.Prelude.{◌≡◌};
-    ghost use Rattle.flow_rules.specs.declared.refusal.Refusal.TheVariants.{BadCapacity};
-
-    ghost from_gives = { λ _ refusal. refusal ≡ BadCapacity };
-
-    fn from(_refused: BadCapacity) -> Refusal {
-        Refusal::BadCapacity
-    }
-}

@@ -48,6 +48,14 @@ impl Tally {
     }
 }
 
+impl Default for Tally {
+    ghost is_default = { λ tally. tally ≡ [] };
+
+    fn default() -> Tally {
+        Tally::new()
+    }
+}
+
 impl Listener for Tally {
     ghost use Rattle.std.specs.Prelude.{true};
 

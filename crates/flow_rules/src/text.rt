@@ -1,11 +1,12 @@
 //! A text: the bytes of an item, which its owners share.
-ghost use Rattle.std.specs.Prelude.{◌≡◌, ◌≤◌, ◌==◌, length, IfOk};
+ghost use Rattle.std.specs.Prelude.{◌≡◌, ◌≤◌, ◌==◌, ◌↔◌, [], length, IfOk, true};
 ghost use Rattle.std.specs.Cmp.Lexicographic.{pointwise};
 ghost use Rattle.std.specs.Cmp.Rules.{comparing};
 ghost use Rattle.std.proofs.Common.{rules};
 
 use crate::refusal::NoMemory;
 use std::alloc::Global;
+use std::convert::AsSlice;
 use std::marker::Model;
 use std::sync::Arc;
 
@@ -56,6 +57,30 @@ impl Text {
         ensures short { length self.now ≤ Text.LONGEST }
     {
         self.bytes.as_slice()
+    }
+
+    /// The number of bytes.
+    pub fn len(&self) -> usize
+        ensures value { result ≡ length self.now }
+        ensures short { result ≤ Text.LONGEST }
+    {
+        self.bytes.len()
+    }
+
+    /// Whether the text has no byte.
+    pub fn is_empty(&self) -> bool
+        ensures { (result ≡ true) ↔ (self.now ≡ []) }
+    {
+        self.bytes.is_empty()
+    }
+}
+
+/// Lends its bytes, as `AsRef<[u8]>` does in Rust.
+impl AsSlice<u8> for Text {
+    ghost items = { λ text. text };
+
+    fn as_slice(&self) -> &[u8] {
+        self.as_bytes()
     }
 }
 

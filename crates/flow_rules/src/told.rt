@@ -98,3 +98,11 @@ impl Told {
         Told {}
     }
 }
+
+impl Default for Told {
+    ghost is_default = { λ told. told ≡ [] };
+
+    fn default() -> Told {
+        Told::new()
+    }
+}

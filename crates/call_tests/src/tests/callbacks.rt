@@ -1,12 +1,14 @@
-//! Callbacks and handlers of drops that wait for what other threads do.
+//! Callbacks and handlers of drops that wait for what other threads do, and listeners of different types.
 mod acting;
 mod handling;
 mod meeting;
+mod mixing;
 mod stand;
 mod waiting;
 
 use handling::offer_twice;
 use meeting::meet;
+use mixing::mix;
 use publisher::PARTS;
 use std::alloc::Global;
 use std::marker::Brand;
@@ -71,5 +73,13 @@ fn a_handler_finds_room_that_is_made_meanwhile(rt: HostRuntime) -> Result<(), Fa
         Blank::new(PARTS),
     )?;
     assert!(rt; answer == 1, "answer {answer}");
+    Ok(())
+}
+
+#[test]
+fn listeners_of_two_types_hear_one_publisher(rt: HostRuntime) -> Result<(), Fail> {
+    let count = mix::<Brand, Brand, _>(rt, rt.alloc(), Blank::new(PARTS), Blank::new(PARTS))?;
+    // The watch counts two items as ten each, and the other one an item as one.
+    assert!(rt; count == 21, "counted {count}");
     Ok(())
 }

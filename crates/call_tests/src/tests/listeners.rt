@@ -9,7 +9,7 @@ use std::mem::size_of;
 use std::test::Fail;
 
 /// What five callbacks answer.
-type Answers = [Result<Answer, NoMemory>; 5];
+pub(super) type Answers = [Result<Answer, NoMemory>; 5];
 
 const GOES: Answers = [Ok(Answer::Go); 5];
 
@@ -23,7 +23,7 @@ fn going(callbacks: usize, then: Result<Answer, NoMemory>) -> Answers {
 }
 
 /// What each callback answers, when they are called in turn, `on_next` with two items.
-fn call_each<B: Listener>(alloc: Global, listener: &mut B) -> Result<Answers, NoMemory> {
+pub(super) fn call_each<B: Listener>(alloc: Global, listener: &mut B) -> Result<Answers, NoMemory> {
     let one = item_with(alloc, b"x")?;
     let other = item_with(alloc, b"y")?;
     Ok([

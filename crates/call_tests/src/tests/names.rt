@@ -1,6 +1,8 @@
 //! Names, as they are read and printed.
 use flow_rules::Name;
 use std::alloc::{AllocError, Global};
+use std::cmp::Ordering;
+use std::hash::{DefaultHasher, Hash, Hasher};
 use std::test::Fail;
 
 const ALLOWED: [&str; 6] = [
@@ -37,7 +39,8 @@ fn is_name(alloc: Global, word: &str) -> Result<bool, AllocError> {
     };
     let printed = format!(in alloc; "{name} {name:?}")?;
     let wanted = format!(in alloc; "{word} {word}")?;
-    Ok(name.as_bytes() == word.as_bytes() && printed == wanted)
+    let is_shown = name.as_bytes() == word.as_bytes() && name.as_str() == word;
+    Ok(is_shown && printed == wanted && Name::parse(word) == Some(name))
 }
 
 #[test]
@@ -53,6 +56,8 @@ fn no_other_bytes_are_a_name(rt: HostRuntime) {
     for bytes in REFUSED {
         assert!(rt; Name::new(bytes).is_none(), "at {bytes:?}");
     }
+    assert!(rt; Name::parse("").is_none() && Name::parse("a.b").is_none());
+    assert!(rt; Name::parse("ä").is_none());
 }
 
 #[test]
@@ -60,4 +65,34 @@ fn names_are_equal_where_their_bytes_are(rt: HostRuntime) {
     let name = Name::new(b"a");
     assert!(rt; name == Name::new(b"a"));
     assert!(rt; name != Name::new(b"A") && name != Name::new(b"aa"));
+}
+
+#[test]
+fn names_come_in_the_order_of_their_bytes(rt: HostRuntime) -> Result<(), Fail> {
+    let words = ["-", "0", "A", "Z", "_", "a", "a-", "a0", "aa", "b"];
+    for (place, word) in words.iter().enumerate() {
+        for (other_place, other) in words.iter().enumerate() {
+            let (name, other) = (Name::parse(word), Name::parse(other));
+            assert!(rt; name.cmp(&other) == place.cmp(&other_place), "at {word}");
+            assert!(rt; name.partial_cmp(&other) == Some(place.cmp(&other_place)));
+        }
+    }
+    assert!(rt; Name::parse("a").cmp(&Name::parse("b")) == Ordering::Less);
+    Ok(())
+}
+
+/// What a hasher makes of a value.
+fn hash_of<T: Hash>(value: &T) -> u64 {
+    let mut hasher = DefaultHasher::new();
+    value.hash(&mut hasher);
+    hasher.finish()
+}
+
+#[test]
+fn a_name_is_hashed_as_its_text(rt: HostRuntime) -> Result<(), Fail> {
+    let name = Name::parse("source-0").ok_or("a name is refused")?;
+    let other = Name::parse("source-1").ok_or("a name is refused")?;
+    assert!(rt; hash_of(&name) == hash_of(&"source-0"));
+    assert!(rt; hash_of(&name) != hash_of(&other));
+    Ok(())
 }

@@ -1,5 +1,5 @@
 //! Refusals and errors, as they are numbered and printed.
-use flow_rules::{BadCapacity, Ending, IllegalArgument, Name, NoMemory, Refusal};
+use flow_rules::{BadCapacity, Ending, Fault, How, IllegalArgument, Name, NoMemory, Refusal};
 use std::alloc::{AllocError, Global};
 use std::fmt::Display;
 use std::test::Fail;
@@ -61,4 +61,93 @@ fn an_error_prints_its_word(rt: HostRuntime) -> Result<(), Fail> {
 fn an_error_becomes_the_refusal_of_its_name(rt: HostRuntime) {
     assert!(rt; Refusal::from(NoMemory) == Refusal::NoMemory);
     assert!(rt; Refusal::from(BadCapacity) == Refusal::BadCapacity);
+}
+
+/// A refusal of unsettled subscriptions of these names.
+fn unsettled(alloc: Global, names: &[&str]) -> Result<Refusal, Fail> {
+    let mut unsettled = Vec::new(alloc);
+    for name in names {
+        unsettled.push(Name::parse(name).ok_or("a name is refused")?)?;
+    }
+    Ok(Refusal::Unsettled(unsettled))
+}
+
+#[test]
+fn a_refusal_is_explained_by_what_it_carries(rt: HostRuntime) -> Result<(), Fail> {
+    let alloc = rt.alloc();
+    let held = Refusal::StillHeld(Name::parse("source-3").ok_or("a name is refused")?);
+    assert!(rt; prints(alloc, &held.explain(), "source-3 is still held")?);
+    let one = unsettled(alloc, &["a"])?;
+    assert!(rt; prints(alloc, &one.explain(), "running, or closed and not ended: a")?);
+    let two = unsettled(alloc, &["a", "b-2"])?;
+    assert!(rt;
+        prints(
+            alloc,
+            &two.explain(),
+            "running, or closed and not ended: a, b-2"
+        )?
+    );
+    let closed = Refusal::Closed(Ending::Normal);
+    assert!(rt; prints(alloc, &closed.explain(), "the publisher is closed")?);
+    let failed = Refusal::Closed(Ending::Failed(7));
+    assert!(rt;
+        prints(
+            alloc,
+            &failed.explain(),
+            "the publisher is closed with the error 7"
+        )?
+    );
+    Ok(())
+}
+
+#[test]
+fn each_refusal_is_explained_in_words_of_its_own(rt: HostRuntime) -> Result<(), Fail> {
+    let alloc = rt.alloc();
+    let name = Name::new(b"a").ok_or("a name is refused")?;
+    let mut words: Vec<String> = Vec::new(alloc);
+    for (refusal, number, _) in refusals(alloc, name) {
+        let explained = format!(in alloc; "{}", refusal.explain())?;
+        assert!(rt;
+            !explained.is_empty() && !words.contains(&explained),
+            "refusal {number}"
+        );
+        words.push(explained)?;
+    }
+    Ok(())
+}
+
+#[test]
+fn ends_and_faults_are_printed_in_words(rt: HostRuntime) -> Result<(), Fail> {
+    let alloc = rt.alloc();
+    assert!(rt; prints(alloc, &Ending::Normal, "closed")?);
+    assert!(rt; prints(alloc, &Ending::Failed(7), "closed with the error 7")?);
+    let published = "ended with an error: the publisher was closed with the error 7";
+    assert!(rt; prints(alloc, &How::Errored(Fault::Published(7)), published)?);
+    assert!(rt;
+        prints(
+            alloc,
+            &Fault::IllegalArgument,
+            "a request that is not positive"
+        )?
+    );
+    assert!(rt; prints(alloc, &Fault::IllegalState, "a second subscribing")?);
+    assert!(rt; prints(alloc, &How::Completed, "completed")?);
+    assert!(rt; prints(alloc, &How::Cancelled, "cancelled")?);
+    assert!(rt; prints(alloc, &How::Failed(7), "a callback failed with the code 7")?);
+    assert!(rt; prints(alloc, &How::OutOfMemory, "a callback ran out of memory")?);
+    Ok(())
+}
+
+/// Refused with this, and with what was handed in.
+fn refused(refusal: Refusal) -> Result<(), Refusal> {
+    Err((refusal, 7))?;
+    Ok(())
+}
+
+#[test]
+fn a_question_mark_keeps_the_refusal(rt: HostRuntime) {
+    assert!(rt; refused(Refusal::Duplicate) == Err(Refusal::Duplicate));
+    assert!(rt; Refusal::from((Refusal::Unknown, 7)) == Refusal::Unknown);
+    assert!(rt; Refusal::from(AllocError) == Refusal::NoMemory);
+    assert!(rt; NoMemory::from((NoMemory, 7)) == NoMemory);
 }

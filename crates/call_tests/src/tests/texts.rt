@@ -4,6 +4,7 @@ ghost use Rattle.std.specs.Prelude.{◌≤◌, length};
 use crate::item_with;
 use flow_rules::{Item, NoMemory, Put, Text};
 use std::alloc::Global;
+use std::convert::AsSlice;
 use std::test::Fail;
 
 const TEXTS: [&[u8]; 4] = [b"", b" x", b"\xff\0", &[b'f'; 4096]];
@@ -19,7 +20,13 @@ const ITEMS: [(u32, u64, u64, &[u8; 1], bool); 5] = [
 
 /// Whether an item of `item_with` holds these bytes.
 fn holds(item: &Item, bytes: &[u8]) -> bool {
-    (item.source, item.seq, item.serial) == (1, 2, 3) && item.text.as_bytes() == bytes
+    (item.source, item.seq, item.serial) == (1, 2, 3) && shows(&item.text, bytes)
+}
+
+/// Whether a text shows these bytes, lends them and counts them.
+fn shows(text: &Text, bytes: &[u8]) -> bool {
+    let is_shown = text.as_bytes() == bytes && text.as_slice() == bytes;
+    is_shown && text.len() == bytes.len() && text.is_empty() == (bytes.len() == 0)
 }
 
 /// Whether an item with these bytes, and what shares them, hold them, also where the item is gone.

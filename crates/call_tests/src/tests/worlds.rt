@@ -2,8 +2,9 @@
 mod chance;
 mod table;
 
-use feed_core::{
-    Cause, Causes, Event, Parts, Producing, Requesting, Runner, Side, all_runs,
+use feed_core::Causes;
+use feed_core::world::{
+    Cause, Event, Parts, Producing, Requesting, Runner, Side, all_runs,
     at_most_one_item_follows_an_end, worlds_at_rest_forget_nothing,
 };
 use flow_rules::{Answer, Ending, How};

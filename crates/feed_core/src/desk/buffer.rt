@@ -8,7 +8,7 @@ use std::collections::VecDeque;
 use std::marker::Model;
 
 /// Items in order, and the room that was made for them.
-#[derive(Drop)]
+#[derive(Debug, Drop)]
 pub(crate) struct Buffer {
     items: VecDeque<Item>,
 }

@@ -1,6 +1,6 @@
 //! Lists of events by chance: the code and the second reading of the table agree at every event of them.
 use super::table::next;
-use feed_core::{Cause, Event, Side, all_runs};
+use feed_core::world::{Cause, Event, Side, all_runs};
 use flow_rules::{Answer, Ending, Fault, How};
 use std::process::Abort;
 use std::test::Fail;

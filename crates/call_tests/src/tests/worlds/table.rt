@@ -1,6 +1,7 @@
 //! The table of events, read a second time, line by line and as plainly as can be.
 use super::MADE;
-use feed_core::{Cause, Causes, Event, Parts, Producing, Requesting, Runner, Side};
+use feed_core::Causes;
+use feed_core::world::{Cause, Event, Parts, Producing, Requesting, Runner, Side};
 use flow_rules::{Answer, Ending, Fault, How, UNBOUNDED};
 
 /// What there is after an event, if it is possible.
