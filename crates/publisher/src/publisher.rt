@@ -121,7 +121,7 @@ impl<
 
 impl<L: Ledger + Send, D: Ledger + Send, B: Listener + Send> Publisher<L, D, B> {
     /// A note that knows nothing of the close.
-    pub fn note() -> Note
+    pub fn note(&self) -> Note
         ensures { result.known ≡ None }
     {
         Note::new()

@@ -47,6 +47,18 @@ impl From<AllocError> for Refusal {
     }
 }
 
+/// Drops what found no place.
+impl<T: Drop> From<AllocFailed<T>> for Refusal {
+    ghost use Rattle.std.specs.Prelude.{◌≡◌};
+    ghost use Rattle.flow_rules.specs.declared.refusal.Refusal.TheVariants.{NoMemory};
+
+    ghost from_gives = { λ _ refusal. refusal ≡ NoMemory };
+
+    fn from(_refused: AllocFailed<T>) -> Refusal {
+        Refusal::NoMemory
+    }
+}
+
 /// Drops what was handed in and came back with the refusal.
 impl<B: Drop> From<(Refusal, B)> for Refusal {
     ghost use Rattle.std.specs.Prelude.{◌≡◌};

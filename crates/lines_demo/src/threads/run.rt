@@ -203,7 +203,7 @@ fn publish_and_close<
     publisher: &Publisher<L, D, Shown<S>>,
     input: &Input<'_>,
 ) -> Result<Vec<Submitter<L, D, Shown<S>>>, Refusal> {
-    let mut note = Publisher::<L, D, Shown<S>>::note();
+    let mut note = publisher.note();
     let mut submitters = Vec::new(alloc);
     for _ in input.sources() {
         let submitter = publisher.submitter(rt, alloc, &mut note)?;

@@ -42,7 +42,7 @@ impl<
         requires drops { (drops.name ≡ D.name) × ((drops.parts ≡ D.parts) × (D.parts ≡ PARTS)) }
     {
         let publisher = Publisher::new(rt, alloc, publications, drops, workers, capacity)?;
-        let mut note = Publisher::<L, D, B>::note();
+        let mut note = publisher.note();
         let submitter = publisher.submitter(&rt, alloc, &mut note)?;
         Ok(Stand {
             alloc,

@@ -85,8 +85,8 @@ fn new_site<L: Ledger + Send + Sync + 'static, D: Ledger + Send + Sync + 'static
 ) -> Result<Site<L, D>, Fail> {
     Ok(Site {
         alloc,
+        note: publisher.note(),
         publisher,
-        note: Publisher::<L, D, Heard>::note(),
         submitters: Vec::new(alloc),
         subscriptions: Vec::new(alloc),
         kept_submitters: Vec::new(alloc),
@@ -177,7 +177,7 @@ impl<L: Ledger + Send + Sync + 'static, D: Ledger + Send + Sync + 'static> Site<
 
     // What a note that knew nothing is told, and whether that says that the publisher is closed.
     fn closing<R: Wait>(&self, rt: &R) -> Result<String, Fail> {
-        let mut note = Publisher::<L, D, Heard>::note();
+        let mut note = self.publisher.note();
         let is_closed = self.publisher.is_closed(rt, &mut note);
         let ending = self.publisher.closed_with(rt, &mut note);
         Ok(format!(in self.alloc; "closed {is_closed} {ending:?}; ")?)
