@@ -13,6 +13,7 @@ mod play;
 mod pool;
 mod publishers;
 mod refusals;
+mod sessions;
 mod subscribers;
 mod texts;
 mod watching;

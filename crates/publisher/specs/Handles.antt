@@ -22,9 +22,15 @@ pub record Requests (n : ℤ) (old new : HandleState) : Type 0 where
 pub record Cancels (old new : HandleState) : Type 0 where
   pub cancelled : new ≡ record old { cancelled = true; ready = new.ready; started = new.started }
 
--- a submitter: its number; what it was told of the close; how many items it published; and how many of its offers found a buffer full
+-- a publisher: the name of its closing, of which its notes are, and how many workers it has
+pub record PublisherView : Type 0 where
+  pub closing : ℕ
+  pub workers : ℕ
+
+-- a submitter: its number; of which publisher's closing its note is, and what it was told of that; how many items it published; and how many of its offers found a buffer full
 pub record SubmitterState : Type 0 where
   pub source : ℕ
+  pub closing : ℕ
   pub known : Option Ending
   pub published : ℕ
   pub dropping : ℕ

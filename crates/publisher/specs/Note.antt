@@ -1,8 +1,13 @@
 -- What a note knows.
-use Rattle.std.specs.Prelude.{Option, None, Some}
+use Rattle.std.specs.Prelude.{ℕ, Option, None, Some}
 use Rattle.flow_rules.specs.declared.ending.Ending.{Ending}
 use Rattle.flow_rules.specs.declared.refusal.Refusal.{Refusal}
 use Rattle.flow_rules.specs.declared.refusal.Refusal.TheVariants.{Closed}
+
+-- a note: of which publisher's closing it is, and how that is closed, if it was told
+pub record NoteState : Type 0 where
+  pub cell : ℕ
+  pub known : Option Ending
 
 -- what a note knows once it was told of this ending: one that knew an ending keeps that
 abbrev pub known_after : Ending → Option Ending → Option Ending

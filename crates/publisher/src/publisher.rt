@@ -1,5 +1,5 @@
 //! The publisher.
-ghost use Rattle.std.specs.Prelude.{◌≡◌, ◌↔◌, ◌⊎◌, ◌<◌, [], true, zero, is_some, Err, IfErr, IfOk, IfSome, IsSome, OnErr, OnOk, Some};
+ghost use Rattle.std.specs.Prelude.{◌≡◌, ◌↔◌, ◌⊎◌, ◌<◌, [], true, zero, is_some, Err, IfErr, IfOk, IfSome, IsOk, IsSome, None, OnErr, OnOk, Some};
 ghost use Rattle.std.specs.Arc.{arc_value};
 ghost use Rattle.flow_rules.specs.declared.refusal.Refusal.TheVariants as Refusal;
 ghost use Rattle.async_pool.specs.Crew.{IsWorkerCount};
@@ -15,7 +15,9 @@ use crate::submitter::Submitter;
 use crate::subscription::Subscription;
 use async_pool::{MOST_WORKERS, Pool, Wide};
 use flow_rules::{Ending, Listener, Name, NoMemory, Refusal};
+use once_cell::race::OnceBox;
 use std::alloc::Global;
+use std::marker::Model;
 use std::sync::atomic::AtomicU64;
 use std::sync::ledger::{Blank, Ledger};
 use std::sync::{Arc, Condvar, Mutex, Wait};
@@ -27,6 +29,17 @@ use std::thread::Threads;
 pub struct Publisher<L: Ledger + Send, D: Ledger + Send, B: Listener + Send> {
     pub(crate) shared: Arc<Shared<L, D, B>>,
     pool: Arc<Pool<ConsumerTask<L, D, B>>>,
+}
+
+impl<L: Ledger + Send, D: Ledger + Send, B: Listener + Send> Model for Publisher<L, D, B> {
+    ghost use Rattle.std.specs.Arc.{arc_value};
+    ghost use Rattle.async_pool.specs.Pool.{pool_workers};
+    ghost use Rattle.once_cell.specs.Once.{cell_name};
+    ghost use Rattle.publisher.specs.Handles.{PublisherView};
+
+    ghost Value = { PublisherView };
+
+    ghost view = { λ p. record { closing = cell_name (arc_value p.shared).closing; workers = pool_workers (arc_value p.pool) } };
 }
 
 impl<
@@ -74,7 +87,7 @@ impl<
         workers: usize,
     ) -> Result<Publisher<L, D, B>, NoMemory>
         requires { IsWorkerCount workers }
-        ensures { IfOk result (λ publisher. pool_workers (arc_value publisher.pool) ≡ workers) }
+        ensures { IfOk result (λ publisher. publisher.workers ≡ workers) }
     {
         let Ok(pool) = Pool::new(alloc, workers) else {
             return Err(NoMemory);
@@ -87,6 +100,7 @@ impl<
                     state: Mutex::new(state),
                     changed: Condvar::new(),
                     awaiting: AtomicU64::new(0),
+                    closing: OnceBox::new(alloc),
                 },
             )?,
             pool: Arc::new(alloc, pool)?,
@@ -100,7 +114,7 @@ impl<
         alloc: Global,
         worker: usize,
     ) -> Result<(), NoMemory>
-        requires { worker < pool_workers (arc_value self.now.pool) }
+        requires { worker < self.now.workers }
     {
         let mut context = Worker::new(alloc, &self.shared)?;
         let pool = Arc::try_clone(&self.pool)?;
@@ -120,11 +134,11 @@ impl<
 }
 
 impl<L: Ledger + Send, D: Ledger + Send, B: Listener + Send> Publisher<L, D, B> {
-    /// A note that knows nothing of the close.
+    /// Gives a note of this publisher that knows nothing of its close.
     pub fn note(&self) -> Note
-        ensures { result.known ≡ None }
+        ensures { result ≡ record { cell = self.now.closing; known = None } }
     {
-        Note::new()
+        Note::of(&self.shared.closing)
     }
 
     /// The capacity of each buffer (`SubmissionPublisher.getMaxBufferCapacity`).
@@ -132,23 +146,26 @@ impl<L: Ledger + Send, D: Ledger + Send, B: Listener + Send> Publisher<L, D, B> 
         self.shared.capacity
     }
 
-    /// Whether the publisher is closed (`SubmissionPublisher.isClosed`). A note that knows answers without the lock.
-    pub fn is_closed<R: Wait>(&self, rt: &R, note: &mut Note) -> bool
+    /// Tells whether the publisher is closed (`SubmissionPublisher.isClosed`). It takes no lock, and answers while another call has it. The note
+    /// knows of the close then if the answer is true.
+    pub fn is_closed(&self, note: &mut Note) -> bool
+        requires { note.old.cell ≡ self.now.closing }
+        ensures cell { note.new.cell ≡ note.old.cell }
         ensures tells { result ≡ is_some note.new.known }
         ensures same { IfSome note.old.known (λ ending. note.new.known ≡ Some ending) }
     {
-        self.closed_with(rt, note).is_some()
+        self.closed_with(note).is_some()
     }
 
-    /// How the publisher is closed, if it is (`SubmissionPublisher.getClosedException`). A note that knows answers without the lock.
-    pub fn closed_with<R: Wait>(&self, rt: &R, note: &mut Note) -> Option<Ending>
+    /// Tells how the publisher is closed, if it is (`SubmissionPublisher.getClosedException`). It takes no lock, and the note knows then what it
+    /// answers. A note that knows gets the same answer for good.
+    pub fn closed_with(&self, note: &mut Note) -> Option<Ending>
+        requires { note.old.cell ≡ self.now.closing }
+        ensures cell { note.new.cell ≡ note.old.cell }
         ensures tells { result ≡ note.new.known }
         ensures same { IfSome note.old.known (λ ending. note.new.known ≡ Some ending) }
     {
-        if note.known.is_none() {
-            note.known = self.shared.state.lock(rt).ending();
-        }
-        note.known
+        note.look(&self.shared.closing)
     }
 
     /// Tells the longest backlog of any live subscription, in items, and 0 if there is none (`SubmissionPublisher.estimateMaximumLag`).
@@ -209,21 +226,27 @@ impl<L: Ledger + Send, D: Ledger + Send, B: Listener + Send> Publisher<L, D, B> 
         alloc: Global,
         note: &mut Note,
     ) -> Result<Submitter<L, D, B>, Refusal>
+        requires { note.old.cell ≡ self.now.closing }
+        ensures closing { IfOk result (λ submitter. submitter.closing ≡ self.now.closing) }
         ensures known { IfOk result (λ submitter. submitter.known ≡ note.old.known) }
         ensures nothing { IfOk result (λ submitter. (submitter.published ≡ 0) × (submitter.dropping ≡ 0)) }
         ensures same { note.new ≡ note.old }
         ensures refusals { IfErr result (λ refusal. (refusal ≡ Refusal.NoMemory) ⊎ (refusal ≡ Refusal.TooMany)) }
     {
         let caller = Caller::new(alloc, &self.shared, &self.pool)?;
+        let shared = Arc::try_clone(&self.shared)?;
         let own = self.shared.state.lock(rt).next_source()?;
-        Ok(Submitter::new(alloc, caller, own, note.known))
+        Ok(Submitter::new(alloc, caller, shared, own, note.again()))
     }
 
     /// Closes the publisher (`SubmissionPublisher.close`): its subscribers get what was published before, and then complete. Only the first close
-    /// does anything; the note knows then which that was.
+    /// does anything; the note knows then which that was. A close by a note that knows of one already takes no lock and no memory.
     ///
     /// Refused 5 if a growth is refused; nothing has changed then.
     pub fn close<R: Wait>(&self, rt: &R, alloc: Global, note: &mut Note) -> Result<(), Refusal>
+        requires { note.old.cell ≡ self.now.closing }
+        ensures cell { note.new.cell ≡ note.old.cell }
+        ensures known { IsSome note.old.known → IsOk result }
         ensures knows { OnOk result (IsSome note.new.known) }
         ensures same { IfSome note.old.known (λ ending. note.new.known ≡ Some ending) }
         ensures err { OnErr result (note.new ≡ note.old) }
@@ -240,6 +263,9 @@ impl<L: Ledger + Send, D: Ledger + Send, B: Listener + Send> Publisher<L, D, B> 
         note: &mut Note,
         code: u32,
     ) -> Result<(), Refusal>
+        requires { note.old.cell ≡ self.now.closing }
+        ensures cell { note.new.cell ≡ note.old.cell }
+        ensures known { IsSome note.old.known → IsOk result }
         ensures knows { OnOk result (IsSome note.new.known) }
         ensures same { IfSome note.old.known (λ ending. note.new.known ≡ Some ending) }
         ensures err { OnErr result (note.new ≡ note.old) }
@@ -262,18 +288,25 @@ impl<L: Ledger + Send, D: Ledger + Send, B: Listener + Send> Publisher<L, D, B> 
         note: &mut Note,
         ending: Ending,
     ) -> Result<(), Refusal>
+        requires { note.old.cell ≡ self.now.closing }
+        ensures cell { note.new.cell ≡ note.old.cell }
+        ensures known { IsSome note.old.known → IsOk result }
         ensures knows { OnOk result (IsSome note.new.known) }
         ensures same { IfSome note.old.known (λ ending. note.new.known ≡ Some ending) }
         ensures err { OnErr result (note.new ≡ note.old) }
         ensures refusals { IfErr result (λ refusal. refusal ≡ Refusal.NoMemory) }
     {
+        if note.known(&self.shared.closing).is_some() {
+            return Ok(());
+        }
+        let mut made = Box::new(alloc, ending)?;
         let mut caller = Caller::new(alloc, &self.shared, &self.pool)?;
         let mut due = Vec::new(alloc);
         let mut state = self.shared.state.lock(rt);
-        let closed = state.close(ending, &mut due)?;
+        *made = state.close(ending, &mut due)?;
+        note.learn(&self.shared.closing, made);
         self.shared.tell(state);
         caller.start_all(rt, &mut due);
-        note.learn(closed);
         Ok(())
     }
 

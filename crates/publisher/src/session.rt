@@ -106,8 +106,14 @@ fn hold_session<
     ensures { IfOk result (λ ended. IsOutcome B.told (outcome_of ended.finished)) }
 {
     let PublisherOptions { workers, capacity } = options;
-    let publisher: Publisher<L, D, B> =
-        Publisher::new(rt, alloc, publications, drops, workers, capacity)?;
+    let publisher: Publisher<L, D, B> = Publisher::new(
+        rt,
+        alloc,
+        publications,
+        drops,
+        workers,
+        capacity,
+    )?;
     let mut handed_in = HandedIn {
         submitters: Vec::new(alloc),
         subscriptions: Vec::new(alloc),

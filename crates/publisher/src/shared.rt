@@ -3,7 +3,8 @@ use crate::state::{Reason, State, Wake};
 use async_pool::Job;
 use feed_cell::{Task, Turn};
 use feed_core::Seen;
-use flow_rules::{Listener, NoMemory};
+use flow_rules::{Ending, Listener, NoMemory};
+use once_cell::race::OnceBox;
 use std::alloc::Global;
 use std::marker::PhantomData;
 use std::sync::atomic::AtomicU64;
@@ -21,6 +22,8 @@ pub struct Shared<L: Ledger, D: Ledger, B: Listener> {
     pub changed: Condvar,
     /// How many threads look for room before they sleep, or sleep.
     pub awaiting: AtomicU64,
+    /// How the publisher is closed, once it is. It is set while the lock is held, and read without it.
+    pub closing: OnceBox<Ending>,
 }
 
 impl<L: Ledger, D: Ledger, B: Listener> Shared<L, D, B> {

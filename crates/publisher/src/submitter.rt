@@ -1,4 +1,6 @@
 //! One source of publications.
+ghost use Rattle.std.specs.Arc.{arc_value};
+ghost use Rattle.once_cell.specs.Once.{cell_name};
 ghost use Rattle.std.specs.Prelude.{◌≡◌, ◌+◌, ◌<◌, ◌≤◌, ◌↔◌, is_some, None, Err, IfErr, IfOk, IfSome, OnErr, OnOk, length};
 ghost use Rattle.flow_rules.specs.declared.refusal.Refusal.TheVariants as Refusal;
 ghost use Rattle.flow_rules.specs.declared.text.TheConstants.Text.{LONGEST};
@@ -7,20 +9,23 @@ ghost use Rattle.publisher.specs.Publishing.{drop_of};
 
 use crate::caller::Caller;
 use crate::note::Note;
+use crate::shared::Shared;
 use crate::state::Own;
 use crossbeam_utils::Backoff;
 use feed_cell::Task;
-use flow_rules::{DropHandler, Ending, Listener, Refusal, Text};
+use flow_rules::{DropHandler, Listener, NoMemory, Refusal, Text};
 use publisher_hub::{Unpublished, Work};
 use std::alloc::Global;
 use std::marker::Model;
-use std::sync::Wait;
 use std::sync::ledger::Ledger;
+use std::sync::{Arc, Wait};
 
 /// One source of a publisher's items, with what it was told of the close. [`finish`](crate::finish) takes it back.
 #[derive(Drop)]
 pub struct Submitter<L: Ledger + Send, D: Ledger + Send, B: Listener + Send> {
     caller: Caller<L, D, B>,
+    /// Where the closing stands of which its note is.
+    shared: Arc<Shared<L, D, B>>,
     /// Its number, and its shares of the ledgers.
     own: Own<L, D>,
     note: Note,
@@ -29,27 +34,35 @@ pub struct Submitter<L: Ledger + Send, D: Ledger + Send, B: Listener + Send> {
 }
 
 impl<L: Ledger + Send, D: Ledger + Send, B: Listener + Send> Model for Submitter<L, D, B> {
+    ghost use Rattle.std.specs.Prelude.{◌≡◌};
+    ghost use Rattle.std.specs.Arc.{arc_value};
+    ghost use Rattle.once_cell.specs.Once.{cell_name};
     ghost use Rattle.publisher.specs.Handles.{SubmitterState};
 
     ghost Value = { SubmitterState };
 
-    ghost view = { λ s. record { source = s.own.source; known = s.note.known; published = s.own.publications.amount; dropping = s.own.drops.amount } };
+    ghost invariant = { λ s. s.note.cell ≡ cell_name (arc_value s.shared).closing };
+
+    ghost view = { λ s. record { source = s.own.source; closing = s.note.cell; known = s.note.known; published = s.own.publications.amount; dropping = s.own.drops.amount } };
 }
 
 impl<L: Ledger + Send, D: Ledger + Send, B: Listener + Send> Submitter<L, D, B> {
-    /// That of a source, which knows of this ending.
+    /// That of a source, with this note.
     pub(crate) fn new(
         alloc: Global,
         caller: Caller<L, D, B>,
+        shared: Arc<Shared<L, D, B>>,
         own: Own<L, D>,
-        known: Option<Ending>,
+        note: Note,
     ) -> Submitter<L, D, B>
-        ensures { result ≡ record { source = own.source; known = known; published = own.publications.amount; dropping = own.drops.amount } }
+        requires { note.cell ≡ cell_name (arc_value shared).closing }
+        ensures { result ≡ record { source = own.source; closing = note.cell; known = note.known; published = own.publications.amount; dropping = own.drops.amount } }
     {
         Submitter {
             caller,
+            shared,
             own,
-            note: Note { known },
+            note,
             due: Vec::new(alloc),
         }
     }
@@ -69,7 +82,7 @@ impl<L: Ledger + Send, D: Ledger + Send, B: Listener + Send> Submitter<L, D, B> 
         let text = self.admit(alloc, text)?;
         match self.publish(rt, text) {
             Ok(lag) => Ok(lag),
-            Err(refusal) => Err(self.hear(refusal)),
+            Err(refusal) => Err(self.hear(alloc, refusal)),
         }
     }
 
@@ -140,21 +153,22 @@ impl<L: Ledger + Send, D: Ledger + Send, B: Listener + Send> Submitter<L, D, B> 
         } = self;
         match caller.offer(rt, own, text, handler, due) {
             Ok(answer) => Ok(answer),
-            Err(refusal) => Err(self.hear(refusal)),
+            Err(refusal) => Err(self.hear(alloc, refusal)),
         }
     }
 
     /// The text of a publication, if it need not be refused before the lock.
-    fn admit(&self, alloc: Global, text: &[u8]) -> Result<Text, Refusal>
-        ensures unknown { OnOk result (self.now.known ≡ None) }
+    fn admit(&mut self, alloc: Global, text: &[u8]) -> Result<Text, Refusal>
+        ensures same { self.new ≡ self.old }
+        ensures unknown { OnOk result (self.old.known ≡ None) }
         ensures fits { OnOk result (length text.now ≤ LONGEST) }
         ensures text { IfOk result (λ it. it ≡ text.now) }
-        ensures known { IfSome self.now.known (λ ending. result ≡ Err (Refusal.Closed ending)) }
-        ensures long { self.now.known ≡ None → (result ≡ Err Refusal.LineTooLong) ↔ (LONGEST < length text.now) }
-        ensures err { IfErr result (λ refusal. self.now ≡ told_by refusal self.now) }
-        ensures refusals { IfErr result (λ refusal. RefusesPublication refusal self.now.known) }
+        ensures known { IfSome self.old.known (λ ending. result ≡ Err (Refusal.Closed ending)) }
+        ensures long { self.old.known ≡ None → (result ≡ Err Refusal.LineTooLong) ↔ (LONGEST < length text.now) }
+        ensures err { IfErr result (λ refusal. self.new ≡ told_by refusal self.old) }
+        ensures refusals { IfErr result (λ refusal. RefusesPublication refusal self.new.known) }
     {
-        if let Some(ending) = self.note.known {
+        if let Some(ending) = self.note.known(&self.shared.closing) {
             return Err(Refusal::Closed(ending));
         }
         if text.len() > Text::LONGEST {
@@ -189,13 +203,21 @@ impl<L: Ledger + Send, D: Ledger + Send, B: Listener + Send> Submitter<L, D, B> 
         unreachable!()
     }
 
-    /// It learns what a refusal tells of the close.
-    fn hear(&mut self, refusal: Refusal) -> Refusal
-        ensures value { result ≡ refusal }
-        ensures told { self.new ≡ told_by refusal self.old }
+    /// Learns what a refusal of the Hub tells of the close. The answer is the refusal, with the ending that all learn; or 5, if memory was refused for
+    /// keeping that.
+    fn hear(&mut self, alloc: Global, refusal: Refusal) -> Refusal
+        requires { IsHubRefusal refusal }
+        ensures reason { IsHubRefusal result }
+        ensures told { self.new ≡ told_by result self.old }
+        ensures refusals { RefusesPublication result self.new.known }
     {
-        self.note.hear(&refusal);
-        refusal
+        match refusal {
+            Refusal::Closed(ending) => match self.note.hear(alloc, &self.shared.closing, ending) {
+                Ok(ending) => Refusal::Closed(ending),
+                Err(NoMemory) => Refusal::NoMemory,
+            },
+            other => other,
+        }
     }
 
     /// What it owns, and whether it knows that the publisher is closed.
@@ -209,8 +231,9 @@ impl<L: Ledger + Send, D: Ledger + Send, B: Listener + Send> Submitter<L, D, B> 
             own,
             note,
             caller: _,
+            shared: _,
             due: _,
         } = self;
-        (own, note.known.is_some())
+        (own, note.knows())
     }
 }

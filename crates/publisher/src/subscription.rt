@@ -96,7 +96,12 @@ impl<L: Ledger + Send, D: Ledger + Send, B: Listener + Send> Subscription<L, D, 
     /// Tells whether the subscription has ended: the subscriber was told `onComplete` or `onError`, it was cancelled, or a callback failed or
     /// was refused memory.
     pub fn has_ended<R: Wait>(&self, rt: &R) -> bool {
-        self.caller.worker.shared.state.lock(rt).has_ended(self.entry)
+        self.caller
+            .worker
+            .shared
+            .state
+            .lock(rt)
+            .has_ended(self.entry)
     }
 
     /// Waits until the subscription has ended. It requests and cancels nothing by itself: if items or a completion wait for demand that nobody

@@ -6,7 +6,7 @@ ghost use Rattle.std.specs.Prelude.{◌≡◌, ◌+◌, ◌^◌, ◌<◌, []};
 ghost use Rattle.feed_core.specs.LaneCalls.{IsCapacity};
 
 use anyhow::ensure;
-use feed_core::{Desk, Seen};
+use feed_core::{Desk, Outlook, Seen};
 use flow_rules::{Ending, Feed, Item, Listener, NoMemory, PUBLICATIONS, Put, Text, capacity};
 use shipper::Shipper;
 use std::alloc::Global;
@@ -15,18 +15,38 @@ use std::io::{BufRead, BufReader, BufWriter, Read, Write};
 
 mod shipper;
 
-/// A subscription with room for so many items, whose subscriber requests all that will ever come.
-fn subscribed<B: Listener>(alloc: Global, room: usize, subscriber: B) -> Result<Desk<B>, NoMemory>
+/// Makes a subscription with room for so many items, whose subscriber requests all that will ever come.
+fn subscribed<B: Listener>(
+    alloc: Global,
+    room: usize,
+    subscriber: B,
+    seen: &mut Seen,
+) -> Result<Desk<B>, NoMemory>
     requires sized { IsCapacity room }
     requires untold { B.told subscriber ≡ [] }
 {
     match Desk::new(alloc, room, subscriber) {
         Ok(mut desk) => {
-            // Its first turn is owed already, so a request starts no task.
-            let _ = desk.request(i64::MAX);
+            // A call that starts the task answers so, and then its turns have to be run; a new subscription owes its first one anyhow.
+            if desk.request(i64::MAX).is_some() || desk.owes() {
+                serve(&mut desk, seen);
+            }
             Ok(desk)
         }
         Err((refused, _)) => Err(refused),
+    }
+}
+
+/// Runs the turns that a subscription owes, until it rests or has ended.
+fn serve<B: Listener>(desk: &mut Desk<B>, seen: &mut Seen) {
+    for _ in 0..u64::MAX {
+        if !desk.owes() {
+            return;
+        }
+        match desk.turn(seen) {
+            Outlook::Again => {}
+            Outlook::Resting | Outlook::Ended(_) => return,
+        }
     }
 }
 
@@ -43,12 +63,20 @@ fn read_line<R: BufRead>(reader: &mut R, line: &mut Vec<u8>) -> io::Result<bool>
     Ok(true)
 }
 
-/// Whether an item is taken, after a turn where the buffer is full.
+/// Publishes an item, and runs the turns that this starts. False if it is not taken.
 fn publish<B: Listener>(desk: &mut Desk<B>, seen: &mut Seen, item: Item) -> bool {
-    if desk.lag() == desk.capacity() as u64 && desk.owes() {
-        let _ = desk.turn(seen);
+    if desk.accepted() >= PUBLICATIONS {
+        return false;
     }
-    desk.accepted() < PUBLICATIONS && matches!(desk.put(item), Put::Accepted { .. })
+    match desk.put(item) {
+        Put::Accepted { start, .. } => {
+            if start.is_some() {
+                serve(desk, seen);
+            }
+            true
+        }
+        Put::Full(_) | Put::Gone(_) => false,
+    }
 }
 
 /// The item of a line, numbered from 0, which is refused where it has more bytes than a text may have.
@@ -93,12 +121,8 @@ fn publish_each<R: BufRead, W: Write + Send + Drop>(
 
 /// Ends a subscription, and tells its subscriber all that is left.
 fn end<B: Listener>(desk: &mut Desk<B>, seen: &mut Seen) {
-    let _ = desk.end(Ending::Normal);
-    for _ in 0..u64::MAX {
-        if !desk.owes() {
-            return;
-        }
-        let _ = desk.turn(seen);
+    if desk.end(Ending::Normal).is_some() {
+        serve(desk, seen);
     }
 }
 
@@ -109,7 +133,7 @@ fn ship<R: BufRead, W: Write + Send + Drop>(
     writer: W,
 ) -> anyhow::Result<Shipper<W>> {
     let mut seen = Seen::new(alloc)?;
-    let mut desk = subscribed(alloc, capacity(256)?, Shipper::new(writer))?;
+    let mut desk = subscribed(alloc, capacity(256)?, Shipper::new(writer), &mut seen)?;
     let published = publish_each(alloc, reader, &mut desk, &mut seen);
     end(&mut desk, &mut seen);
     let shipper = desk.into_subscriber();

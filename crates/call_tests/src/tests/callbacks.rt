@@ -28,7 +28,7 @@ type Count = Arc<AtomicU64, Global>;
 const MOST_LOOKS: u64 = 10_000_000;
 
 // Waits until another thread raises a flag, but not for ever.
-fn wait_for(flag: &AtomicBool) -> bool {
+pub fn wait_for(flag: &AtomicBool) -> bool {
     for _ in 0..MOST_LOOKS {
         if flag.load(SeqCst) {
             return true;

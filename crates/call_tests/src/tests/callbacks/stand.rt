@@ -3,7 +3,7 @@ ghost use Rattle.std.specs.Prelude.{◌≡◌, []};
 ghost use Rattle.publisher.specs.declared.state.TheConstants.{PARTS};
 
 use flow_rules::{Listener, Name, Refusal};
-use publisher::{Note, Publisher, Submitter, Subscription, finish};
+use publisher::{Publisher, Submitter, Subscription, finish};
 use std::alloc::Global;
 use std::sync::Wait;
 use std::sync::ledger::{Blank, Ledger};
@@ -19,7 +19,6 @@ pub struct Stand<
 > {
     pub alloc: Global,
     pub publisher: Publisher<L, D, B>,
-    pub note: Note,
     pub submitter: Submitter<L, D, B>,
     pub subscriptions: Vec<Subscription<L, D, B>>,
 }
@@ -47,7 +46,6 @@ impl<
         Ok(Stand {
             alloc,
             publisher,
-            note,
             submitter,
             subscriptions: Vec::new(alloc),
         })
@@ -82,7 +80,6 @@ impl<
         let Stand {
             alloc,
             publisher,
-            note: _,
             submitter,
             subscriptions,
         } = self;

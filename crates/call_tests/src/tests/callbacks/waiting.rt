@@ -95,7 +95,8 @@ impl<L: Ledger + Send + Sync + 'static, D: Ledger + Send + Sync + 'static> Stand
             subscription.cancel(rt)?;
             self.subscriptions.push(subscription)?;
         }
-        self.publisher.close(rt, alloc, &mut self.note)?;
+        let mut note = self.publisher.note();
+        self.publisher.close(rt, alloc, &mut note)?;
         Ok(format!(in alloc; "lag {lag}, answer {answer}, {looks}")?)
     }
 

@@ -25,7 +25,6 @@ use std::time::Clock;
 struct Site<L: Ledger + Send + Sync + 'static, D: Ledger + Send + Sync + 'static> {
     alloc: Global,
     publisher: Publisher<L, D, Heard>,
-    note: Note,
     submitters: Vec<Submitter<L, D, Heard>>,
     subscriptions: Vec<Subscription<L, D, Heard>>,
     // Those that are not handed in.
@@ -85,7 +84,6 @@ fn new_site<L: Ledger + Send + Sync + 'static, D: Ledger + Send + Sync + 'static
 ) -> Result<Site<L, D>, Fail> {
     Ok(Site {
         alloc,
-        note: publisher.note(),
         publisher,
         submitters: Vec::new(alloc),
         subscriptions: Vec::new(alloc),
@@ -116,7 +114,7 @@ impl<L: Ledger + Send + Sync + 'static, D: Ledger + Send + Sync + 'static> Site<
             Step::Ask(place, answer, names) => self.ask(&rt, place, answer, names),
             Step::Send(texts) => self.send(rt, texts),
             Step::Close | Step::Fail(_) => self.close(&rt, step),
-            Step::Closing => self.closing(&rt),
+            Step::Closing => self.closing(),
             Step::Looks => self.looks(&rt),
             Step::KeepSubscription(_) | Step::KeepSubmitter(_) => self.keep(step),
             wait => self.wait(&rt, wait),
@@ -159,27 +157,38 @@ impl<L: Ledger + Send + Sync + 'static, D: Ledger + Send + Sync + 'static> Site<
     }
 
     fn add_source<R: Wait>(&mut self, rt: &R) -> Result<String, Fail> {
-        let submitter = self.publisher.submitter(rt, self.alloc, &mut self.note)?;
+        let mut note = self.note();
+        let submitter = self.publisher.submitter(rt, self.alloc, &mut note)?;
         self.submitters.push(submitter)?;
         Ok(String::new(self.alloc))
     }
 
     // Closes the publisher, with a code where the step has one.
     fn close<R: Wait>(&mut self, rt: &R, step: Step) -> Result<String, Fail> {
-        let (alloc, note) = (self.alloc, &mut self.note);
+        let mut note = self.publisher.note();
         if let Step::Fail(code) = step {
-            self.publisher.close_exceptionally(rt, alloc, note, code)?;
+            self.publisher
+                .close_exceptionally(rt, self.alloc, &mut note, code)?;
         } else {
-            self.publisher.close(rt, alloc, note)?;
+            self.publisher.close(rt, self.alloc, &mut note)?;
         }
-        Ok(format!(in alloc; "ok; ")?)
+        Ok(format!(in self.alloc; "ok; ")?)
+    }
+
+    // A note that knows of the close, if there was one.
+    fn note(&self) -> Note
+        ensures { result.cell ≡ self.now.publisher.closing }
+    {
+        let mut note = self.publisher.note();
+        let _ = self.publisher.is_closed(&mut note);
+        note
     }
 
     // What a note that knew nothing is told, and whether that says that the publisher is closed.
-    fn closing<R: Wait>(&self, rt: &R) -> Result<String, Fail> {
+    fn closing(&self) -> Result<String, Fail> {
         let mut note = self.publisher.note();
-        let is_closed = self.publisher.is_closed(rt, &mut note);
-        let ending = self.publisher.closed_with(rt, &mut note);
+        let is_closed = self.publisher.is_closed(&mut note);
+        let ending = self.publisher.closed_with(&mut note);
         Ok(format!(in self.alloc; "closed {is_closed} {ending:?}; ")?)
     }
 
