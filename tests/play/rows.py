@@ -129,6 +129,16 @@ def plays_a_file(site):
     return differs(site.run(["./threads"]), 0, PLAYED, b"")
 
 
+def explains_a_file(site):
+    shutil.copy(f"{TOP}/tests/scripts/explained_refusals.script", f"{site.folder}/script")
+    wanted = [contents(f"{TOP}/tests/scripts/explained_refusals.{it}") for it in ("expected", "explained")]
+    return differs(site.run(["--explain", "script"]), 0, *wanted)
+
+
+def explains_a_pipe(site):
+    return differs(site.run(["--explain"], b"more\n"), 0, b"refused 12 command\n", has(b"line 1: more: "))
+
+
 def plays_a_pipe(site):
     return differs(site.run([], SCRIPT), 0, PLAYED, b"")
 
@@ -220,6 +230,9 @@ def refuses_wrong_words(site):
         (["one", "two"], refuses(b"more than one", USAGE)),
         (["--build", "two"], refuses(b"more than one", USAGE)),
         (["--more"], refuses(b"--more", USAGE)),
+        (["--explain", "--build"], refuses(b"--build", USAGE)),
+        (["--explain", "one", "two"], refuses(b"more than one", USAGE)),
+        (["--explain", ""], refuses(b"empty", USAGE)),
         (["nothing"], refuses(b"there is no file nothing")),
     ):
         it = differs(site.run(words), *refusal)
@@ -348,6 +361,8 @@ def needs_rt(site):
 
 NATIVE = (
     plays_a_file,
+    explains_a_file,
+    explains_a_pipe,
     plays_a_pipe,
     plays_nothing,
     plays_from_elsewhere,

@@ -18,16 +18,16 @@ same() {
     cmp "$1" "$2" >"$work/cmp" 2>&1 || fault "$3: $(cat "$work/cmp")"
 }
 
-# row NAME: plays $work/in, and again on a subscriber that keeps nothing. Each time the program must write $work/want, nothing
-# on standard error, and end with status 0.
+# row NAME: plays $work/in, again on a subscriber that keeps nothing, and again with what explains it. Each time the program must
+# write $work/want, nothing on standard error unless it explains, and end with status 0.
 row() {
-    for flag in '' --forget; do
+    for flag in '' --forget --explain; do
         row="$1${flag:+, with $flag}"
         status=0
         "$program" script ${flag:+"$flag"} <"$work/in" >"$work/out" 2>"$work/err" || status=$?
         [ "$status" -eq 0 ] || fault "status $status"
         same "$work/want" "$work/out" 'standard output'
-        [ ! -s "$work/err" ] || fault "standard error: $(cat "$work/err")"
+        [ "$flag" = --explain ] || [ ! -s "$work/err" ] || fault "standard error: $(cat "$work/err")"
     done
 }
 
@@ -57,6 +57,21 @@ done
 cp examples/first.script "$work/in"
 cp examples/first.expected "$work/want"
 row 'the example'
+
+# What explains a script. A fault of standard error changes neither the answers nor the status.
+for wanted in tests/scripts/*.explained; do
+    row=$wanted
+    "$program" script --explain <"${wanted%.explained}.script" >"$work/out" 2>"$work/err" || fault "status $?"
+    same "$wanted" "$work/err" 'standard error'
+    "$program" script --explain --forget <"${wanted%.explained}.script" >"$work/out" 2>"$work/err" || fault "status $?"
+    same "$wanted" "$work/err" 'standard error, with --forget'
+    "$program" script --explain <"${wanted%.explained}.script" >"$work/out" 2>&- || fault "status $? with a closed standard error"
+    same "${wanted%.explained}.expected" "$work/out" 'standard output'
+    if [ -c /dev/full ]; then
+        "$program" script --explain <"${wanted%.explained}.script" >"$work/out" 2>/dev/full || fault "status $? with a full one"
+        same "${wanted%.explained}.expected" "$work/out" 'standard output'
+    fi
+done
 
 # Nothing at all.
 : >"$work/in"
@@ -165,6 +180,12 @@ if [ -c /dev/full ]; then
     status=0
     "$program" script <"$work/in" >/dev/full 2>"$work/err" || status=$?
     ended 'a full standard output' 1 'lines_demo: write fault'
+    status=0
+    "$program" script --explain <"$work/in" >/dev/full 2>"$work/err" || status=$?
+    printf 'line 1: after this run\n' >"$work/said"
+    [ "$status" -eq 1 ] || fault "status $status with --explain"
+    printf 'lines_demo: write fault\n' >>"$work/said"
+    same "$work/said" "$work/err" 'standard error with --explain'
 fi
 status=0
 "$program" script </ >"$work/out" 2>"$work/err" || status=$?
@@ -193,6 +214,7 @@ line 'an option with a word too many' 2 err script --forget=more
 line '--help' 0 out --help
 line 'script --help' 0 out script --help
 grep -q -e --forget "$work/out" || fault 'no word of --forget'
+grep -q -e --explain "$work/out" || fault 'no word of --explain'
 
 [ "$failures" -eq 0 ] || exit 1
 echo 'all rows are as they should be'

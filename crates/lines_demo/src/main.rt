@@ -6,7 +6,7 @@
 use clap::error::ErrorKind;
 use clap::{Arg, ArgAction, ArgMatches, Command};
 use flow_rules::Refusal;
-use script::{Keeping, ScriptFault, play_standard_input};
+use script::{Keeping, ScriptFault, explain_standard_input, play_standard_input};
 use std::alloc::{AllocError, Global};
 use std::fmt::Display;
 use std::process::ExitCode;
@@ -34,10 +34,12 @@ const WRONG_USE: u8 = 2;
 /// What `--version` prints after the name.
 const VERSION: &str = "0.1.0";
 
-/// The subcommand that plays a script, and its flag for subscribers that keep nothing.
+/// The subcommand that plays a script, its flag for subscribers that keep nothing, and the one for what explains it.
 const SCRIPT: &str = "script";
 
 const FORGET: &str = "forget";
+
+const EXPLAIN: &str = "explain";
 
 /// The subcommand that publishes lines from threads.
 const THREADS: &str = "threads";
@@ -120,10 +122,17 @@ fn obey<R: Input + Print + Eprint + AllocGlobal + Threads + Wait + Copy + Send +
                 fail(&rt, fault, status)
             }
         },
-        None => match play_standard_input(&rt, keeping(matches)) {
-            Ok(()) => ExitCode::SUCCESS,
-            Err(fault) => fail(&rt, fault, FAULT),
-        },
+        None => {
+            let played = if is_wanted(matches, EXPLAIN) {
+                explain_standard_input(&rt, keeping(matches))
+            } else {
+                play_standard_input(&rt, keeping(matches))
+            };
+            match played {
+                Ok(()) => ExitCode::SUCCESS,
+                Err(fault) => fail(&rt, fault, FAULT),
+            }
+        }
     }
 }
 
@@ -151,9 +160,18 @@ fn status_of(fault: &LinesFault) -> u8 {
 
 /// What the command line says of the subscribers.
 fn keeping(matches: &ArgMatches<'_>) -> Keeping {
+    if is_wanted(matches, FORGET) {
+        Keeping::Nothing
+    } else {
+        Keeping::Everything
+    }
+}
+
+/// Whether the command line of a script has this flag.
+fn is_wanted(matches: &ArgMatches<'_>, flag: &str) -> bool {
     match matches.subcommand_matches(SCRIPT) {
-        Some(script) if script.get_flag(FORGET) => Keeping::Nothing,
-        _ => Keeping::Everything,
+        Some(script) => script.get_flag(flag),
+        None => false,
     }
 }
 
@@ -188,10 +206,17 @@ fn script_line<'a>(alloc: Global) -> Result<Command<'a>, AllocError> {
         .long(FORGET)
         .action(ArgAction::SetTrue)
         .help("The subscribers keep nothing of what they are told, and take no memory for it");
+    let explain = Arg::new(alloc, EXPLAIN)
+        .long(EXPLAIN)
+        .action(ArgAction::SetTrue)
+        .help(
+            "Says on standard error why each line was refused that was, and where each subscription stands after a `run`",
+        );
     Command::new(alloc, SCRIPT)
         .about("Plays the script on standard input")
         .after_help(SCRIPTS)
-        .arg(forget)
+        .arg(forget)?
+        .arg(explain)
 }
 
 /// The command line of a run on threads.

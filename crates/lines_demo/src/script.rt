@@ -1,5 +1,7 @@
 //! A script: commands, one a line, that are played on a publisher and its subscriptions, and what they are answered.
 mod command;
+mod explainer;
+mod explaining;
 mod fault;
 mod laws;
 mod player;
@@ -12,4 +14,4 @@ mod woken;
 
 pub use fault::ScriptFault;
 pub use run::run_script;
-pub use standard_input::{Keeping, play_standard_input, steady_and_untold};
+pub use standard_input::{Keeping, explain_standard_input, play_standard_input, steady_and_untold};

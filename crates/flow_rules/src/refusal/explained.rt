@@ -32,7 +32,7 @@ impl fmt::Display for Explained<'_> {
             Refusal::BadWorkers => "the number of workers is not 1 to 8",
             Refusal::Unknown => "no subscription has this name",
             Refusal::WouldWait => "it would have to wait",
-            Refusal::BadCommand => "this is no command, or its words have the wrong form",
+            Refusal::BadCommand => "nothing of this form may stand here",
             Refusal::Exhausted => "as many were made as there may ever be",
         };
         f.write_str(words)

@@ -12,6 +12,7 @@ ghost use Rattle.lines_demo.specs.Script.State.{state_at_start};
 ghost use Rattle.lines_demo.specs.Script.Waking.{has_woken};
 
 use super::command::Command;
+use super::explaining::{Explain, Line, explain_reply};
 use super::reply::Reply;
 use super::session::Session;
 use super::turn_lines::write_turn;
@@ -49,42 +50,61 @@ impl<B: Listener> Player<B> {
         })
     }
 
-    /// Plays the lines of these bytes.
-    pub fn play_lines<W: Write>(&mut self, bytes: &[u8], writer: &mut W) -> Result<(), OutputFault>
+    /// Plays the lines of these bytes, and has them explained.
+    pub fn play_lines<W: Write, E: Explain>(
+        &mut self,
+        bytes: &[u8],
+        writer: &mut W,
+        explain: &mut E,
+    ) -> Result<(), OutputFault>
         ensures { Answers (is_ok result) (λ refusals. lines_result (lines_of bytes.now) self.old.session refusals)
             (W.contents writer.old) (W.contents writer.new) self.new.session }
     {
         let mut rest = bytes;
+        let mut number: u64 = 0;
         while !rest.is_empty() {
             let (line, after) = split_line(rest);
-            self.play_line(strip_return(line), writer)?;
+            number = number.saturating_add(1);
+            self.play_line(number, strip_return(line), writer, explain)?;
             rest = after;
         }
         Ok(())
     }
 
     /// Plays a line: nothing where it is empty, and a refusal where it is too long or spells no command.
-    fn play_line<W: Write>(&mut self, line: &[u8], writer: &mut W) -> Result<(), OutputFault>
+    fn play_line<W: Write, E: Explain>(
+        &mut self,
+        number: u64,
+        line: &[u8],
+        writer: &mut W,
+        explain: &mut E,
+    ) -> Result<(), OutputFault>
         ensures { Answers (is_ok result) (λ refusals. line_result self.old.session refusals line.now)
             (W.contents writer.old) (W.contents writer.new) self.new.session }
     {
         if line.is_empty() {
             return Ok(());
         }
+        let at = Line {
+            number,
+            bytes: line,
+        };
         if line.len() > LONGEST_LINE {
-            return self.answer(Reply::Refused(Refusal::LineTooLong), writer);
+            return self.answer(at, Reply::Refused(Refusal::LineTooLong), writer, explain);
         }
         match Command::parse(line) {
-            Some(command) => self.play_command(command, writer),
-            None => self.answer(Reply::Refused(Refusal::BadCommand), writer),
+            Some(command) => self.play_command(at, command, writer, explain),
+            None => self.answer(at, Reply::Refused(Refusal::BadCommand), writer, explain),
         }
     }
 
     /// Plays a command: the turns of a `run`, and then what the session answers.
-    fn play_command<W: Write>(
+    fn play_command<W: Write, E: Explain>(
         &mut self,
+        at: Line<'_>,
         command: Command<'_>,
         writer: &mut W,
+        explain: &mut E,
     ) -> Result<(), OutputFault>
         requires { IsInRange command }
         ensures { Answers (is_ok result) (λ refusals. spelled_result (Some command.entry) self.old.session refusals)
@@ -94,7 +114,7 @@ impl<B: Listener> Player<B> {
             self.play_turns(writer)?;
         }
         let reply = self.session.obey(self.alloc, command);
-        self.answer(reply, writer)
+        self.answer(at, reply, writer, explain)
     }
 
     /// Makes turns until nobody is woken, and writes the lines of each.
@@ -128,11 +148,18 @@ impl<B: Listener> Player<B> {
         )
     }
 
-    /// Writes a reply.
-    fn answer<W: Write>(&mut self, reply: Reply, writer: &mut W) -> Result<(), OutputFault>
+    /// Writes the reply to a line, which is explained before.
+    fn answer<W: Write, E: Explain>(
+        &mut self,
+        at: Line<'_>,
+        reply: Reply,
+        writer: &mut W,
+        explain: &mut E,
+    ) -> Result<(), OutputFault>
         ensures line { Writes (is_ok result) (W.contents writer.old) (W.contents writer.new) (line_of (reply_text reply)) }
         ensures kept { self.new.session ≡ self.old.session }
     {
+        explain_reply(explain, at, &reply, &self.session);
         write_line(writer, &mut self.buffer, reply)
     }
 }

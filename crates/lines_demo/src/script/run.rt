@@ -3,6 +3,7 @@ ghost use Rattle.std.specs.Prelude.{◌≡◌, ◌<◌, [], true, All, length, I
 ghost use Rattle.lines_demo.specs.declared.reader.TheConstants.{LONGEST_INPUT};
 ghost use Rattle.lines_demo.specs.Script.RunScript.{PlaysScript, StopsReading};
 
+use super::explaining::{Explain, Silent};
 use super::fault::ScriptFault;
 use super::player::Player;
 use crate::reader::read_whole;
@@ -27,15 +28,16 @@ pub fn run_script<R: Read, W: Write>(
     ensures plays { PlaysScript result (length stock.items) (R.remaining reader.old) (W.contents writer.old) (W.contents writer.new) }
     ensures too_long { IfSome (R.remaining reader.old) (λ known. LONGEST_INPUT < length known → StopsReading result) }
 {
-    play_script(alloc, reader, writer, stock)
+    play_script(alloc, reader, writer, stock, &mut Silent)
 }
 
-/// Plays the script that the reader gives on subscribers of one kind.
-pub fn play_script<R: Read, W: Write, B: Listener>(
+/// Plays the script that the reader gives on subscribers of one kind, and has it explained. What is written is the same whoever explains.
+pub fn play_script<R: Read, W: Write, B: Listener, E: Explain>(
     alloc: Global,
     reader: &mut R,
     writer: &mut W,
     stock: Vec<B>,
+    explain: &mut E,
 ) -> Result<(), ScriptFault>
     requires untold { All (λ b. B.told b ≡ []) stock.items }
     requires steady { All (λ b. B.is_steady b ≡ true) stock.items }
@@ -46,6 +48,6 @@ pub fn play_script<R: Read, W: Write, B: Listener>(
     let Ok(mut player) = Player::new(alloc, stock) else {
         return Err(ScriptFault::Memory);
     };
-    player.play_lines(bytes.as_slice(), writer)?;
+    player.play_lines(bytes.as_slice(), writer, explain)?;
     Ok(())
 }

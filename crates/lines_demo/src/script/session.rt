@@ -1,6 +1,7 @@
 //! The session: where a script stands, and what each command changes there.
 mod acting;
 mod publishing;
+mod showing;
 mod subscribing;
 mod turning;
 

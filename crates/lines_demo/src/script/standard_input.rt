@@ -1,6 +1,8 @@
 //! The script on standard input, and the subscribers for it.
 ghost use Rattle.std.specs.Prelude.{◌≡◌, [], true, All, IfOk};
 
+use super::explainer::Explainer;
+use super::explaining::{Explain, Silent};
 use super::fault::ScriptFault;
 use super::run::{play_script, run_script};
 use flow_rules::{Collector, Subscriber, Tally};
@@ -30,11 +32,40 @@ pub fn play_standard_input<R: Input + Print + AllocGlobal>(
     let mut writer = BufWriter::new(alloc, io::writer(rt)).map_err(|_| ScriptFault::Memory)?;
     let played = match keeping {
         Keeping::Everything => play_on_collectors(alloc, &mut reader, &mut writer),
-        Keeping::Nothing => play_on_tallies(alloc, &mut reader, &mut writer),
+        Keeping::Nothing => play_on_tallies(alloc, &mut reader, &mut writer, &mut Silent),
     };
     let flushed = writer.flush();
     played?;
     flushed.map_err(|_| ScriptFault::Write)
+}
+
+/// Plays the script on standard input, answers on standard output, and explains on standard error. Each answer is written at once, so
+/// that it stands beside what explains it.
+pub fn explain_standard_input<R: Input + Print + Eprint + AllocGlobal>(
+    rt: &R,
+    keeping: Keeping,
+) -> Result<(), ScriptFault> {
+    let alloc = rt.alloc();
+    let mut reader = rt.reader();
+    let mut writer = io::writer(rt);
+    let mut explainer = Explainer::new(rt);
+    match keeping {
+        Keeping::Everything => {
+            let stock = steady_and_untold(alloc, collectors(alloc)?)?;
+            play_script(alloc, &mut reader, &mut writer, stock, &mut explainer)
+        }
+        Keeping::Nothing => play_on_tallies(alloc, &mut reader, &mut writer, &mut explainer),
+    }
+}
+
+/// Subscribers that keep all that they are told, as many as a script has.
+fn collectors(alloc: Global) -> Result<Vec<Collector>, ScriptFault> {
+    let mut collectors = Vec::new(alloc);
+    for _ in 0..STOCK {
+        let collector = Collector::new(alloc);
+        collectors.push(collector).map_err(|_| ScriptFault::Memory)?;
+    }
+    Ok(collectors)
 }
 
 /// Plays a script on subscribers that keep all that they are told.
@@ -52,16 +83,17 @@ fn play_on_collectors<R: Read, W: Write>(
 }
 
 /// Plays a script on listeners that keep nothing.
-fn play_on_tallies<R: Read, W: Write>(
+fn play_on_tallies<R: Read, W: Write, E: Explain>(
     alloc: Global,
     reader: &mut R,
     writer: &mut W,
+    explain: &mut E,
 ) -> Result<(), ScriptFault> {
     let mut tallies = Vec::new(alloc);
     for _ in 0..STOCK {
         tallies.push(Tally::new()).map_err(|_| ScriptFault::Memory)?;
     }
-    play_script(alloc, reader, writer, tallies)
+    play_script(alloc, reader, writer, tallies, explain)
 }
 
 /// Those of the subscribers that are steady and were told nothing, as a script needs them.

@@ -1,7 +1,7 @@
 //! One subscription of a Hub.
 ghost use Rattle.std.specs.Prelude.{◌≡◌, ◌↔◌, IsSome, Some, option_map, slice_get, true};
 ghost use Rattle.std.specs.Borrow.{sem};
-ghost use Rattle.std.specs.Option.{option_copied_mut};
+ghost use Rattle.std.specs.Option.{option_copied, option_copied_mut};
 ghost use Rattle.publisher_hub.specs.Hub.{hub_of};
 
 use crate::entry::Entry;
@@ -39,6 +39,17 @@ impl<F: Feed> Hub<F> {
     {
         match self.entries.get(entry as usize) {
             Some(it) => Some(it.name),
+            None => None,
+        }
+    }
+
+    /// Shows the producer's end of the subscription of this number, and `None` if no subscription has this number or the end was
+    /// taken out.
+    pub fn feed(&self, entry: u32) -> Option<&F>
+        ensures { option_copied result ≡ feed_at self.now entry }
+    {
+        match self.entries.get(entry as usize) {
+            Some(entry) => entry.feed.as_ref(),
             None => None,
         }
     }

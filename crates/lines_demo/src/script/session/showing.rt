@@ -1,0 +1,14 @@
+//! What a session shows of its subscriptions.
+use super::Session;
+use feed_core::Desk;
+use flow_rules::{Listener, Name};
+
+impl<B: Listener> Session<B> {
+    /// Shows the subscription of this number, from 0 on in the order of subscribing, with its name.
+    pub fn subscription(&self, number: u32) -> Option<(Name, &Desk<B>)> {
+        match (self.hub.name_of(number), self.hub.feed(number)) {
+            (Some(name), Some(desk)) => Some((name, desk)),
+            _ => None,
+        }
+    }
+}
