@@ -9,7 +9,7 @@ use Rattle.feed_cell.specs.Parties.{known_end}
 use Rattle.feed_cell.specs.Plays.{SeatOf, FindsRoom, after_look, after_signal}
 use Rattle.feed_cell.specs.Views.{starts_after}
 use Rattle.feed_cell.specs.declared.cell.View.{View}
-use Rattle.feed_cell.specs.declared.cell.offering.Found.{Found}
+use Rattle.feed_cell.specs.declared.cell.producer.steps.Found.{Found}
 
 -- a small head has no mark
 pub unmarked : (ended : Bool) (head found : ℕ) → found ≡ marked ended head → found < MARK → (ended ≡ false) × (found ≡ head)

@@ -6,7 +6,7 @@ use Rattle.feed_cell.specs.Control.{MARK}
 use Rattle.feed_cell.specs.Parties.{ProducerState, TaskState, IsStarted}
 use Rattle.feed_cell.specs.Plays.{SeatOf, FindsRoom}
 use Rattle.feed_cell.specs.Views.{starts_after}
-use Rattle.feed_cell.specs.declared.cell.offering.Found.{Found}
+use Rattle.feed_cell.specs.declared.cell.producer.steps.Found.{Found}
 
 -- what this head says to a producer that has put as many items as tail
 abbrev pub SaysOf : ℕ → ℕ → ℕ → Found → Type 0

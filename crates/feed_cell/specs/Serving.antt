@@ -5,7 +5,7 @@ use Rattle.feed_core.specs.Seen.{SeenState, seen_with}
 use Rattle.feed_core.specs.World.Table.{MayEnd}
 use Rattle.feed_core.specs.declared.turn.outlook.Outlook.TheVariants.{Resting, Ended}
 use Rattle.feed_cell.specs.Types.{Nobody}
-use Rattle.feed_cell.specs.declared.cell.serving.Served.{Served}
+use Rattle.feed_cell.specs.declared.cell.task.looks.Served.{Served}
 use Rattle.feed_cell.specs.Cell.{greeted, IsToldAtEnd}
 use Rattle.feed_cell.specs.Parties.{IsGoing}
 use Rattle.feed_cell.specs.Paused.{told_out}

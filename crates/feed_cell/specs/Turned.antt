@@ -15,7 +15,7 @@ use Rattle.feed_cell.specs.Plays.{SeatOf}
 use Rattle.feed_cell.specs.declared.cell.Grant.{Grant}
 use Rattle.feed_cell.specs.declared.cell.View.{View}
 use Rattle.feed_cell.specs.declared.cell.task.Stage.{Stage}
-use Rattle.feed_cell.specs.declared.cell.turning.Turn.{Turn}
+use Rattle.feed_cell.specs.declared.cell.task.turns.Turn.{Turn}
 
 -- all that a subscriber was told that these items were taken for, after a turn with this outlook
 abbrev pub IsTextAfter : Outlook → List Item → List Signal → Type 0

@@ -1,21 +1,9 @@
 //! The table that the parties of a subscription share: its words and slots, its rule, and what a party knows.
-pub mod calling;
-pub mod causes;
-pub mod closing;
+pub mod close;
 pub mod handle;
-pub mod joining;
-pub mod making;
-pub mod offering;
-pub mod plays;
+pub mod maker;
 pub mod producer;
-pub mod requesting;
-pub mod running;
-pub mod serving;
-pub mod splits;
-pub mod taking;
 pub mod task;
-pub mod telling;
-pub mod turning;
 
 ghost use Rattle.std.specs.Prelude.{◌≡◌};
 

@@ -1,11 +1,13 @@
 //! The handle of a subscription, which its owner has (`Flow.Subscription`).
+mod plays;
+pub mod steps;
+
 ghost use Rattle.std.specs.Prelude.{◌≡◌, true, false, None, IfSome, IsSome, IsNone, OnOk, OnErr, IsOk};
 ghost use Rattle.feed_cell.specs.Parties.{MayAsk, handle_after_request, IsStarted};
 ghost use Rattle.feed_cell.specs.Views.{starts_after};
 
-use super::producer::start;
-use super::requesting::{ask_more, signal_argument, signal_cancel, signal_request};
-use super::task::Task;
+use self::steps::{ask_more, signal_argument, signal_cancel, signal_request};
+use super::task::{Task, start};
 use super::{CellSeat, CellTable, SharedTable};
 use flow_rules::{Listener, NoMemory};
 use std::marker::Model;

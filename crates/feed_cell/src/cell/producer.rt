@@ -1,4 +1,7 @@
 //! The producer's end of a subscription, which its publisher has.
+mod plays;
+pub mod steps;
+
 ghost use Rattle.std.specs.Prelude.{◌≡◌, ◌<◌, ℕ, IfSome, IfNone, IsSome, None, []};
 ghost use Rattle.std.specs.Arc.{arc_value};
 ghost use Rattle.crossbeam_utils.specs.Padded.{padded_value};
@@ -7,10 +10,10 @@ ghost use Rattle.feed_cell.specs.Steps.{HasFourWords};
 ghost use Rattle.feed_cell.specs.Views.{running_handed, starts_after};
 ghost use Rattle.feed_cell.specs.declared.cell.View.{View};
 
-use super::offering::{
+use self::steps::{
     Found, find_room, look, place, signal_complete, signal_error, signal_item, signal_state,
 };
-use super::task::{Stage, Task};
+use super::task::{Task, start};
 use super::{CellSeat, CellTable, MARK, SharedTable};
 use flow_rules::{Ending, Feed, Item, Listener, NoMemory, Put, Standing};
 use std::marker::Model;
@@ -113,30 +116,4 @@ impl<B: Listener> Feed for Producer<B> {
             }
         }
     }
-}
-
-/// The task that a signal started, if it did: what was spare is spent for it.
-pub(crate) fn start<B: Listener>(
-    spare: &mut Option<SharedTable<B>>,
-    seat: Option<CellSeat<B>>,
-    capacity: u64,
-) -> Option<Task<B>>
-    requires ready { IsSome spare.old }
-    requires fits { IfSome seat (λ seat. IfSome spare.old (λ spare. (padded_value (arc_value spare)).shared.table_id ≡ seat.table_id) × HasFourWords seat.table_id) }
-    requires handed { IfSome seat (λ seat. (view : View) × (view.capacity ≡ capacity) × (seat.me ≡ (running_handed view, []))) }
-    requires sized { 0 < capacity }
-    ensures none { IfNone result ((seat ≡ None) × (spare.new ≡ spare.old)) }
-    ensures spent { IfSome result (λ task. spare.new ≡ None) }
-    ensures started { IfSome result (λ task. IfSome seat (λ seat. IsStarted seat.table_id capacity task)) }
-    ensures some { IfSome result (λ task. IsSome seat) }
-    ensures counts { (started : ℕ) → starts_after result started ≡ starts_after seat started }
-{
-    let seat = seat?;
-    let table = spare.take()?;
-    Some(Task {
-        table,
-        seat,
-        capacity,
-        stage: Stage::Home,
-    })
 }

@@ -1,4 +1,19 @@
 //! The task of a subscription, which whoever runs it has.
+mod calls;
+mod causes;
+mod looks;
+pub mod plays;
+mod steps;
+pub mod turns;
+
+ghost use Rattle.std.specs.Prelude.{◌≡◌, ◌<◌, ℕ, IfSome, IfNone, IsSome, None, []};
+ghost use Rattle.std.specs.Arc.{arc_value};
+ghost use Rattle.crossbeam_utils.specs.Padded.{padded_value};
+ghost use Rattle.feed_cell.specs.Parties.{IsStarted};
+ghost use Rattle.feed_cell.specs.Steps.{HasFourWords};
+ghost use Rattle.feed_cell.specs.Views.{running_handed, starts_after};
+ghost use Rattle.feed_cell.specs.declared.cell.View.{View};
+
 use super::{CellSeat, SharedTable};
 use flow_rules::Listener;
 use std::marker::Model;
@@ -52,4 +67,30 @@ impl<B: Listener> Model for Spent<B> {
     ghost Value = { SpentState };
 
     ghost view = { λ s. record { table = s.seat.table_id; seat = s.seat.id; knows = s.seat.me.0 } };
+}
+
+/// The task that a signal started, if it did: what was spare is spent for it.
+pub(crate) fn start<B: Listener>(
+    spare: &mut Option<SharedTable<B>>,
+    seat: Option<CellSeat<B>>,
+    capacity: u64,
+) -> Option<Task<B>>
+    requires ready { IsSome spare.old }
+    requires fits { IfSome seat (λ seat. IfSome spare.old (λ spare. (padded_value (arc_value spare)).shared.table_id ≡ seat.table_id) × HasFourWords seat.table_id) }
+    requires handed { IfSome seat (λ seat. (view : View) × (view.capacity ≡ capacity) × (seat.me ≡ (running_handed view, []))) }
+    requires sized { 0 < capacity }
+    ensures none { IfNone result ((seat ≡ None) × (spare.new ≡ spare.old)) }
+    ensures spent { IfSome result (λ task. spare.new ≡ None) }
+    ensures started { IfSome result (λ task. IfSome seat (λ seat. IsStarted seat.table_id capacity task)) }
+    ensures some { IfSome result (λ task. IsSome seat) }
+    ensures counts { (started : ℕ) → starts_after result started ≡ starts_after seat started }
+{
+    let seat = seat?;
+    let table = spare.take()?;
+    Some(Task {
+        table,
+        seat,
+        capacity,
+        stage: Stage::Home,
+    })
 }

@@ -3,7 +3,7 @@ use Rattle.flow_rules.specs.Feed.{End, LookedIfOpen, TakesItem}
 use Rattle.feed_cell.proofs.Accepting.{accepted}
 use Rattle.feed_cell.specs.Offering.{Finds}
 use Rattle.feed_cell.specs.Parties.{ProducerState, known_end}
-use Rattle.feed_cell.specs.declared.cell.offering.Found.{Found}
+use Rattle.feed_cell.specs.declared.cell.producer.steps.Found.{Found}
 use Rattle.feed_cell.proofs.cell.producer.ProducerFeed.put.Goals as goal
 
 pub returns-clause-means : goal.returns-clause-means

@@ -1,0 +1,10 @@
+use Rattle.std.proofs.Common.{rules}
+use Rattle.feed_cell.proofs.Calling.{top, finishes}
+use Rattle.feed_cell.specs.declared.cell.Held.TheVariants as Held
+use Rattle.feed_cell.proofs.cell.task.calls.finish_there.Goals as goal
+
+pub slot_mut-requires : goal.slot_mut-requires
+slot_mut-requires g c = (search rules, (Held.Guest c.requires.carries.guest, top g.B.Listener.told c.args.seat.now.me.1 _ c.args.slot _ c.requires.carries.slot c.requires.slot))
+
+pub returns-clause-finishes : goal.returns-clause-finishes
+returns-clause-finishes g c = finishes g.B.Listener.told c.args.seat.now.me c.args.slot c.in-Guest.guest c.finish.new.guest c.slot_mut.result.now c.args.seen.now c.finish.new.seen c.requires.slot c.slot_mut.ensures.value c.in-Guest.is c.args.due _ c.requires.carries c.requires.due c.requires.missed c.finish.ensures

@@ -1,0 +1,105 @@
+-- Each look is one step of the turn, and the turn is over after 64 items at most.
+use Rattle.std.proofs.Common.{ℕ, ◌≡◌, ap, subst, ◌∙◌, arith}
+use Rattle.atomic_table.specs.Seated.{TableId}
+use Rattle.feed_core.specs.Seen.{SeenState}
+use Rattle.feed_cell.specs.Turned.{TellsSoFar}
+use Rattle.feed_cell.proofs.MidTurn.{ends_after, full, gave_on, going_on, looked_on, may_look_next, misses_after, rests_after, room_so_far}
+use Rattle.feed_cell.proofs.cell.task.turns.run.Goals as goal
+use Rattle.feed_cell.proofs.cell.task.turns.run.Goals.{After-look_next-word}
+use Rattle.feed_cell.proofs.cell.task.turns.run.Given.{Over}
+
+pub loop-init : goal.loop-init
+loop-init g c =
+    let goes = c.in-Ok.ensures.goes in
+    (goes.3, c.in-Ok.ensures.room, c.in-Ok.ensures.table, goes.0, goes.1, goes.2)
+
+pub look_next-word-requires-clause-table : goal.look_next-word-requires-clause-table
+look_next-word-requires-clause-table g c =
+    let same = c.loop.invariant.2.0 in
+    (same ∙ c.requires.table.0, ap (λ (id : TableId). id.words) same ∙ c.requires.table.1)
+
+pub look_next-word-requires-clause-runner : goal.look_next-word-requires-clause-runner
+look_next-word-requires-clause-runner g c = (c.loop.invariant.3, c.loop.invariant.4)
+
+pub look_next-word-requires-clause-may : goal.look_next-word-requires-clause-may
+look_next-word-requires-clause-may g c = may_look_next g.B.Listener.told c.loop.stage c.loop.counter c.args.seat.now.me c.loop.seat.me c.loop.seen.signals c.loop.invariant.0
+
+-- the turn so far, after the look
+looked : (g : Over) (c : After-look_next-word g) → TellsSoFar g.B.Listener.told c.loop.counter c.args.seat.now.me c.look_next-word.new.seat.me c.loop.seen.signals
+looked g c =
+    let same = c.look_next-word.ensures.same in
+    looked_on g.B.Listener.told c.loop.stage c.loop.counter c.look_next-word.result c.args.seat.now.me c.loop.seat.me c.look_next-word.new.seat.me c.loop.seen.signals c.loop.invariant.0 c.look_next-word.ensures.looked same.0 c.look_next-word.ensures.grants same.2
+
+pub serve-requires-clause-table : goal.serve-requires-clause-table
+serve-requires-clause-table g c =
+    let same = c.look_next-word.ensures.table.0 ∙ c.loop.invariant.2.0 in
+    (same ∙ c.requires.table.0, ap (λ (id : TableId). id.words) same ∙ c.requires.table.1)
+
+pub serve-requires-clause-sized : goal.serve-requires-clause-sized
+serve-requires-clause-sized g c = (c.look_next-word.ensures.same.1 ∙ c.loop.invariant.5, c.requires.runner.3)
+
+pub serve-requires-clause-room : goal.serve-requires-clause-room
+serve-requires-clause-room g c = room_so_far g.B.Listener.told c.loop.counter c.args.seat.now.me c.look_next-word.new.seat.me c.look_next-word.new.seat.me c.loop.seen c.loop.seen (looked g (goal.at.serve-requires-clause-room g c).After-look_next-word) c.loop-test.true
+
+pub returns-in-Rested-clause-table : goal.returns-in-Rested-clause-table
+returns-in-Rested-clause-table g c = (c.in-Rested.ensures.table.0 ∙ c.look_next-word.ensures.table.0 ∙ c.loop.invariant.2.0, c.in-Rested.ensures.table.1 ∙ c.look_next-word.ensures.table.1 ∙ c.loop.invariant.2.1)
+
+pub returns-in-Rested-clause-runs : goal.returns-in-Rested-clause-runs
+returns-in-Rested-clause-runs g c =
+    let rests = c.in-Rested.ensures.serves in
+    rests_after g.B.Listener.told c.loop.counter c.args.seat.now.me c.look_next-word.new.seat.me c.serve.new.seat.me c.loop.seen c.serve.new.seen (looked g (goal.at.returns-in-Rested-clause-runs g c).After-look_next-word) c.loop-test.true rests.0 rests.1
+
+pub returns-in-Rested-clause-room : goal.returns-in-Rested-clause-room
+returns-in-Rested-clause-room g c = ap (λ (s : SeenState). s.room) c.in-Rested.ensures.serves.1 ∙ c.loop.invariant.1
+
+pub returns-in-Missed-clause-table : goal.returns-in-Missed-clause-table
+returns-in-Missed-clause-table g c = (c.in-Missed.ensures.table.0 ∙ c.look_next-word.ensures.table.0 ∙ c.loop.invariant.2.0, c.in-Missed.ensures.table.1 ∙ c.look_next-word.ensures.table.1 ∙ c.loop.invariant.2.1)
+
+pub returns-in-Missed-clause-runner : goal.returns-in-Missed-clause-runner
+returns-in-Missed-clause-runner g c =
+    let missed = c.in-Missed.ensures.serves.0 in
+    λ e. (missed.is, missed.none_out, missed.sized ∙ c.look_next-word.ensures.same.1 ∙ c.loop.invariant.5)
+
+pub returns-in-Missed-clause-runs : goal.returns-in-Missed-clause-runs
+returns-in-Missed-clause-runs g c =
+    let missed = c.in-Missed.ensures.serves in
+    (missed.0.going, misses_after g.B.Listener.told c.loop.counter c.args.seat.now.me c.look_next-word.new.seat.me c.serve.new.seat.me c.loop.seen c.serve.new.seen (looked g (goal.at.returns-in-Missed-clause-runs g c).After-look_next-word) c.loop-test.true missed.0 missed.1)
+
+pub returns-in-Missed-clause-room : goal.returns-in-Missed-clause-room
+returns-in-Missed-clause-room g c = ap (λ (s : SeenState). s.room) c.in-Missed.ensures.serves.1 ∙ c.loop.invariant.1
+
+pub returns-in-Ended-clause-table : goal.returns-in-Ended-clause-table
+returns-in-Ended-clause-table g c = (c.in-Ended.ensures.table.0 ∙ c.look_next-word.ensures.table.0 ∙ c.loop.invariant.2.0, c.in-Ended.ensures.table.1 ∙ c.look_next-word.ensures.table.1 ∙ c.loop.invariant.2.1)
+
+pub returns-in-Ended-clause-runs : goal.returns-in-Ended-clause-runs
+returns-in-Ended-clause-runs g c = ends_after g.B.Listener.told c.loop.counter c.args.seat.now.me c.look_next-word.new.seat.me c.serve.new.seat.me c.loop.seen c.serve.new.seen (looked g (goal.at.returns-in-Ended-clause-runs g c).After-look_next-word) c.in-Ended.how c.loop-test.true c.in-Ended.ensures.serves
+
+pub returns-in-Ended-clause-room : goal.returns-in-Ended-clause-room
+returns-in-Ended-clause-room g c = ap (λ (s : SeenState). s.room) c.in-Ended.ensures.serves.saw ∙ c.loop.invariant.1
+
+pub loop-preserved : goal.loop-preserved
+loop-preserved g c =
+    let gives = c.in-Gave.ensures.serves in (
+      gave_on g.B.Listener.told c.loop.counter c.args.seat.now.me c.look_next-word.new.seat.me c.serve.new.seat.me c.loop.seen c.serve.new.seen (looked g (goal.at.loop-preserved g c).After-look_next-word) gives,
+      ap (λ (s : SeenState). s.room) gives.saw ∙ c.loop.invariant.1,
+      (c.in-Gave.ensures.table.0 ∙ c.look_next-word.ensures.table.0 ∙ c.loop.invariant.2.0, c.in-Gave.ensures.table.1 ∙ c.look_next-word.ensures.table.1 ∙ c.loop.invariant.2.1),
+      gives.is,
+      gives.none_out,
+      gives.sized ∙ c.look_next-word.ensures.same.1 ∙ c.loop.invariant.5,
+    )
+
+pub returns-clause-table : goal.returns-clause-table
+returns-clause-table g c = c.loop.invariant.2
+
+pub returns-clause-runner : goal.returns-clause-runner
+returns-clause-runner g c = λ e. (c.loop.invariant.3, c.loop.invariant.4, c.loop.invariant.5)
+
+pub returns-clause-runs : goal.returns-clause-runs
+returns-clause-runs g c =
+    let at_end = c.loop-test.false in
+    let end : c.loop.counter ≡ 64 = let most = c.loop.auto.counter-end in omega arith in
+    let going = going_on g.B.Listener.told c.loop.stage c.loop.counter c.args.seat.now.me c.loop.seat.me c.loop.seen.signals (omega arith) c.loop.invariant.0 in
+    (going.0, full g.B.Listener.told c.args.seat.now.me c.loop.seat.me c.loop.seen.signals going.0 (subst (λ (n : ℕ). TellsSoFar g.B.Listener.told n c.args.seat.now.me c.loop.seat.me c.loop.seen.signals) end going.1))
+
+pub returns-clause-room : goal.returns-clause-room
+returns-clause-room g c = c.loop.invariant.1

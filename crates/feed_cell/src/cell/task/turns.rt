@@ -1,0 +1,137 @@
+//! A turn of a task.
+ghost use Rattle.std.specs.Prelude.{◌≡◌, ◌<◌, [], IfOk, IfErr};
+ghost use Rattle.feed_core.specs.declared.turn.outlook.Outlook.TheVariants.{Again, Ended};
+ghost use Rattle.feed_cell.specs.Paused.{IsPaused};
+ghost use Rattle.feed_cell.specs.Running.{HasLookedAt};
+ghost use Rattle.feed_cell.specs.Steps.{HasFourWords};
+ghost use Rattle.feed_cell.specs.Turned.{IsBeforeLook, RunsAs, TurnsInto, MayLookNext, KeepsGoing};
+ghost use Rattle.feed_cell.specs.Views.{IsRunner};
+
+use super::calls::greet_there;
+use super::looks::{Served, serve};
+use super::steps::{end, look, look_first};
+use super::{Spent, Stage, Task};
+use crate::cell::{CellSeat, CellTable};
+use feed_core::{ITEMS_IN_A_TURN, Outlook, Seen};
+use flow_rules::{How, Listener};
+
+/// What came of a turn.
+#[must_use]
+#[derive(Drop)]
+pub enum Turn<B: Listener> {
+    /// Another turn is owed, of this task.
+    Again(Task<B>),
+    /// No turn is owed until something is signalled.
+    Resting(Spent<B>),
+    /// The subscription has ended, and no turn is ever owed again.
+    Ended(How, Spent<B>),
+}
+
+impl<B: Listener> Task<B> {
+    /// Tells the subscriber what is owed: `onSubscribe` first of all, then items below the demand, 64 at most, then the terminal
+    /// signal. What it was told is what `seen` then holds (`Flow.Subscriber`; Reactive Streams 1.0, rules 1.1, 1.3, 1.5, 1.7 and
+    /// 1.9). Before each item it looks: that look showed no cancel, bad request, second subscribing or error, and a measure after it
+    /// showed that the item was requested. What a callback answers is done at once; one that is refused memory ends the subscription.
+    /// It goes on only after 64 items, or where something was new when it would have rested.
+    pub fn turn(self, seen: &mut Seen) -> Turn<B>
+        ensures turned { TurnsInto self seen.new.signals result }
+        ensures room { seen.new.room ≡ seen.old.room }
+    {
+        let Task {
+            table,
+            mut seat,
+            capacity,
+            stage,
+        } = self;
+        seen.clear();
+        match run(&table, &mut seat, capacity, stage, seen) {
+            Outlook::Again => Turn::Again(Task {
+                table,
+                seat,
+                capacity,
+                stage: Stage::Going,
+            }),
+            Outlook::Resting => Turn::Resting(Spent { seat }),
+            Outlook::Ended(how) => Turn::Ended(how, Spent { seat }),
+        }
+    }
+}
+
+/// Greets the subscriber, where it was told nothing yet, and looks until the turn is over.
+fn run<B: Listener>(
+    table: &CellTable<B>,
+    seat: &mut CellSeat<B>,
+    capacity: u64,
+    stage: Stage,
+    seen: &mut Seen,
+) -> Outlook
+    requires table { (seat.old.table_id ≡ table.now.shared.table_id) × HasFourWords seat.old.table_id }
+    requires runner { IsRunner seat.old.me.0 × (seat.old.me.0.item ≡ []) × (seat.old.me.0.capacity ≡ capacity) × (0 < capacity) }
+    requires paused { IsPaused B.told stage seat.old.me }
+    requires nothing { seen.old.signals ≡ [] }
+    ensures table { (seat.new.table_id ≡ seat.old.table_id) × (seat.new.id ≡ seat.old.id) }
+    ensures runner { result ≡ Again → IsRunner seat.new.me.0 × (seat.new.me.0.item ≡ []) × (seat.new.me.0.capacity ≡ capacity) }
+    ensures runs { RunsAs B.told result seat.old.me seat.new.me seen.new.signals }
+    ensures room { seen.new.room ≡ seen.old.room }
+{
+    let mut stage = match greet(table, seat, capacity, stage, seen) {
+        Ok(stage) => stage,
+        Err(how) => return Outlook::Ended(how),
+    };
+    for _ in 0..ITEMS_IN_A_TURN {
+        let word = look_next(table, seat, stage);
+        match serve(table, seat, capacity, word, seen) {
+            Served::Gave => stage = Stage::Going,
+            Served::Rested => return Outlook::Resting,
+            Served::Missed => return Outlook::Again,
+            Served::Ended(how) => return Outlook::Ended(how),
+        }
+    }
+    Outlook::Again
+}
+
+/// Tells `onSubscribe`, where nothing was told yet. Answers where the task stands then, or the end, if what the callback answers
+/// is one.
+fn greet<B: Listener>(
+    table: &CellTable<B>,
+    seat: &mut CellSeat<B>,
+    capacity: u64,
+    stage: Stage,
+    seen: &mut Seen,
+) -> Result<Stage, How>
+    requires table { (seat.old.table_id ≡ table.now.shared.table_id) × HasFourWords seat.old.table_id }
+    requires runner { IsRunner seat.old.me.0 × (seat.old.me.0.item ≡ []) × (seat.old.me.0.capacity ≡ capacity) }
+    requires paused { IsPaused B.told stage seat.old.me }
+    requires nothing { seen.old.signals ≡ [] }
+    ensures table { (seat.new.table_id ≡ seat.old.table_id) × (seat.new.id ≡ seat.old.id) }
+    ensures goes { IfOk result (λ stage. IsRunner seat.new.me.0 × (seat.new.me.0.item ≡ []) × (seat.new.me.0.capacity ≡ capacity) × IsBeforeLook B.told stage 0 seat.old.me seat.new.me seen.new.signals) }
+    ensures ends { IfErr result (λ how. RunsAs B.told (Ended how) seat.old.me seat.new.me seen.new.signals) }
+    ensures room { seen.new.room ≡ seen.old.room }
+{
+    match stage {
+        Stage::Fresh => match greet_there(table, seat, capacity as usize, seen) {
+            None => Ok(Stage::Going),
+            Some(how) => {
+                end(table, seat, 0);
+                Err(how)
+            }
+        },
+        _ => Ok(stage),
+    }
+}
+
+/// Looks at the marks and causes; the first look of a task that a signal started takes its subscriber with it.
+fn look_next<B: Listener>(table: &CellTable<B>, seat: &mut CellSeat<B>, stage: Stage) -> u64
+    requires table { (seat.old.table_id ≡ table.now.shared.table_id) × HasFourWords seat.old.table_id }
+    requires runner { IsRunner seat.old.me.0 × (seat.old.me.0.item ≡ []) }
+    requires may { MayLookNext B.told stage seat.old.me }
+    ensures table { (seat.new.table_id ≡ seat.old.table_id) × (seat.new.id ≡ seat.old.id) }
+    ensures looked { HasLookedAt B.told result seat.new.me }
+    ensures same { (seat.new.me.0.misses ≡ seat.old.me.0.misses) × (seat.new.me.0.capacity ≡ seat.old.me.0.capacity) × KeepsGoing stage seat.old.me seat.new.me }
+    ensures grants { seat.new.me.0.grants ≡ seat.old.me.0.grants }
+{
+    match stage {
+        Stage::Going => look(table, seat),
+        _ => look_first(table, seat),
+    }
+}
