@@ -30,7 +30,7 @@ module _ {B : Type 0} (told : B → List Signal) (cap id : ℕ) (v : View) (word
     (heads : get_elem? words 0 ≡ some head) (tails : get_elem? words 1 ≡ some tail) (asks : get_elem? words 2 ≡ some asked) (controls : get_elem? words 3 ≡ some control)
     (holds : get_elem? slots (length slots - 1) ≡ some held)
     (there : (MARK ≤ head) ⊎ (bit_at control 0 ≡ 0) → OnGuest held (λ guest. (running : Bool) × (running ≡ false → (MARK ≤ head) ⊎ (MARK ≤ asked)) × (running ≡ true → (head < MARK) × (asked < MARK)) × (left ≡ lane_with guest (head % MARK) tail (asked % MARK) running)))
-    (away : head < MARK → bit_at control 0 ≡ 1 → left ≡ lane_without (head % MARK) tail (asked % MARK)) (end : End) (end_is : end ≡ known_end v.capacity v end.ready)
+    (away : head < MARK → bit_at control 0 ≡ 1 → left ≡ lane_without (head % MARK) tail (asked % MARK)) (end : End) (end_is : end ≡ known_end v end.ready)
     (handle : Option HandleState) (knows : IfSome handle (λ h. KnowsHandle h v)) where
   abbrev s : State (Held B) View
   s = last.0

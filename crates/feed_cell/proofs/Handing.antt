@@ -13,7 +13,8 @@ use Rattle.feed_cell.proofs.Seats.{mine, other, added, comes}
 use Rattle.feed_cell.specs.Cell.{Only, CellRule, AsProducer, AsHandle, has_seat, may_hold, LodgesAt}
 use Rattle.feed_cell.specs.Control.{marked}
 use Rattle.feed_cell.specs.Outlooks.{IsReachedBy}
-use Rattle.feed_cell.specs.Views.{IsProducer, IsHandle, has_put, has_ask, has_run, producer_handed, handle_handed, running_handed}
+use Rattle.feed_cell.specs.Steps.{MustHandOver}
+use Rattle.feed_cell.specs.Views.{IsProducer, IsHandle, has_put, has_ask, has_run, handed, running_handed}
 use Rattle.feed_cell.specs.declared.cell.Held.{Held}
 use Rattle.feed_cell.specs.declared.cell.View.{View}
 
@@ -56,28 +57,33 @@ module _ {B : Type 0} (told : B → List Signal) (cap : ℕ) where
       }
 
   -- by the producer
-  pub producer_hands : (id : ℕ) (v : View) → IsProducer v → v.producing ≡ Hands → Splits (CellRule told cap) id v (producer_handed v) (running_handed v)
+  producer_hands : (id : ℕ) (v : View) → IsProducer v → v.producing ≡ Hands → Splits (CellRule told cap) id v (handed v) (running_handed v)
   producer_hands id v is stage s c at =
       let k = (c.producers id v at is.0).1 in
       let p = c.world in
       let hands : p.producer ≡ Hands = sym k.stands ∙ stage in
       let coming : p.runner ≡ Coming = (reached_lawful c.reached).coming.1 (inl hands) in
-      hand_kept s c id v (producer_handed v) Free p.handle coming k.sized is.2
-      (reached_with (running_handed v) (reached_hand (Hand Producer) id v (producer_handed v) c.reached hands at (inl is.0) refl refl refl coming refl) refl refl refl) c.shows.settled
-      (mine has_put c.producer _ _ s.views id v (producer_handed v) c.producers at is.0 (record { sized = k.sized; put = k.put; seen = k.seen; places = k.places; over = λ e. (let never : true ≡ false = sym (k.over e) ∙ ap is_over coming in cc); closed = k.closed; doubled = k.doubled; stands = refl }))
-      (other has_ask c.handle _ _ s.views id (producer_handed v) c.handles is.1 (λ d h. h))
+      hand_kept s c id v (handed v) Free p.handle coming k.sized is.2
+      (reached_with (running_handed v) (reached_hand (Hand Producer) id v (handed v) c.reached hands at (inl is.0) refl refl refl coming refl) refl refl refl) c.shows.settled
+      (mine has_put c.producer _ _ s.views id v (handed v) c.producers at is.0 (record { sized = k.sized; put = k.put; seen = k.seen; places = k.places; over = λ e. (let never : true ≡ false = sym (k.over e) ∙ ap is_over coming in cc); closed = k.closed; doubled = k.doubled; stands = refl }))
+      (other has_ask c.handle _ _ s.views id (handed v) c.handles is.1 (λ d h. h))
 
   -- by the handle
-  pub handle_hands : (id : ℕ) (v : View) → IsHandle v → v.requesting ≡ HandsOver → Splits (CellRule told cap) id v (handle_handed v) (running_handed v)
+  handle_hands : (id : ℕ) (v : View) → IsHandle v → v.requesting ≡ HandsOver → Splits (CellRule told cap) id v (handed v) (running_handed v)
   handle_hands id v is stage s c at =
       let k = (c.handles id v at is.1).1 in
       let p = c.world in
       let hands : p.handle ≡ HandsOver = sym k.stands ∙ stage in
       let coming : p.runner ≡ Coming = (reached_lawful c.reached).coming.1 (inr hands) in
-      hand_kept s c id v (handle_handed v) p.producer Idle coming k.sized is.2
-      (reached_with (running_handed v) (reached_hand (Hand Handle) id v (handle_handed v) c.reached hands at (inr (inl is.1)) refl refl refl coming refl) refl refl refl) (λ _. refl)
-      (other has_put c.producer _ _ s.views id (handle_handed v) c.producers is.0 (λ d o. subst (λ (r : Runner). AsProducer cap c.log p.given c.free (is_over r) c.flags.closing c.flags.state p.producer d) coming o))
-      (mine has_ask c.handle _ _ s.views id v (handle_handed v) c.handles at is.1 (record { sized = k.sized; total = k.total; cancels = k.cancels; bad = k.bad; leaves = k.leaves; stands = refl }))
+      hand_kept s c id v (handed v) p.producer Idle coming k.sized is.2
+      (reached_with (running_handed v) (reached_hand (Hand Handle) id v (handed v) c.reached hands at (inr (inl is.1)) refl refl refl coming refl) refl refl refl) (λ _. refl)
+      (other has_put c.producer _ _ s.views id (handed v) c.producers is.0 (λ d o. subst (λ (r : Runner). AsProducer cap c.log p.given c.free (is_over r) c.flags.closing c.flags.state p.producer d) coming o))
+      (mine has_ask c.handle _ _ s.views id v (handed v) c.handles at is.1 (record { sized = k.sized; total = k.total; cancels = k.cancels; bad = k.bad; leaves = k.leaves; stands = refl }))
+
+  -- by either
+  pub hands_over : (id : ℕ) (v : View) → MustHandOver v → Splits (CellRule told cap) id v (handed v) (running_handed v)
+  hands_over id v (inl hands) = producer_hands id v hands.0 hands.1
+  hands_over id v (inr hands) = handle_hands id v hands.0 hands.1
 
 -- what is left of the mark of the task, by the word that was found
 pub low_bit : (word : ℕ) → bit_and word 1 ≡ bit_at word 0

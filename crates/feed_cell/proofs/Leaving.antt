@@ -147,7 +147,7 @@ module _ {B : Type 0} (told : B → List Signal) (cap : ℕ) (s : State (Held B)
         causes_are = c.shows.causes ∙ flagged c.flags c.answers handle end (sym k.cancels ∙ knows.cancelled) (sym k.bad ∙ knows.argument) (sym state) (sym closing);
       }
 
-  module _ (id : ℕ) (v : View) (at : get_elem? s.views id ≡ some v) (puts : v.puts ≡ true) (begins : MayBegin v.producing) (end : End) (end_is : end ≡ known_end v.capacity v end.ready)
+  module _ (id : ℕ) (v : View) (at : get_elem? s.views id ≡ some v) (puts : v.puts ≡ true) (begins : MayBegin v.producing) (end : End) (end_is : end ≡ known_end v end.ready)
       (handle : Option HandleState) (knows : IfSome handle (λ h. KnowsHandle h v)) where
     put_is : end.accepted ≡ c.log
     put_is = ap (λ z. z.accepted) end_is ∙ (c.producers id v at puts).1.put

@@ -6,7 +6,7 @@ use lib.ListN.{get_elem?}
 use Rattle.atomic_table.proofs.Lists.{at_map}
 use Rattle.atomic_table.specs.Table.{opening, takes, Allows, Splits}
 use Rattle.feed_core.specs.Cause.{no_causes}
-use Rattle.feed_core.specs.Prelude.{Signal, UNBOUNDED}
+use Rattle.feed_core.specs.Prelude.{Signal}
 use Rattle.feed_core.specs.LaneCalls.{IsCapacity}
 use Rattle.feed_core.specs.World.Runs.{made}
 use Rattle.feed_cell.specs.Types.{Free, Idle, Runner, Fresh}
@@ -17,7 +17,7 @@ use Rattle.feed_cell.proofs.Seats.{alone, mine, other, added, moved}
 use Rattle.feed_cell.specs.Cell.{Lies, CellRule, AsProducer, AsHandle, AsRunner, LodgesAt}
 use Rattle.feed_cell.specs.Parties.{IsUngreeted}
 use Rattle.feed_cell.specs.Plays.{SeatOf, Enters}
-use Rattle.feed_cell.specs.Steps.{MayOffer, MayRequest}
+use Rattle.feed_cell.specs.Steps.{IsProducerOf, IsHandleOf}
 use Rattle.feed_cell.specs.Views.{IsRunner, first_view, has_put, has_ask, has_run, without_asking, asking_alone, without_running, running_alone}
 use Rattle.feed_cell.specs.declared.cell.Held.{Held}
 use Rattle.feed_cell.specs.declared.cell.View.{View}
@@ -179,11 +179,11 @@ module _ {B : Type 0} (told : B → List Signal) where
       )
 
   -- the first task, with its subscriber placed in the slot
-  pub lodged : (capacity : ℕ) (v : View) (b : B) (me : SeatOf B) → v.capacity ≡ capacity → v.runner ≡ Fresh → v.taken ≡ [] → v.own ≡ 0 → v.answers ≡ no_causes → told b ≡ []
-      → me ≡ (record v { away = true }, (capacity, Held.Guest (record { subscriber = b; given = 0; own = 0; answers = no_causes; how = None })) ∷ []) → IsUngreeted told me
-  lodged capacity v b me sized stage taken own answers untold is = subst (λ (m : SeatOf B). IsUngreeted told m) (sym is) (record {
+  lodged : (v : View) (b : B) (me : SeatOf B) → v.runner ≡ Fresh → v.taken ≡ [] → v.own ≡ 0 → v.answers ≡ no_causes → told b ≡ []
+      → me ≡ (record v { away = true }, (v.capacity, Held.Guest (record { subscriber = b; given = 0; own = 0; answers = no_causes; how = None })) ∷ []) → IsUngreeted told me
+  lodged v b me stage taken own answers untold is = subst (λ (m : SeatOf B). IsUngreeted told m) (sym is) (record {
     guest = record { subscriber = b; given = 0; own = 0; answers = no_causes; how = None };
-    slot = ap (λ (n : ℕ). (n, Held.Guest (record { subscriber = b; given = 0; own = 0; answers = no_causes; how = None })) ∷ []) (sym sized);
+    slot = refl;
     away = refl;
     stage = stage;
     taken = taken;
@@ -195,39 +195,25 @@ module _ {B : Type 0} (told : B → List Signal) where
   })
 
   -- the producer's seat at first
-  pub producer_first : (capacity : ℕ) (maker left me : SeatOf B) → maker ≡ (first_view capacity, []) → left ≡ (without_running maker.0, maker.1) → me ≡ (without_asking left.0, left.1)
-      → (me.1 ≡ []) × MayOffer me × (me.0.capacity ≡ capacity) × (me.0.closing ≡ None) × (length me.0.put ≡ 0)
+  pub producer_first : (capacity : ℕ) (maker left me : SeatOf B) → maker ≡ (first_view capacity, []) → left ≡ (without_running maker.0, maker.1) → me ≡ (without_asking left.0, left.1) → (me.0.capacity ≡ capacity) × IsProducerOf 0 None me
   producer_first capacity maker left me made left_is me_is =
-      let is : me ≡ (without_asking (without_running (first_view capacity)), []) = me_is ∙ ap (λ (m : SeatOf B). (without_asking m.0, m.1)) left_is ∙ ap (λ (m : SeatOf B). (without_asking (without_running m.0), m.1)) made in (
-        ap (λ (m : SeatOf B). m.1) is,
-        subst (λ (m : SeatOf B). MayOffer m) (sym is) (record { is = (refl, refl, refl); none_out = refl; begins = inl refl }),
-        ap (λ (m : SeatOf B). m.0.capacity) is,
-        ap (λ (m : SeatOf B). m.0.closing) is,
-        ap (λ (m : SeatOf B). length m.0.put) is,
-      )
+      let is : me ≡ (without_asking (without_running (first_view capacity)), []) = me_is ∙ ap (λ (m : SeatOf B). (without_asking m.0, m.1)) left_is ∙ ap (λ (m : SeatOf B). (without_asking (without_running m.0), m.1)) made in
+      (ap (λ (m : SeatOf B). m.0.capacity) is, subst (λ (m : SeatOf B). IsProducerOf 0 None m) (sym is) (record { may = record { is = (refl, refl, refl); none_out = refl; begins = inl refl }; no_slot = refl; closed = refl; counted = refl }))
 
-  -- the handle's seat at first
-  pub handle_first : (capacity : ℕ) (maker left me : SeatOf B) → maker ≡ (first_view capacity, []) → left ≡ (without_running maker.0, maker.1) → me ≡ (asking_alone left.0, [])
-      → (me.1 ≡ []) × MayRequest me × (me.0.capacity ≡ capacity) × (me.0.asked ≡ 0) × (0 ≤ UNBOUNDED) × (me.0.cancel ≡ false)
+  -- the handle
+  pub handle_first : (capacity : ℕ) (maker left me : SeatOf B) → maker ≡ (first_view capacity, []) → left ≡ (without_running maker.0, maker.1) → me ≡ (asking_alone left.0, []) → (me.0.capacity ≡ capacity) × IsHandleOf 0 false me
   handle_first capacity maker left me made left_is me_is =
-      let is : me ≡ (asking_alone (without_running (first_view capacity)), []) = me_is ∙ ap (λ (m : SeatOf B). (asking_alone m.0, [])) left_is ∙ ap (λ (m : SeatOf B). (asking_alone (without_running m.0), [])) made in (
-        ap (λ (m : SeatOf B). m.1) is,
-        subst (λ (m : SeatOf B). MayRequest m) (sym is) (record { is = (refl, refl, refl); idle = refl; stays = refl }),
-        ap (λ (m : SeatOf B). m.0.capacity) is,
-        ap (λ (m : SeatOf B). m.0.asked) is,
-        omega arith,
-        ap (λ (m : SeatOf B). m.0.cancel) is,
-      )
+      let is : me ≡ (asking_alone (without_running (first_view capacity)), []) = me_is ∙ ap (λ (m : SeatOf B). (asking_alone m.0, [])) left_is ∙ ap (λ (m : SeatOf B). (asking_alone (without_running m.0), [])) made in
+      (ap (λ (m : SeatOf B). m.0.capacity) is, subst (λ (m : SeatOf B). IsHandleOf 0 false m) (sym is) (record { may = record { is = (refl, refl, refl); idle = refl; stays = refl }; no_slot = refl; counted = refl; bounded = omega arith; cancels = refl }))
 
   -- the seat of the first task, with its subscriber placed in the slot
   pub task_first : (capacity : ℕ) (b : B) (maker run me : SeatOf B) → maker ≡ (first_view capacity, []) → run ≡ (running_alone maker.0, []) → told b ≡ []
-      → me ≡ (record run.0 { away = true }, (capacity, Held.Guest (record { subscriber = b; given = 0; own = 0; answers = no_causes; how = None })) ∷ [])
-      → IsRunner me.0 × (me.0.capacity ≡ capacity) × (me.0.item ≡ []) × IsUngreeted told me
+      → me ≡ (record run.0 { away = true }, (run.0.capacity, Held.Guest (record { subscriber = b; given = 0; own = 0; answers = no_causes; how = None })) ∷ [])
+      → IsRunner me.0 × (me.0.item ≡ []) × IsUngreeted told me
   task_first capacity b maker run me made run_is untold me_is =
       let is : run ≡ (running_alone (first_view capacity), []) = run_is ∙ ap (λ (m : SeatOf B). (running_alone m.0, [])) made in
       let view : me.0 ≡ record (running_alone (first_view capacity)) { away = true } = ap (λ (m : SeatOf B). m.0) me_is ∙ ap (λ (m : SeatOf B). record m.0 { away = true }) is in (
         subst (λ (v : View). IsRunner v) (sym view) (refl, refl, refl),
-        ap (λ (v : View). v.capacity) view,
         ap (λ (v : View). v.item) view,
-        lodged capacity run.0 b me (ap (λ (m : SeatOf B). m.0.capacity) is) (ap (λ (m : SeatOf B). m.0.runner) is) (ap (λ (m : SeatOf B). m.0.taken) is) (ap (λ (m : SeatOf B). m.0.own) is) (ap (λ (m : SeatOf B). m.0.answers) is) untold me_is,
+        lodged run.0 b me (ap (λ (m : SeatOf B). m.0.runner) is) (ap (λ (m : SeatOf B). m.0.taken) is) (ap (λ (m : SeatOf B). m.0.own) is) (ap (λ (m : SeatOf B). m.0.answers) is) untold me_is,
       )

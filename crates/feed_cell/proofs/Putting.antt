@@ -71,9 +71,9 @@ module _ {B : Type 0} (told : B → List Signal) where
       )
 
   -- the same, of a seat that placed its item
-  pub puts_placed : (cap n id : ℕ) (capacity tail : ℕ) (before me : SeatOf B) (i new : ℕ) (x : Item) → HasFreeSlot capacity tail before → me ≡ (before.0, (i, Held.Item x) ∷ rest before.1) → i ≡ tail % capacity → new ≡ tail + 1
+  pub puts_placed : (cap n id : ℕ) (capacity tail : ℕ) (before me : SeatOf B) (i new : ℕ) (x : Item) → HasFreeSlot tail before → before.0.capacity ≡ capacity → me ≡ (before.0, (i, Held.Item x) ∷ rest before.1) → i ≡ tail % capacity → new ≡ tail + 1
       → Allows (CellRule told cap) n id me 1 (λ _. new) (λ _. IsPut me)
-  puts_placed cap n id capacity tail before me i new x h placed slot_at new_is =
-      let at : i ≡ length before.0.put % before.0.capacity = slot_at ∙ ap₂ (λ (a b : ℕ). a % b) (sym h.counted) (sym h.sized) in
+  puts_placed cap n id capacity tail before me i new x h sized placed slot_at new_is =
+      let at : i ≡ length before.0.put % before.0.capacity = slot_at ∙ ap₂ (λ (a b : ℕ). a % b) (sym h.counted) (sym sized) in
       let next : new ≡ length before.0.put + 1 = new_is ∙ ap (λ (m : ℕ). m + 1) (sym h.counted) in
       subst (λ (m : SeatOf B). Allows (CellRule told cap) n id m 1 (λ _. new) (λ _. IsPut m)) (sym placed) (puts_item cap n id before.0 i new x (rest before.1) h.is h.stage h.one_out h.closing at next)

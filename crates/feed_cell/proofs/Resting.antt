@@ -88,7 +88,7 @@ module _ {B : Type 0} (told : B → List Signal) (cap : ℕ) (s : State (Held B)
           handles = other has_ask c.handle _ _ s.views id w c.handles is.1 (λ d h. h);
           runners = spent has_run c.runner _ _ s.views id v w c.runners at is.2 refl;
         },
-        record { rested = λ _. refl; missed = λ differs. absurd (differs same) },
+        record { rested = λ _. refl; missed = λ differs. absurd (differs same); sized = refl },
       )
 
   -- something is new
@@ -109,7 +109,7 @@ module _ {B : Type 0} (told : B → List Signal) (cap : ℕ) (s : State (Held B)
         tt,
         move_kept told cap s c id v w Ready c.item _ s.homes at is is.0 is.1 refl reached (λ _. item_is) c.lists c.lies (ap (λ (ws : List ℕ). set ws 3 (slice_index ws 3)) c.words)
             (record { sized = k.sized; seated = refl; stands = refl; out = out; knows = λ _. knows_too c.taken p.own c.answers v w refl refl refl know; fresh = λ e. cc; item_is = k.item_is; latest = λ e. cc }),
-        record { rested = λ same. absurd (differs same); missed = λ _. refl },
+        record { rested = λ same. absurd (differs same); missed = λ _. refl; sized = refl },
       )
     where
       by : (b : Bool) → c.world.active ≡ b → c.world.active ≡ true

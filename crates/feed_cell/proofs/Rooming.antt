@@ -138,7 +138,7 @@ module _ {B : Type 0} (told : B → List Signal) (cap : ℕ) (s : State (Held B)
         keeps,
         tt,
         stays Free (room_of_ended c.world e),
-        record { head = c.world.given; ended = is_over c.world.runner; found_is = f.found_is; small = f.small; grows = f.grows; put = f.put; fits = f.fits; stays = f.stays; gone = λ _. refl; full = λ goes. absurd (true≢false (sym e ∙ goes)); room = λ goes. absurd (true≢false (sym e ∙ goes)) },
+        record { head = c.world.given; ended = is_over c.world.runner; found_is = f.found_is; small = f.small; grows = f.grows; put = f.put; fits = f.fits; stays = f.stays; gone = λ _. refl; full = λ goes. absurd (true≢false (sym e ∙ goes)); room = λ goes. absurd (true≢false (sym e ∙ goes)); sized = refl },
       )
   decides false e =
       let f = finds told cap s c id v at is.0 in
@@ -156,14 +156,14 @@ module _ {B : Type 0} (told : B → List Signal) (cap : ℕ) (s : State (Held B)
         takes (length v.put % v.capacity) Held.Empty,
         ap (λ (j : ℕ). get_elem? s.homes j) slot_is ∙ c.lies.places (length c.log) (let free : c.free ≡ length c.log = free_is in omega arith) room,
         takes_place room (room_there told cap c.world e (omega arith) below),
-        record { head = c.world.given; ended = is_over c.world.runner; found_is = f.found_is; small = f.small; grows = f.grows; put = f.put; fits = f.fits; stays = f.stays; gone = λ ends. absurd (true≢false (sym ends ∙ e)); full = λ _ all. absurd (omega arith); room = λ _ _. refl },
+        record { head = c.world.given; ended = is_over c.world.runner; found_is = f.found_is; small = f.small; grows = f.grows; put = f.put; fits = f.fits; stays = f.stays; gone = λ ends. absurd (true≢false (sym ends ∙ e)); full = λ _ all. absurd (omega arith); room = λ _ _. refl; sized = refl },
       ))
       (λ more_put. (
         looked Free 0,
         keeps,
         tt,
         stays Free (none_there told cap c.world (omega (arith, more_put))),
-        record { head = c.world.given; ended = is_over c.world.runner; found_is = f.found_is; small = f.small; grows = f.grows; put = f.put; fits = f.fits; stays = f.stays; gone = λ _. refl; full = λ _ _. refl; room = λ _ low. absurd (omega (arith, more_put)) },
+        record { head = c.world.given; ended = is_over c.world.runner; found_is = f.found_is; small = f.small; grows = f.grows; put = f.put; fits = f.fits; stays = f.stays; gone = λ _. refl; full = λ _ _. refl; room = λ _ low. absurd (omega (arith, more_put)); sized = refl },
       ))
 
   begun : (b : Bool) → (shown_room b ≡ Free) ⊎ (shown_room b ≡ HasRoom)

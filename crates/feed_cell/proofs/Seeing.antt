@@ -71,7 +71,7 @@ module _ {B : Type 0} (told : B → List Signal) where
             (lies_out cap c.log s.homes (length c.taken) c.free (length v.taken % v.capacity) c.lists.sized (omega arith) (omega arith) slot_is lies)
             words_are
             (record { sized = k.sized; seated = refl; stands = stands; out = out; knows = λ _. knows_too c.taken p.own c.answers v w refl refl refl know; fresh = λ e. cc; item_is = refl; latest = λ _ quiet. k.latest (ap has_looked stage) quiet }),
-        record { put = omega arith; waits = λ _. (x, refl); empty = λ none_there. absurd (omega arith) },
+        record { put = omega arith; waits = λ _. (x, refl); empty = λ none_there. absurd (omega arith); sized = refl },
       ))
       (λ none_more.
       let w : View = record v { runner = seeing found v.runner } in (
@@ -80,7 +80,7 @@ module _ {B : Type 0} (told : B → List Signal) where
         tt,
         move_kept told cap s c id v w (Saw may.0 p.accepted) c.item _ s.homes at is is.0 is.1 refl (reached w (refl, refl, refl)) (λ e. cc) c.lists c.lies words_are
             (record { sized = k.sized; seated = refl; stands = stands; out = out; knows = λ _. knows_too c.taken p.own c.answers v w refl refl refl know; fresh = λ e. cc; item_is = k.item_is; latest = λ _ quiet. k.latest (ap has_looked stage) quiet }),
-        record { put = omega arith; waits = λ more. absurd (omega (arith, none_more)); empty = λ _. refl },
+        record { put = omega arith; waits = λ more. absurd (omega (arith, none_more)); empty = λ _. refl; sized = refl },
       ))
 
   -- a load of asked, with no item out
@@ -141,7 +141,7 @@ module _ {B : Type 0} (told : B → List Signal) where
         tt,
         move_kept told cap s c id v w (Measured may.0 may.1 (total_of p)) c.item _ s.homes at is is.0 is.1 refl (reached w (refl, refl, refl)) (λ e. cc) c.lists c.lies words_are
             (record { sized = k.sized; seated = refl; stands = stands; out = out; knows = λ _. knows_too c.taken p.own c.answers v w refl refl refl know; fresh = λ e. cc; item_is = k.item_is; latest = λ _ quiet. k.latest (ap has_looked stage) quiet }),
-        record { asked = p.asked; left = c.left; found_is = ap (λ ws. slice_index ws 2) c.words; bounded = kept.asked_bounded; met = omega arith; wanted = λ _. refl; enough = λ e. absurd (omega arith) },
+        record { asked = p.asked; left = c.left; found_is = ap (λ ws. slice_index ws 2) c.words; bounded = kept.asked_bounded; met = omega arith; wanted = λ _. refl; enough = λ e. absurd (omega arith); sized = refl },
       ))
       (λ met.
       let next = there c.log (length c.taken) (omega arith) in
@@ -159,5 +159,5 @@ module _ {B : Type 0} (told : B → List Signal) where
             (lies_at cap c.log (length c.taken) (length c.taken + length c.item) (length c.taken + 1) c.free s.homes (omega arith) c.lies)))
             words_are
             (record { sized = k.sized; seated = refl; stands = stands; out = out; knows = λ _. knows_too c.taken p.own c.answers v w refl refl refl know; fresh = λ e. cc; item_is = refl; latest = λ _ quiet. k.latest (ap has_looked stage) quiet }),
-        record { asked = p.asked; left = c.left; found_is = ap (λ ws. slice_index ws 2) c.words; bounded = kept.asked_bounded; met = omega arith; wanted = λ e. absurd (omega (arith, met)); enough = λ _. refl },
+        record { asked = p.asked; left = c.left; found_is = ap (λ ws. slice_index ws 2) c.words; bounded = kept.asked_bounded; met = omega arith; wanted = λ e. absurd (omega (arith, met)); enough = λ _. refl; sized = refl },
       ))

@@ -1,5 +1,5 @@
 -- The control word: its marks and causes, and what a signal adds.
-use Rattle.std.specs.Prelude.{◌≡◌, ℕ, ◌+◌, ◌/◌, ◌^◌, Bool, true, false, ◌||◌, Option, None, Some}
+use Rattle.std.specs.Prelude.{◌≡◌, ℕ, ◌+◌, ◌/◌, ◌^◌, ◌==◌, if◌then◌else◌, Bool, true, false, ◌||◌, Option, None, Some}
 use Rattle.std.specs.Int.{bit_at}
 use Rattle.feed_core.specs.Prelude.{Ending}
 use Rattle.feed_cell.specs.Types.{Causes, Cause, Cancel, Argument, State, Closing}
@@ -52,6 +52,15 @@ signal_of (Some Cancel) = record { run = true; active = true; cancel = true; arg
 signal_of (Some Argument) = record { run = true; active = true; cancel = false; argument = true; state = false; closing = None }
 signal_of (Some State) = record { run = true; active = true; cancel = false; argument = false; state = true; closing = None }
 signal_of (Some (Closing ending)) = record { run = true; active = true; cancel = false; argument = false; state = false; closing = Some ending }
+
+-- the cause that a signal tells, by the bits that it sets; one that sets no more than the first two tells none
+abbrev pub cause_in : ℕ → Option Cause
+cause_in mask =
+    if bit_at mask 2 == 1 then Some Cancel else
+    if bit_at mask 3 == 1 then Some Argument else
+    if bit_at mask 4 == 1 then Some State else
+    if bit_at mask 5 == 1 then Some (Closing (Ending.Failed (mask / 2 ^ 32))) else
+    if bit_at mask 6 == 1 then Some (Closing Ending.Normal) else None
 
 -- the first closing there is
 abbrev pub closing_of : Option Ending → Option Ending → Option Ending

@@ -15,8 +15,8 @@ SaysOf capacity tail head Found.Full = (head < MARK) × (tail - head ≡ capacit
 SaysOf capacity tail head (Found.Room held) = (head < MARK) × (tail - head < capacity) × (held ≡ tail - head)
 
 -- a look for room showed some head, which says this
-abbrev pub Finds : {B : Type 0} → ℕ → ℕ → Found → SeatOf B → SeatOf B → Type 0
-Finds capacity tail found before after = (head : ℕ) × FindsRoom before head after × SaysOf capacity tail head found
+abbrev pub Finds : {B : Type 0} → ℕ → Found → SeatOf B → SeatOf B → Type 0
+Finds tail found before after = (head : ℕ) × FindsRoom before head after × SaysOf before.0.capacity tail head found
 
 -- the task that a call started, if it did
 abbrev pub started_in : Call TaskState → Option TaskState

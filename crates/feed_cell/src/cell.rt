@@ -3,6 +3,8 @@ pub mod close;
 pub mod handle;
 pub mod maker;
 pub mod producer;
+mod seated;
+mod signal;
 pub mod task;
 
 ghost use Rattle.std.specs.Prelude.{◌≡◌};

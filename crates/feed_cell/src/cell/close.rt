@@ -17,6 +17,7 @@ use self::joined::{Gather, join_if_of_one_table};
 use super::handle::Handle;
 use super::handle::steps::leave;
 use super::producer::Producer;
+use super::seated::Seated;
 use super::{ASKED, CONTROL, CellSeat, CellTable, HEAD, Held, Lodger, MARK, RUN, TAIL};
 use atomic_table::Closed;
 use feed_core::Lane;
@@ -50,42 +51,44 @@ fn step_out<B: Listener>(handle: Handle<B>) -> CellSeat<B>
     ensures knows { KnowsHandle handle result.me.0 }
 {
     let Handle {
-        table,
+        mut party,
         spare,
-        mut seat,
-        capacity: _,
         asked,
         cancelled: _,
     } = handle;
-    leave(&table, &mut seat, asked);
-    drop(table);
+    leave(&mut party, asked);
     drop(spare);
-    seat
+    party.into_seat()
 }
 
 /// The table with the producer's seat, where nobody else shares it. Else the producer's end comes back, not ready.
 fn unshared<B: Listener>(producer: Producer<B>) -> Result<(CellTable<B>, CellSeat<B>), Producer<B>>
     ensures table { IfOk result (λ parts. (parts.1.table_id ≡ parts.0.shared.table_id) × (parts.1.table_id ≡ producer.table) × HasFourWords parts.1.table_id) }
     ensures may { IfOk result (λ parts. MayOffer parts.1.me) }
-    ensures knows { IfOk result (λ parts. producer.end ≡ known_end parts.1.me.0.capacity parts.1.me.0 producer.end.ready) }
+    ensures knows { IfOk result (λ parts. producer.end ≡ known_end parts.1.me.0 producer.end.ready) }
     ensures back { IfErr result (λ back. back ≡ record producer { end = record producer.end { ready = false } }) }
 {
     let Producer {
-        table,
+        party,
         spare,
-        seat,
-        capacity,
         tail,
         closing,
     } = producer;
+    let Seated {
+        table,
+        seat,
+        capacity,
+    } = party;
     drop(spare);
     match Arc::try_unwrap(table) {
         Ok(table) => Ok((table.into_inner(), seat)),
         Err(table) => Err(Producer {
-            table,
+            party: Seated {
+                table,
+                seat,
+                capacity,
+            },
             spare: None,
-            seat,
-            capacity,
             tail,
             closing,
         }),
@@ -96,7 +99,7 @@ fn unshared<B: Listener>(producer: Producer<B>) -> Result<(CellTable<B>, CellSea
 fn take_apart<B: Listener>(table: CellTable<B>, seat: CellSeat<B>) -> Lane<B>
     requires table { (seat.table_id ≡ table.shared.table_id) × HasFourWords seat.table_id }
     requires may { (seat.me.0.puts ≡ true) × MayBegin seat.me.0.producing }
-    ensures left { (end : End) (handle : Option HandleState) → end ≡ known_end seat.me.0.capacity seat.me.0 end.ready → IfSome handle (λ handle. KnowsHandle handle seat.me.0) → IsLeftOf B.told end handle result }
+    ensures left { (end : End) (handle : Option HandleState) → end ≡ known_end seat.me.0 end.ready → IfSome handle (λ handle. KnowsHandle handle seat.me.0) → IsLeftOf B.told end handle result }
 {
     let closed = table.close_with(seat);
     let head = closed.word(HEAD);

@@ -6,9 +6,11 @@ ghost use Rattle.std.specs.Prelude.{◌≡◌, true, false, None, IfSome, IsSome
 ghost use Rattle.feed_cell.specs.Parties.{MayAsk, handle_after_request, IsStarted};
 ghost use Rattle.feed_cell.specs.Views.{starts_after};
 
-use self::steps::{ask_more, signal_argument, signal_cancel, signal_request};
-use super::task::{Task, start};
-use super::{CellSeat, CellTable, SharedTable};
+use self::steps::ask_more;
+use super::seated::Seated;
+use super::signal::{signal, start};
+use super::task::Task;
+use super::{ARGUMENT, CANCEL, ITEM, SharedTable};
 use flow_rules::{Listener, NoMemory};
 use std::marker::Model;
 use std::sync::Arc;
@@ -16,11 +18,9 @@ use std::sync::Arc;
 /// The handle of a subscription (`Flow.Subscription`, Java SE 17).
 #[derive(Drop)]
 pub struct Handle<B: Listener> {
-    pub(crate) table: SharedTable<B>,
+    pub(crate) party: Seated<B>,
     /// What a started task gets, where it is there.
     pub(crate) spare: Option<SharedTable<B>>,
-    pub(crate) seat: CellSeat<B>,
-    pub(crate) capacity: u64,
     /// The number of items requested, as in the word asked, which this end alone writes.
     pub(crate) asked: u64,
     /// Whether it cancelled.
@@ -28,18 +28,27 @@ pub struct Handle<B: Listener> {
 }
 
 impl<B: Listener> Model for Handle<B> {
-    ghost use Rattle.std.specs.Prelude.{◌≡◌, ◌<◌, ◌≤◌, [], is_some, IfSome};
+    ghost use Rattle.std.specs.Prelude.{◌≡◌, is_some, IfSome};
     ghost use Rattle.std.specs.Arc.{arc_value};
     ghost use Rattle.crossbeam_utils.specs.Padded.{padded_value};
-    ghost use Rattle.feed_core.specs.Prelude.{UNBOUNDED};
     ghost use Rattle.feed_cell.specs.Parties.{HandleState};
-    ghost use Rattle.feed_cell.specs.Steps.{HasFourWords, MayRequest};
+    ghost use Rattle.feed_cell.specs.Steps.{IsHandleOf};
 
     ghost Value = { HandleState };
 
-    ghost view = { λ h. record { table = h.seat.table_id; capacity = h.capacity; asked = h.seat.me.0.asked; cancelled = h.seat.me.0.cancel; argument = h.seat.me.0.argument; ready = is_some h.spare; started = h.seat.me.0.started } };
+    ghost view = { λ h. record {
+      table = h.party.seat.table_id;
+      capacity = h.party.capacity;
+      asked = h.party.seat.me.0.asked;
+      cancelled = h.party.seat.me.0.cancel;
+      argument = h.party.seat.me.0.argument;
+      ready = is_some h.spare;
+      started = h.party.seat.me.0.started;
+    } };
 
-    ghost invariant = { λ h. ((padded_value (arc_value h.table)).shared.table_id ≡ h.seat.table_id) × IfSome h.spare (λ spare. (padded_value (arc_value spare)).shared.table_id ≡ h.seat.table_id) × HasFourWords h.seat.table_id × (0 < h.capacity) × (h.seat.me.1 ≡ []) × MayRequest h.seat.me × (h.seat.me.0.capacity ≡ h.capacity) × (h.seat.me.0.asked ≡ h.asked) × (h.asked ≤ UNBOUNDED) × (h.seat.me.0.cancel ≡ h.cancelled) };
+    ghost invariant = { λ h.
+        IfSome h.spare (λ spare. (padded_value (arc_value spare)).shared.table_id ≡ h.party.seat.table_id)
+        × IsHandleOf h.asked h.cancelled h.party.seat.me };
 }
 
 impl<B: Listener> Handle<B> {
@@ -50,7 +59,7 @@ impl<B: Listener> Handle<B> {
         ensures stays { self.old.ready ≡ true → IsOk result }
     {
         if self.spare.is_none() {
-            self.spare = Some(Arc::try_clone(&self.table)?);
+            self.spare = Some(Arc::try_clone(&self.party.table)?);
         }
         Ok(())
     }
@@ -71,14 +80,13 @@ impl<B: Listener> Handle<B> {
         if self.cancelled {
             return None;
         }
-        let table: &CellTable<B> = &self.table;
         let task = if n > 0 {
-            self.asked = ask_more(table, &mut self.seat, self.asked, n.unsigned_abs());
-            signal_request(table, &mut self.seat)
+            self.asked = ask_more(&mut self.party, self.asked, n.unsigned_abs());
+            signal(&mut self.party, ITEM)
         } else {
-            signal_argument(table, &mut self.seat)
+            signal(&mut self.party, ARGUMENT)
         };
-        start(&mut self.spare, task, self.capacity)
+        start(&self.party, &mut self.spare, task)
     }
 
     /// Ends the subscription (`Flow.Subscription.cancel`; Reactive Streams 1.0, rules 3.5, 3.7 and 3.12): its subscriber is given at
@@ -96,9 +104,8 @@ impl<B: Listener> Handle<B> {
         if self.cancelled {
             return None;
         }
-        let table: &CellTable<B> = &self.table;
-        let task = signal_cancel(table, &mut self.seat);
+        let task = signal(&mut self.party, CANCEL);
         self.cancelled = true;
-        start(&mut self.spare, task, self.capacity)
+        start(&self.party, &mut self.spare, task)
     }
 }

@@ -5,12 +5,13 @@ ghost use Rattle.crossbeam_utils.specs.Padded.{padded_value};
 ghost use Rattle.feed_core.specs.Cause.{no_causes};
 ghost use Rattle.feed_core.specs.LaneCalls.{IsCapacity};
 ghost use Rattle.feed_cell.specs.Parties.{new_producer, new_handle, IsNewTask};
-ghost use Rattle.feed_cell.specs.Steps.{HasFourWords, IsUnlodged};
+ghost use Rattle.feed_cell.specs.Steps.{HasFourWords, Steps, IsUnlodged, HasLodged};
 ghost use Rattle.feed_cell.specs.Views.{first_view};
 ghost use Rattle.feed_cell.specs.declared.cell.Held.TheVariants as Held;
 
 use super::handle::Handle;
 use super::producer::Producer;
+use super::seated::Seated;
 use super::task::plays::EnterStep;
 use super::task::{Stage, Task};
 use super::{
@@ -49,31 +50,38 @@ impl Cell {
         };
         let guest = lodger(alloc, subscriber)?;
         let cell: &CellTable<B> = &shares.producer;
-        let mut running = cell.shared.split_seat::<RunnerApart>(&mut seat);
+        let running = cell.shared.split_seat::<RunnerApart>(&mut seat);
         let asking = cell.shared.split_seat::<HandleApart>(&mut seat);
-        lodge(cell, &mut running, capacity, guest);
-        let places = capacity as u64;
+        let capacity = capacity as u64;
+        let mut party = Seated {
+            table: shares.task,
+            seat: running,
+            capacity,
+        };
+        lodge(&mut party, guest);
+        let task = Task {
+            party,
+            stage: Stage::Fresh,
+        };
         let producer = Producer {
-            table: shares.producer,
+            party: Seated {
+                table: shares.producer,
+                seat,
+                capacity,
+            },
             spare: Some(shares.producer_spare),
-            seat,
-            capacity: places,
             tail: 0,
             closing: None,
         };
         let handle = Handle {
-            table: shares.handle,
+            party: Seated {
+                table: shares.handle,
+                seat: asking,
+                capacity,
+            },
             spare: Some(shares.handle_spare),
-            seat: asking,
-            capacity: places,
             asked: 0,
             cancelled: false,
-        };
-        let task = Task {
-            table: shares.task,
-            seat: running,
-            capacity: places,
-            stage: Stage::Fresh,
         };
         Ok((producer, handle, task))
     }
@@ -151,19 +159,14 @@ fn lodger<B: Listener>(alloc: Global, subscriber: B) -> Result<BoxedLodger<B>, (
 }
 
 /// Takes the subscriber's slot out with the task, and places the subscriber there.
-fn lodge<B: Listener>(
-    table: &CellTable<B>,
-    seat: &mut CellSeat<B>,
-    capacity: usize,
-    guest: BoxedLodger<B>,
-)
-    requires table { (seat.old.table_id ≡ table.now.shared.table_id) × HasFourWords seat.old.table_id }
-    requires fresh { IsUnlodged capacity seat.old.me }
-    ensures table { (seat.new.table_id ≡ seat.old.table_id) × (seat.new.id ≡ seat.old.id) }
-    ensures lodged { seat.new.me ≡ (record seat.old.me.0 { away = true }, (capacity, Held.Guest guest) ∷ []) }
+fn lodge<B: Listener>(party: &mut Seated<B>, guest: BoxedLodger<B>)
+    requires fresh { IsUnlodged party.old.seat.me }
+    ensures lodged { Steps party.old.seat (HasLodged guest party.old.seat.me) party.new.seat }
 {
-    let _ = table.shared.load::<EnterStep>(seat, CONTROL);
-    let nothing = table.shared.exchange(seat, capacity, Held::Guest(guest));
+    let table = &party.table.shared;
+    let _ = table.load::<EnterStep>(&mut party.seat, CONTROL);
+    let slot = party.capacity as usize;
+    let nothing = table.exchange(&mut party.seat, slot, Held::Guest(guest));
     drop(nothing);
 }
 

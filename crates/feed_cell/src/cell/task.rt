@@ -6,15 +6,8 @@ pub mod plays;
 mod steps;
 pub mod turns;
 
-ghost use Rattle.std.specs.Prelude.{◌≡◌, ◌<◌, ℕ, IfSome, IfNone, IsSome, None, []};
-ghost use Rattle.std.specs.Arc.{arc_value};
-ghost use Rattle.crossbeam_utils.specs.Padded.{padded_value};
-ghost use Rattle.feed_cell.specs.Parties.{IsStarted};
-ghost use Rattle.feed_cell.specs.Steps.{HasFourWords};
-ghost use Rattle.feed_cell.specs.Views.{running_handed, starts_after};
-ghost use Rattle.feed_cell.specs.declared.cell.View.{View};
-
-use super::{CellSeat, SharedTable};
+use super::CellSeat;
+use super::seated::Seated;
 use flow_rules::Listener;
 use std::marker::Model;
 
@@ -33,26 +26,29 @@ pub enum Stage {
 #[must_use]
 #[derive(Drop)]
 pub struct Task<B: Listener> {
-    pub(crate) table: SharedTable<B>,
-    pub(crate) seat: CellSeat<B>,
-    pub(crate) capacity: u64,
+    pub(crate) party: Seated<B>,
     pub(crate) stage: Stage,
 }
 
 impl<B: Listener> Model for Task<B> {
-    ghost use Rattle.std.specs.Prelude.{◌≡◌, ◌<◌, []};
-    ghost use Rattle.std.specs.Arc.{arc_value};
-    ghost use Rattle.crossbeam_utils.specs.Padded.{padded_value};
+    ghost use Rattle.std.specs.Prelude.{◌≡◌, []};
     ghost use Rattle.feed_cell.specs.Parties.{TaskState};
     ghost use Rattle.feed_cell.specs.Paused.{told_out, IsPaused};
-    ghost use Rattle.feed_cell.specs.Steps.{HasFourWords};
     ghost use Rattle.feed_cell.specs.Views.{IsRunner};
 
     ghost Value = { TaskState };
 
-    ghost view = { λ t. record { table = t.seat.table_id; seat = t.seat.id; knows = t.seat.me.0; told = told_out B.told t.seat.me.1 } };
+    ghost view = { λ t. record {
+      table = t.party.seat.table_id;
+      seat = t.party.seat.id;
+      knows = t.party.seat.me.0;
+      told = told_out B.told t.party.seat.me.1;
+    } };
 
-    ghost invariant = { λ t. ((padded_value (arc_value t.table)).shared.table_id ≡ t.seat.table_id) × HasFourWords t.seat.table_id × (0 < t.capacity) × IsRunner t.seat.me.0 × (t.seat.me.0.capacity ≡ t.capacity) × (t.seat.me.0.item ≡ []) × IsPaused B.told t.stage t.seat.me };
+    ghost invariant = { λ t.
+        IsRunner t.party.seat.me.0
+        × (t.party.seat.me.0.item ≡ [])
+        × IsPaused B.told t.stage t.party.seat.me };
 }
 
 /// The seat of a task that is over, as its last turn gives it back: what it showed last. It does nothing any more, and has no bytes.
@@ -67,30 +63,4 @@ impl<B: Listener> Model for Spent<B> {
     ghost Value = { SpentState };
 
     ghost view = { λ s. record { table = s.seat.table_id; seat = s.seat.id; knows = s.seat.me.0 } };
-}
-
-/// The task that a signal started, if it did: what was spare is spent for it.
-pub(crate) fn start<B: Listener>(
-    spare: &mut Option<SharedTable<B>>,
-    seat: Option<CellSeat<B>>,
-    capacity: u64,
-) -> Option<Task<B>>
-    requires ready { IsSome spare.old }
-    requires fits { IfSome seat (λ seat. IfSome spare.old (λ spare. (padded_value (arc_value spare)).shared.table_id ≡ seat.table_id) × HasFourWords seat.table_id) }
-    requires handed { IfSome seat (λ seat. (view : View) × (view.capacity ≡ capacity) × (seat.me ≡ (running_handed view, []))) }
-    requires sized { 0 < capacity }
-    ensures none { IfNone result ((seat ≡ None) × (spare.new ≡ spare.old)) }
-    ensures spent { IfSome result (λ task. spare.new ≡ None) }
-    ensures started { IfSome result (λ task. IfSome seat (λ seat. IsStarted seat.table_id capacity task)) }
-    ensures some { IfSome result (λ task. IsSome seat) }
-    ensures counts { (started : ℕ) → starts_after result started ≡ starts_after seat started }
-{
-    let seat = seat?;
-    let table = spare.take()?;
-    Some(Task {
-        table,
-        seat,
-        capacity,
-        stage: Stage::Home,
-    })
 }

@@ -10,94 +10,83 @@ ghost use Rattle.feed_cell.specs.Types.{Nobody, Ready, Taken};
 ghost use Rattle.feed_cell.specs.Control.{MARK};
 ghost use Rattle.feed_cell.specs.Parties.{IsGoing, IsHome};
 ghost use Rattle.feed_cell.specs.Plays.{SeesPut, Measures, MeasuresNone, QUIET, grants_by, how_out, outlook_by};
-ghost use Rattle.feed_cell.specs.Running.{HasItem, Carries, HasLookedAt, IsEnding};
-ghost use Rattle.feed_cell.specs.Steps.{HasFourWords};
+ghost use Rattle.feed_cell.specs.Running.{HasItem, Carries, HasLookedAt, IsEnding, TakesOut, IsAtRest, HasMissed, HasLeft};
+ghost use Rattle.feed_cell.specs.Steps.{IsSameSeat, Steps};
 ghost use Rattle.feed_cell.specs.Views.{IsRunner};
 ghost use Rattle.feed_cell.specs.declared.cell.Held.TheVariants as Held;
 
 use super::plays::{
     EndStep, LookFirstStep, LookStep, MeasureNoneStep, MeasureStep, RestStep, SeeStep, TakeStep,
 };
-use crate::cell::{ASKED, CONTROL, CellSeat, CellTable, HEAD, Held, MARK, QUIET, RESTING, TAIL};
+use crate::cell::seated::Seated;
+use crate::cell::{ASKED, CONTROL, CellSeat, HEAD, Held, MARK, QUIET, RESTING, TAIL};
 use flow_rules::{Item, Listener};
 
 /// Looks at the marks and causes, and clears the mark of something new. Answers the word that it found.
-pub(crate) fn look<B: Listener>(table: &CellTable<B>, seat: &mut CellSeat<B>) -> u64
-    requires table { (seat.old.table_id ≡ table.now.shared.table_id) × HasFourWords seat.old.table_id }
-    requires runner { IsRunner seat.old.me.0 × (seat.old.me.0.item ≡ []) }
-    requires going { IsGoing B.told seat.old.me }
-    ensures table { (seat.new.table_id ≡ seat.old.table_id) × (seat.new.id ≡ seat.old.id) }
-    ensures looked { HasLookedAt B.told result seat.new.me }
-    ensures same { (seat.new.me.1 ≡ seat.old.me.1) × (seat.new.me.0.taken ≡ seat.old.me.0.taken) × (seat.new.me.0.misses ≡ seat.old.me.0.misses) × (seat.new.me.0.capacity ≡ seat.old.me.0.capacity) × (seat.new.me.0.grants ≡ seat.old.me.0.grants) }
+pub(crate) fn look<B: Listener>(party: &mut Seated<B>) -> u64
+    requires runner { IsRunner party.old.seat.me.0 × (party.old.seat.me.0.item ≡ []) }
+    requires going { IsGoing B.told party.old.seat.me }
+    ensures seat { IsSameSeat party.old.seat party.new.seat }
+    ensures looked { HasLookedAt B.told result party.new.seat.me }
+    ensures same { (party.new.seat.me.1 ≡ party.old.seat.me.1) × (party.new.seat.me.0.taken ≡ party.old.seat.me.0.taken) × (party.new.seat.me.0.misses ≡ party.old.seat.me.0.misses) × (party.new.seat.me.0.grants ≡ party.old.seat.me.0.grants) }
 {
-    table.shared.fetch_and::<LookStep>(seat, CONTROL, QUIET)
+    let table = &party.table.shared;
+    table.fetch_and::<LookStep>(&mut party.seat, CONTROL, QUIET)
 }
 
 /// The first look of a task that was handed over. It takes the subscriber out of its slot.
-pub(crate) fn look_first<B: Listener>(table: &CellTable<B>, seat: &mut CellSeat<B>) -> u64
-    requires table { (seat.old.table_id ≡ table.now.shared.table_id) × HasFourWords seat.old.table_id }
-    requires runner { IsRunner seat.old.me.0 × (seat.old.me.0.item ≡ []) }
-    requires home { IsHome seat.old.me }
-    ensures table { (seat.new.table_id ≡ seat.old.table_id) × (seat.new.id ≡ seat.old.id) }
-    ensures looked { HasLookedAt B.told result seat.new.me }
-    ensures same { (seat.new.me.0.misses ≡ seat.old.me.0.misses) × (seat.new.me.0.capacity ≡ seat.old.me.0.capacity) × (seat.new.me.0.grants ≡ seat.old.me.0.grants) }
+pub(crate) fn look_first<B: Listener>(party: &mut Seated<B>) -> u64
+    requires runner { IsRunner party.old.seat.me.0 × (party.old.seat.me.0.item ≡ []) }
+    requires home { IsHome party.old.seat.me }
+    ensures seat { IsSameSeat party.old.seat party.new.seat }
+    ensures looked { HasLookedAt B.told result party.new.seat.me }
+    ensures same { (party.new.seat.me.0.misses ≡ party.old.seat.me.0.misses) × (party.new.seat.me.0.grants ≡ party.old.seat.me.0.grants) }
 {
-    table
-        .shared
-        .fetch_and::<LookFirstStep>(seat, CONTROL, QUIET)
+    let table = &party.table.shared;
+    table.fetch_and::<LookFirstStep>(&mut party.seat, CONTROL, QUIET)
 }
 
 /// Sees how many items were put, and takes the slot of the next one out where there is one.
-pub(crate) fn see<B: Listener>(table: &CellTable<B>, seat: &mut CellSeat<B>) -> u64
-    requires table { (seat.old.table_id ≡ table.now.shared.table_id) × HasFourWords seat.old.table_id }
-    requires may { IsRunner seat.old.me.0 × (seat.old.me.0.away ≡ true) × MaySee seat.old.me.0.runner }
-    ensures table { (seat.new.table_id ≡ seat.old.table_id) × (seat.new.id ≡ seat.old.id) }
-    ensures sees { SeesPut seat.old.me result seat.new.me }
+pub(crate) fn see<B: Listener>(party: &mut Seated<B>) -> u64
+    requires may { IsRunner party.old.seat.me.0 × (party.old.seat.me.0.away ≡ true) × MaySee party.old.seat.me.0.runner }
+    ensures sees { Steps party.old.seat (SeesPut party.old.seat.me result) party.new.seat }
 {
-    table.shared.load::<SeeStep>(seat, TAIL)
+    let table = &party.table.shared;
+    table.load::<SeeStep>(&mut party.seat, TAIL)
 }
 
 /// Measures how many items were requested by the handle, with an item out, whose slot it gives back where no more are.
-pub(crate) fn measure<B: Listener>(table: &CellTable<B>, seat: &mut CellSeat<B>) -> u64
-    requires table { (seat.old.table_id ≡ table.now.shared.table_id) × HasFourWords seat.old.table_id }
-    requires may { IsRunner seat.old.me.0 × (seat.old.me.0.away ≡ true) × MayMeasure seat.old.me.0.runner }
-    requires item { HasItem seat.old.me }
-    ensures table { (seat.new.table_id ≡ seat.old.table_id) × (seat.new.id ≡ seat.old.id) }
-    ensures measures { Measures seat.old.me result seat.new.me }
+pub(crate) fn measure<B: Listener>(party: &mut Seated<B>) -> u64
+    requires may { IsRunner party.old.seat.me.0 × (party.old.seat.me.0.away ≡ true) × MayMeasure party.old.seat.me.0.runner }
+    requires item { HasItem party.old.seat.me }
+    ensures measures { Steps party.old.seat (Measures party.old.seat.me result) party.new.seat }
 {
-    table.shared.load::<MeasureStep>(seat, ASKED)
+    let table = &party.table.shared;
+    table.load::<MeasureStep>(&mut party.seat, ASKED)
 }
 
 /// The same, with no item out.
-pub(crate) fn measure_none<B: Listener>(table: &CellTable<B>, seat: &mut CellSeat<B>)
-    requires table { (seat.old.table_id ≡ table.now.shared.table_id) × HasFourWords seat.old.table_id }
-    requires may { IsRunner seat.old.me.0 × (seat.old.me.0.away ≡ true) × MayMeasure seat.old.me.0.runner }
-    requires none { seat.old.me.0.item ≡ [] }
-    ensures table { (seat.new.table_id ≡ seat.old.table_id) × (seat.new.id ≡ seat.old.id) }
-    ensures measures { (found : ℕ) × MeasuresNone seat.old.me found seat.new.me }
+pub(crate) fn measure_none<B: Listener>(party: &mut Seated<B>)
+    requires may { IsRunner party.old.seat.me.0 × (party.old.seat.me.0.away ≡ true) × MayMeasure party.old.seat.me.0.runner }
+    requires none { party.old.seat.me.0.item ≡ [] }
+    ensures measures { Steps party.old.seat (λ me. (found : ℕ) × MeasuresNone party.old.seat.me found me) party.new.seat }
 {
-    let _ = table.shared.load::<MeasureNoneStep>(seat, ASKED);
+    let table = &party.table.shared;
+    let _ = table.load::<MeasureNoneStep>(&mut party.seat, ASKED);
 }
 
 /// Takes the item that is out, and stores the new head.
-pub(crate) fn take<B: Listener>(
-    table: &CellTable<B>,
-    seat: &mut CellSeat<B>,
-    capacity: u64,
-    given: u64,
-) -> Item
-    requires table { (seat.old.table_id ≡ table.now.shared.table_id) × HasFourWords seat.old.table_id }
-    requires may { IsRunner seat.old.me.0 × (seat.old.me.0.away ≡ true) × MayTake (length seat.old.me.0.taken) seat.old.me.0.runner }
-    requires item { HasItem seat.old.me }
-    requires counted { (length seat.old.me.0.taken ≡ given) × (given < UNBOUNDED) }
-    requires sized { (seat.old.me.0.capacity ≡ capacity) × (0 < capacity) }
-    ensures table { (seat.new.table_id ≡ seat.old.table_id) × (seat.new.id ≡ seat.old.id) }
-    ensures item { seat.old.me.0.item ≡ result ∷ [] }
-    ensures taken { seat.new.me ≡ (record seat.old.me.0 { taken = seat.old.me.0.taken ++ result ∷ []; item = []; grants = seat.old.me.0.grants ++ grants_by seat.old.me.0.runner; runner = Taken }, rest seat.old.me.1) }
+pub(crate) fn take<B: Listener>(party: &mut Seated<B>, given: u64) -> Item
+    requires may { IsRunner party.old.seat.me.0 × (party.old.seat.me.0.away ≡ true) × MayTake (length party.old.seat.me.0.taken) party.old.seat.me.0.runner }
+    requires item { HasItem party.old.seat.me }
+    requires counted { (length party.old.seat.me.0.taken ≡ given) × (given < UNBOUNDED) }
+    ensures item { party.old.seat.me.0.item ≡ result ∷ [] }
+    ensures taken { Steps party.old.seat (TakesOut result party.old.seat.me) party.new.seat }
 {
-    let slot = (given % capacity) as usize;
-    let held = table.shared.exchange(seat, slot, Held::Empty);
-    table.shared.store::<TakeStep>(seat, HEAD, given + 1);
+    let table = &party.table.shared;
+    let slot = (given % party.capacity) as usize;
+    let held = table.exchange(&mut party.seat, slot, Held::Empty);
+    table.store::<TakeStep>(&mut party.seat, HEAD, given + 1);
     match held {
         Held::Item(item) => item,
         _ => unreachable!(),
@@ -105,29 +94,25 @@ pub(crate) fn take<B: Listener>(
 }
 
 /// Rests, unless something is new since the look that found this word. Answers whether it rests.
-pub(crate) fn try_rest<B: Listener>(table: &CellTable<B>, seat: &mut CellSeat<B>, word: u64) -> bool
-    requires table { (seat.old.table_id ≡ table.now.shared.table_id) × HasFourWords seat.old.table_id }
-    requires carries { Carries B.told seat.old.me }
-    requires may { MayRest (length seat.old.me.0.taken) seat.old.me.0.runner }
-    requires look { seat.old.me.0.look ≡ bit_and word QUIET }
-    ensures table { (seat.new.table_id ≡ seat.old.table_id) × (seat.new.id ≡ seat.old.id) }
-    ensures rests { result ≡ true → seat.new.me ≡ (record seat.old.me.0 { runner = Nobody; runs = false; away = false; outlook = Resting }, []) }
-    ensures missed { result ≡ false → seat.new.me ≡ (record seat.old.me.0 { runner = Ready; misses = seat.old.me.0.misses + 1 }, seat.old.me.1) }
+pub(crate) fn try_rest<B: Listener>(party: &mut Seated<B>, word: u64) -> bool
+    requires carries { Carries B.told party.old.seat.me }
+    requires may { MayRest (length party.old.seat.me.0.taken) party.old.seat.me.0.runner }
+    requires look { party.old.seat.me.0.look ≡ bit_and word QUIET }
+    ensures seat { IsSameSeat party.old.seat party.new.seat }
+    ensures rests { result ≡ true → IsAtRest party.old.seat.me party.new.seat.me }
+    ensures missed { result ≡ false → HasMissed party.old.seat.me party.new.seat.me }
 {
+    let table = &party.table.shared;
     let look = word & QUIET;
-    table
-        .shared
-        .compare_exchange::<RestStep>(seat, CONTROL, look, look & RESTING)
-        == look
+    table.compare_exchange::<RestStep>(&mut party.seat, CONTROL, look, look & RESTING) == look
 }
 
 /// Ends the subscription: stores head with its mark, and gives the subscriber back.
-pub(crate) fn end<B: Listener>(table: &CellTable<B>, seat: &mut CellSeat<B>, given: u64)
-    requires table { (seat.old.table_id ≡ table.now.shared.table_id) × HasFourWords seat.old.table_id }
-    requires ending { (how : How) × IsEnding B.told how seat.old.me }
-    requires counted { (length seat.old.me.0.taken ≡ given) × (given < MARK) }
-    ensures table { (seat.new.table_id ≡ seat.old.table_id) × (seat.new.id ≡ seat.old.id) }
-    ensures ended { seat.new.me ≡ (record seat.old.me.0 { runs = false; away = false; outlook = outlook_by (how_out seat.old.me.1) }, []) }
+pub(crate) fn end<B: Listener>(party: &mut Seated<B>, given: u64)
+    requires ending { (how : How) × IsEnding B.told how party.old.seat.me }
+    requires counted { (length party.old.seat.me.0.taken ≡ given) × (given < MARK) }
+    ensures ended { Steps party.old.seat (HasLeft party.old.seat.me) party.new.seat }
 {
-    table.shared.store::<EndStep>(seat, HEAD, given + MARK);
+    let table = &party.table.shared;
+    table.store::<EndStep>(&mut party.seat, HEAD, given + MARK);
 }

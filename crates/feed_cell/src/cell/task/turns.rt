@@ -3,7 +3,7 @@ ghost use Rattle.std.specs.Prelude.{◌≡◌, ◌<◌, [], IfOk, IfErr};
 ghost use Rattle.feed_core.specs.declared.turn.outlook.Outlook.TheVariants.{Again, Ended};
 ghost use Rattle.feed_cell.specs.Paused.{IsPaused};
 ghost use Rattle.feed_cell.specs.Running.{HasLookedAt};
-ghost use Rattle.feed_cell.specs.Steps.{HasFourWords};
+ghost use Rattle.feed_cell.specs.Steps.{IsSameSeat};
 ghost use Rattle.feed_cell.specs.Turned.{IsBeforeLook, RunsAs, TurnsInto, MayLookNext, KeepsGoing};
 ghost use Rattle.feed_cell.specs.Views.{IsRunner};
 
@@ -11,7 +11,8 @@ use super::calls::greet_there;
 use super::looks::{Served, serve};
 use super::steps::{end, look, look_first};
 use super::{Spent, Stage, Task};
-use crate::cell::{CellSeat, CellTable};
+use crate::cell::CellSeat;
+use crate::cell::seated::Seated;
 use feed_core::{ITEMS_IN_A_TURN, Outlook, Seen};
 use flow_rules::{How, Listener};
 
@@ -37,50 +38,43 @@ impl<B: Listener> Task<B> {
         ensures turned { TurnsInto self seen.new.signals result }
         ensures room { seen.new.room ≡ seen.old.room }
     {
-        let Task {
-            table,
-            mut seat,
-            capacity,
-            stage,
-        } = self;
+        let Task { mut party, stage } = self;
         seen.clear();
-        match run(&table, &mut seat, capacity, stage, seen) {
+        match run(&mut party, stage, seen) {
             Outlook::Again => Turn::Again(Task {
-                table,
-                seat,
-                capacity,
+                party,
                 stage: Stage::Going,
             }),
-            Outlook::Resting => Turn::Resting(Spent { seat }),
-            Outlook::Ended(how) => Turn::Ended(how, Spent { seat }),
+            Outlook::Resting => Turn::Resting(Spent {
+                seat: party.into_seat(),
+            }),
+            Outlook::Ended(how) => Turn::Ended(
+                how,
+                Spent {
+                    seat: party.into_seat(),
+                },
+            ),
         }
     }
 }
 
 /// Greets the subscriber, where it was told nothing yet, and looks until the turn is over.
-fn run<B: Listener>(
-    table: &CellTable<B>,
-    seat: &mut CellSeat<B>,
-    capacity: u64,
-    stage: Stage,
-    seen: &mut Seen,
-) -> Outlook
-    requires table { (seat.old.table_id ≡ table.now.shared.table_id) × HasFourWords seat.old.table_id }
-    requires runner { IsRunner seat.old.me.0 × (seat.old.me.0.item ≡ []) × (seat.old.me.0.capacity ≡ capacity) × (0 < capacity) }
-    requires paused { IsPaused B.told stage seat.old.me }
+fn run<B: Listener>(party: &mut Seated<B>, stage: Stage, seen: &mut Seen) -> Outlook
+    requires runner { IsRunner party.old.seat.me.0 × (party.old.seat.me.0.item ≡ []) }
+    requires paused { IsPaused B.told stage party.old.seat.me }
     requires nothing { seen.old.signals ≡ [] }
-    ensures table { (seat.new.table_id ≡ seat.old.table_id) × (seat.new.id ≡ seat.old.id) }
-    ensures runner { result ≡ Again → IsRunner seat.new.me.0 × (seat.new.me.0.item ≡ []) × (seat.new.me.0.capacity ≡ capacity) }
-    ensures runs { RunsAs B.told result seat.old.me seat.new.me seen.new.signals }
+    ensures seat { IsSameSeat party.old.seat party.new.seat }
+    ensures runner { result ≡ Again → IsRunner party.new.seat.me.0 × (party.new.seat.me.0.item ≡ []) }
+    ensures runs { RunsAs B.told result party.old.seat.me party.new.seat.me seen.new.signals }
     ensures room { seen.new.room ≡ seen.old.room }
 {
-    let mut stage = match greet(table, seat, capacity, stage, seen) {
+    let mut stage = match greet(party, stage, seen) {
         Ok(stage) => stage,
         Err(how) => return Outlook::Ended(how),
     };
     for _ in 0..ITEMS_IN_A_TURN {
-        let word = look_next(table, seat, stage);
-        match serve(table, seat, capacity, word, seen) {
+        let word = look_next(party, stage);
+        match serve(party, word, seen) {
             Served::Gave => stage = Stage::Going,
             Served::Rested => return Outlook::Resting,
             Served::Missed => return Outlook::Again,
@@ -92,27 +86,20 @@ fn run<B: Listener>(
 
 /// Tells `onSubscribe`, where nothing was told yet. Answers where the task stands then, or the end, if what the callback answers
 /// is one.
-fn greet<B: Listener>(
-    table: &CellTable<B>,
-    seat: &mut CellSeat<B>,
-    capacity: u64,
-    stage: Stage,
-    seen: &mut Seen,
-) -> Result<Stage, How>
-    requires table { (seat.old.table_id ≡ table.now.shared.table_id) × HasFourWords seat.old.table_id }
-    requires runner { IsRunner seat.old.me.0 × (seat.old.me.0.item ≡ []) × (seat.old.me.0.capacity ≡ capacity) }
-    requires paused { IsPaused B.told stage seat.old.me }
+fn greet<B: Listener>(party: &mut Seated<B>, stage: Stage, seen: &mut Seen) -> Result<Stage, How>
+    requires runner { IsRunner party.old.seat.me.0 × (party.old.seat.me.0.item ≡ []) }
+    requires paused { IsPaused B.told stage party.old.seat.me }
     requires nothing { seen.old.signals ≡ [] }
-    ensures table { (seat.new.table_id ≡ seat.old.table_id) × (seat.new.id ≡ seat.old.id) }
-    ensures goes { IfOk result (λ stage. IsRunner seat.new.me.0 × (seat.new.me.0.item ≡ []) × (seat.new.me.0.capacity ≡ capacity) × IsBeforeLook B.told stage 0 seat.old.me seat.new.me seen.new.signals) }
-    ensures ends { IfErr result (λ how. RunsAs B.told (Ended how) seat.old.me seat.new.me seen.new.signals) }
+    ensures seat { IsSameSeat party.old.seat party.new.seat }
+    ensures goes { IfOk result (λ stage. IsRunner party.new.seat.me.0 × (party.new.seat.me.0.item ≡ []) × IsBeforeLook B.told stage 0 party.old.seat.me party.new.seat.me seen.new.signals) }
+    ensures ends { IfErr result (λ how. RunsAs B.told (Ended how) party.old.seat.me party.new.seat.me seen.new.signals) }
     ensures room { seen.new.room ≡ seen.old.room }
 {
     match stage {
-        Stage::Fresh => match greet_there(table, seat, capacity as usize, seen) {
+        Stage::Fresh => match greet_there(party, seen) {
             None => Ok(Stage::Going),
             Some(how) => {
-                end(table, seat, 0);
+                end(party, 0);
                 Err(how)
             }
         },
@@ -121,17 +108,16 @@ fn greet<B: Listener>(
 }
 
 /// Looks at the marks and causes; the first look of a task that a signal started takes its subscriber with it.
-fn look_next<B: Listener>(table: &CellTable<B>, seat: &mut CellSeat<B>, stage: Stage) -> u64
-    requires table { (seat.old.table_id ≡ table.now.shared.table_id) × HasFourWords seat.old.table_id }
-    requires runner { IsRunner seat.old.me.0 × (seat.old.me.0.item ≡ []) }
-    requires may { MayLookNext B.told stage seat.old.me }
-    ensures table { (seat.new.table_id ≡ seat.old.table_id) × (seat.new.id ≡ seat.old.id) }
-    ensures looked { HasLookedAt B.told result seat.new.me }
-    ensures same { (seat.new.me.0.misses ≡ seat.old.me.0.misses) × (seat.new.me.0.capacity ≡ seat.old.me.0.capacity) × KeepsGoing stage seat.old.me seat.new.me }
-    ensures grants { seat.new.me.0.grants ≡ seat.old.me.0.grants }
+fn look_next<B: Listener>(party: &mut Seated<B>, stage: Stage) -> u64
+    requires runner { IsRunner party.old.seat.me.0 × (party.old.seat.me.0.item ≡ []) }
+    requires may { MayLookNext B.told stage party.old.seat.me }
+    ensures seat { IsSameSeat party.old.seat party.new.seat }
+    ensures looked { HasLookedAt B.told result party.new.seat.me }
+    ensures same { (party.new.seat.me.0.misses ≡ party.old.seat.me.0.misses) × KeepsGoing stage party.old.seat.me party.new.seat.me }
+    ensures grants { party.new.seat.me.0.grants ≡ party.old.seat.me.0.grants }
 {
     match stage {
-        Stage::Going => look(table, seat),
-        _ => look_first(table, seat),
+        Stage::Going => look(party),
+        _ => look_first(party),
     }
 }

@@ -19,12 +19,12 @@ take_apart-requires-clause-may g c = let may = c.in_ok-table.ensures.may in
 
 pub returns-clause-left : goal.returns-clause-left
 returns-clause-left g c = let end = c.args.producer.end in let knows = c.in_ok-table.ensures.knows in
-    c.take_apart.ensures.left end None (still c.in_ok-table.seat.me c.step_out-asking.result.me.0 c.join_if_of_one_table.new.seat.me c.join_if_of_one_table.ensures.joined (λ v. end ≡ known_end v.capacity v end.ready) knows knows) tt
+    c.take_apart.ensures.left end None (still c.in_ok-table.seat.me c.step_out-asking.result.me.0 c.join_if_of_one_table.new.seat.me c.join_if_of_one_table.ensures.joined (λ v. end ≡ known_end v end.ready) knows knows) tt
 
 pub returns-clause-own : goal.returns-clause-own
 returns-clause-own g c same =
     let end = c.args.producer.end in let knows = c.in_ok-table.ensures.knows in let table = c.in_ok-table.ensures.table in let asks = c.step_out-asking.ensures.knows in let joined = c.join_if_of_one_table.ensures.joined in
     let v = c.in_ok-table.seat.me in let w = c.step_out-asking.result.me.0 in let me = c.join_if_of_one_table.new.seat.me in
-    c.take_apart.ensures.left end (Some c.args.handle) (still v w me joined (λ v. end ≡ known_end v.capacity v end.ready) knows knows)
+    c.take_apart.ensures.left end (Some c.args.handle) (still v w me joined (λ v. end ≡ known_end v end.ready) knows knows)
     (in_it v w me joined (KnowsHandle c.args.handle) (c.step_out-asking.ensures.seat.0 ∙ same ∙ sym table.1 ∙ table.0)
     (record { is = asks.is; left = asks.left; asked = asks.asked; cancelled = asks.cancelled; argument = asks.argument }))

@@ -12,17 +12,23 @@ split_seat-asking-requires g c = (search rules, search rules, splits_handle g.B.
 
 pub invariant_of-producer : goal.invariant_of-producer
 invariant_of-producer g c =
-    let words = ap (λ (r : TableId). r.words) (c.split_seat-asking.ensures.0 ∙ c.split_seat-running.ensures.0) ∙ c.in-Ok.ensures.1 in
     let first = producer_first g.B.Listener.told c.args.capacity c.in-Ok.seat.me c.split_seat-running.new.seat.me c.split_seat-asking.new.seat.me c.in-Ok.ensures.2 c.split_seat-running.ensures.2 c.split_seat-asking.ensures.2 in
-    (search rules, search rules, words, holds_one c.args.capacity c.requires.capacity, first.0, first.1, first.2, first.3, first.4)
+    record {
+      its_table = search rules;
+      four_words = ap (λ (r : TableId). r.words) (c.split_seat-asking.ensures.0 ∙ c.split_seat-running.ensures.0) ∙ c.in-Ok.ensures.1;
+      sized = first.0;
+      some_room = holds_one c.args.capacity c.requires.capacity;
+    }
 
 pub invariant_of-handle : goal.invariant_of-handle
 invariant_of-handle g c =
-    let words = ap (λ (r : TableId). r.words) (c.split_seat-asking.ensures.3 ∙ c.split_seat-running.ensures.0) ∙ c.in-Ok.ensures.1 in
     let first = handle_first g.B.Listener.told c.args.capacity c.in-Ok.seat.me c.split_seat-running.new.seat.me c.split_seat-asking.result.me c.in-Ok.ensures.2 c.split_seat-running.ensures.2 c.split_seat-asking.ensures.4 in
-    (search rules, search rules, words, holds_one c.args.capacity c.requires.capacity, first.0, first.1, first.2, first.3, first.4, first.5)
+    record {
+      its_table = search rules;
+      four_words = ap (λ (r : TableId). r.words) (c.split_seat-asking.ensures.3 ∙ c.split_seat-running.ensures.0) ∙ c.in-Ok.ensures.1;
+      sized = first.0;
+      some_room = holds_one c.args.capacity c.requires.capacity;
+    }
 
 pub invariant_of-task : goal.invariant_of-task
-invariant_of-task g c =
-    let first = task_first g.B.Listener.told c.args.capacity c.args.subscriber c.in-Ok.seat.me c.split_seat-running.result.me c.lodge.new.seat.me c.in-Ok.ensures.2 c.split_seat-running.ensures.4 c.requires.untold (search rules) in
-    (search rules, search rules, holds_one c.args.capacity c.requires.capacity, first.0, first.1, first.2, first.3)
+invariant_of-task g c = task_first g.B.Listener.told c.args.capacity c.args.subscriber c.in-Ok.seat.me c.split_seat-running.result.me c.lodge.new.party.seat.me c.in-Ok.ensures.2 c.split_seat-running.ensures.4 c.requires.untold (search rules)

@@ -4,7 +4,7 @@ use Rattle.feed_cell.specs.declared.cell.Held.TheVariants as Held
 use Rattle.feed_cell.proofs.cell.task.calls.finish_there.Goals as goal
 
 pub slot_mut-requires : goal.slot_mut-requires
-slot_mut-requires g c = (search rules, (Held.Guest c.requires.carries.guest, top g.B.Listener.told c.args.seat.now.me.1 _ c.args.slot _ c.requires.carries.slot c.requires.slot))
+slot_mut-requires g c = (search rules, (Held.Guest c.requires.carries.guest, top g.B.Listener.told c.args.party.now.seat.me.1 _ c.args.party.now.capacity _ c.requires.carries.slot c.args.party.now.sized))
 
 pub returns-clause-finishes : goal.returns-clause-finishes
-returns-clause-finishes g c = finishes g.B.Listener.told c.args.seat.now.me c.args.slot c.in-Guest.guest c.finish.new.guest c.slot_mut.result.now c.args.seen.now c.finish.new.seen c.requires.slot c.slot_mut.ensures.value c.in-Guest.is c.args.due _ c.requires.carries c.requires.due c.requires.missed c.finish.ensures
+returns-clause-finishes g c = finishes g.B.Listener.told c.args.party.now.seat.me c.args.party.now.capacity c.in-Guest.guest c.finish.new.guest c.slot_mut.result.now c.args.seen.now c.finish.new.seen c.args.party.now.sized c.slot_mut.ensures.value c.in-Guest.is c.args.due _ c.requires.carries c.requires.due c.requires.missed c.finish.ensures

@@ -4,4 +4,4 @@ use Rattle.feed_cell.specs.declared.cell.Held.TheVariants as Held
 use Rattle.feed_cell.proofs.cell.task.calls.notes.Goals as goal
 
 pub slot_mut-requires : goal.slot_mut-requires
-slot_mut-requires g c = (search rules, (Held.Guest c.requires.carries.guest, top g.B.Listener.told c.args.seat.now.me.1 _ c.args.slot _ c.requires.carries.slot c.requires.slot))
+slot_mut-requires g c = (search rules, (Held.Guest c.requires.carries.guest, top g.B.Listener.told c.args.party.now.seat.me.1 _ c.args.party.now.capacity _ c.requires.carries.slot c.args.party.now.sized))

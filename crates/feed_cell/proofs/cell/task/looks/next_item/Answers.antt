@@ -5,12 +5,12 @@ use Rattle.feed_cell.proofs.cell.task.looks.next_item.Goals as goal
 
 pub take-requires-clause-may : goal.take-requires-clause-may
 take-requires-clause-may g c =
-    let m = c.measure-asked.ensures.measures in
-    let asked = measured_is c.see-tail.new.seat.me c.measure-asked.new.seat.me c.measure-asked.result m in (
+    let m = c.measure-asked.ensures.measures.1 in
+    let asked = measured_is c.see-tail.new.party.seat.me c.measure-asked.new.party.seat.me c.measure-asked.result m in (
       search rules,
       search rules,
-      may_take c.args.seat.now.me c.see-tail.new.seat.me c.measure-asked.new.seat.me c.see-tail.result c.measure-asked.result c.requires.stage
-          (omega (arith, c.see-tail.ensures.sees.put, c.requires.counted.0, c.if-tail-given.false)) c.see-tail.ensures.sees m
+      may_take c.args.party.now.seat.me c.see-tail.new.party.seat.me c.measure-asked.new.party.seat.me c.see-tail.result c.measure-asked.result c.requires.stage
+          (omega (arith, c.see-tail.ensures.sees.1.put, c.requires.counted.0, c.if-tail-given.false)) c.see-tail.ensures.sees.1 m
           (omega (arith, asked, c.requires.counted.0, c.requires.counted.1, c.min.ensures, c.saturating_add.ensures, c.if-min-given.false)),
     )
 
@@ -22,20 +22,20 @@ take-requires-clause-counted g c =
 
 pub returns-clause-some : goal.returns-clause-some
 returns-clause-some g c =
-    let m = c.measure-asked.ensures.measures in
-    let asked = measured_is c.see-tail.new.seat.me c.measure-asked.new.seat.me c.measure-asked.result m in
-    takes_next c.args.seat.now.me c.see-tail.new.seat.me c.measure-asked.new.seat.me c.take.new.seat.me c.take.result c.see-tail.result c.measure-asked.result c.requires.stage
-    (omega (arith, c.see-tail.ensures.sees.put, c.requires.counted.0, c.if-tail-given.false)) (omega arith) c.see-tail.ensures.sees m
-    (omega (arith, asked, c.requires.counted.0, c.requires.counted.1, c.min.ensures, c.saturating_add.ensures, c.if-min-given.false)) c.take.ensures.taken
+    let m = c.measure-asked.ensures.measures.1 in
+    let asked = measured_is c.see-tail.new.party.seat.me c.measure-asked.new.party.seat.me c.measure-asked.result m in
+    takes_next c.args.party.now.seat.me c.see-tail.new.party.seat.me c.measure-asked.new.party.seat.me c.take.new.party.seat.me c.take.result c.see-tail.result c.measure-asked.result c.requires.stage
+    (omega (arith, c.see-tail.ensures.sees.1.put, c.requires.counted.0, c.if-tail-given.false)) (omega arith) c.see-tail.ensures.sees.1 m
+    (omega (arith, asked, c.requires.counted.0, c.requires.counted.1, c.min.ensures, c.saturating_add.ensures, c.if-min-given.false)) c.take.ensures.taken.1
 
 pub returns-then-tail-given-clause-none : goal.returns-then-tail-given-clause-none
-returns-then-tail-given-clause-none g c = finds_none c.args.seat.now.me c.see-tail.new.seat.me c.measure_none.new.seat.me c.see-tail.result c.measure_none.ensures.measures.0 c.requires.stage c.requires.carries.none_out
-    (c.if-tail-given.true ∙ sym c.requires.counted.0) c.see-tail.ensures.sees c.measure_none.ensures.measures.1
+returns-then-tail-given-clause-none g c = finds_none c.args.party.now.seat.me c.see-tail.new.party.seat.me c.measure_none.new.party.seat.me c.see-tail.result c.measure_none.ensures.measures.1.0 c.requires.stage c.requires.carries.none_out
+    (c.if-tail-given.true ∙ sym c.requires.counted.0) c.see-tail.ensures.sees.1 c.measure_none.ensures.measures.1.1
 
 pub returns-then-min-given-clause-none : goal.returns-then-min-given-clause-none
 returns-then-min-given-clause-none g c =
-    let m = c.measure-asked.ensures.measures in
-    let asked = measured_is c.see-tail.new.seat.me c.measure-asked.new.seat.me c.measure-asked.result m in
-    finds_no_demand c.args.seat.now.me c.see-tail.new.seat.me c.measure-asked.new.seat.me c.see-tail.result c.measure-asked.result c.requires.stage
-    (omega (arith, c.see-tail.ensures.sees.put, c.requires.counted.0, c.if-tail-given.false)) c.see-tail.ensures.sees m
+    let m = c.measure-asked.ensures.measures.1 in
+    let asked = measured_is c.see-tail.new.party.seat.me c.measure-asked.new.party.seat.me c.measure-asked.result m in
+    finds_no_demand c.args.party.now.seat.me c.see-tail.new.party.seat.me c.measure-asked.new.party.seat.me c.see-tail.result c.measure-asked.result c.requires.stage
+    (omega (arith, c.see-tail.ensures.sees.1.put, c.requires.counted.0, c.if-tail-given.false)) c.see-tail.ensures.sees.1 m
     (omega (arith, asked, c.requires.counted.0, c.requires.counted.1, c.min.ensures, c.saturating_add.ensures, c.if-min-given.true))
