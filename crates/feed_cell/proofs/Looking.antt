@@ -14,9 +14,9 @@ use Rattle.feed_cell.proofs.Seats.{mine, other}
 use Rattle.feed_cell.proofs.Stages.{seated}
 use Rattle.feed_cell.proofs.Tallies.{stays_on}
 use Rattle.feed_cell.specs.Cell.{Lies, CellRule, AsProducer, AsRunner, LodgesAt, may_hold}
-use Rattle.feed_cell.specs.Control.{Flags, Reads, causes_of, marked}
+use Rattle.feed_cell.specs.Control.{Flags, Reads, causes_of, marked, QUIET}
 use Rattle.feed_cell.specs.Outlooks.{IsReachedBy}
-use Rattle.feed_cell.specs.Plays.{SeatOf, QUIET, after_causes, LooksOut, LooksFirst}
+use Rattle.feed_cell.specs.Plays.{SeatOf, after_causes, LooksOut, LooksFirst}
 use Rattle.feed_cell.specs.Turning.{own_after, answers_after}
 use Rattle.feed_cell.specs.Views.{IsRunner, has_put, has_ask, has_run}
 use Rattle.feed_cell.specs.declared.cell.Held.{Held}
@@ -94,7 +94,7 @@ few_taken told cap s c same =
 module _ {B : Type 0} (told : B → List Signal) where
   -- a look with the subscriber
   pub looks : (cap n id : ℕ) (v : View) (i : ℕ) (g : Lodger B) (more : List (ℕ × Held B)) (answer : Answer) → IsRunner v → v.away ≡ true → MayLook answer v.runner → g.own ≡ own_after answer v.own → g.answers ≡ answers_after answer v.answers
-      → Allows (CellRule told cap) n id (v, (i, Held.Guest g) ∷ more) 3 (λ n. bit_and n 18446744073709551613) (LooksOut (v, (i, Held.Guest g) ∷ more))
+      → Allows (CellRule told cap) n id (v, (i, Held.Guest g) ∷ more) 3 (λ n. bit_and n QUIET) (LooksOut (v, (i, Held.Guest g) ∷ more))
   looks cap n id v i g more answer is out may own_is answers_are s c wide at small =
       let k = (c.runners id v at is.2).1 in
       let p = c.world in
@@ -118,7 +118,7 @@ module _ {B : Type 0} (told : B → List Signal) where
       )
 
   -- the first look of a task that was handed over takes the subscriber's slot out
-  pub looks_first : (cap n id : ℕ) (me : SeatOf B) → IsRunner me.0 → me.0.away ≡ false → me.0.runner ≡ Ready → Allows (CellRule told cap) n id me 3 (λ n. bit_and n 18446744073709551613) (LooksFirst told me)
+  pub looks_first : (cap n id : ℕ) (me : SeatOf B) → IsRunner me.0 → me.0.away ≡ false → me.0.runner ≡ Ready → Allows (CellRule told cap) n id me 3 (λ n. bit_and n QUIET) (LooksFirst told me)
   looks_first cap n id me is home ready s c wide at small =
       let v : View = me.0 in
       let k = (c.runners id v at is.2).1 in

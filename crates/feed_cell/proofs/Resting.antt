@@ -18,7 +18,7 @@ use Rattle.feed_cell.proofs.Seats.{other, spent}
 use Rattle.feed_cell.proofs.Stages.{seated}
 use Rattle.feed_cell.proofs.Tallies.{has_none}
 use Rattle.feed_cell.specs.Cell.{Lies, CellRule, AsProducer, greeted, has_looked}
-use Rattle.feed_cell.specs.Control.{Reads, number, marked}
+use Rattle.feed_cell.specs.Control.{Reads, number, marked, RESTING}
 use Rattle.feed_cell.specs.Outlooks.{IsReachedBy, miss_between, hand_between}
 use Rattle.feed_cell.specs.Plays.{IsRest}
 use Rattle.feed_cell.specs.Views.{IsRunner, has_put, has_ask, has_run}
@@ -47,7 +47,7 @@ module _ {B : Type 0} (told : B → List Signal) (cap : ℕ) (s : State (Held B)
   found_is = ap (λ ws. slice_index ws 3) c.words
 
   -- nothing is new: the task rests
-  hit : (new : ℕ) → new ≡ bit_and look 18446744073709551614 → bit_at look 1 ≡ 0 → g.given ≡ length v.taken → g.own ≡ v.own → g.answers ≡ v.answers → g.how ≡ None → told g.subscriber ≡ greeted v.taken → slice_index s.words 3 ≡ look → Outcome new
+  hit : (new : ℕ) → new ≡ bit_and look RESTING → bit_at look 1 ≡ 0 → g.given ≡ length v.taken → g.own ≡ v.own → g.answers ≡ v.answers → g.how ≡ None → told g.subscriber ≡ greeted v.taken → slice_index s.words 3 ≡ look → Outcome new
   hit new new_is quiet given_is own_is answers_are how_is told_is same =
       let k = (c.runners id v at is.2).1 in
       let p = c.world in
@@ -79,7 +79,7 @@ module _ {B : Type 0} (told : B → List Signal) (cap : ℕ) (s : State (Held B)
           runner = c.runner;
           lists = c.lists;
           shows = record { sized = c.shows.sized; accepted = c.shows.accepted; given = c.shows.given; none_out = λ _. item_is; started = refl; new = c.shows.new; causes = c.shows.causes; home = λ _. refl; settled = c.shows.settled };
-          reads = subst (λ (m : ℕ). Reads m (record c.flags { run = false })) (ap (λ (m : ℕ). bit_and m 18446744073709551614) (sym look_here) ∙ sym new_is) (reads_rest (subst (λ (m : ℕ). m < 18446744073709551616) found_is small) c.reads);
+          reads = subst (λ (m : ℕ). Reads m (record c.flags { run = false })) (ap (λ (m : ℕ). bit_and m RESTING) (sym look_here) ∙ sym new_is) (reads_rest (subst (λ (m : ℕ). m < 18446744073709551616) found_is small) c.reads);
           words = ap (λ (ws : List ℕ). set ws 3 new) c.words ∙ ap (λ b. marked b p.given ∷ p.accepted ∷ marked c.left p.asked ∷ new ∷ []) seat.over;
           lies = subst (λ (j : ℕ). Lies cap c.log (length c.taken) (length c.taken + length c.item) c.free (set s.homes j (some (Held.Guest g)))) (sym k.sized)
               (lies_guest cap c.log s.homes (length c.taken) (length c.taken + length c.item) c.free (some (Held.Guest g)) c.lists.sized c.lies);
@@ -118,7 +118,7 @@ module _ {B : Type 0} (told : B → List Signal) (cap : ℕ) (s : State (Held B)
 
 module _ {B : Type 0} (told : B → List Signal) where
   -- a compare-and-exchange of control, from the word after the last look to the same without the mark of the task
-  pub rests : (cap n id : ℕ) (v : View) (g : Lodger B) (more : List (ℕ × Held B)) (look new : ℕ) → IsRunner v → v.away ≡ true → MayRest (length v.taken) v.runner → v.item ≡ [] → look ≡ v.look → bit_at look 1 ≡ 0 → new ≡ bit_and look 18446744073709551614
+  pub rests : (cap n id : ℕ) (v : View) (g : Lodger B) (more : List (ℕ × Held B)) (look new : ℕ) → IsRunner v → v.away ≡ true → MayRest (length v.taken) v.runner → v.item ≡ [] → look ≡ v.look → bit_at look 1 ≡ 0 → new ≡ bit_and look RESTING
       → g.given ≡ length v.taken → g.own ≡ v.own → g.answers ≡ v.answers → g.how ≡ None → told g.subscriber ≡ greeted v.taken
       → Allows (CellRule told cap) n id (v, (v.capacity, Held.Guest g) ∷ more) 3 (λ (m : ℕ). either (m == look) new m) (IsRest look (v, (v.capacity, Held.Guest g) ∷ more))
   rests cap n id v g more look new is out may none_out look_is quiet new_is given_is own_is answers_are how_is told_is s c wide at small =

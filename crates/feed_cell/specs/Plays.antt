@@ -14,15 +14,11 @@ use Rattle.feed_cell.specs.declared.cell.Lodger.{Lodger}
 use Rattle.feed_cell.specs.declared.cell.View.{View}
 use Rattle.feed_cell.specs.Cell.{greeted}
 use Rattle.feed_cell.specs.Views.{starts_after}
-use Rattle.feed_cell.specs.Control.{Flags, Reads, causes_of, MARK, marked, number}
+use Rattle.feed_cell.specs.Control.{QUIET, RUNNING, Flags, Reads, causes_of, MARK, marked, number}
 
 -- what a party knows, and the slots that it has out
 abbrev pub SeatOf : Type 0 → Type 0
 SeatOf B = Me (Held B) View
-
--- the control word without its mark of something new
-abbrev pub QUIET : ℕ
-QUIET = 18446744073709551613
 
 module _ {B : Type 0} where
   -- an item or nothing, as a list
@@ -118,7 +114,7 @@ after_signal task cause v = record (with_cause cause v) { producing = Free; requ
 -- a signal starts the task where the word had no mark of that
 pub record Signals {B : Type 0} (cause : Option Cause) (before : SeatOf B) (found : ℕ) (after : SeatOf B) : Type 0 where
   pub started : Bool
-  pub found_is : bit_at found 0 ≡ number started
+  pub found_is : bit_at found RUNNING ≡ number started
   pub signalled : after ≡ (sent cause started before.0, before.1)
   pub sized : after.0.capacity ≡ before.0.capacity
 

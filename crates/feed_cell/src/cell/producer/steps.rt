@@ -9,7 +9,7 @@ ghost use Rattle.feed_cell.specs.declared.cell.Held.TheVariants as Held;
 use super::plays::{PutStep, RoomStep, StandStep};
 use crate::cell::seated::Seated;
 use crate::cell::signal::signal;
-use crate::cell::{COMPLETE, CellSeat, ERROR, ERRORS, HEAD, Held, MARK, TAIL};
+use crate::cell::{CODE, COMPLETE, CellSeat, ERROR, HEAD, Held, MARK, TAIL};
 use flow_rules::{Ending, Item, Listener};
 use std::mem::ManuallyDrop;
 
@@ -87,6 +87,6 @@ pub(crate) fn signal_end<B: Listener>(party: &mut Seated<B>, ending: Ending) -> 
 {
     match ending {
         Ending::Normal => signal(party, COMPLETE),
-        Ending::Failed(code) => signal(party, u64::from(code) * ERRORS + ERROR),
+        Ending::Failed(code) => signal(party, (u64::from(code) << CODE) + ERROR),
     }
 }

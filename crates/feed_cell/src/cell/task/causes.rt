@@ -3,6 +3,7 @@ ghost use Rattle.std.specs.Prelude.{◌≡◌, ◌<◌, ℕ, Bool};
 ghost use Rattle.std.specs.Int.{bit_at};
 ghost use Rattle.feed_cell.specs.Control.{Flags, Reads, number, causes_of};
 
+use crate::cell::{BAD_REQUEST, CANCELLED, CODE, COMPLETED, DOUBLED, FAILED};
 use feed_core::Causes;
 use flow_rules::Ending;
 
@@ -11,9 +12,9 @@ pub(crate) fn causes_in(word: u64, answers: Causes) -> Causes
     ensures { (flags : Flags) → Reads word flags → result ≡ causes_of flags answers }
 {
     Causes {
-        cancel: is_set(word, 2) || answers.cancel,
-        argument: is_set(word, 3) || answers.argument,
-        state: is_set(word, 4),
+        cancel: is_set(word, CANCELLED) || answers.cancel,
+        argument: is_set(word, BAD_REQUEST) || answers.argument,
+        state: is_set(word, DOUBLED),
         closing: closing_in(word),
         failed: answers.failed,
         memory: answers.memory,
@@ -24,10 +25,10 @@ pub(crate) fn causes_in(word: u64, answers: Causes) -> Causes
 fn closing_in(word: u64) -> Option<Ending>
     ensures { (flags : Flags) → Reads word flags → result ≡ flags.closing }
 {
-    if is_set(word, 5) {
-        return Some(Ending::Failed((word >> 32) as u32));
+    if is_set(word, FAILED) {
+        return Some(Ending::Failed((word >> CODE) as u32));
     }
-    if is_set(word, 6) {
+    if is_set(word, COMPLETED) {
         return Some(Ending::Normal);
     }
     None

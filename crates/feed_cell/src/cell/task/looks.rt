@@ -4,7 +4,7 @@ ghost use Rattle.feed_core.specs.Prelude.{How, UNBOUNDED};
 ghost use Rattle.feed_core.specs.Steps.{HasTerminal};
 ghost use Rattle.feed_core.specs.World.Table.{MayEnd, MayRest, MaySee};
 ghost use Rattle.feed_core.specs.declared.turn.TheConstants.{SIGNALS_IN_A_TURN};
-ghost use Rattle.feed_cell.specs.Plays.{QUIET};
+ghost use Rattle.feed_cell.specs.Control.{QUIET};
 ghost use Rattle.feed_cell.specs.Running.{Carries, HasLookedAt, HasTaken, HasNoneToGive, FindsNone, TakesNext};
 ghost use Rattle.feed_cell.specs.Serving.{Serves, GivesAs, FinishesAs, TriesRest, Concludes};
 ghost use Rattle.feed_cell.specs.Steps.{IsSameSeat};

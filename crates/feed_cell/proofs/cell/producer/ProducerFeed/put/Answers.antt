@@ -1,14 +1,10 @@
 use Rattle.std.proofs.Common.{◌+◌, is_some, rules, subst}
 use Rattle.flow_rules.specs.Feed.{End, LookedIfOpen, TakesItem}
 use Rattle.feed_cell.proofs.Accepting.{accepted}
-use Rattle.feed_cell.proofs.Reading.{mask_plain}
 use Rattle.feed_cell.specs.Offering.{Finds}
 use Rattle.feed_cell.specs.Parties.{ProducerState, known_end}
 use Rattle.feed_cell.specs.declared.cell.producer.steps.Found.{Found}
 use Rattle.feed_cell.proofs.cell.producer.ProducerFeed.put.Goals as goal
-
-pub signal-task-requires-clause-mask : goal.signal-task-requires-clause-mask
-signal-task-requires-clause-mask g c = mask_plain
 
 pub returns-clause-means : goal.returns-clause-means
 returns-clause-means g c =
