@@ -9,12 +9,11 @@ ghost use Rattle.feed_cell.specs.Running.{Carries, HasLookedAt, HasTaken, HasNon
 ghost use Rattle.feed_cell.specs.Serving.{Serves, GivesAs, FinishesAs, TriesRest, Concludes};
 ghost use Rattle.feed_cell.specs.Steps.{IsSameSeat};
 
-use super::calls::{finish_there, give_there, notes};
 use super::causes::causes_in;
 use super::steps::{end, measure, measure_none, see, take, try_rest};
 use crate::cell::seated::Seated;
-use crate::cell::{CellSeat, MARK};
-use feed_core::Seen;
+use crate::cell::{Held, MARK};
+use feed_core::{Causes, Seen};
 use flow_rules::{How, Item, Listener, UNBOUNDED};
 
 /// What the task did after a look.
@@ -80,12 +79,18 @@ fn give<B: Listener>(party: &mut Seated<B>, given: u64, item: Item, seen: &mut S
     ensures seat { IsSameSeat party.old.seat party.new.seat }
     ensures gives { GivesAs B.told item result party.old.seat.me party.new.seat.me seen.old seen.new }
 {
-    match give_there(party, item, seen) {
-        None => Served::Gave,
-        Some(how) => {
-            end(party, given + 1);
-            Served::Ended(how)
-        }
+    match party
+        .seat
+        .slot_mut(&party.table.shared, party.capacity as usize)
+    {
+        Held::Guest(guest) => match guest.give(item, seen) {
+            None => Served::Gave,
+            Some(how) => {
+                end(party, given + 1);
+                Served::Ended(how)
+            }
+        },
+        _ => unreachable!(),
     }
 }
 
@@ -99,9 +104,17 @@ fn finish<B: Listener>(party: &mut Seated<B>, given: u64, due: How, seen: &mut S
     ensures seat { IsSameSeat party.old.seat party.new.seat }
     ensures finishes { FinishesAs B.told due result party.old.seat.me party.new.seat.me seen.old seen.new }
 {
-    let how = finish_there(party, due, seen);
-    end(party, given);
-    Served::Ended(how)
+    match party
+        .seat
+        .slot_mut(&party.table.shared, party.capacity as usize)
+    {
+        Held::Guest(guest) => {
+            let how = guest.finish(due, seen);
+            end(party, given);
+            Served::Ended(how)
+        }
+        _ => unreachable!(),
+    }
 }
 
 /// Rests, unless something is new since the look that found this word.
@@ -142,4 +155,20 @@ pub(crate) fn next_item<B: Listener>(
         return (tail, None);
     }
     (tail, Some(take(party, given)))
+}
+
+/// What lies beside the subscriber: how many items were taken, how many its answers requested, and the causes that they brought about.
+fn notes<B: Listener>(party: &mut Seated<B>) -> (u64, u64, Causes)
+    requires carries { Carries B.told party.old.seat.me }
+    ensures seat { IsSameSeat party.old.seat party.new.seat }
+    ensures same { party.new.seat.me ≡ party.old.seat.me }
+    ensures notes { (result.0 ≡ length party.old.seat.me.0.taken) × (result.1 ≡ party.old.seat.me.0.own) × (result.2 ≡ party.old.seat.me.0.answers) }
+{
+    match party
+        .seat
+        .slot_mut(&party.table.shared, party.capacity as usize)
+    {
+        Held::Guest(guest) => guest.notes(),
+        _ => unreachable!(),
+    }
 }

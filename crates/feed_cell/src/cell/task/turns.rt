@@ -7,11 +7,10 @@ ghost use Rattle.feed_cell.specs.Steps.{IsSameSeat};
 ghost use Rattle.feed_cell.specs.Turned.{IsBeforeLook, RunsAs, TurnsInto, MayLookNext, KeepsGoing};
 ghost use Rattle.feed_cell.specs.Views.{IsRunner};
 
-use super::calls::greet_there;
 use super::looks::{Served, serve};
 use super::steps::{end, look, look_first};
 use super::{Spent, Stage, Task};
-use crate::cell::CellSeat;
+use crate::cell::Held;
 use crate::cell::seated::Seated;
 use feed_core::{ITEMS_IN_A_TURN, Outlook, Seen};
 use flow_rules::{How, Listener};
@@ -96,12 +95,18 @@ fn greet<B: Listener>(party: &mut Seated<B>, stage: Stage, seen: &mut Seen) -> R
     ensures room { seen.new.room ≡ seen.old.room }
 {
     match stage {
-        Stage::Fresh => match greet_there(party, seen) {
-            None => Ok(Stage::Going),
-            Some(how) => {
-                end(party, 0);
-                Err(how)
-            }
+        Stage::Fresh => match party
+            .seat
+            .slot_mut(&party.table.shared, party.capacity as usize)
+        {
+            Held::Guest(guest) => match guest.greet(seen) {
+                None => Ok(Stage::Going),
+                Some(how) => {
+                    end(party, 0);
+                    Err(how)
+                }
+            },
+            _ => unreachable!(),
         },
         _ => Ok(stage),
     }
