@@ -37,20 +37,22 @@ module _ {B : Type 0} (told : B → List Signal) where
       let slots : List (Held B) = replicate (cap + 1) Held.Empty in
       let home : (k : ℕ) → k < cap + 1 → get_elem? (map some slots) k ≡ some (some Held.Empty) = λ k within. at_map some slots k Held.Empty (at_replicate (cap + 1) Held.Empty k within) in
       record {
-        world = made cap;
+        cell = record {
+          world = made cap;
+          log = [];
+          taken = [];
+          item = [];
+          free = 0;
+          control = 1;
+          flags = record { run = true; active = false; cancel = false; argument = false; state = false; closing = None };
+          answers = no_causes;
+          away = false;
+          left = false;
+          producer = 0;
+          handle = 0;
+          runner = 0;
+        };
         reached = reached_made cap capacity;
-        log = [];
-        taken = [];
-        item = [];
-        free = 0;
-        control = 1;
-        flags = record { run = true; active = false; cancel = false; argument = false; state = false; closing = None };
-        answers = no_causes;
-        away = false;
-        left = false;
-        producer = 0;
-        handle = 0;
-        runner = 0;
         lists = record { sized = sized; begins = refl; one_out = omega arith; within = omega arith; above = omega arith; below = omega arith };
         shows = record { sized = refl; accepted = refl; given = refl; none_out = λ _. refl; started = refl; new = refl; causes = refl; home = λ _. refl; settled = λ e. refl };
         reads = record { run = refl; active = refl; cancel = refl; argument = refl; state = refl; error = refl; complete = refl; code = refl };
@@ -74,31 +76,19 @@ module _ {B : Type 0} (told : B → List Signal) where
       let h = (c.handles id v at asks).1 in
       let r = (c.runners id v at runs).1 in
       record {
-        world = c.world;
+        cell = record c.cell { runner = length s.views };
         reached = reached_with (running_alone v) (reached_too id v (without_running v) c.reached at (inl puts) (refl, refl, refl)) (c.reached.goes id v at (inl puts)) refl refl;
-        log = c.log;
-        taken = c.taken;
-        item = c.item;
-        free = c.free;
-        control = c.control;
-        flags = c.flags;
-        answers = c.answers;
-        away = c.away;
-        left = c.left;
-        producer = c.producer;
-        handle = c.handle;
-        runner = length s.views;
         lists = c.lists;
         shows = c.shows;
         reads = c.reads;
         words = c.words;
         lies = c.lies;
         lodges = c.lodges;
-        producers = added has_put c.producer _ (set s.views id (without_running v)) (running_alone v)
-            (mine has_put c.producer _ _ s.views id v (without_running v) c.producers at puts (record { sized = p.sized; put = p.put; seen = p.seen; places = p.places; over = p.over; closed = p.closed; doubled = p.doubled; stands = p.stands })) refl;
-        handles = added has_ask c.handle _ (set s.views id (without_running v)) (running_alone v)
-            (mine has_ask c.handle _ _ s.views id v (without_running v) c.handles at asks (record { sized = h.sized; total = h.total; cancels = h.cancels; bad = h.bad; leaves = h.leaves; stands = h.stands })) refl;
-        runners = moved has_run c.runner _ _ s.views id v (without_running v) (running_alone v) c.runners at runs refl
+        producers = added has_put c.cell.producer _ (set s.views id (without_running v)) (running_alone v)
+            (mine has_put c.cell.producer _ _ s.views id v (without_running v) c.producers at puts (record { sized = p.sized; put = p.put; seen = p.seen; places = p.places; over = p.over; closed = p.closed; doubled = p.doubled; stands = p.stands })) refl;
+        handles = added has_ask c.cell.handle _ (set s.views id (without_running v)) (running_alone v)
+            (mine has_ask c.cell.handle _ _ s.views id v (without_running v) c.handles at asks (record { sized = h.sized; total = h.total; cancels = h.cancels; bad = h.bad; leaves = h.leaves; stands = h.stands })) refl;
+        runners = moved has_run c.cell.runner _ _ s.views id v (without_running v) (running_alone v) c.runners at runs refl
             (record { sized = r.sized; seated = r.seated; stands = r.stands; out = r.out; knows = λ e. (let k = r.knows e in record { taken_is = k.taken_is; own_is = k.own_is; answers_are = k.answers_are }); fresh = λ e. (let k = r.fresh e in record { taken_is = k.taken_is; own_is = k.own_is; answers_are = k.answers_are }); item_is = r.item_is; latest = r.latest });
       }
 
@@ -108,71 +98,47 @@ module _ {B : Type 0} (told : B → List Signal) where
       let p = (c.producers id v at puts).1 in
       let h = (c.handles id v at asks).1 in
       record {
-        world = c.world;
+        cell = record c.cell { handle = length s.views };
         reached = reached_with (asking_alone v) (reached_too id v (without_asking v) c.reached at (inl puts) (refl, refl, refl)) (c.reached.goes id v at (inl puts)) refl refl;
-        log = c.log;
-        taken = c.taken;
-        item = c.item;
-        free = c.free;
-        control = c.control;
-        flags = c.flags;
-        answers = c.answers;
-        away = c.away;
-        left = c.left;
-        producer = c.producer;
-        handle = length s.views;
-        runner = c.runner;
         lists = c.lists;
         shows = c.shows;
         reads = c.reads;
         words = c.words;
         lies = c.lies;
         lodges = c.lodges;
-        producers = added has_put c.producer _ (set s.views id (without_asking v)) (asking_alone v)
-            (mine has_put c.producer _ _ s.views id v (without_asking v) c.producers at puts (record { sized = p.sized; put = p.put; seen = p.seen; places = p.places; over = p.over; closed = p.closed; doubled = p.doubled; stands = p.stands })) refl;
-        handles = moved has_ask c.handle _ _ s.views id v (without_asking v) (asking_alone v) c.handles at asks refl
+        producers = added has_put c.cell.producer _ (set s.views id (without_asking v)) (asking_alone v)
+            (mine has_put c.cell.producer _ _ s.views id v (without_asking v) c.producers at puts (record { sized = p.sized; put = p.put; seen = p.seen; places = p.places; over = p.over; closed = p.closed; doubled = p.doubled; stands = p.stands })) refl;
+        handles = moved has_ask c.cell.handle _ _ s.views id v (without_asking v) (asking_alone v) c.handles at asks refl
             (record { sized = h.sized; total = h.total; cancels = h.cancels; bad = h.bad; leaves = h.leaves; stands = h.stands });
-        runners = added has_run c.runner _ (set s.views id (without_asking v)) (asking_alone v)
-            (other has_run c.runner _ _ s.views id (without_asking v) c.runners runs (λ d k. k)) refl;
+        runners = added has_run c.cell.runner _ (set s.views id (without_asking v)) (asking_alone v)
+            (other has_run c.cell.runner _ _ s.views id (without_asking v) c.runners runs (λ d k. k)) refl;
       }
 
   -- a load takes the subscriber's slot out
   pub enters : (cap n id : ℕ) (v : View) (more : List (ℕ × Held B)) → IsRunner v → v.runner ≡ Fresh → v.away ≡ false → Allows (CellRule told cap) n id (v, more) 3 (λ n. n) (λ _. Enters (v, more))
   enters cap n id v more is fresh home s c wide at small =
       let k = (c.runners id v at is.2).1 in
-      let stage : c.world.runner ≡ Fresh = sym k.stands ∙ fresh in
-      let inside : c.away ≡ false = sym k.out ∙ home in
-      let vacant : LodgesAt told cap Fresh c.taken c.world.own c.answers s.homes = subst (λ (r : Runner). LodgesAt told cap r c.taken c.world.own c.answers s.homes) stage (c.lodges inside) in
+      let stage : c.cell.world.runner ≡ Fresh = sym k.stands ∙ fresh in
+      let inside : c.cell.away ≡ false = sym k.out ∙ home in
+      let vacant : LodgesAt told cap Fresh c.cell.taken c.cell.world.own c.cell.answers s.homes = subst (λ (r : Runner). LodgesAt told cap r c.cell.taken c.cell.world.own c.cell.answers s.homes) stage (c.lodges inside) in
       let knows = k.fresh stage in
       let w : View = record v { away = true } in (
         w,
         takes v.capacity Held.Empty,
         ap (λ (j : ℕ). get_elem? s.homes j) k.sized ∙ vacant,
         record {
-          world = c.world;
+          cell = record c.cell { away = true };
           reached = reached_too id v w c.reached at (inr (inr is.2)) (refl, refl, refl);
-          log = c.log;
-          taken = c.taken;
-          item = c.item;
-          free = c.free;
-          control = c.control;
-          flags = c.flags;
-          answers = c.answers;
-          away = true;
-          left = c.left;
-          producer = c.producer;
-          handle = c.handle;
-          runner = c.runner;
           lists = c.lists;
           shows = record { sized = c.shows.sized; accepted = c.shows.accepted; given = c.shows.given; none_out = c.shows.none_out; started = c.shows.started; new = c.shows.new; causes = c.shows.causes; home = λ e. (let h = k.seated in cc); settled = c.shows.settled };
           reads = c.reads;
           words = ap (λ (ws : List ℕ). set ws 3 (slice_index ws 3)) c.words;
-          lies = subst (λ (j : ℕ). Lies cap c.log (length c.taken) (length c.taken + length c.item) c.free (set s.homes j none)) (sym k.sized)
-              (lies_guest cap c.log s.homes (length c.taken) (length c.taken + length c.item) c.free none c.lists.sized c.lies);
+          lies = subst (λ (j : ℕ). Lies cap c.cell.log (length c.cell.taken) (length c.cell.taken + length c.cell.item) c.cell.free (set s.homes j none)) (sym k.sized)
+              (lies_guest cap c.cell.log s.homes (length c.cell.taken) (length c.cell.taken + length c.cell.item) c.cell.free none c.lists.sized c.lies);
           lodges = λ e. cc;
-          producers = other has_put c.producer _ _ s.views id w c.producers is.0 (λ d p. p);
-          handles = other has_ask c.handle _ _ s.views id w c.handles is.1 (λ d h. h);
-          runners = mine has_run c.runner _ _ s.views id v w c.runners at is.2
+          producers = other has_put c.cell.producer _ _ s.views id w c.producers is.0 (λ d p. p);
+          handles = other has_ask c.cell.handle _ _ s.views id w c.handles is.1 (λ d h. h);
+          runners = mine has_run c.cell.runner _ _ s.views id v w c.runners at is.2
               (record { sized = k.sized; seated = k.seated; stands = k.stands; out = refl; knows = λ _. record { taken_is = knows.taken_is; own_is = knows.own_is; answers_are = knows.answers_are }; fresh = λ _. record { taken_is = knows.taken_is; own_is = knows.own_is; answers_are = knows.answers_are }; item_is = k.item_is; latest = k.latest });
         },
         refl,

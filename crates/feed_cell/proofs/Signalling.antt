@@ -36,40 +36,32 @@ no_closing (Some (Closing ending)) h may = absurd may
 
 module _ {B : Type 0} (told : B → List Signal) (cap : ℕ) where
   -- the rule after a signal, whichever side makes it
-  signal_kept : (s : State (Held B) View) (c : CellRule told cap s) (cause : Option Cause) (mask : ℕ) (producer : Producing) (handle : Requesting) (id : ℕ) (w : View) → Reads mask (signal_of cause) → (c.flags.closing ≡ None) ⊎ ((signal_of cause).closing ≡ None)
-      → IsReachedBy (set s.views id w) (record c.world { causes = joined cause c.world.causes; active = true; producer = producer; handle = handle; runner = started c.world.runner })
-      → (c.left ≡ true → handle ≡ Idle) → has_run w ≡ false
-      → Only has_put c.producer (AsProducer cap c.log c.world.given c.free (is_over (started c.world.runner)) (both (signal_of cause) c.flags).closing (both (signal_of cause) c.flags).state producer) (set s.views id w)
-      → Only has_ask c.handle (AsHandle cap c.world.asked (both (signal_of cause) c.flags).cancel (both (signal_of cause) c.flags).argument c.left handle) (set s.views id w)
+  signal_kept : (s : State (Held B) View) (c : CellRule told cap s) (cause : Option Cause) (mask : ℕ) (producer : Producing) (handle : Requesting) (id : ℕ) (w : View) → Reads mask (signal_of cause) → (c.cell.flags.closing ≡ None) ⊎ ((signal_of cause).closing ≡ None)
+      → IsReachedBy (set s.views id w) (record c.cell.world { causes = joined cause c.cell.world.causes; active = true; producer = producer; handle = handle; runner = started c.cell.world.runner })
+      → (c.cell.left ≡ true → handle ≡ Idle) → has_run w ≡ false
+      → Only has_put c.cell.producer (AsProducer cap c.cell.log c.cell.world.given c.cell.free (is_over (started c.cell.world.runner)) (both (signal_of cause) c.cell.flags).closing (both (signal_of cause) c.cell.flags).state producer) (set s.views id w)
+      → Only has_ask c.cell.handle (AsHandle cap c.cell.world.asked (both (signal_of cause) c.cell.flags).cancel (both (signal_of cause) c.cell.flags).argument c.cell.left handle) (set s.views id w)
       → CellRule told cap (record { words = set s.words 3 (bit_or (slice_index s.words 3) mask); homes = s.homes; views = set s.views id w })
   signal_kept s c cause mask producer handle id w sets one reached settled runs producers handles =
-      let p = c.world in
-      let a = adds cause c.flags c.answers in
+      let p = c.cell.world in
+      let a = adds cause c.cell.flags c.cell.answers in
       let st = starts p.runner in
       record {
-        world = record p { causes = joined cause p.causes; active = true; producer = producer; handle = handle; runner = started p.runner };
+        cell = record c.cell {
+          world = record p { causes = joined cause p.causes; active = true; producer = producer; handle = handle; runner = started p.runner };
+          control = bit_or c.cell.control mask;
+          flags = both (signal_of cause) c.cell.flags;
+        };
         reached = reached;
-        log = c.log;
-        taken = c.taken;
-        item = c.item;
-        free = c.free;
-        control = bit_or c.control mask;
-        flags = both (signal_of cause) c.flags;
-        answers = c.answers;
-        away = c.away;
-        left = c.left;
-        producer = c.producer;
-        handle = c.handle;
-        runner = c.runner;
         lists = c.lists;
         shows = record { sized = c.shows.sized; accepted = c.shows.accepted; given = c.shows.given; none_out = λ e. c.shows.none_out (sym st.holds ∙ e); started = a.run ∙ sym st.runs; new = a.active; causes = ap (joined cause) c.shows.causes ∙ a.causes; home = λ e. c.shows.home (sym st.seat ∙ e); settled = settled };
         reads = reads_or c.reads sets one;
-        words = ap (λ (ws : List ℕ). set ws 3 (bit_or (slice_index ws 3) mask)) c.words ∙ ap (λ b. marked b p.given ∷ p.accepted ∷ marked c.left p.asked ∷ bit_or c.control mask ∷ []) (sym st.over);
+        words = ap (λ (ws : List ℕ). set ws 3 (bit_or (slice_index ws 3) mask)) c.words ∙ ap (λ b. marked b p.given ∷ p.accepted ∷ marked c.cell.left p.asked ∷ bit_or c.cell.control mask ∷ []) (sym st.over);
         lies = c.lies;
-        lodges = λ e. lodges_started told cap p.runner c.taken p.own c.answers s.homes (c.lodges e);
+        lodges = λ e. lodges_started told cap p.runner c.cell.taken p.own c.cell.answers s.homes (c.lodges e);
         producers = producers;
         handles = handles;
-        runners = other has_run c.runner _ _ s.views id w c.runners runs (λ d k. (
+        runners = other has_run c.cell.runner _ _ s.views id w c.runners runs (λ d k. (
             let same = st.same k.seated in
             record { sized = k.sized; seated = st.seat ∙ k.seated; stands = k.stands ∙ sym same; out = k.out; knows = k.knows; fresh = λ e. k.fresh (sym same ∙ e); item_is = k.item_is; latest = λ _ e. cc }));
       }
@@ -119,7 +111,7 @@ producer_knows cap log given free over f p h (Some (Closing ending)) d may k = a
 
 module _ {B : Type 0} (told : B → List Signal) where
   -- the mark of the task, in the word that is found
-  mark_found : {cap : ℕ} {s : State (Held B) View} (c : CellRule told cap s) → bit_at (slice_index s.words 3) 0 ≡ number (is_started c.world.runner)
+  mark_found : {cap : ℕ} {s : State (Held B) View} (c : CellRule told cap s) → bit_at (slice_index s.words 3) 0 ≡ number (is_started c.cell.world.runner)
   mark_found c = ap (λ ws. bit_at (slice_index ws 3) 0) c.words ∙ c.reads.run ∙ ap number c.shows.started
 
   -- a fetch-or of control, with the producer's cause
@@ -128,9 +120,9 @@ module _ {B : Type 0} (told : B → List Signal) where
   producer_signals cap n id me mask cause is may sets s c wide at small =
       let v : View = me.0 in
       let k = (c.producers id v at is.0).1 in
-      let p = c.world in
+      let p = c.cell.world in
       let st = starts p.runner in
-      let here : ProducerMay cause p.producer c.flags.closing = subst (λ z. ProducerMay cause z c.flags.closing) k.stands (subst (ProducerMay cause v.producing) k.closed may) in
+      let here : ProducerMay cause p.producer c.cell.flags.closing = subst (λ z. ProducerMay cause z c.cell.flags.closing) k.stands (subst (ProducerMay cause v.producing) k.closed may) in
       let there : ProducerMay cause p.producer p.causes.closing = subst (ProducerMay cause p.producer) (ap (λ z. z.closing) (sym c.shows.causes)) here in
       let before : Bool = is_started p.runner in
       let stays = sent_stays cause before v in
@@ -138,12 +130,12 @@ module _ {B : Type 0} (told : B → List Signal) where
         w,
         keeps,
         tt,
-        signal_kept told cap s c cause mask (producing_after before) p.handle id w sets (one_closing cause p.producer c.flags.closing here)
+        signal_kept told cap s c cause mask (producing_after before) p.handle id w sets (one_closing cause p.producer c.cell.flags.closing here)
             (reached_more (Event.Signal Producer cause) id v w c.reached there at (inl is.0) stays.4 (stays_started p.runner)) c.shows.settled (stays.2 ∙ is.2)
-            (mine has_put c.producer _ _ s.views id v w c.producers at is.0
-            (sent_knows cap c.log p.given c.free (is_over (started p.runner)) c.flags p.producer before c.flags.closing cause v here
-            (subst (λ b. AsProducer cap c.log p.given c.free b c.flags.closing c.flags.state p.producer v) (sym st.over) k)))
-            (other has_ask c.handle _ _ s.views id w c.handles (stays.1 ∙ is.1) (λ d k. handle_knows cap p.asked c.flags c.left p.handle p.producer c.flags.closing cause d here k)),
+            (mine has_put c.cell.producer _ _ s.views id v w c.producers at is.0
+            (sent_knows cap c.cell.log p.given c.cell.free (is_over (started p.runner)) c.cell.flags p.producer before c.cell.flags.closing cause v here
+            (subst (λ b. AsProducer cap c.cell.log p.given c.cell.free b c.cell.flags.closing c.cell.flags.state p.producer v) (sym st.over) k)))
+            (other has_ask c.cell.handle _ _ s.views id w c.handles (stays.1 ∙ is.1) (λ d k. handle_knows cap p.asked c.cell.flags c.cell.left p.handle p.producer c.cell.flags.closing cause d here k)),
         record { started = before; found_is = mark_found c; signalled = refl; sized = stays.3 },
       )
 
@@ -153,7 +145,7 @@ module _ {B : Type 0} (told : B → List Signal) where
   handle_signals cap n id me mask cause is may stays_on sets s c wide at small =
       let v : View = me.0 in
       let k = (c.handles id v at is.1).1 in
-      let p = c.world in
+      let p = c.cell.world in
       let st = starts p.runner in
       let here : HandleMay cause p.handle = subst (HandleMay cause) k.stands may in
       let before : Bool = is_started p.runner in
@@ -164,9 +156,9 @@ module _ {B : Type 0} (told : B → List Signal) where
         tt,
         signal_kept told cap s c cause mask p.producer (requesting_after before) id w sets (inr (no_closing cause p.handle here))
             (reached_more (Event.Signal Handle cause) id v w c.reached here at (inr (inl is.1)) stays.4 (stays_started p.runner)) (λ e. absurd (true≢false (sym e ∙ sym k.leaves ∙ stays_on))) (stays.2 ∙ is.2)
-            (other has_put c.producer _ _ s.views id w c.producers (stays.0 ∙ is.0) (λ d o. producer_knows cap c.log p.given c.free (is_over (started p.runner)) c.flags p.producer p.handle cause d here
-            (subst (λ b. AsProducer cap c.log p.given c.free b c.flags.closing c.flags.state p.producer d) (sym st.over) o)))
-            (mine has_ask c.handle _ _ s.views id v w c.handles at is.1 (sent_handle_knows cap p.asked c.flags c.left p.handle before cause v here k)),
+            (other has_put c.cell.producer _ _ s.views id w c.producers (stays.0 ∙ is.0) (λ d o. producer_knows cap c.cell.log p.given c.cell.free (is_over (started p.runner)) c.cell.flags p.producer p.handle cause d here
+            (subst (λ b. AsProducer cap c.cell.log p.given c.cell.free b c.cell.flags.closing c.cell.flags.state p.producer d) (sym st.over) o)))
+            (mine has_ask c.cell.handle _ _ s.views id v w c.handles at is.1 (sent_handle_knows cap p.asked c.cell.flags c.cell.left p.handle before cause v here k)),
         record { started = before; found_is = mark_found c; signalled = refl; sized = stays.3 },
       )
 
