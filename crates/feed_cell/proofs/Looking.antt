@@ -136,5 +136,5 @@ module _ {B : Type 0} (told : B → List Signal) where
             (subst (λ (j : ℕ). Lies cap c.cell.log (length c.cell.taken) (length c.cell.taken + length c.cell.item) c.cell.free (set s.homes j none)) (sym k.sized)
             (lies_guest cap c.cell.log s.homes (length c.cell.taken) (length c.cell.taken + length c.cell.item) c.cell.free none c.lists.sized c.lies))
             (record { sized = k.sized; seated = refl; stands = refl; out = refl; knows = λ _. record { taken_is = refl; own_is = refl; answers_are = refl }; fresh = λ e. cc; item_is = k.item_is; latest = λ _ _. ap (λ (m : ℕ). bit_and m QUIET) (sym found_is) }),
-        record { flags = c.cell.flags; reads = subst (λ (m : ℕ). Reads m c.cell.flags) (sym found_is) c.reads; started = c.shows.started ∙ (seated p.runner k.seated).runs; guest = g; taken = c.cell.taken; told_is = lodge.told_is; given = lodge.given_is; how = lodge.how_is; few = few_taken told cap s c (refl {a = c.cell.taken}); looked = refl },
+        record { flags = c.cell.flags; reads = subst (λ (m : ℕ). Reads m c.cell.flags) (sym found_is) c.reads; started = c.shows.started ∙ (seated p.runner k.seated).runs; guest = g; taken = c.cell.taken; told_is = lodge.told_is; given = lodge.given_is; how = lodge.how_is; few = few_taken told cap s c refl; looked = refl },
       )

@@ -18,7 +18,7 @@ use Rattle.feed_cell.specs.Cell.{Lies, CellRule, AsProducer, AsHandle, AsRunner,
 use Rattle.feed_cell.specs.Parties.{IsUngreeted}
 use Rattle.feed_cell.specs.Plays.{SeatOf, Enters}
 use Rattle.feed_cell.specs.Steps.{IsProducerOf, IsHandleOf}
-use Rattle.feed_cell.specs.Views.{IsRunner, first_view, has_put, has_ask, has_run, without_asking, asking_alone, without_running, running_alone}
+use Rattle.feed_cell.specs.Views.{IsRunner, RunsFree, first_view, has_put, has_ask, has_run, without_asking, asking_alone, without_running, running_alone}
 use Rattle.feed_cell.specs.declared.cell.Held.{Held}
 use Rattle.feed_cell.specs.declared.cell.View.{View}
 
@@ -175,11 +175,10 @@ module _ {B : Type 0} (told : B → List Signal) where
   -- the seat of the first task, with its subscriber placed in the slot
   pub task_first : (capacity : ℕ) (b : B) (maker run me : SeatOf B) → maker ≡ (first_view capacity, []) → run ≡ (running_alone maker.0, []) → told b ≡ []
       → me ≡ (record run.0 { away = true }, (run.0.capacity, Held.Guest (record { subscriber = b; given = 0; own = 0; answers = no_causes; how = None })) ∷ [])
-      → IsRunner me.0 × (me.0.item ≡ []) × IsUngreeted told me
+      → RunsFree me.0 × IsUngreeted told me
   task_first capacity b maker run me made run_is untold me_is =
       let is : run ≡ (running_alone (first_view capacity), []) = run_is ∙ ap (λ (m : SeatOf B). (running_alone m.0, [])) made in
       let view : me.0 ≡ record (running_alone (first_view capacity)) { away = true } = ap (λ (m : SeatOf B). m.0) me_is ∙ ap (λ (m : SeatOf B). record m.0 { away = true }) is in (
-        subst (λ (v : View). IsRunner v) (sym view) (refl, refl, refl),
-        ap (λ (v : View). v.item) view,
+        subst (λ (v : View). RunsFree v) (sym view) ((refl, refl, refl), refl),
         lodged run.0 b me (ap (λ (m : SeatOf B). m.0.runner) is) (ap (λ (m : SeatOf B). m.0.taken) is) (ap (λ (m : SeatOf B). m.0.own) is) (ap (λ (m : SeatOf B). m.0.answers) is) untold me_is,
       )

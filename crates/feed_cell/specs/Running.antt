@@ -12,6 +12,7 @@ use Rattle.feed_cell.specs.Types.{Causes, Nobody, Ready, Looked, Measured, Taken
 use Rattle.feed_cell.specs.declared.cell.Grant.{Grant}
 use Rattle.feed_cell.specs.declared.cell.Held.{Held}
 use Rattle.feed_cell.specs.declared.cell.Lodger.{Lodger}
+use Rattle.feed_cell.specs.declared.cell.View.{View}
 use Rattle.feed_cell.specs.Cell.{greeted, IsToldAtEnd}
 use Rattle.feed_cell.specs.Control.{Flags, Reads, causes_of, QUIET}
 use Rattle.feed_cell.specs.Paused.{told_out}
@@ -46,6 +47,22 @@ IsAtRest before after = after ≡ (record before.0 { runner = Nobody; runs = fal
 -- it could not rest, since something was new
 abbrev pub HasMissed : {B : Type 0} → SeatOf B → SeatOf B → Type 0
 HasMissed before after = after ≡ (record before.0 { runner = Ready; misses = before.0.misses + 1 }, before.1)
+
+-- it tried no rest, and took nothing
+abbrev pub KeepsCounts : View → View → Type 0
+KeepsCounts before after = (after.misses ≡ before.misses) × (after.grants ≡ before.grants)
+
+-- it has its subscriber with it as before, and has taken what it had
+abbrev pub KeepsSubscriber : {B : Type 0} → SeatOf B → SeatOf B → Type 0
+KeepsSubscriber before after = (after.1 ≡ before.1) × (after.0.taken ≡ before.0.taken)
+
+-- what lies beside a subscriber that is out: how many items were taken, how many its answers requested, and the causes of these
+abbrev pub notes_of : View → ℕ × ℕ × Causes
+notes_of v = (length v.taken, v.own, v.answers)
+
+-- this end may be told, and the end that comes where its callback is refused memory may come
+abbrev pub MayFinish : How → View → Type 0
+MayFinish due v = MayEnd due (length v.taken) v.runner × (HasTerminal due → MayEnd How.OutOfMemory (length v.taken) v.runner)
 
 -- it has ended the subscription, and its subscriber is at home
 abbrev pub HasLeft : {B : Type 0} → SeatOf B → SeatOf B → Type 0

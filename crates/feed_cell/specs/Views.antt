@@ -94,3 +94,11 @@ IsHandle v = (v.puts ≡ false) × (v.asks ≡ true) × (v.runs ≡ false)
 
 abbrev pub IsRunner : View → Type 0
 IsRunner v = (v.puts ≡ false) × (v.asks ≡ false) × (v.runs ≡ true)
+
+-- the task, with no item out
+abbrev pub RunsFree : View → Type 0
+RunsFree v = IsRunner v × (v.item ≡ [])
+
+-- the task, with its subscriber out
+abbrev pub RunsAway : View → Type 0
+RunsAway v = IsRunner v × (v.away ≡ true)

@@ -7,10 +7,10 @@ ghost use Rattle.std.specs.Mem.Slots.{IsFull, slots_items, slots_len};
 ghost use mathlib.Core.Option.{some};
 ghost use lib.ListN.{get_elem?};
 ghost use Rattle.feed_core.specs.World.Table.{MayBegin};
-ghost use Rattle.feed_cell.specs.Control.{MARK};
+ghost use Rattle.feed_cell.specs.Control.{MARK, RUNNING};
 ghost use Rattle.flow_rules.specs.Feed.{End};
-ghost use Rattle.feed_cell.specs.Left.{IsLeftOf, OnGuest, lane_with, lane_without};
-ghost use Rattle.feed_cell.specs.Parties.{HandleState, KnowsHandle, known_end};
+ghost use Rattle.feed_cell.specs.Left.{IsLeftOf, OnGuest, IsHomeBy, IsLaneWith, lane_without};
+ghost use Rattle.feed_cell.specs.Parties.{HandleState, KnowsEnd, KnowsHandle, not_ready};
 ghost use Rattle.feed_cell.specs.Steps.{HasFourWords, MayOffer};
 
 use self::joined::{Gather, join_if_of_one_table};
@@ -35,9 +35,9 @@ use std::sync::Arc;
 /// With the subscription's own handle, what that requested is part of the total, and its cancel and its bad requests are among the causes.
 /// With the handle of another, nothing is said of what this one's requested.
 pub fn close<B: Listener>(producer: Producer<B>, handle: Handle<B>) -> Result<Lane<B>, Producer<B>>
-    ensures left { IfOk result (λ left. IsLeftOf B.told producer.end None left) }
-    ensures own { IfOk result (λ left. handle.table ≡ producer.table → IsLeftOf B.told producer.end (Some handle) left) }
-    ensures back { IfErr result (λ back. back ≡ record producer { end = record producer.end { ready = false } }) }
+    ensures left { IfOk result (IsLeftOf B.told producer.end None) }
+    ensures own { handle.table ≡ producer.table → IfOk result (IsLeftOf B.told producer.end (Some handle)) }
+    ensures back { IfErr result (λ back. back ≡ not_ready producer) }
 {
     let mut asking = step_out(handle);
     let (table, mut seat) = unshared(producer)?;
@@ -63,10 +63,12 @@ fn step_out<B: Listener>(handle: Handle<B>) -> CellSeat<B>
 
 /// The table with the producer's seat, where nobody else shares it. Else the producer's end comes back, not ready.
 fn unshared<B: Listener>(producer: Producer<B>) -> Result<(CellTable<B>, CellSeat<B>), Producer<B>>
-    ensures table { IfOk result (λ parts. (parts.1.table_id ≡ parts.0.shared.table_id) × (parts.1.table_id ≡ producer.table) × HasFourWords parts.1.table_id) }
+    ensures seat { IfOk result (λ parts. parts.1.table_id ≡ parts.0.shared.table_id) }
+    ensures table { IfOk result (λ parts. parts.1.table_id ≡ producer.table) }
+    ensures words { IfOk result (λ parts. HasFourWords parts.1.table_id) }
     ensures may { IfOk result (λ parts. MayOffer parts.1.me) }
-    ensures knows { IfOk result (λ parts. producer.end ≡ known_end parts.1.me.0 producer.end.ready) }
-    ensures back { IfErr result (λ back. back ≡ record producer { end = record producer.end { ready = false } }) }
+    ensures knows { IfOk result (λ parts. KnowsEnd producer.end parts.1.me.0) }
+    ensures back { IfErr result (λ back. back ≡ not_ready producer) }
 {
     let Producer {
         party,
@@ -99,7 +101,9 @@ fn unshared<B: Listener>(producer: Producer<B>) -> Result<(CellTable<B>, CellSea
 fn take_apart<B: Listener>(table: CellTable<B>, seat: CellSeat<B>) -> Lane<B>
     requires table { (seat.table_id ≡ table.shared.table_id) × HasFourWords seat.table_id }
     requires may { (seat.me.0.puts ≡ true) × MayBegin seat.me.0.producing }
-    ensures left { (end : End) (handle : Option HandleState) → end ≡ known_end seat.me.0 end.ready → IfSome handle (λ handle. KnowsHandle handle seat.me.0) → IsLeftOf B.told end handle result }
+    ensures left { (end : End) (handle : Option HandleState)
+        → KnowsEnd end seat.me.0 → IfSome handle (λ handle. KnowsHandle handle seat.me.0)
+        → IsLeftOf B.told end handle result }
 {
     let closed = table.close_with(seat);
     let head = closed.word(HEAD);
@@ -112,8 +116,9 @@ fn take_apart<B: Listener>(table: CellTable<B>, seat: CellSeat<B>) -> Lane<B>
 
 /// What is left, by the words of a subscription and what its subscriber's slot holds.
 fn lane_of<B: Listener>(head: u64, tail: u64, asked: u64, control: u64, last: Held<B>) -> Lane<B>
-    ensures there { (MARK ≤ head) ⊎ (bit_at control 0 ≡ 0) → OnGuest last (λ guest. (running : Bool) × (running ≡ false → (MARK ≤ head) ⊎ (MARK ≤ asked)) × (running ≡ true → (head < MARK) × (asked < MARK)) × (result ≡ lane_with guest (head % MARK) tail (asked % MARK) running)) }
-    ensures away { head < MARK → bit_at control 0 ≡ 1 → result ≡ lane_without (head % MARK) tail (asked % MARK) }
+    ensures there { IsHomeBy head control → OnGuest last (IsLaneWith head tail asked result) }
+    ensures away { head < MARK → bit_at control RUNNING ≡ 1
+        → result ≡ lane_without (head % MARK) tail (asked % MARK) }
 {
     let given = head % MARK;
     let requested = asked % MARK;

@@ -55,8 +55,8 @@ impl<B: Listener> Handle<B> {
     /// Takes what one started task needs. Where that is there, it is not refused.
     pub fn ready(&mut self) -> Result<(), NoMemory>
         ensures ok { OnOk result (self.new ≡ record self.old { ready = true }) }
-        ensures err { OnErr result (self.new ≡ self.old) }
-        ensures stays { self.old.ready ≡ true → IsOk result }
+        ensures unchanged { OnErr result (self.new ≡ self.old) }
+        ensures not_refused { self.old.ready ≡ true → IsOk result }
     {
         if self.spare.is_none() {
             self.spare = Some(Arc::try_clone(&self.party.table)?);
@@ -71,7 +71,8 @@ impl<B: Listener> Handle<B> {
     pub fn request(&mut self, n: i64) -> Option<Task<B>>
         requires may { MayAsk self.old }
         ensures ignored { self.old.cancelled ≡ true → (self.new ≡ self.old) × IsNone result }
-        ensures requested { self.old.cancelled ≡ false → self.new ≡ record (handle_after_request n self.old) { ready = self.new.ready; started = self.new.started } }
+        ensures requested { self.old.cancelled ≡ false
+            → self.new ≡ record (handle_after_request n self.old) { ready = self.new.ready; started = self.new.started } }
         ensures counts { self.new.started ≡ starts_after result self.old.started }
         ensures starts { IfSome result (IsStarted self.old.table self.old.capacity) }
         ensures spent { IsSome result → self.new.ready ≡ false }
@@ -95,7 +96,8 @@ impl<B: Listener> Handle<B> {
     pub fn cancel(&mut self) -> Option<Task<B>>
         requires may { MayAsk self.old }
         ensures ignored { self.old.cancelled ≡ true → (self.new ≡ self.old) × IsNone result }
-        ensures cancelled { self.old.cancelled ≡ false → self.new ≡ record self.old { cancelled = true; ready = self.new.ready; started = self.new.started } }
+        ensures cancelled { self.old.cancelled ≡ false
+            → self.new ≡ record self.old { cancelled = true; ready = self.new.ready; started = self.new.started } }
         ensures counts { self.new.started ≡ starts_after result self.old.started }
         ensures starts { IfSome result (IsStarted self.old.table self.old.capacity) }
         ensures spent { IsSome result → self.new.ready ≡ false }

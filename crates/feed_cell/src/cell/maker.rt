@@ -2,10 +2,10 @@
 ghost use Rattle.std.specs.Prelude.{◌≡◌, ◌+◌, [], ◌∷◌, replicate, IfOk, IfErr, None, true};
 ghost use Rattle.std.specs.Arc.{arc_value};
 ghost use Rattle.crossbeam_utils.specs.Padded.{padded_value};
-ghost use Rattle.feed_core.specs.Cause.{no_causes};
 ghost use Rattle.feed_core.specs.LaneCalls.{IsCapacity};
 ghost use Rattle.feed_cell.specs.Parties.{new_producer, new_handle, IsNewTask};
 ghost use Rattle.feed_cell.specs.Steps.{HasFourWords, Steps, IsUnlodged, HasLodged};
+ghost use Rattle.feed_cell.specs.Turning.{new_lodger};
 ghost use Rattle.feed_cell.specs.Views.{first_view};
 ghost use Rattle.feed_cell.specs.declared.cell.Held.TheVariants as Held;
 
@@ -37,10 +37,10 @@ impl Cell {
     ) -> Result<(Producer<B>, Handle<B>, Task<B>), (NoMemory, B)>
         requires capacity { IsCapacity capacity }
         requires untold { B.told subscriber ≡ [] }
-        ensures producer { IfOk result (λ parties. parties.0 ≡ new_producer capacity parties.0.table) }
-        ensures handle { IfOk result (λ parties. parties.1 ≡ new_handle capacity parties.0.table) }
-        ensures task { IfOk result (λ parties. IsNewTask parties.0.table capacity parties.2) }
-        ensures err { IfErr result (λ refused. refused.1 ≡ subscriber) }
+        ensures producer { IfOk result (λ made. made.0 ≡ new_producer capacity made.0.table) }
+        ensures handle { IfOk result (λ made. made.1 ≡ new_handle capacity made.0.table) }
+        ensures task { IfOk result (λ made. IsNewTask made.0.table capacity made.2) }
+        ensures back { IfErr result (λ refused. refused.1 ≡ subscriber) }
     {
         let Ok((table, mut seat)) = lay::<B>(alloc, capacity) else {
             return Err((NoMemory, subscriber));
@@ -90,7 +90,10 @@ impl Cell {
 /// The table, with all its slots empty, and the seat of its maker.
 fn lay<B: Listener>(alloc: Global, capacity: usize) -> Result<(CellTable<B>, CellSeat<B>), NoMemory>
     requires capacity { IsCapacity capacity }
-    ensures { IfOk result (λ made. (made.1.table_id ≡ made.0.shared.table_id) × HasFourWords made.1.table_id × (made.1.me ≡ (first_view capacity, []))) }
+    ensures { IfOk result (λ made.
+        (made.1.table_id ≡ made.0.shared.table_id)
+        × HasFourWords made.1.table_id
+        × (made.1.me ≡ (first_view capacity, []))) }
 {
     let slots = empty_slots::<B>(alloc, capacity + 1)?;
     let places = capacity as u64;
@@ -126,7 +129,12 @@ struct Shares<B: Listener> {
 
 /// The table, shared by all who need it.
 fn share<B: Listener>(alloc: Global, table: CellTable<B>) -> Result<Shares<B>, NoMemory>
-    ensures { IfOk result (λ shares. (padded_value (arc_value shares.producer) ≡ table) × (padded_value (arc_value shares.handle) ≡ table) × (padded_value (arc_value shares.task) ≡ table) × (padded_value (arc_value shares.producer_spare) ≡ table) × (padded_value (arc_value shares.handle_spare) ≡ table)) }
+    ensures { IfOk result (λ shares.
+        (padded_value (arc_value shares.producer) ≡ table)
+        × (padded_value (arc_value shares.handle) ≡ table)
+        × (padded_value (arc_value shares.task) ≡ table)
+        × (padded_value (arc_value shares.producer_spare) ≡ table)
+        × (padded_value (arc_value shares.handle_spare) ≡ table)) }
 {
     let Ok(producer) = Arc::new(alloc, CachePadded::new(table)) else {
         return Err(NoMemory);
@@ -142,8 +150,8 @@ fn share<B: Listener>(alloc: Global, table: CellTable<B>) -> Result<Shares<B>, N
 
 /// The subscriber before its first turn, boxed. Where memory is refused, it comes back.
 fn lodger<B: Listener>(alloc: Global, subscriber: B) -> Result<BoxedLodger<B>, (NoMemory, B)>
-    ensures new { IfOk result (λ guest. guest ≡ record { subscriber = subscriber; given = 0; own = 0; answers = no_causes; how = None }) }
-    ensures err { IfErr result (λ refused. refused.1 ≡ subscriber) }
+    ensures new { IfOk result (λ guest. guest ≡ new_lodger subscriber) }
+    ensures back { IfErr result (λ refused. refused.1 ≡ subscriber) }
 {
     let lodger = Lodger {
         subscriber,

@@ -3,7 +3,7 @@ ghost use Rattle.std.specs.Prelude.{◌≡◌, ℕ, None, IfSome, IfNone, IsSome
 ghost use Rattle.std.specs.Arc.{arc_value};
 ghost use Rattle.std.specs.Int.{bit_at};
 ghost use Rattle.crossbeam_utils.specs.Padded.{padded_value};
-ghost use Rattle.feed_cell.specs.Control.{Reads, signal_of, cause_in};
+ghost use Rattle.feed_cell.specs.Control.{RUNNING, Reads, signal_of, cause_in};
 ghost use Rattle.feed_cell.specs.Parties.{IsStarted};
 ghost use Rattle.feed_cell.specs.Steps.{IsSameSeat, Steps, MaySignal, IsSent, MustHandOver, IsHanded, IsReadySeat};
 ghost use Rattle.feed_cell.specs.Views.{starts_after};
@@ -39,7 +39,8 @@ impl Split<View> for HandOver {
 pub(crate) fn signal<B: Listener>(party: &mut Seated<B>, mask: u64) -> Option<CellSeat<B>>
     requires mask { Reads mask (signal_of (cause_in mask)) }
     requires may { MaySignal (cause_in mask) party.old.seat.me.0 }
-    ensures sent { Steps party.old.seat (IsSent (cause_in mask) result party.old.seat.me) party.new.seat }
+    ensures sent { Steps party.old.seat
+        (IsSent (cause_in mask) result party.old.seat.me) party.new.seat }
     ensures starts { IfSome result (IsReadySeat party.old.seat.table_id party.old.capacity) }
 {
     let table = &party.table.shared;
@@ -49,7 +50,7 @@ pub(crate) fn signal<B: Listener>(party: &mut Seated<B>, mask: u64) -> Option<Ce
 
 /// Hands the task over that the signal that found this word has started, if it has.
 fn hand_over<B: Listener>(party: &mut Seated<B>, found: u64) -> Option<CellSeat<B>>
-    requires hands { bit_at found 0 ≡ 0 → MustHandOver party.old.seat.me.0 }
+    requires hands { bit_at found RUNNING ≡ 0 → MustHandOver party.old.seat.me.0 }
     ensures handed { Steps party.old.seat (IsHanded found result party.old.seat.me) party.new.seat }
     ensures starts { IfSome result (IsReadySeat party.old.seat.table_id party.old.capacity) }
 {
@@ -67,7 +68,8 @@ pub(crate) fn start<B: Listener>(
     seat: Option<CellSeat<B>>,
 ) -> Option<Task<B>>
     requires ready { IsSome spare.old }
-    requires fits { IfSome spare.old (λ spare. (padded_value (arc_value spare)).shared.table_id ≡ party.now.seat.table_id) }
+    requires fits { IfSome spare.old (λ spare.
+        (padded_value (arc_value spare)).shared.table_id ≡ party.now.seat.table_id) }
     requires handed { IfSome seat (IsReadySeat party.now.seat.table_id party.now.capacity) }
     ensures none { IfNone result ((seat ≡ None) × (spare.new ≡ spare.old)) }
     ensures spent { IfSome result (λ task. spare.new ≡ None) }

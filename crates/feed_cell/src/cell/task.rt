@@ -31,10 +31,10 @@ pub struct Task<B: Listener> {
 }
 
 impl<B: Listener> Model for Task<B> {
-    ghost use Rattle.std.specs.Prelude.{◌≡◌, []};
+    ghost use Rattle.std.specs.Prelude.{◌≡◌};
     ghost use Rattle.feed_cell.specs.Parties.{TaskState};
     ghost use Rattle.feed_cell.specs.Paused.{told_out, IsPaused};
-    ghost use Rattle.feed_cell.specs.Views.{IsRunner};
+    ghost use Rattle.feed_cell.specs.Views.{RunsFree};
 
     ghost Value = { TaskState };
 
@@ -46,8 +46,7 @@ impl<B: Listener> Model for Task<B> {
     } };
 
     ghost invariant = { λ t.
-        IsRunner t.party.seat.me.0
-        × (t.party.seat.me.0.item ≡ [])
+        RunsFree t.party.seat.me.0
         × IsPaused B.told t.stage t.party.seat.me };
 }
 

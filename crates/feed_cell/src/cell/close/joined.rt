@@ -17,9 +17,14 @@ pub(crate) fn join_if_of_one_table<S, V, K, P: TableRule<S, V, K>, M: Join<V>>(
     seat: &mut Seat<S, V>,
     other: &mut Seat<S, V>,
 )
-    requires { (seat.old.table_id ≡ table.now.table_id) × (other.old.table_id ≡ table.now.table_id → Joins (P.holds table.now.key) seat.old.id seat.old.me.0 other.old.id other.old.me.0 (M.both seat.old.me.0 other.old.me.0) M.spent) }
+    requires { (seat.old.table_id ≡ table.now.table_id)
+        × (other.old.table_id ≡ table.now.table_id
+        → Joins (P.holds table.now.key) seat.old.id seat.old.me.0 other.old.id other.old.me.0
+        (M.both seat.old.me.0 other.old.me.0) M.spent) }
     ensures stays { (seat.new.table_id ≡ seat.old.table_id) × (seat.new.id ≡ seat.old.id) }
-    ensures joined { ((other.old.table_id ≡ table.now.table_id) × (seat.new.me ≡ (M.both seat.old.me.0 other.old.me.0, seat.old.me.1))) ⊎ ((¬ (other.old.table_id ≡ table.now.table_id)) × (seat.new.me ≡ seat.old.me)) }
+    ensures joined { ((other.old.table_id ≡ table.now.table_id)
+        × (seat.new.me ≡ (M.both seat.old.me.0 other.old.me.0, seat.old.me.1)))
+        ⊎ ((¬ (other.old.table_id ≡ table.now.table_id)) × (seat.new.me ≡ seat.old.me)) }
 {
     let word: u64 = 0;
     unsafe { raw::load::<Brand>(&raw const word, SeqCst) };

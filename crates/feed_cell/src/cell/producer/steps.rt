@@ -82,7 +82,8 @@ fn leave<B: Listener>(nothing: Held<B>)
 pub(crate) fn signal_end<B: Listener>(party: &mut Seated<B>, ending: Ending) -> Option<CellSeat<B>>
     requires may { MayOffer party.old.seat.me }
     requires unclosed { party.old.seat.me.0.closing ≡ None }
-    ensures sent { Steps party.old.seat (IsSent (Some (Closing ending)) result party.old.seat.me) party.new.seat }
+    ensures sent { Steps party.old.seat
+        (IsSent (Some (Closing ending)) result party.old.seat.me) party.new.seat }
     ensures starts { IfSome result (IsReadySeat party.old.seat.table_id party.old.capacity) }
 {
     match ending {

@@ -1,10 +1,9 @@
 //! The calls of the subscriber, and what its answers change beside it.
-ghost use Rattle.std.specs.Prelude.{◌≡◌, ◌<◌, length, IfSome, IfNone, None, Some};
-ghost use Rattle.feed_core.specs.Cause.{with_cause_of};
+ghost use Rattle.std.specs.Prelude.{◌≡◌, ◌<◌, length, IfSome, IfNone};
 ghost use Rattle.feed_core.specs.Prelude.{Subscribed, Next, UNBOUNDED};
 ghost use Rattle.feed_core.specs.declared.turn.TheConstants.{SIGNALS_IN_A_TURN};
 ghost use Rattle.feed_cell.specs.Running.{IsGoOn, IsQuietEnd, GoesOnWith, EndsWith, FinishesWith};
-ghost use Rattle.feed_cell.specs.Turning.{own_after, answers_after};
+ghost use Rattle.feed_cell.specs.Turning.{answered, ended_as};
 
 use crate::cell::{BoxedLodger, Lodger};
 use feed_core::{Seen, tell_next, tell_subscribed, tell_terminal};
@@ -14,8 +13,10 @@ impl<B: Listener> BoxedLodger<B> {
     /// Tells `onSubscribe`, and does what its answer asks for: the end, if it does.
     pub(crate) fn greet(&mut self, seen: &mut Seen) -> Option<How>
         requires room { length seen.old.signals < SIGNALS_IN_A_TURN }
-        ensures goes { IfNone result (GoesOnWith B.told Subscribed 0 self.old self.new seen.old seen.new) }
-        ensures ends { IfSome result (λ how. EndsWith B.told Subscribed 0 how self.old self.new seen.old seen.new) }
+        ensures goes { IfNone result
+            (GoesOnWith B.told Subscribed 0 self.old self.new seen.old seen.new) }
+        ensures ends { IfSome result
+            (λ how. EndsWith B.told Subscribed 0 how self.old self.new seen.old seen.new) }
     {
         let guest: &mut Lodger<B> = &mut self.lodger;
         match tell_subscribed(&mut guest.subscriber, seen) {
@@ -28,8 +29,10 @@ impl<B: Listener> BoxedLodger<B> {
     pub(crate) fn give(&mut self, item: Item, seen: &mut Seen) -> Option<How>
         requires room { length seen.old.signals < SIGNALS_IN_A_TURN }
         requires few { self.old.given < UNBOUNDED }
-        ensures goes { IfNone result (GoesOnWith B.told (Next item) 1 self.old self.new seen.old seen.new) }
-        ensures ends { IfSome result (λ how. EndsWith B.told (Next item) 1 how self.old self.new seen.old seen.new) }
+        ensures goes { IfNone result
+            (GoesOnWith B.told (Next item) 1 self.old self.new seen.old seen.new) }
+        ensures ends { IfSome result
+            (λ how. EndsWith B.told (Next item) 1 how self.old self.new seen.old seen.new) }
     {
         let guest: &mut Lodger<B> = &mut self.lodger;
         guest.given += 1;
@@ -54,8 +57,8 @@ impl<B: Listener> BoxedLodger<B> {
 
 /// Does what an answer asks for: it adds to the demand, or ends the subscription.
 fn obey<B: Listener>(guest: &mut Lodger<B>, answer: Answer) -> Option<How>
-    ensures goes { IfNone result (IsGoOn answer × (guest.new ≡ record guest.old { own = own_after answer guest.old.own; answers = answers_after answer guest.old.answers })) }
-    ensures ends { IfSome result (λ how. IsQuietEnd how × (guest.new ≡ record guest.old { answers = with_cause_of how guest.old.answers; how = Some how })) }
+    ensures goes { IfNone result (IsGoOn answer × (guest.new ≡ answered answer guest.old)) }
+    ensures ends { IfSome result (λ how. IsQuietEnd how × (guest.new ≡ ended_as how guest.old)) }
 {
     match answer {
         Answer::Go => None,
@@ -75,7 +78,7 @@ fn obey<B: Listener>(guest: &mut Lodger<B>, answer: Answer) -> Option<How>
 /// Notes that the subscription ends so, with the cause of that.
 fn end_as<B: Listener>(guest: &mut Lodger<B>, how: How) -> How
     ensures value { result ≡ how }
-    ensures ended { guest.new ≡ record guest.old { answers = with_cause_of how guest.old.answers; how = Some how } }
+    ensures ended { guest.new ≡ ended_as how guest.old }
 {
     guest.answers.join(how);
     guest.how = Some(how);

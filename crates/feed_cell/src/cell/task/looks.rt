@@ -1,11 +1,10 @@
 //! What the task does after a look.
 ghost use Rattle.std.specs.Prelude.{◌≡◌, ◌+◌, ◌≤◌, ◌<◌, length, bit_and, IfSome, IfNone};
-ghost use Rattle.feed_core.specs.Prelude.{How, UNBOUNDED};
-ghost use Rattle.feed_core.specs.Steps.{HasTerminal};
-ghost use Rattle.feed_core.specs.World.Table.{MayEnd, MayRest, MaySee};
+ghost use Rattle.feed_core.specs.Prelude.{UNBOUNDED};
+ghost use Rattle.feed_core.specs.World.Table.{MayRest, MaySee};
 ghost use Rattle.feed_core.specs.declared.turn.TheConstants.{SIGNALS_IN_A_TURN};
 ghost use Rattle.feed_cell.specs.Control.{QUIET};
-ghost use Rattle.feed_cell.specs.Running.{Carries, HasLookedAt, HasTaken, HasNoneToGive, FindsNone, TakesNext};
+ghost use Rattle.feed_cell.specs.Running.{notes_of, MayFinish, Carries, HasLookedAt, HasTaken, HasNoneToGive, FindsNone, TakesNext};
 ghost use Rattle.feed_cell.specs.Serving.{Serves, GivesAs, FinishesAs, TriesRest, Concludes};
 ghost use Rattle.feed_cell.specs.Steps.{IsSameSeat};
 
@@ -97,8 +96,7 @@ fn give<B: Listener>(party: &mut Seated<B>, given: u64, item: Item, seen: &mut S
 /// Tells the end that is due, and ends the subscription.
 fn finish<B: Listener>(party: &mut Seated<B>, given: u64, due: How, seen: &mut Seen) -> Served
     requires carries { Carries B.told party.old.seat.me }
-    requires due { MayEnd due (length party.old.seat.me.0.taken) party.old.seat.me.0.runner }
-    requires missed { HasTerminal due → MayEnd How.OutOfMemory (length party.old.seat.me.0.taken) party.old.seat.me.0.runner }
+    requires due { MayFinish due party.old.seat.me.0 }
     requires counted { (length party.old.seat.me.0.taken ≡ given) × (given ≤ UNBOUNDED) }
     requires room { length seen.old.signals < SIGNALS_IN_A_TURN }
     ensures seat { IsSameSeat party.old.seat party.new.seat }
@@ -140,7 +138,8 @@ pub(crate) fn next_item<B: Listener>(
 ) -> (u64, Option<Item>)
     requires carries { Carries B.told party.old.seat.me }
     requires stage { MaySee party.old.seat.me.0.runner }
-    requires counted { (length party.old.seat.me.0.taken ≡ given) × (own ≡ party.old.seat.me.0.own) }
+    requires counted { length party.old.seat.me.0.taken ≡ given }
+    requires own { own ≡ party.old.seat.me.0.own }
     ensures seat { IsSameSeat party.old.seat party.new.seat }
     ensures none { IfNone result.1 (FindsNone result.0 party.old.seat.me party.new.seat.me) }
     ensures some { IfSome result.1 (λ item. TakesNext item party.old.seat.me party.new.seat.me) }
@@ -162,7 +161,7 @@ fn notes<B: Listener>(party: &mut Seated<B>) -> (u64, u64, Causes)
     requires carries { Carries B.told party.old.seat.me }
     ensures seat { IsSameSeat party.old.seat party.new.seat }
     ensures same { party.new.seat.me ≡ party.old.seat.me }
-    ensures notes { (result.0 ≡ length party.old.seat.me.0.taken) × (result.1 ≡ party.old.seat.me.0.own) × (result.2 ≡ party.old.seat.me.0.answers) }
+    ensures notes { result ≡ notes_of party.old.seat.me.0 }
 {
     match party
         .seat

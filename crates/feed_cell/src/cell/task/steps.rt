@@ -10,9 +10,9 @@ ghost use Rattle.feed_cell.specs.Types.{Nobody, Ready, Taken};
 ghost use Rattle.feed_cell.specs.Control.{MARK, QUIET};
 ghost use Rattle.feed_cell.specs.Parties.{IsGoing, IsHome};
 ghost use Rattle.feed_cell.specs.Plays.{SeesPut, Measures, MeasuresNone, grants_by, how_out, outlook_by};
-ghost use Rattle.feed_cell.specs.Running.{HasItem, Carries, HasLookedAt, IsEnding, TakesOut, IsAtRest, HasMissed, HasLeft};
+ghost use Rattle.feed_cell.specs.Running.{HasItem, KeepsCounts, KeepsSubscriber, Carries, HasLookedAt, IsEnding, TakesOut, IsAtRest, HasMissed, HasLeft};
 ghost use Rattle.feed_cell.specs.Steps.{IsSameSeat, Steps};
-ghost use Rattle.feed_cell.specs.Views.{IsRunner};
+ghost use Rattle.feed_cell.specs.Views.{RunsFree, RunsAway};
 ghost use Rattle.feed_cell.specs.declared.cell.Held.TheVariants as Held;
 
 use super::plays::{
@@ -24,11 +24,12 @@ use flow_rules::{Item, Listener};
 
 /// Looks at the marks and causes, and clears the mark of something new. Answers the word that it found.
 pub(crate) fn look<B: Listener>(party: &mut Seated<B>) -> u64
-    requires runner { IsRunner party.old.seat.me.0 × (party.old.seat.me.0.item ≡ []) }
+    requires runner { RunsFree party.old.seat.me.0 }
     requires going { IsGoing B.told party.old.seat.me }
     ensures seat { IsSameSeat party.old.seat party.new.seat }
     ensures looked { HasLookedAt B.told result party.new.seat.me }
-    ensures same { (party.new.seat.me.1 ≡ party.old.seat.me.1) × (party.new.seat.me.0.taken ≡ party.old.seat.me.0.taken) × (party.new.seat.me.0.misses ≡ party.old.seat.me.0.misses) × (party.new.seat.me.0.grants ≡ party.old.seat.me.0.grants) }
+    ensures counts { KeepsCounts party.old.seat.me.0 party.new.seat.me.0 }
+    ensures keeps { KeepsSubscriber party.old.seat.me party.new.seat.me }
 {
     let table = &party.table.shared;
     table.fetch_and::<LookStep>(&mut party.seat, CONTROL, QUIET)
@@ -36,11 +37,11 @@ pub(crate) fn look<B: Listener>(party: &mut Seated<B>) -> u64
 
 /// The first look of a task that was handed over. It takes the subscriber out of its slot.
 pub(crate) fn look_first<B: Listener>(party: &mut Seated<B>) -> u64
-    requires runner { IsRunner party.old.seat.me.0 × (party.old.seat.me.0.item ≡ []) }
+    requires runner { RunsFree party.old.seat.me.0 }
     requires home { IsHome party.old.seat.me }
     ensures seat { IsSameSeat party.old.seat party.new.seat }
     ensures looked { HasLookedAt B.told result party.new.seat.me }
-    ensures same { (party.new.seat.me.0.misses ≡ party.old.seat.me.0.misses) × (party.new.seat.me.0.grants ≡ party.old.seat.me.0.grants) }
+    ensures counts { KeepsCounts party.old.seat.me.0 party.new.seat.me.0 }
 {
     let table = &party.table.shared;
     table.fetch_and::<LookFirstStep>(&mut party.seat, CONTROL, QUIET)
@@ -48,7 +49,8 @@ pub(crate) fn look_first<B: Listener>(party: &mut Seated<B>) -> u64
 
 /// Sees how many items were put, and takes the slot of the next one out where there is one.
 pub(crate) fn see<B: Listener>(party: &mut Seated<B>) -> u64
-    requires may { IsRunner party.old.seat.me.0 × (party.old.seat.me.0.away ≡ true) × MaySee party.old.seat.me.0.runner }
+    requires away { RunsAway party.old.seat.me.0 }
+    requires may { MaySee party.old.seat.me.0.runner }
     ensures sees { Steps party.old.seat (SeesPut party.old.seat.me result) party.new.seat }
 {
     let table = &party.table.shared;
@@ -57,7 +59,8 @@ pub(crate) fn see<B: Listener>(party: &mut Seated<B>) -> u64
 
 /// Measures how many items were requested by the handle, with an item out, whose slot it gives back where no more are.
 pub(crate) fn measure<B: Listener>(party: &mut Seated<B>) -> u64
-    requires may { IsRunner party.old.seat.me.0 × (party.old.seat.me.0.away ≡ true) × MayMeasure party.old.seat.me.0.runner }
+    requires away { RunsAway party.old.seat.me.0 }
+    requires may { MayMeasure party.old.seat.me.0.runner }
     requires item { HasItem party.old.seat.me }
     ensures measures { Steps party.old.seat (Measures party.old.seat.me result) party.new.seat }
 {
@@ -67,9 +70,11 @@ pub(crate) fn measure<B: Listener>(party: &mut Seated<B>) -> u64
 
 /// The same, with no item out.
 pub(crate) fn measure_none<B: Listener>(party: &mut Seated<B>)
-    requires may { IsRunner party.old.seat.me.0 × (party.old.seat.me.0.away ≡ true) × MayMeasure party.old.seat.me.0.runner }
+    requires away { RunsAway party.old.seat.me.0 }
+    requires may { MayMeasure party.old.seat.me.0.runner }
     requires none { party.old.seat.me.0.item ≡ [] }
-    ensures measures { Steps party.old.seat (λ me. (found : ℕ) × MeasuresNone party.old.seat.me found me) party.new.seat }
+    ensures measures { Steps party.old.seat
+        (λ me. (found : ℕ) × MeasuresNone party.old.seat.me found me) party.new.seat }
 {
     let table = &party.table.shared;
     let _ = table.load::<MeasureNoneStep>(&mut party.seat, ASKED);
@@ -77,7 +82,8 @@ pub(crate) fn measure_none<B: Listener>(party: &mut Seated<B>)
 
 /// Takes the item that is out, and stores the new head.
 pub(crate) fn take<B: Listener>(party: &mut Seated<B>, given: u64) -> Item
-    requires may { IsRunner party.old.seat.me.0 × (party.old.seat.me.0.away ≡ true) × MayTake (length party.old.seat.me.0.taken) party.old.seat.me.0.runner }
+    requires away { RunsAway party.old.seat.me.0 }
+    requires may { MayTake (length party.old.seat.me.0.taken) party.old.seat.me.0.runner }
     requires item { HasItem party.old.seat.me }
     requires counted { (length party.old.seat.me.0.taken ≡ given) × (given < UNBOUNDED) }
     ensures item { party.old.seat.me.0.item ≡ result ∷ [] }

@@ -1,11 +1,14 @@
 //! A turn of a task.
-ghost use Rattle.std.specs.Prelude.{◌≡◌, ◌<◌, [], IfOk, IfErr};
+ghost use Rattle.std.specs.Prelude.{◌≡◌, ◌≤◌, ◌↔◌, [], length, IfOk, IfErr, OnOk};
+ghost use Rattle.feed_core.specs.Prelude.{Complete, Error, Fault, How, items_of};
+ghost use Rattle.feed_core.specs.Turn.{EndsIn};
+ghost use Rattle.feed_core.specs.declared.turn.TheConstants.{ITEMS_IN_A_TURN, SIGNALS_IN_A_TURN};
 ghost use Rattle.feed_core.specs.declared.turn.outlook.Outlook.TheVariants.{Again, Ended};
 ghost use Rattle.feed_cell.specs.Paused.{IsPaused};
-ghost use Rattle.feed_cell.specs.Running.{HasLookedAt};
+ghost use Rattle.feed_cell.specs.Running.{HasLookedAt, KeepsCounts};
 ghost use Rattle.feed_cell.specs.Steps.{IsSameSeat};
-ghost use Rattle.feed_cell.specs.Turned.{IsBeforeLook, RunsAs, TurnsInto, MayLookNext, KeepsGoing};
-ghost use Rattle.feed_cell.specs.Views.{IsRunner};
+ghost use Rattle.feed_cell.specs.Turned.{MayGoOn, OnAgain, outlook_of, IsBeforeLook, RunsAs, TurnsInto, MayLookNext, KeepsGoing};
+ghost use Rattle.feed_cell.specs.Views.{RunsFree};
 
 use super::looks::{Served, serve};
 use super::steps::{end, look, look_first};
@@ -34,36 +37,47 @@ impl<B: Listener> Task<B> {
     /// showed that the item was requested. What a callback answers is done at once; one that is refused memory ends the subscription.
     /// It goes on only after 64 items, or where something was new when it would have rested.
     pub fn turn(self, seen: &mut Seen) -> Turn<B>
+
+        // What it tells, by what it takes each item, and what became of the task.
         ensures turned { TurnsInto self seen.new.signals result }
+
+        // Its bounds.
+        ensures at_most { length (items_of seen.new.signals) ≤ ITEMS_IN_A_TURN }
+        ensures few { length seen.new.signals ≤ SIGNALS_IN_A_TURN }
         ensures room { seen.new.room ≡ seen.old.room }
+
+        // What it answers.
+        ensures again { OnAgain result (λ next. MayGoOn self.knows next.knows seen.new.signals) }
+        ensures completed { EndsIn seen.new.signals Complete ↔ (outlook_of result ≡ Ended How.Completed) }
+        ensures errored { (fault : Fault)
+            → EndsIn seen.new.signals (Error fault) ↔ (outlook_of result ≡ Ended (How.Errored fault)) }
     {
         let Task { mut party, stage } = self;
         seen.clear();
         match run(&mut party, stage, seen) {
-            Outlook::Again => Turn::Again(Task {
-                party,
-                stage: Stage::Going,
-            }),
-            Outlook::Resting => Turn::Resting(Spent {
-                seat: party.into_seat(),
-            }),
-            Outlook::Ended(how) => Turn::Ended(
-                how,
-                Spent {
-                    seat: party.into_seat(),
-                },
-            ),
+            Outlook::Again => {
+                let stage = Stage::Going;
+                Turn::Again(Task { party, stage })
+            }
+            Outlook::Resting => {
+                let seat = party.into_seat();
+                Turn::Resting(Spent { seat })
+            }
+            Outlook::Ended(how) => {
+                let seat = party.into_seat();
+                Turn::Ended(how, Spent { seat })
+            }
         }
     }
 }
 
 /// Greets the subscriber, where it was told nothing yet, and looks until the turn is over.
 fn run<B: Listener>(party: &mut Seated<B>, stage: Stage, seen: &mut Seen) -> Outlook
-    requires runner { IsRunner party.old.seat.me.0 × (party.old.seat.me.0.item ≡ []) }
+    requires runner { RunsFree party.old.seat.me.0 }
     requires paused { IsPaused B.told stage party.old.seat.me }
     requires nothing { seen.old.signals ≡ [] }
     ensures seat { IsSameSeat party.old.seat party.new.seat }
-    ensures runner { result ≡ Again → IsRunner party.new.seat.me.0 × (party.new.seat.me.0.item ≡ []) }
+    ensures runner { result ≡ Again → RunsFree party.new.seat.me.0 }
     ensures runs { RunsAs B.told result party.old.seat.me party.new.seat.me seen.new.signals }
     ensures room { seen.new.room ≡ seen.old.room }
 {
@@ -86,12 +100,15 @@ fn run<B: Listener>(party: &mut Seated<B>, stage: Stage, seen: &mut Seen) -> Out
 /// Tells `onSubscribe`, where nothing was told yet. Answers where the task stands then, or the end, if what the callback answers
 /// is one.
 fn greet<B: Listener>(party: &mut Seated<B>, stage: Stage, seen: &mut Seen) -> Result<Stage, How>
-    requires runner { IsRunner party.old.seat.me.0 × (party.old.seat.me.0.item ≡ []) }
+    requires runner { RunsFree party.old.seat.me.0 }
     requires paused { IsPaused B.told stage party.old.seat.me }
     requires nothing { seen.old.signals ≡ [] }
     ensures seat { IsSameSeat party.old.seat party.new.seat }
-    ensures goes { IfOk result (λ stage. IsRunner party.new.seat.me.0 × (party.new.seat.me.0.item ≡ []) × IsBeforeLook B.told stage 0 party.old.seat.me party.new.seat.me seen.new.signals) }
-    ensures ends { IfErr result (λ how. RunsAs B.told (Ended how) party.old.seat.me party.new.seat.me seen.new.signals) }
+    ensures runner { OnOk result (RunsFree party.new.seat.me.0) }
+    ensures goes { IfOk result (λ stage.
+        IsBeforeLook B.told stage 0 party.old.seat.me party.new.seat.me seen.new.signals) }
+    ensures ends { IfErr result (λ how.
+        RunsAs B.told (Ended how) party.old.seat.me party.new.seat.me seen.new.signals) }
     ensures room { seen.new.room ≡ seen.old.room }
 {
     match stage {
@@ -114,12 +131,12 @@ fn greet<B: Listener>(party: &mut Seated<B>, stage: Stage, seen: &mut Seen) -> R
 
 /// Looks at the marks and causes; the first look of a task that a signal started takes its subscriber with it.
 fn look_next<B: Listener>(party: &mut Seated<B>, stage: Stage) -> u64
-    requires runner { IsRunner party.old.seat.me.0 × (party.old.seat.me.0.item ≡ []) }
+    requires runner { RunsFree party.old.seat.me.0 }
     requires may { MayLookNext B.told stage party.old.seat.me }
     ensures seat { IsSameSeat party.old.seat party.new.seat }
     ensures looked { HasLookedAt B.told result party.new.seat.me }
-    ensures same { (party.new.seat.me.0.misses ≡ party.old.seat.me.0.misses) × KeepsGoing stage party.old.seat.me party.new.seat.me }
-    ensures grants { party.new.seat.me.0.grants ≡ party.old.seat.me.0.grants }
+    ensures counts { KeepsCounts party.old.seat.me.0 party.new.seat.me.0 }
+    ensures keeps { KeepsGoing stage party.old.seat.me party.new.seat.me }
 {
     match stage {
         Stage::Going => look(party),

@@ -21,7 +21,7 @@ pub returns-in-None-clause-goes : goal.returns-in-None-clause-goes
 returns-in-None-clause-goes g c =
     let fresh = subst (λ stage. IsPaused g.B.Listener.told stage c.args.party.now.seat.me) c.in-Fresh.is c.requires.paused in
     let goes = greets_on g.B.Listener.told c.args.party.now.seat.me c.args.party.now.capacity c.in-Guest.guest c.greet.new.self c.slot_mut.result.now c.args.seen.now c.greet.new.seen c.args.party.now.sized c.slot_mut.ensures.value c.in-Guest.is fresh c.in-None.ensures.goes in
-    (c.requires.runner.0, c.requires.runner.1, greeted_on g.B.Listener.told c.args.party.now.seat.me _ c.args.seen.now c.greet.new.seen c.requires.nothing fresh goes)
+    greeted_on g.B.Listener.told c.args.party.now.seat.me _ c.args.seen.now c.greet.new.seen c.requires.nothing fresh goes
 
 pub returns-in-Some-clause-ends : goal.returns-in-Some-clause-ends
 returns-in-Some-clause-ends g c =
@@ -32,7 +32,8 @@ returns-in-Some-clause-ends g c =
 pub returns-in_default : goal.returns-in_default
 returns-in_default g c = record {
   seat = (refl, refl);
-  goes = (c.requires.runner.0, c.requires.runner.1, stays g.B.Listener.told c.args.stage c.args.party.now.seat.me c.args.seen.now.signals c.in_default.not-Fresh c.requires.nothing c.requires.paused);
+  runner = c.requires.runner;
+  goes = stays g.B.Listener.told c.args.stage c.args.party.now.seat.me c.args.seen.now.signals c.in_default.not-Fresh c.requires.nothing c.requires.paused;
   ends = tt;
   room = refl;
 }

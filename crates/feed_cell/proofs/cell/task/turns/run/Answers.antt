@@ -9,11 +9,10 @@ use Rattle.feed_cell.proofs.cell.task.turns.run.Given.{Over}
 
 pub loop-init : goal.loop-init
 loop-init g c =
-    let goes = c.in-Ok.ensures.goes in
-    (goes.2, c.in-Ok.ensures.room, c.in-Ok.ensures.seat, goes.0, goes.1)
+    (c.in-Ok.ensures.goes, c.in-Ok.ensures.room, c.in-Ok.ensures.seat, c.in-Ok.ensures.runner)
 
 pub look_next-word-requires-clause-runner : goal.look_next-word-requires-clause-runner
-look_next-word-requires-clause-runner g c = (c.loop.invariant.3, c.loop.invariant.4)
+look_next-word-requires-clause-runner g c = c.loop.invariant.3
 
 pub look_next-word-requires-clause-may : goal.look_next-word-requires-clause-may
 look_next-word-requires-clause-may g c = may_look_next g.B.Listener.told c.loop.stage c.loop.counter c.args.party.now.seat.me c.loop.party.seat.me c.loop.seen.signals c.loop.invariant.0
@@ -21,8 +20,8 @@ look_next-word-requires-clause-may g c = may_look_next g.B.Listener.told c.loop.
 -- the turn so far, after the look
 looked : (g : Over) (c : After-look_next-word g) → TellsSoFar g.B.Listener.told c.loop.counter c.args.party.now.seat.me c.look_next-word.new.party.seat.me c.loop.seen.signals
 looked g c =
-    let same = c.look_next-word.ensures.same in
-    looked_on g.B.Listener.told c.loop.stage c.loop.counter c.look_next-word.result c.args.party.now.seat.me c.loop.party.seat.me c.look_next-word.new.party.seat.me c.loop.seen.signals c.loop.invariant.0 c.look_next-word.ensures.looked same.0 c.look_next-word.ensures.grants same.1
+    let counts = c.look_next-word.ensures.counts in
+    looked_on g.B.Listener.told c.loop.stage c.loop.counter c.look_next-word.result c.args.party.now.seat.me c.loop.party.seat.me c.look_next-word.new.party.seat.me c.loop.seen.signals c.loop.invariant.0 c.look_next-word.ensures.looked counts.0 counts.1 c.look_next-word.ensures.keeps
 
 pub serve-requires-clause-room : goal.serve-requires-clause-room
 serve-requires-clause-room g c = room_so_far g.B.Listener.told c.loop.counter c.args.party.now.seat.me c.look_next-word.new.party.seat.me c.look_next-word.new.party.seat.me c.loop.seen c.loop.seen (looked g (goal.at.serve-requires-clause-room g c).After-look_next-word) c.loop-test.true
@@ -49,7 +48,8 @@ returns-in-Missed-clause-runner g c =
 pub returns-in-Missed-clause-runs : goal.returns-in-Missed-clause-runs
 returns-in-Missed-clause-runs g c =
     let missed = c.in-Missed.ensures.serves in
-    (missed.0.going, misses_after g.B.Listener.told c.loop.counter c.args.party.now.seat.me c.look_next-word.new.party.seat.me c.serve.new.party.seat.me c.loop.seen c.serve.new.seen (looked g (goal.at.returns-in-Missed-clause-runs g c).After-look_next-word) c.loop-test.true missed.0 missed.1)
+    let goes = misses_after g.B.Listener.told c.loop.counter c.args.party.now.seat.me c.look_next-word.new.party.seat.me c.serve.new.party.seat.me c.loop.seen c.serve.new.seen (looked g (goal.at.returns-in-Missed-clause-runs g c).After-look_next-word) c.loop-test.true missed.0 missed.1 in
+    (missed.0.going, goes.0, goes.1)
 
 pub returns-in-Missed-clause-room : goal.returns-in-Missed-clause-room
 returns-in-Missed-clause-room g c = ap (λ (s : SeenState). s.room) c.in-Missed.ensures.serves.1 ∙ c.loop.invariant.1
@@ -69,22 +69,22 @@ loop-preserved g c =
       gave_on g.B.Listener.told c.loop.counter c.args.party.now.seat.me c.look_next-word.new.party.seat.me c.serve.new.party.seat.me c.loop.seen c.serve.new.seen (looked g (goal.at.loop-preserved g c).After-look_next-word) gives,
       ap (λ (s : SeenState). s.room) gives.saw ∙ c.loop.invariant.1,
       (c.in-Gave.ensures.seat.0 ∙ c.look_next-word.ensures.seat.0 ∙ c.loop.invariant.2.0, c.in-Gave.ensures.seat.1 ∙ c.look_next-word.ensures.seat.1 ∙ c.loop.invariant.2.1),
-      gives.is,
-      gives.none_out,
+      (gives.is, gives.none_out),
     )
 
 pub returns-clause-seat : goal.returns-clause-seat
 returns-clause-seat g c = c.loop.invariant.2
 
 pub returns-clause-runner : goal.returns-clause-runner
-returns-clause-runner g c = λ e. (c.loop.invariant.3, c.loop.invariant.4)
+returns-clause-runner g c = λ e. c.loop.invariant.3
 
 pub returns-clause-runs : goal.returns-clause-runs
 returns-clause-runs g c =
     let at_end = c.loop-test.false in
     let end : c.loop.counter ≡ 64 = let most = c.loop.auto.counter-end in omega arith in
     let going = going_on g.B.Listener.told c.loop.stage c.loop.counter c.args.party.now.seat.me c.loop.party.seat.me c.loop.seen.signals (omega arith) c.loop.invariant.0 in
-    (going.0, full g.B.Listener.told c.args.party.now.seat.me c.loop.party.seat.me c.loop.seen.signals going.0 (subst (λ (n : ℕ). TellsSoFar g.B.Listener.told n c.args.party.now.seat.me c.loop.party.seat.me c.loop.seen.signals) end going.1))
+    let goes = full g.B.Listener.told c.args.party.now.seat.me c.loop.party.seat.me c.loop.seen.signals going.0 (subst (λ (n : ℕ). TellsSoFar g.B.Listener.told n c.args.party.now.seat.me c.loop.party.seat.me c.loop.seen.signals) end going.1) in
+    (going.0, goes.0, goes.1)
 
 pub returns-clause-room : goal.returns-clause-room
 returns-clause-room g c = c.loop.invariant.1

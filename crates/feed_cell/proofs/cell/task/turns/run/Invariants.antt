@@ -1,8 +1,8 @@
 -- As many items were given as looks were made.
-use Rattle.std.proofs.Common.{◌≡◌, []}
+use Rattle.std.proofs.Common.{◌≡◌}
 use Rattle.feed_cell.specs.Steps.{IsSameSeat}
 use Rattle.feed_cell.specs.Turned.{IsBeforeLook}
-use Rattle.feed_cell.specs.Views.{IsRunner}
+use Rattle.feed_cell.specs.Views.{RunsFree}
 use Rattle.feed_cell.proofs.cell.task.turns.run.Given as goal
 
 abbrev pub invariant-loop : goal.invariant-loop
@@ -10,5 +10,4 @@ invariant-loop g l =
     IsBeforeLook g.B.Listener.told l.stage l.counter l.fn.party.seat.me l.party.seat.me l.seen.signals
     × (l.seen.room ≡ l.fn.seen.room)
     × IsSameSeat l.fn.party.seat l.party.seat
-    × IsRunner l.party.seat.me.0
-    × (l.party.seat.me.0.item ≡ [])
+    × RunsFree l.party.seat.me.0
