@@ -2,22 +2,22 @@
 use Rattle.std.proofs.Common.{◌≡◌, ℕ, ◌+◌, ◌-◌, ◌<◌, Bool, true, false, [], ◌∷◌, ◌++◌, length, Option, None, is_some, ◌||◌, sym, refl, ap, ◌∙◌, length-append, arith}
 use Rattle.flow_rules.specs.Feed.{End, LookedIfOpen, TakesItem}
 use Rattle.feed_core.specs.Prelude.{Ending, Item}
-use Rattle.feed_cell.specs.Types.{Free, HasRoom, HasPut}
+use Rattle.feed_cell.specs.Types.{Free, HasRoom, HasPut, Idle}
 use Rattle.feed_cell.specs.Control.{MARK, marked}
 use Rattle.feed_cell.specs.Offering.{SaysOf}
 use Rattle.feed_cell.specs.Parties.{known_end}
 use Rattle.feed_cell.specs.Plays.{SeatOf, FindsRoom, after_look, after_signal}
 use Rattle.feed_cell.specs.Views.{starts_after}
 use Rattle.feed_cell.specs.declared.cell.View.{View}
-use Rattle.feed_cell.specs.declared.cell.offering.Found.{Found}
+use Rattle.feed_cell.specs.declared.cell.producer.steps.Found.{Found}
 
 -- a small head has no mark
 pub unmarked : (ended : Bool) (head found : ℕ) → found ≡ marked ended head → found < MARK → (ended ≡ false) × (found ≡ head)
 unmarked false head found is small = (refl, is)
 unmarked true head found is small = absurd (omega arith)
 
-module _ {B T S : Type 0} (capacity tail found held : ℕ) (before looked placed after : SeatOf B) (item : Item) (start : Option T) (task : Option S) (ready later : Bool) (finds : FindsRoom before found looked) (says : SaysOf capacity tail found (Found.Room held)) (counted : length before.0.put ≡ tail)
-    (sized : before.0.capacity ≡ capacity) (unclosed : before.0.closing ≡ None)
+module _ {B T S : Type 0} (tail found held : ℕ) (before looked placed after : SeatOf B) (item : Item) (start : Option T) (task : Option S) (ready later : Bool) (finds : FindsRoom before found looked) (says : SaysOf before.0.capacity tail found (Found.Room held)) (counted : length before.0.put ≡ tail)
+    (unclosed : before.0.closing ≡ None)
     (put : placed ≡ (record looked.0 { put = looked.0.put ++ item ∷ []; producing = HasPut; places = 0 }, [])) (signalled : after ≡ (after_signal task None placed.0, placed.1)) (keeps : start ≡ None → later ≡ ready) where
   ends : finds.ended ≡ false
   ends = (unmarked finds.ended finds.head found finds.found_is says.0).0
@@ -26,24 +26,24 @@ module _ {B T S : Type 0} (capacity tail found held : ℕ) (before looked placed
   head_is = (unmarked finds.ended finds.head found finds.found_is says.0).1
 
   within : length before.0.put < finds.head + before.0.capacity
-  within = let h = head_is in let p = finds.put in let f = finds.fits in let room : tail - found < capacity = says.1 in omega arith
+  within = let h = head_is in let p = finds.put in let f = finds.fits in let room : tail - found < before.0.capacity = says.1 in omega arith
 
   abbrev seen : View
   seen = after_look before.0 finds.head finds.ended HasRoom 1
 
-  view_is : after.0 ≡ record seen { put = before.0.put ++ item ∷ []; producing = Free; places = 0; started = starts_after task before.0.started }
-  view_is = ap (λ (m : SeatOf B). m.0) signalled ∙ ap (λ (m : SeatOf B). after_signal task None m.0) put ∙ ap (λ (m : SeatOf B). record m.0 { put = m.0.put ++ item ∷ []; producing = Free; places = 0; started = starts_after task m.0.started }) (finds.room ends within)
+  view_is : after.0 ≡ record seen { put = before.0.put ++ item ∷ []; producing = Free; requesting = Idle; places = 0; started = starts_after task before.0.started }
+  view_is = ap (λ (m : SeatOf B). m.0) signalled ∙ ap (λ (m : SeatOf B). after_signal task None m.0) put ∙ ap (λ (m : SeatOf B). record m.0 { put = m.0.put ++ item ∷ []; producing = Free; requesting = Idle; places = 0; started = starts_after task m.0.started }) (finds.room ends within)
 
-  pub accepted : (m : End) × LookedIfOpen (known_end capacity before.0 ready) m × TakesItem m item (held + 1) start (known_end capacity after.0 later)
+  pub accepted : (m : End) × LookedIfOpen (known_end before.0 ready) m × TakesItem m item (held + 1) start (known_end after.0 later)
   accepted =
       let h = head_is in
       let p = finds.put in
       let f = finds.fits in
-      let room : tail - found < capacity = says.1 in
+      let room : tail - found < before.0.capacity = says.1 in
       let count : held ≡ tail - found = says.2 in
       let lag : held + 1 ≡ length (before.0.put ++ item ∷ []) - finds.head = (let longer : length (before.0.put ++ item ∷ []) ≡ length before.0.put + 1 = length-append before.0.put (item ∷ []) in omega arith) in
       let longer : length (before.0.put ++ item ∷ []) ≡ length before.0.put + 1 = length-append before.0.put (item ∷ []) in (
-        known_end capacity seen ready,
+        known_end seen ready,
         record {
           unclosed = λ _. record { seen = finds.grows; over = finds.stays; taken = finds.put; fits = omega arith; rest = refl };
           closed = λ some. (let never : false ≡ true = sym (ap (λ (o : Option Ending). is_some o) unclosed) ∙ some in cc);
@@ -51,7 +51,7 @@ module _ {B T S : Type 0} (capacity tail found held : ℕ) (before looked placed
         record {
           open_before = ap (λ (b : Bool). b || is_some before.0.closing) ends ∙ ap (λ (o : Option Ending). is_some o) unclosed;
           room_before = omega arith;
-          taken = ap (λ (v : View). known_end capacity v later) view_is;
+          taken = ap (λ (v : View). known_end v later) view_is;
           lag_after = lag ∙ sym (ap (λ (v : View). length v.put - v.seen) view_is);
           ready = keeps;
         },

@@ -30,7 +30,7 @@ module _ {B : Type 0} (told : B → List Signal) (cap id : ℕ) (v : View) (word
     (heads : get_elem? words 0 ≡ some head) (tails : get_elem? words 1 ≡ some tail) (asks : get_elem? words 2 ≡ some asked) (controls : get_elem? words 3 ≡ some control)
     (holds : get_elem? slots (length slots - 1) ≡ some held)
     (there : (MARK ≤ head) ⊎ (bit_at control 0 ≡ 0) → OnGuest held (λ guest. (running : Bool) × (running ≡ false → (MARK ≤ head) ⊎ (MARK ≤ asked)) × (running ≡ true → (head < MARK) × (asked < MARK)) × (left ≡ lane_with guest (head % MARK) tail (asked % MARK) running)))
-    (away : head < MARK → bit_at control 0 ≡ 1 → left ≡ lane_without (head % MARK) tail (asked % MARK)) (end : End) (end_is : end ≡ known_end v.capacity v end.ready)
+    (away : head < MARK → bit_at control 0 ≡ 1 → left ≡ lane_without (head % MARK) tail (asked % MARK)) (end : End) (end_is : end ≡ known_end v end.ready)
     (handle : Option HandleState) (knows : IfSome handle (λ h. KnowsHandle h v)) where
   abbrev s : State (Held B) View
   s = last.0
@@ -38,37 +38,37 @@ module _ {B : Type 0} (told : B → List Signal) (cap id : ℕ) (v : View) (word
   abbrev c : CellRule told cap s
   c = last.1.0
 
-  words_are : words ≡ marked (is_over c.world.runner) c.world.given ∷ c.world.accepted ∷ marked c.left c.world.asked ∷ c.control ∷ []
+  words_are : words ≡ marked (is_over c.cell.world.runner) c.cell.world.given ∷ c.cell.world.accepted ∷ marked c.cell.left c.cell.world.asked ∷ c.cell.control ∷ []
   words_are = sym last.2 ∙ c.words
 
-  head_is : head ≡ marked (is_over c.world.runner) c.world.given
-  head_is = slot.some-injective head (marked (is_over c.world.runner) c.world.given) (sym heads ∙ ap (λ ws. get_elem? ws 0) words_are)
+  head_is : head ≡ marked (is_over c.cell.world.runner) c.cell.world.given
+  head_is = slot.some-injective head (marked (is_over c.cell.world.runner) c.cell.world.given) (sym heads ∙ ap (λ ws. get_elem? ws 0) words_are)
 
-  tail_is : tail ≡ c.world.accepted
-  tail_is = slot.some-injective tail c.world.accepted (sym tails ∙ ap (λ ws. get_elem? ws 1) words_are)
+  tail_is : tail ≡ c.cell.world.accepted
+  tail_is = slot.some-injective tail c.cell.world.accepted (sym tails ∙ ap (λ ws. get_elem? ws 1) words_are)
 
-  asked_is : asked ≡ marked c.left c.world.asked
-  asked_is = slot.some-injective asked (marked c.left c.world.asked) (sym asks ∙ ap (λ ws. get_elem? ws 2) words_are)
+  asked_is : asked ≡ marked c.cell.left c.cell.world.asked
+  asked_is = slot.some-injective asked (marked c.cell.left c.cell.world.asked) (sym asks ∙ ap (λ ws. get_elem? ws 2) words_are)
 
-  control_is : control ≡ c.control
-  control_is = slot.some-injective control c.control (sym controls ∙ ap (λ ws. get_elem? ws 3) words_are)
+  control_is : control ≡ c.cell.control
+  control_is = slot.some-injective control c.cell.control (sym controls ∙ ap (λ ws. get_elem? ws 3) words_are)
 
-  given_small : c.world.given < MARK
-  given_small = let kept = reached_kept c.reached in let asked : c.world.given ≤ total_of c.world = kept.requested in omega arith
+  given_small : c.cell.world.given < MARK
+  given_small = let kept = reached_kept c.reached in let asked : c.cell.world.given ≤ total_of c.cell.world = kept.requested in omega arith
 
-  asked_small : c.world.asked < MARK
+  asked_small : c.cell.world.asked < MARK
   asked_small = let kept = reached_kept c.reached in let bounded = kept.asked_bounded in omega arith
 
-  bit : bit_at control 0 ≡ number (is_started c.world.runner)
+  bit : bit_at control 0 ≡ number (is_started c.cell.world.runner)
   bit = ap (λ m. bit_at m 0) control_is ∙ c.reads.run ∙ ap number c.shows.started
 
   -- the word asked has its mark after the handle has left
-  stays_below : asked < MARK → c.left ≡ true → ⊥
-  stays_below below left = let large : MARK ≤ asked = large_by c.left c.world.asked asked asked_is left in omega arith
+  stays_below : asked < MARK → c.cell.left ≡ true → ⊥
+  stays_below below left = let large : MARK ≤ asked = large_by c.cell.left c.cell.world.asked asked asked_is left in omega arith
 
   -- the word head has its mark after the subscription has ended
-  goes_below : head < MARK → is_over c.world.runner ≡ true → ⊥
-  goes_below below over = let large : MARK ≤ head = large_by (is_over c.world.runner) c.world.given head head_is over in omega arith
+  goes_below : head < MARK → is_over c.cell.world.runner ≡ true → ⊥
+  goes_below below over = let large : MARK ≤ head = large_by (is_over c.cell.world.runner) c.cell.world.given head head_is over in omega arith
 
   -- where the subscriber is at home
   safe_left : (safe : IsSafe told cap s c) → (MARK ≤ head) ⊎ (bit_at control 0 ≡ 0) → IsLeftOf told end handle left
@@ -79,31 +79,31 @@ module _ {B : Type 0} (told : B → List Signal) (cap id : ℕ) (v : View) (word
       let place : length slots - 1 ≡ cap = omega arith in
       let here : held ≡ Held.Guest g.guest = slot.some-injective held (Held.Guest g.guest) (sym holds ∙ ap (λ k. get_elem? slots k) place ∙ last.4 cap (Held.Guest g.guest) g.at) in
       let found = of_guest (λ guest. (running : Bool) × (running ≡ false → (MARK ≤ head) ⊎ (MARK ≤ asked)) × (running ≡ true → (head < MARK) × (asked < MARK)) × (left ≡ lane_with guest (head % MARK) tail (asked % MARK) running)) held g.guest here (there shown) in
-      let head_there : head % MARK ≡ c.world.given = ap (λ m. m % MARK) head_is ∙ unmark (is_over c.world.runner) c.world.given given_small in
-      let asked_there : asked % MARK ≡ c.world.asked = ap (λ m. m % MARK) asked_is ∙ unmark c.left c.world.asked asked_small in
-      let left_is : left ≡ lane_with g.guest c.world.given c.world.accepted c.world.asked found.0 =
-      found.3 ∙ ap (λ m. lane_with g.guest m tail (asked % MARK) found.0) head_there ∙ ap (λ m. lane_with g.guest c.world.given m (asked % MARK) found.0) tail_is ∙ ap (λ m. lane_with g.guest c.world.given c.world.accepted m found.0) asked_there in
+      let head_there : head % MARK ≡ c.cell.world.given = ap (λ m. m % MARK) head_is ∙ unmark (is_over c.cell.world.runner) c.cell.world.given given_small in
+      let asked_there : asked % MARK ≡ c.cell.world.asked = ap (λ m. m % MARK) asked_is ∙ unmark c.cell.left c.cell.world.asked asked_small in
+      let left_is : left ≡ lane_with g.guest c.cell.world.given c.cell.world.accepted c.cell.world.asked found.0 =
+      found.3 ∙ ap (λ m. lane_with g.guest m tail (asked % MARK) found.0) head_there ∙ ap (λ m. lane_with g.guest c.cell.world.given m (asked % MARK) found.0) tail_is ∙ ap (λ m. lane_with g.guest c.cell.world.given c.cell.world.accepted m found.0) asked_there in
       subst (λ l. IsLeftOf told end handle l) (sym left_is)
       (left_there told cap s c id v last.1.1 puts begins end end_is handle knows safe found.0 (λ rests. ⊎_elim
-      (λ large. inl (marked_by (is_over c.world.runner) c.world.given head given_small head_is large))
-      (λ large. inr (marked_by c.left c.world.asked asked asked_small asked_is large))
+      (λ large. inl (marked_by (is_over c.cell.world.runner) c.cell.world.given head given_small head_is large))
+      (λ large. inr (marked_by c.cell.left c.cell.world.asked asked asked_small asked_is large))
       (found.1 rests))
       (λ runs left. stays_below (found.2 runs).1 left) (λ runs over. goes_below (found.2 runs).0 over))
 
   -- where a task was lost with it
-  lost_left : is_over c.world.runner ≡ false → is_started c.world.runner ≡ true → IsLeftOf told end handle left
+  lost_left : is_over c.cell.world.runner ≡ false → is_started c.cell.world.runner ≡ true → IsLeftOf told end handle left
   lost_left goes started =
-      let head_there : head % MARK ≡ c.world.given = ap (λ m. m % MARK) head_is ∙ unmark (is_over c.world.runner) c.world.given given_small in
-      let asked_there : asked % MARK ≡ c.world.asked = ap (λ m. m % MARK) asked_is ∙ unmark c.left c.world.asked asked_small in
-      let left_is : left ≡ lane_without c.world.given c.world.accepted c.world.asked =
-      away (unmarked_by (is_over c.world.runner) c.world.given head given_small head_is goes) (bit ∙ ap number started)
-      ∙ ap (λ m. lane_without m tail (asked % MARK)) head_there ∙ ap (λ m. lane_without c.world.given m (asked % MARK)) tail_is ∙ ap (λ m. lane_without c.world.given c.world.accepted m) asked_there in
+      let head_there : head % MARK ≡ c.cell.world.given = ap (λ m. m % MARK) head_is ∙ unmark (is_over c.cell.world.runner) c.cell.world.given given_small in
+      let asked_there : asked % MARK ≡ c.cell.world.asked = ap (λ m. m % MARK) asked_is ∙ unmark c.cell.left c.cell.world.asked asked_small in
+      let left_is : left ≡ lane_without c.cell.world.given c.cell.world.accepted c.cell.world.asked =
+      away (unmarked_by (is_over c.cell.world.runner) c.cell.world.given head given_small head_is goes) (bit ∙ ap number started)
+      ∙ ap (λ m. lane_without m tail (asked % MARK)) head_there ∙ ap (λ m. lane_without c.cell.world.given m (asked % MARK)) tail_is ∙ ap (λ m. lane_without c.cell.world.given c.cell.world.accepted m) asked_there in
       subst (λ l. IsLeftOf told end handle l) (sym left_is) (left_away told cap s c id v last.1.1 puts begins end end_is handle knows goes)
 
-  by : (over started : Bool) → is_over c.world.runner ≡ over → is_started c.world.runner ≡ started → IsLeftOf told end handle left
-  by true started over e = safe_left (inl over) (inl (large_by (is_over c.world.runner) c.world.given head head_is over))
-  by false false goes e = safe_left (inr (starts_nobody c.world.runner e)) (inr (bit ∙ ap number e))
+  by : (over started : Bool) → is_over c.cell.world.runner ≡ over → is_started c.cell.world.runner ≡ started → IsLeftOf told end handle left
+  by true started over e = safe_left (inl over) (inl (large_by (is_over c.cell.world.runner) c.cell.world.given head head_is over))
+  by false false goes e = safe_left (inr (starts_nobody c.cell.world.runner e)) (inr (bit ∙ ap number e))
   by false true goes e = lost_left goes e
 
   pub left_of : IsLeftOf told end handle left
-  left_of = by (is_over c.world.runner) (is_started c.world.runner) refl refl
+  left_of = by (is_over c.cell.world.runner) (is_started c.cell.world.runner) refl refl

@@ -35,42 +35,30 @@ module _ {B : Type 0} (told : B → List Signal) where
       → Allows (CellRule told cap) n id (v, (v.capacity, Held.Guest g) ∷ more) 0 (λ _. new) (λ _. IsEnd (v, (v.capacity, Held.Guest g) ∷ more))
   ends cap n id v g more new how is out may none_out new_is given_is own_is answers_are how_is told_is s c wide at small =
       let k = (c.runners id v at is.2).1 in
-      let p = c.world in
+      let p = c.cell.world in
       let know = k.knows (sym k.out ∙ out) in
       let seat = seated p.runner k.seated in
       let same : length v.taken ≡ p.given = ap length know.taken_is ∙ sym c.shows.given in
       let here : MayEnd how p.given p.runner = subst (MayEnd how p.given) k.stands (subst (λ (m : ℕ). MayEnd how m v.runner) same may) in
-      let item_is : c.item ≡ [] = sym k.item_is ∙ none_out in
-      let answers_there : with_cause_of how c.answers ≡ g.answers = ap (with_cause_of how) (sym know.answers_are) ∙ sym answers_are in
+      let item_is : c.cell.item ≡ [] = sym k.item_is ∙ none_out in
+      let answers_there : with_cause_of how c.cell.answers ≡ g.answers = ap (with_cause_of how) (sym know.answers_are) ∙ sym answers_are in
       let w : View = record v { runs = false; away = false; outlook = outlook_by g.how } in (
         w,
         gives,
         tt,
         record {
-          world = after (End how) p;
+          cell = record c.cell { world = after (End how) p; answers = g.answers; away = false };
           reached = reached_end how id v w c.reached here at (inr (inr is.2)) (ap outlook_by how_is) refl refl (has_none w is.0 is.1 refl) seat.over;
-          log = c.log;
-          taken = c.taken;
-          item = c.item;
-          free = c.free;
-          control = c.control;
-          flags = c.flags;
-          answers = g.answers;
-          away = false;
-          left = c.left;
-          producer = c.producer;
-          handle = c.handle;
-          runner = c.runner;
           lists = c.lists;
-          shows = record { sized = c.shows.sized; accepted = c.shows.accepted; given = c.shows.given; none_out = λ _. item_is; started = c.shows.started ∙ seat.runs; new = c.shows.new; causes = ap (with_cause_of how) c.shows.causes ∙ ends_causes how c.flags c.answers ∙ ap (causes_of c.flags) answers_there; home = λ _. refl; settled = c.shows.settled };
+          shows = record { sized = c.shows.sized; accepted = c.shows.accepted; given = c.shows.given; none_out = λ _. item_is; started = c.shows.started ∙ seat.runs; new = c.shows.new; causes = ap (with_cause_of how) c.shows.causes ∙ ends_causes how c.cell.flags c.cell.answers ∙ ap (causes_of c.cell.flags) answers_there; home = λ _. refl; settled = c.shows.settled };
           reads = c.reads;
-          words = ap (λ (ws : List ℕ). set ws 0 new) c.words ∙ ap (λ (m : ℕ). m ∷ p.accepted ∷ marked c.left p.asked ∷ c.control ∷ []) (new_is ∙ ap (λ (m : ℕ). m + MARK) same);
-          lies = subst (λ (j : ℕ). Lies cap c.log (length c.taken) (length c.taken + length c.item) c.free (set s.homes j (some (Held.Guest g)))) (sym k.sized)
-              (lies_guest cap c.log s.homes (length c.taken) (length c.taken + length c.item) c.free (some (Held.Guest g)) c.lists.sized c.lies);
+          words = ap (λ (ws : List ℕ). set ws 0 new) c.words ∙ ap (λ (m : ℕ). m ∷ p.accepted ∷ marked c.cell.left p.asked ∷ c.cell.control ∷ []) (new_is ∙ ap (λ (m : ℕ). m + MARK) same);
+          lies = subst (λ (j : ℕ). Lies cap c.cell.log (length c.cell.taken) (length c.cell.taken + length c.cell.item) c.cell.free (set s.homes j (some (Held.Guest g)))) (sym k.sized)
+              (lies_guest cap c.cell.log s.homes (length c.cell.taken) (length c.cell.taken + length c.cell.item) c.cell.free (some (Held.Guest g)) c.lists.sized c.lies);
           lodges = λ _. record { guest = g; at = changed s.homes v.capacity cap (some (Held.Guest g)) (sym k.sized) (let wide = c.lies.wide in let sized : v.capacity ≡ cap = k.sized in omega arith); given_is = given_is ∙ ap length know.taken_is; own_is = own_is ∙ know.own_is; answers_are = refl; how_is = how_is; told_is = subst (λ (l : List Item). IsToldAtEnd how l (told g.subscriber)) know.taken_is told_is };
-          producers = other has_put c.producer _ _ s.views id w c.producers is.0 (λ d o. record { sized = o.sized; put = o.put; seen = o.seen; places = o.places; over = λ _. refl; closed = o.closed; doubled = o.doubled; stands = o.stands });
-          handles = other has_ask c.handle _ _ s.views id w c.handles is.1 (λ d h. h);
-          runners = spent has_run c.runner _ _ s.views id v w c.runners at is.2 refl;
+          producers = other has_put c.cell.producer _ _ s.views id w c.producers is.0 (λ d o. record { sized = o.sized; put = o.put; seen = o.seen; places = o.places; over = λ _. refl; closed = o.closed; doubled = o.doubled; stands = o.stands });
+          handles = other has_ask c.cell.handle _ _ s.views id w c.handles is.1 (λ d h. h);
+          runners = spent has_run c.cell.runner _ _ s.views id v w c.runners at is.2 refl;
         },
         refl,
       )

@@ -36,30 +36,18 @@ module _ {B : Type 0} (told : B → List Signal) where
       let p = (c.producers id v at puts).1 in
       let was : get_elem? s.views from ≡ some w = ⊎_elim (λ here. absurd (apart here.0)) (λ else. else.1) (at_set s.views id from (with_asking v w) w later) in
       record {
-        world = c.world;
+        cell = record c.cell { handle = id };
         reached = reached_joined id from v (with_asking v w) w no_part c.reached at (inl puts) later (c.reached.goes from w was (inr (inl asks))) refl refl refl refl refl refl;
-        log = c.log;
-        taken = c.taken;
-        item = c.item;
-        free = c.free;
-        control = c.control;
-        flags = c.flags;
-        answers = c.answers;
-        away = c.away;
-        left = c.left;
-        producer = c.producer;
-        handle = id;
-        runner = c.runner;
         lists = c.lists;
         shows = c.shows;
         reads = c.reads;
         words = c.words;
         lies = c.lies;
         lodges = c.lodges;
-        producers = other has_put c.producer _ _ (set s.views id (with_asking v w)) from no_part
-            (mine has_put c.producer _ _ s.views id v (with_asking v w) c.producers at puts (record { sized = p.sized; put = p.put; seen = p.seen; places = p.places; over = p.over; closed = p.closed; doubled = p.doubled; stands = p.stands }))
+        producers = other has_put c.cell.producer _ _ (set s.views id (with_asking v w)) from no_part
+            (mine has_put c.cell.producer _ _ s.views id v (with_asking v w) c.producers at puts (record { sized = p.sized; put = p.put; seen = p.seen; places = p.places; over = p.over; closed = p.closed; doubled = p.doubled; stands = p.stands }))
             refl (λ d k. k);
-        handles = taken_in has_ask c.handle _ _ s.views id from (with_asking v w) w no_part c.handles was asks refl
+        handles = taken_in has_ask c.cell.handle _ _ s.views id from (with_asking v w) w no_part c.handles was asks refl
             (λ h. record { sized = p.sized; total = h.total; cancels = h.cancels; bad = h.bad; leaves = h.leaves; stands = h.stands });
-        runners = other has_run c.runner _ _ (set s.views id (with_asking v w)) from no_part (other has_run c.runner _ _ s.views id (with_asking v w) c.runners runs (λ d k. k)) refl (λ d k. k);
+        runners = other has_run c.cell.runner _ _ (set s.views id (with_asking v w)) from no_part (other has_run c.cell.runner _ _ s.views id (with_asking v w) c.runners runs (λ d k. k)) refl (λ d k. k);
       }

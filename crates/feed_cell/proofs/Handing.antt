@@ -13,71 +13,65 @@ use Rattle.feed_cell.proofs.Seats.{mine, other, added, comes}
 use Rattle.feed_cell.specs.Cell.{Only, CellRule, AsProducer, AsHandle, has_seat, may_hold, LodgesAt}
 use Rattle.feed_cell.specs.Control.{marked}
 use Rattle.feed_cell.specs.Outlooks.{IsReachedBy}
-use Rattle.feed_cell.specs.Views.{IsProducer, IsHandle, has_put, has_ask, has_run, producer_handed, handle_handed, running_handed}
+use Rattle.feed_cell.specs.Steps.{MustHandOver}
+use Rattle.feed_cell.specs.Views.{IsProducer, IsHandle, has_put, has_ask, has_run, handed, running_handed}
 use Rattle.feed_cell.specs.declared.cell.Held.{Held}
 use Rattle.feed_cell.specs.declared.cell.View.{View}
 
 module _ {B : Type 0} (told : B → List Signal) (cap : ℕ) where
   -- the rule after a task was handed over, whichever side does it
-  hand_kept : (s : Table.State (Held B) View) (c : CellRule told cap s) (id : ℕ) (v left : View) (producer : Producing) (handle : Requesting) → c.world.runner ≡ Coming → v.capacity ≡ cap → has_run left ≡ false
-      → IsReachedBy (set s.views id left ++ running_handed v ∷ []) (record c.world { producer = producer; handle = handle; runner = Ready }) → (c.left ≡ true → handle ≡ Idle)
-      → Only has_put c.producer (AsProducer cap c.log c.world.given c.free false c.flags.closing c.flags.state producer) (set s.views id left)
-      → Only has_ask c.handle (AsHandle cap c.world.asked c.flags.cancel c.flags.argument c.left handle) (set s.views id left)
+  hand_kept : (s : Table.State (Held B) View) (c : CellRule told cap s) (id : ℕ) (v left : View) (producer : Producing) (handle : Requesting) → c.cell.world.runner ≡ Coming → v.capacity ≡ cap → has_run left ≡ false
+      → IsReachedBy (set s.views id left ++ running_handed v ∷ []) (record c.cell.world { producer = producer; handle = handle; runner = Ready }) → (c.cell.left ≡ true → handle ≡ Idle)
+      → Only has_put c.cell.producer (AsProducer cap c.cell.log c.cell.world.given c.cell.free false c.cell.flags.closing c.cell.flags.state producer) (set s.views id left)
+      → Only has_ask c.cell.handle (AsHandle cap c.cell.world.asked c.cell.flags.cancel c.cell.flags.argument c.cell.left handle) (set s.views id left)
       → CellRule told cap (record { words = s.words; homes = s.homes; views = set s.views id left ++ running_handed v ∷ [] })
   hand_kept s c id v left producer handle coming sized runs reached settled producers handles =
-      let p = c.world in
-      let inside : c.away ≡ false = c.shows.home (ap has_seat coming) in
-      let none_out : c.item ≡ [] = c.shows.none_out (ap may_hold coming) in
+      let p = c.cell.world in
+      let inside : c.cell.away ≡ false = c.shows.home (ap has_seat coming) in
+      let none_out : c.cell.item ≡ [] = c.shows.none_out (ap may_hold coming) in
       record {
-        world = record p { producer = producer; handle = handle; runner = Ready };
+        cell = record c.cell { world = record p { producer = producer; handle = handle; runner = Ready }; runner = length s.views };
         reached = reached;
-        log = c.log;
-        taken = c.taken;
-        item = c.item;
-        free = c.free;
-        control = c.control;
-        flags = c.flags;
-        answers = c.answers;
-        away = c.away;
-        left = c.left;
-        producer = c.producer;
-        handle = c.handle;
-        runner = length s.views;
         lists = c.lists;
         shows = record { sized = c.shows.sized; accepted = c.shows.accepted; given = c.shows.given; none_out = λ _. none_out; started = c.shows.started ∙ ap is_started coming; new = c.shows.new; causes = c.shows.causes; home = λ _. inside; settled = settled };
         reads = c.reads;
-        words = c.words ∙ ap (λ (r : Runner). marked (is_over r) p.given ∷ p.accepted ∷ marked c.left p.asked ∷ c.control ∷ []) coming;
+        words = c.words ∙ ap (λ (r : Runner). marked (is_over r) p.given ∷ p.accepted ∷ marked c.cell.left p.asked ∷ c.cell.control ∷ []) coming;
         lies = c.lies;
-        lodges = λ e. (let g : LodgesAt told cap Coming c.taken p.own c.answers s.homes = subst (λ (r : Runner). LodgesAt told cap r c.taken p.own c.answers s.homes) coming (c.lodges e) in record { guest = g.guest; at = g.at; given_is = g.given_is; own_is = g.own_is; answers_are = g.answers_are; how_is = g.how_is; told_is = g.told_is });
-        producers = added has_put c.producer _ (set s.views id left) (running_handed v) producers refl;
-        handles = added has_ask c.handle _ (set s.views id left) (running_handed v) handles refl;
+        lodges = λ e. (let g : LodgesAt told cap Coming c.cell.taken p.own c.cell.answers s.homes = subst (λ (r : Runner). LodgesAt told cap r c.cell.taken p.own c.cell.answers s.homes) coming (c.lodges e) in record { guest = g.guest; at = g.at; given_is = g.given_is; own_is = g.own_is; answers_are = g.answers_are; how_is = g.how_is; told_is = g.told_is });
+        producers = added has_put c.cell.producer _ (set s.views id left) (running_handed v) producers refl;
+        handles = added has_ask c.cell.handle _ (set s.views id left) (running_handed v) handles refl;
         runners = comes has_run _ s.views id left (running_handed v) (λ j d at has. (let seat = (c.runners j d at has).1.seated in let not : false ≡ true = sym (ap has_seat coming) ∙ seat in cc)) runs
             (record { sized = sized; seated = refl; stands = refl; out = sym inside; knows = λ e. (let not : false ≡ true = sym inside ∙ e in cc); fresh = λ e. cc; item_is = sym none_out; latest = λ e. cc });
       }
 
   -- by the producer
-  pub producer_hands : (id : ℕ) (v : View) → IsProducer v → v.producing ≡ Hands → Splits (CellRule told cap) id v (producer_handed v) (running_handed v)
+  producer_hands : (id : ℕ) (v : View) → IsProducer v → v.producing ≡ Hands → Splits (CellRule told cap) id v (handed v) (running_handed v)
   producer_hands id v is stage s c at =
       let k = (c.producers id v at is.0).1 in
-      let p = c.world in
+      let p = c.cell.world in
       let hands : p.producer ≡ Hands = sym k.stands ∙ stage in
       let coming : p.runner ≡ Coming = (reached_lawful c.reached).coming.1 (inl hands) in
-      hand_kept s c id v (producer_handed v) Free p.handle coming k.sized is.2
-      (reached_with (running_handed v) (reached_hand (Hand Producer) id v (producer_handed v) c.reached hands at (inl is.0) refl refl refl coming refl) refl refl refl) c.shows.settled
-      (mine has_put c.producer _ _ s.views id v (producer_handed v) c.producers at is.0 (record { sized = k.sized; put = k.put; seen = k.seen; places = k.places; over = λ e. (let never : true ≡ false = sym (k.over e) ∙ ap is_over coming in cc); closed = k.closed; doubled = k.doubled; stands = refl }))
-      (other has_ask c.handle _ _ s.views id (producer_handed v) c.handles is.1 (λ d h. h))
+      hand_kept s c id v (handed v) Free p.handle coming k.sized is.2
+      (reached_with (running_handed v) (reached_hand (Hand Producer) id v (handed v) c.reached hands at (inl is.0) refl refl refl coming refl) refl refl refl) c.shows.settled
+      (mine has_put c.cell.producer _ _ s.views id v (handed v) c.producers at is.0 (record { sized = k.sized; put = k.put; seen = k.seen; places = k.places; over = λ e. (let never : true ≡ false = sym (k.over e) ∙ ap is_over coming in cc); closed = k.closed; doubled = k.doubled; stands = refl }))
+      (other has_ask c.cell.handle _ _ s.views id (handed v) c.handles is.1 (λ d h. h))
 
   -- by the handle
-  pub handle_hands : (id : ℕ) (v : View) → IsHandle v → v.requesting ≡ HandsOver → Splits (CellRule told cap) id v (handle_handed v) (running_handed v)
+  handle_hands : (id : ℕ) (v : View) → IsHandle v → v.requesting ≡ HandsOver → Splits (CellRule told cap) id v (handed v) (running_handed v)
   handle_hands id v is stage s c at =
       let k = (c.handles id v at is.1).1 in
-      let p = c.world in
+      let p = c.cell.world in
       let hands : p.handle ≡ HandsOver = sym k.stands ∙ stage in
       let coming : p.runner ≡ Coming = (reached_lawful c.reached).coming.1 (inr hands) in
-      hand_kept s c id v (handle_handed v) p.producer Idle coming k.sized is.2
-      (reached_with (running_handed v) (reached_hand (Hand Handle) id v (handle_handed v) c.reached hands at (inr (inl is.1)) refl refl refl coming refl) refl refl refl) (λ _. refl)
-      (other has_put c.producer _ _ s.views id (handle_handed v) c.producers is.0 (λ d o. subst (λ (r : Runner). AsProducer cap c.log p.given c.free (is_over r) c.flags.closing c.flags.state p.producer d) coming o))
-      (mine has_ask c.handle _ _ s.views id v (handle_handed v) c.handles at is.1 (record { sized = k.sized; total = k.total; cancels = k.cancels; bad = k.bad; leaves = k.leaves; stands = refl }))
+      hand_kept s c id v (handed v) p.producer Idle coming k.sized is.2
+      (reached_with (running_handed v) (reached_hand (Hand Handle) id v (handed v) c.reached hands at (inr (inl is.1)) refl refl refl coming refl) refl refl refl) (λ _. refl)
+      (other has_put c.cell.producer _ _ s.views id (handed v) c.producers is.0 (λ d o. subst (λ (r : Runner). AsProducer cap c.cell.log p.given c.cell.free (is_over r) c.cell.flags.closing c.cell.flags.state p.producer d) coming o))
+      (mine has_ask c.cell.handle _ _ s.views id v (handed v) c.handles at is.1 (record { sized = k.sized; total = k.total; cancels = k.cancels; bad = k.bad; leaves = k.leaves; stands = refl }))
+
+  -- by either
+  pub hands_over : (id : ℕ) (v : View) → MustHandOver v → Splits (CellRule told cap) id v (handed v) (running_handed v)
+  hands_over id v (inl hands) = producer_hands id v hands.0 hands.1
+  hands_over id v (inr hands) = handle_hands id v hands.0 hands.1
 
 -- what is left of the mark of the task, by the word that was found
 pub low_bit : (word : ℕ) → bit_and word 1 ≡ bit_at word 0

@@ -44,10 +44,10 @@ whole_total asked bounded = omega arith
 module _ {B : Type 0} (told : B → List Signal) (cap : ℕ) (s : State (Held B) View) (c : CellRule told cap s) where
   -- the lane of a subscription whose subscriber was told this
   abbrev pub lane_told_so : List Signal → LaneState
-  lane_told_so text = record { accepted = c.log; given = c.world.given; asked = total_of c.world; causes = c.world.causes; how = how_of c.world.runner; told = text }
+  lane_told_so text = record { accepted = c.cell.log; given = c.cell.world.given; asked = total_of c.cell.world; causes = c.cell.world.causes; how = how_of c.cell.world.runner; told = text }
 
-  ends_by : (r : Runner) → c.world.runner ≡ r → (text : List Signal) → HasCause (lane_told_so text)
-  ends_by (Over how) e text = caused c.world how (lane_told_so text) refl refl (sym c.shows.accepted) (ap how_of e) ((reached_lawful c.reached).ended how e)
+  ends_by : (r : Runner) → c.cell.world.runner ≡ r → (text : List Signal) → HasCause (lane_told_so text)
+  ends_by (Over how) e text = caused c.cell.world how (lane_told_so text) refl refl (sym c.shows.accepted) (ap how_of e) ((reached_lawful c.reached).ended how e)
   ends_by Nobody e text = no_cause (lane_told_so text) (ap how_of e)
   ends_by Coming e text = no_cause (lane_told_so text) (ap how_of e)
   ends_by Fresh e text = no_cause (lane_told_so text) (ap how_of e)
@@ -58,59 +58,59 @@ module _ {B : Type 0} (told : B → List Signal) (cap : ℕ) (s : State (Held B)
   ends_by Taken e text = no_cause (lane_told_so text) (ap how_of e)
 
   -- the lane is sound
-  pub sound_left : (text : List Signal) → (c.world.runner ≡ Fresh → ⊥) → IsToldAt c.world.runner c.taken text → may_hold c.world.runner ≡ false → IsSoundLane (lane_told_so text)
+  pub sound_left : (text : List Signal) → (c.cell.world.runner ≡ Fresh → ⊥) → IsToldAt c.cell.world.runner c.cell.taken text → may_hold c.cell.world.runner ≡ false → IsSoundLane (lane_told_so text)
   sound_left text begun told_is held =
       let kept = reached_kept c.reached in
-      let fits = fits_at c.world.runner c.taken text begun told_is in
-      let n : ℕ = length c.taken + length c.item in
-      let item_is : c.item ≡ [] = c.shows.none_out held in
-      let prefix : c.taken ++ drop n c.log ≡ c.log = ap (λ (l : List Item). l ++ drop n c.log) (sym (append-nil c.taken) ∙ ap (λ (l : List Item). c.taken ++ l) (sym item_is) ∙ c.lists.begins) ∙ take-append-drop n c.log in
-      let given : c.world.given ≡ length c.taken = c.shows.given in
-      let accepted : c.world.accepted ≡ length c.log = c.shows.accepted in
-      let taken : c.world.given ≤ c.world.accepted = kept.taken in
+      let fits = fits_at c.cell.world.runner c.cell.taken text begun told_is in
+      let n : ℕ = length c.cell.taken + length c.cell.item in
+      let item_is : c.cell.item ≡ [] = c.shows.none_out held in
+      let prefix : c.cell.taken ++ drop n c.cell.log ≡ c.cell.log = ap (λ (l : List Item). l ++ drop n c.cell.log) (sym (append-nil c.cell.taken) ∙ ap (λ (l : List Item). c.cell.taken ++ l) (sym item_is) ∙ c.lists.begins) ∙ take-append-drop n c.cell.log in
+      let given : c.cell.world.given ≡ length c.cell.taken = c.shows.given in
+      let accepted : c.cell.world.accepted ≡ length c.cell.log = c.shows.accepted in
+      let taken : c.cell.world.given ≤ c.cell.world.accepted = kept.taken in
       record {
         told_is = fits.told_is;
         in_order = ⊎_elim
-            (λ all. (drop n c.log, ap (λ (l : List Item). l ++ drop n c.log) all ∙ prefix))
-            (λ lost. (lost.1.0 ∷ drop n c.log, sym (append_assoc (items_of text) (lost.1.0 ∷ []) (drop n c.log)) ∙ ap (λ (l : List Item). l ++ drop n c.log) (sym lost.1.1) ∙ prefix))
+            (λ all. (drop n c.cell.log, ap (λ (l : List Item). l ++ drop n c.cell.log) all ∙ prefix))
+            (λ lost. (lost.1.0 ∷ drop n c.cell.log, sym (append_assoc (items_of text) (lost.1.0 ∷ []) (drop n c.cell.log)) ∙ ap (λ (l : List Item). l ++ drop n c.cell.log) (sym lost.1.1) ∙ prefix))
             fits.items;
         counts = ⊎_elim
-            (λ all. (let same : length (items_of text) ≡ length c.taken = ap length all in record { tells = omega arith; loses = omega arith; taken = omega arith; requested = kept.requested }))
+            (λ all. (let same : length (items_of text) ≡ length c.cell.taken = ap length all in record { tells = omega arith; loses = omega arith; taken = omega arith; requested = kept.requested }))
             (λ lost. (
-            let same : length c.taken ≡ length (items_of text) + 1 = ap length lost.1.1 ∙ length-append (items_of text) (lost.1.0 ∷ []) in
-            let loss : loss_of (how_of c.world.runner) ≡ 1 = ap loss_of lost.0 in
+            let same : length c.cell.taken ≡ length (items_of text) + 1 = ap length lost.1.1 ∙ length-append (items_of text) (lost.1.0 ∷ []) in
+            let loss : loss_of (how_of c.cell.world.runner) ≡ 1 = ap loss_of lost.0 in
             record { tells = omega arith; loses = omega arith; taken = omega arith; requested = kept.requested }))
             fits.items;
-        cause = ends_by c.world.runner refl text;
-        unfailed = λ e. kept.unfailed (unended c.world.runner e);
-        remembered = λ e. kept.remembered (unended c.world.runner e);
+        cause = ends_by c.cell.world.runner refl text;
+        unfailed = λ e. kept.unfailed (unended c.cell.world.runner e);
+        remembered = λ e. kept.remembered (unended c.cell.world.runner e);
       }
 
   -- the lane of a task at rest is at rest
-  pub rests_left : (text : List Signal) → c.world.runner ≡ Nobody → text ≡ greeted c.taken → MayBegin c.world.producer → c.left ≡ true → IsAtRest (lane_told_so text)
+  pub rests_left : (text : List Signal) → c.cell.world.runner ≡ Nobody → text ≡ greeted c.cell.taken → MayBegin c.cell.world.producer → c.cell.left ≡ true → IsAtRest (lane_told_so text)
   rests_left text e text_is begins left =
       let law = reached_lawful c.reached in
-      let accepted : c.world.accepted ≡ length c.log = c.shows.accepted in
-      let all : c.world.given ≡ min c.world.accepted (total_of c.world) = law.all_given e (record { put = λ put. between begins put; asked = λ asked. (let idle = c.shows.settled left in let never : Idle ≡ HasAsked = sym idle ∙ asked in cc) }) in
+      let accepted : c.cell.world.accepted ≡ length c.cell.log = c.shows.accepted in
+      let all : c.cell.world.given ≡ min c.cell.world.accepted (total_of c.cell.world) = law.all_given e (record { put = λ put. between begins put; asked = λ asked. (let idle = c.shows.settled left in let never : Idle ≡ HasAsked = sym idle ∙ asked in cc) }) in
       record {
         unended = ap how_of e;
         begun = ap is_begun text_is;
         runs_on = law.runs_on e;
-        all_given = all ∙ ap (λ (m : ℕ). min m (total_of c.world)) accepted;
-        waits = λ some. (let waits = law.waits e some in let total : ℕ = total_of c.world in omega arith);
+        all_given = all ∙ ap (λ (m : ℕ). min m (total_of c.cell.world)) accepted;
+        waits = λ some. (let waits = law.waits e some in let total : ℕ = total_of c.cell.world in omega arith);
       }
     where
-      between : MayBegin c.world.producer → c.world.producer ≡ HasPut → ⊥
+      between : MayBegin c.cell.world.producer → c.cell.world.producer ≡ HasPut → ⊥
       between (inl free) put = (let never : Free ≡ HasPut = sym free ∙ put in cc)
       between (inr room) put = (let never : HasRoom ≡ HasPut = sym room ∙ put in cc)
 
   -- a task that has ended, or is at rest, where its subscriber is at home
   abbrev pub IsSafe : Type 0
-  IsSafe = (is_over c.world.runner ≡ true) ⊎ (c.world.runner ≡ Nobody)
+  IsSafe = (is_over c.cell.world.runner ≡ true) ⊎ (c.cell.world.runner ≡ Nobody)
 
-  safe_held : IsSafe → (c.world.runner ≡ Fresh → ⊥) × (may_hold c.world.runner ≡ false) × (has_seat c.world.runner ≡ false)
-  safe_held (inl over) = by c.world.runner refl over where
-    by : (r : Runner) → c.world.runner ≡ r → is_over r ≡ true → (c.world.runner ≡ Fresh → ⊥) × (may_hold c.world.runner ≡ false) × (has_seat c.world.runner ≡ false)
+  safe_held : IsSafe → (c.cell.world.runner ≡ Fresh → ⊥) × (may_hold c.cell.world.runner ≡ false) × (has_seat c.cell.world.runner ≡ false)
+  safe_held (inl over) = by c.cell.world.runner refl over where
+    by : (r : Runner) → c.cell.world.runner ≡ r → is_over r ≡ true → (c.cell.world.runner ≡ Fresh → ⊥) × (may_hold c.cell.world.runner ≡ false) × (has_seat c.cell.world.runner ≡ false)
     by (Over how) e over = ((λ fresh. (let never : Over how ≡ Fresh = sym e ∙ fresh in cc)), ap may_hold e, ap has_seat e)
     by Nobody e over = cc
     by Coming e over = cc
@@ -122,9 +122,9 @@ module _ {B : Type 0} (told : B → List Signal) (cap : ℕ) (s : State (Held B)
     by Taken e over = cc
   safe_held (inr e) = ((λ fresh. (let never : Nobody ≡ Fresh = sym e ∙ fresh in cc)), ap may_hold e, ap has_seat e)
 
-  pub lodges_safe : IsSafe → Lodges told cap c.world.runner c.taken c.world.own c.answers s.homes
-  lodges_safe safe = at c.world.runner refl (c.lodges (c.shows.home (safe_held safe).2)) where
-    at : (r : Runner) → c.world.runner ≡ r → LodgesAt told cap r c.taken c.world.own c.answers s.homes → Lodges told cap r c.taken c.world.own c.answers s.homes
+  pub lodges_safe : IsSafe → Lodges told cap c.cell.world.runner c.cell.taken c.cell.world.own c.cell.answers s.homes
+  lodges_safe safe = at c.cell.world.runner refl (c.lodges (c.shows.home (safe_held safe).2)) where
+    at : (r : Runner) → c.cell.world.runner ≡ r → LodgesAt told cap r c.cell.taken c.cell.world.own c.cell.answers s.homes → Lodges told cap r c.cell.taken c.cell.world.own c.cell.answers s.homes
     at Fresh fresh g = absurd ((safe_held safe).0 fresh)
     at Nobody is g = g
     at Coming is g = g
@@ -136,58 +136,58 @@ module _ {B : Type 0} (told : B → List Signal) (cap : ℕ) (s : State (Held B)
     at (Over how) is g = g
 
   -- the total and the causes have what the seat that the handle had knows, beside what the answers brought about
-  counts : (end : End) (handle : HandleState) (id : ℕ) (v : View) → get_elem? s.views id ≡ some v → KnowsHandle handle v → end.state ≡ c.flags.state → end.closing ≡ c.flags.closing
-      → (total own : ℕ) → total ≡ total_after c.world.asked own → CountsHandle end handle total c.world.causes
+  counts : (end : End) (handle : HandleState) (id : ℕ) (v : View) → get_elem? s.views id ≡ some v → KnowsHandle handle v → end.state ≡ c.cell.flags.state → end.closing ≡ c.cell.flags.closing
+      → (total own : ℕ) → total ≡ total_after c.cell.world.asked own → CountsHandle end handle total c.cell.world.causes
   counts end handle id v at knows state closing total own is =
       let k = (c.handles id v at knows.is).1 in
       record {
         own = own;
-        answers = c.answers;
+        answers = c.cell.answers;
         total_is = is ∙ ap (λ a. total_after a own) (sym k.total ∙ knows.asked);
-        causes_are = c.shows.causes ∙ flagged c.flags c.answers handle end (sym k.cancels ∙ knows.cancelled) (sym k.bad ∙ knows.argument) (sym state) (sym closing);
+        causes_are = c.shows.causes ∙ flagged c.cell.flags c.cell.answers handle end (sym k.cancels ∙ knows.cancelled) (sym k.bad ∙ knows.argument) (sym state) (sym closing);
       }
 
-  module _ (id : ℕ) (v : View) (at : get_elem? s.views id ≡ some v) (puts : v.puts ≡ true) (begins : MayBegin v.producing) (end : End) (end_is : end ≡ known_end v.capacity v end.ready)
+  module _ (id : ℕ) (v : View) (at : get_elem? s.views id ≡ some v) (puts : v.puts ≡ true) (begins : MayBegin v.producing) (end : End) (end_is : end ≡ known_end v end.ready)
       (handle : Option HandleState) (knows : IfSome handle (λ h. KnowsHandle h v)) where
-    put_is : end.accepted ≡ c.log
+    put_is : end.accepted ≡ c.cell.log
     put_is = ap (λ z. z.accepted) end_is ∙ (c.producers id v at puts).1.put
 
-    closing_is : end.closing ≡ c.flags.closing
+    closing_is : end.closing ≡ c.cell.flags.closing
     closing_is = ap (λ z. z.closing) end_is ∙ (c.producers id v at puts).1.closed
 
-    state_is : end.state ≡ c.flags.state
+    state_is : end.state ≡ c.cell.flags.state
     state_is = ap (λ z. z.state) end_is ∙ (c.producers id v at puts).1.doubled
 
-    over_is : end.over ≡ true → is_over c.world.runner ≡ true
+    over_is : end.over ≡ true → is_over c.cell.world.runner ≡ true
     over_is over = (c.producers id v at puts).1.over (sym (ap (λ z. z.over) end_is) ∙ over)
 
     -- no more was accepted than there is room for
-    room_kept : length c.log ≤ c.world.given + end.capacity
+    room_kept : length c.cell.log ≤ c.cell.world.given + end.capacity
     room_kept =
         let sized : end.capacity ≡ cap = ap (λ z. z.capacity) end_is ∙ (c.producers id v at puts).1.sized in
-        let given : c.world.given ≡ length c.taken = c.shows.given in
-        let above : length c.log ≤ c.free = c.lists.above in
-        let below : c.free ≤ length c.taken + cap = c.lists.below in
+        let given : c.cell.world.given ≡ length c.cell.taken = c.shows.given in
+        let above : length c.cell.log ≤ c.cell.free = c.lists.above in
+        let below : c.cell.free ≤ length c.cell.taken + cap = c.lists.below in
         omega arith
 
     -- with its seat known, the handle has left
-    left_by : (handle : Option HandleState) → IfSome handle (λ h. KnowsHandle h v) → IsSome handle → c.left ≡ true
+    left_by : (handle : Option HandleState) → IfSome handle (λ h. KnowsHandle h v) → IsSome handle → c.cell.left ≡ true
     left_by None known own = cc
     left_by (Some h) known own = sym (c.handles id v at known.is).1.leaves ∙ known.left
 
-    may : MayBegin c.world.producer
+    may : MayBegin c.cell.world.producer
     may = subst MayBegin (c.producers id v at puts).1.stands begins
 
     -- its subscriber is at home
-    pub left_there : (safe : IsSafe) (running : Bool) → (running ≡ false → (is_over c.world.runner ≡ true) ⊎ (c.left ≡ true)) → (running ≡ true → c.left ≡ true → ⊥) → (running ≡ true → is_over c.world.runner ≡ true → ⊥)
-        → IsLeftOf told end handle (lane_with (lodges_safe safe).guest c.world.given c.world.accepted c.world.asked running)
+    pub left_there : (safe : IsSafe) (running : Bool) → (running ≡ false → (is_over c.cell.world.runner ≡ true) ⊎ (c.cell.left ≡ true)) → (running ≡ true → c.cell.left ≡ true → ⊥) → (running ≡ true → is_over c.cell.world.runner ≡ true → ⊥)
+        → IsLeftOf told end handle (lane_with (lodges_safe safe).guest c.cell.world.given c.cell.world.accepted c.cell.world.asked running)
     left_there safe running settles stays goes =
         let g = lodges_safe safe in
         let held = safe_held safe in
         let text = told g.guest.subscriber in
         let sound = sound_left text held.0 g.told_is held.1 in
-        let taken : c.world.given ≤ c.world.accepted = (reached_kept c.reached).taken in
-        let accepted : c.world.accepted ≡ length c.log = c.shows.accepted in
+        let taken : c.cell.world.given ≤ c.cell.world.accepted = (reached_kept c.reached).taken in
+        let accepted : c.cell.world.accepted ≡ length c.cell.log = c.shows.accepted in
         record {
           lane = lane_told_so text;
           is = record {
@@ -195,37 +195,37 @@ module _ {B : Type 0} (told : B → List Signal) (cap : ℕ) (s : State (Held B)
             given = refl;
             taken = omega arith;
             ending = g.how_is;
-            flow = (refl, ap (total_after c.world.asked) g.own_is, flow_kept sound);
+            flow = (refl, ap (total_after c.cell.world.asked) g.own_is, flow_kept sound);
             settled = λ rests. (refl, settles_by (settles rests) safe);
-            unended = λ runs. g.how_is ∙ goes_on c.world.runner (not_over c.world.runner (goes runs));
+            unended = λ runs. g.how_is ∙ goes_on c.cell.world.runner (not_over c.cell.world.runner (goes runs));
           };
           accepted = sym put_is;
           closing = ap (λ z. z.closing) c.shows.causes ∙ sym closing_is;
           state = ap (λ z. z.state) c.shows.causes ∙ sym state_is;
           room = room_kept;
-          handled = on_some handle (λ h known. counts end h id v at known state_is closing_is (total_after c.world.asked g.guest.own) g.guest.own refl) knows;
-          over = λ over. ap is_some g.how_is ∙ has_ended c.world.runner (over_is over);
+          handled = on_some handle (λ h known. counts end h id v at known state_is closing_is (total_after c.cell.world.asked g.guest.own) g.guest.own refl) knows;
+          over = λ over. ap is_some g.how_is ∙ has_ended c.cell.world.runner (over_is over);
           runs = λ own runs. absurd (stays runs (left_by handle knows own));
         }
       where
-        settles_by : (is_over c.world.runner ≡ true) ⊎ (c.left ≡ true) → IsSafe → IsSettled (lane_told_so (told (lodges_safe safe).guest.subscriber))
-        settles_by (inl over) either = settled_some (sound_left _ (safe_held safe).0 (lodges_safe safe).told_is (safe_held safe).1) (has_ended c.world.runner over)
-        settles_by (inr left) (inl over) = settled_some (sound_left _ (safe_held safe).0 (lodges_safe safe).told_is (safe_held safe).1) (has_ended c.world.runner over)
+        settles_by : (is_over c.cell.world.runner ≡ true) ⊎ (c.cell.left ≡ true) → IsSafe → IsSettled (lane_told_so (told (lodges_safe safe).guest.subscriber))
+        settles_by (inl over) either = settled_some (sound_left _ (safe_held safe).0 (lodges_safe safe).told_is (safe_held safe).1) (has_ended c.cell.world.runner over)
+        settles_by (inr left) (inl over) = settled_some (sound_left _ (safe_held safe).0 (lodges_safe safe).told_is (safe_held safe).1) (has_ended c.cell.world.runner over)
         settles_by (inr left) (inr e) = settled_at_rest (sound_left _ (safe_held safe).0 (lodges_safe safe).told_is (safe_held safe).1)
-            (rests_left _ e (subst (λ r. IsToldAt r c.taken (told (lodges_safe safe).guest.subscriber)) e (lodges_safe safe).told_is) may left)
+            (rests_left _ e (subst (λ r. IsToldAt r c.cell.taken (told (lodges_safe safe).guest.subscriber)) e (lodges_safe safe).told_is) may left)
 
     -- a task was lost with it
-    pub left_away : is_over c.world.runner ≡ false → IsLeftOf told end handle (lane_without c.world.given c.world.accepted c.world.asked)
+    pub left_away : is_over c.cell.world.runner ≡ false → IsLeftOf told end handle (lane_without c.cell.world.given c.cell.world.accepted c.cell.world.asked)
     left_away goes =
-        let taken : c.world.given ≤ c.world.accepted = (reached_kept c.reached).taken in
-        let accepted : c.world.accepted ≡ length c.log = c.shows.accepted in
+        let taken : c.cell.world.given ≤ c.cell.world.accepted = (reached_kept c.reached).taken in
+        let accepted : c.cell.world.accepted ≡ length c.cell.log = c.shows.accepted in
         record {
           lane = lane_told_so [];
           is = record {
             accepted = accepted;
             given = refl;
             taken = omega arith;
-            ending = sym (goes_on c.world.runner goes);
+            ending = sym (goes_on c.cell.world.runner goes);
             flow = tt;
             settled = λ e. cc;
             unended = λ _. refl;
@@ -234,7 +234,7 @@ module _ {B : Type 0} (told : B → List Signal) (cap : ℕ) (s : State (Held B)
           closing = ap (λ z. z.closing) c.shows.causes ∙ sym closing_is;
           state = ap (λ z. z.state) c.shows.causes ∙ sym state_is;
           room = room_kept;
-          handled = on_some handle (λ h known. counts end h id v at known state_is closing_is c.world.asked 0 (let bounded = (reached_kept c.reached).asked_bounded in whole_total c.world.asked bounded)) knows;
+          handled = on_some handle (λ h known. counts end h id v at known state_is closing_is c.cell.world.asked 0 (let bounded = (reached_kept c.reached).asked_bounded in whole_total c.cell.world.asked bounded)) knows;
           over = λ over. (let never : true ≡ false = sym (over_is over) ∙ goes in cc);
           runs = λ _ _. refl;
         }

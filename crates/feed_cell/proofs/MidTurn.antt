@@ -12,7 +12,7 @@ use Rattle.feed_cell.specs.Paused.{told_out, IsPaused}
 use Rattle.feed_cell.specs.Plays.{SeatOf, how_out, outlook_by}
 use Rattle.feed_cell.specs.Running.{EndsThere, GoesOnThere, HasLookedAt, IsGranted, grant_of}
 use Rattle.feed_cell.specs.Serving.{EndsAs, GivesItem, IsLastGrant, MissesRest, RestsNow}
-use Rattle.feed_cell.specs.Turned.{AreGivenOf, AreGranted, GoesOnAs, IsBeforeLook, KeepsGoing, MayLookNext, StopsAs, TellsSoFar}
+use Rattle.feed_cell.specs.Turned.{AreGivenOf, AreGranted, GoesOnAs, IsBeforeLook, KeepsGoing, MayLookNext, StopsAs, TellsSoFar, MayGoOn}
 use Rattle.feed_cell.specs.declared.cell.Grant.{Grant}
 use Rattle.feed_cell.specs.declared.cell.View.{View}
 use Rattle.feed_cell.specs.declared.cell.task.Stage.{Stage}
@@ -212,17 +212,18 @@ module _ {B : Type 0} (told : B → List Signal) where
     )
 
     -- it could not rest
-    pub misses_after : count < 64 → MissesRest told mid after → later ≡ seen → GoesOnAs before.0 after.0 (told_out told before.1) (told_out told after.1) later.signals
-    misses_after short missed same =
-        subst (λ (s : SeenState). GoesOnAs before.0 after.0 (told_out told before.1) (told_out told after.1) s.signals) (sym same)
-        (record {
-          turned = whole_turn before.0 (told_out told before.1) seen.signals t.start t.base t.took Again t.knew t.met t.opened (let c = t.counted in omega arith) t.grants (t.one_each ∙ sym t.counted) t.granted t.text;
-          taken = missed.taken ∙ t.taken;
-          grants = missed.grants ∙ t.grants_are;
-          away = missed.going.away;
-          told_is = missed.text ∙ t.told_is;
-          why = inr (missed.misses ∙ ap (λ n. n + 1) t.misses);
-        })
+    pub misses_after : count < 64 → MissesRest told mid after → later ≡ seen → GoesOnAs before.0 after.0 (told_out told before.1) (told_out told after.1) later.signals × MayGoOn before.0 after.0 later.signals
+    misses_after short missed same = (
+      subst (λ (s : SeenState). GoesOnAs before.0 after.0 (told_out told before.1) (told_out told after.1) s.signals) (sym same)
+          (record {
+            turned = whole_turn before.0 (told_out told before.1) seen.signals t.start t.base t.took Again t.knew t.met t.opened (let c = t.counted in omega arith) t.grants (t.one_each ∙ sym t.counted) t.granted t.text;
+            taken = missed.taken ∙ t.taken;
+            grants = missed.grants ∙ t.grants_are;
+            away = missed.going.away;
+            told_is = missed.text ∙ t.told_is;
+          }),
+      inr (missed.misses ∙ ap (λ n. n + 1) t.misses),
+    )
 
     -- all its grants, at its end
     all_granted : (took : List Item) → IsLastGrant mid after took → (grants : List Grant) × (length grants ≡ length (t.took ++ took)) × AreGranted (length t.base) grants × (after.0.grants ≡ before.0.grants ++ grants)
@@ -260,17 +261,18 @@ module _ {B : Type 0} (told : B → List Signal) where
         )
 
   -- a turn is over after 64 items
-  pub full : (before me : SeatOf B) (seen : List Signal) → IsGoing told me → TellsSoFar told 64 before me seen → GoesOnAs before.0 me.0 (told_out told before.1) (told_out told me.1) seen
+  pub full : (before me : SeatOf B) (seen : List Signal) → IsGoing told me → TellsSoFar told 64 before me seen → GoesOnAs before.0 me.0 (told_out told before.1) (told_out told me.1) seen × MayGoOn before.0 me.0 seen
   full before me seen going t =
-      let turned = whole_turn before.0 (told_out told before.1) seen t.start t.base t.took Again t.knew t.met t.opened (let c = t.counted in omega arith) t.grants (t.one_each ∙ sym t.counted) t.granted t.text in
-      record {
-        turned = turned;
-        taken = t.taken;
-        grants = t.grants_are;
-        away = going.away;
-        told_is = t.told_is;
-        why = inl (all (items_of seen) t.took turned.given ∙ t.counted, t.misses);
-      }
+      let turned = whole_turn before.0 (told_out told before.1) seen t.start t.base t.took Again t.knew t.met t.opened (let c = t.counted in omega arith) t.grants (t.one_each ∙ sym t.counted) t.granted t.text in (
+        record {
+          turned = turned;
+          taken = t.taken;
+          grants = t.grants_are;
+          away = going.away;
+          told_is = t.told_is;
+        },
+        inl (all (items_of seen) t.took turned.given ∙ t.counted, t.misses),
+      )
     where
       all : (given took : List Item) → AreGivenOf Again given took → length given ≡ length took
       all given took (inl e) = ap length e

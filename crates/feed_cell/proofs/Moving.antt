@@ -23,39 +23,27 @@ knows_too taken own answers v w a b e k = record { taken_is = a ∙ k.taken_is; 
 module _ {B : Type 0} (told : B → List Signal) (cap : ℕ) where
   -- the rule after a step that moves the task and an item
   pub move_kept : (s : State (Held B) View) (c : CellRule told cap s) (id : ℕ) (v w : View) (stage : Runner) (item : List Item) (words : List ℕ) (homes : List (slot.Option (Held B))) → get_elem? s.views id ≡ some v → IsRunner v
-      → has_put w ≡ false → has_ask w ≡ false → has_seat stage ≡ true → IsReachedBy (set s.views id w) (record c.world { runner = stage }) → (may_hold stage ≡ false → item ≡ [])
-      → Lists cap c.log c.taken item c.free → Lies cap c.log (length c.taken) (length c.taken + length item) c.free homes
-      → words ≡ marked (is_over c.world.runner) c.world.given ∷ c.world.accepted ∷ marked c.left c.world.asked ∷ c.control ∷ []
-      → AsRunner cap stage c.world.active c.control true c.taken item c.world.own c.answers w
+      → has_put w ≡ false → has_ask w ≡ false → has_seat stage ≡ true → IsReachedBy (set s.views id w) (record c.cell.world { runner = stage }) → (may_hold stage ≡ false → item ≡ [])
+      → Lists cap c.cell.log c.cell.taken item c.cell.free → Lies cap c.cell.log (length c.cell.taken) (length c.cell.taken + length item) c.cell.free homes
+      → words ≡ marked (is_over c.cell.world.runner) c.cell.world.given ∷ c.cell.world.accepted ∷ marked c.cell.left c.cell.world.asked ∷ c.cell.control ∷ []
+      → AsRunner cap stage c.cell.world.active c.cell.control true c.cell.taken item c.cell.world.own c.cell.answers w
       → CellRule told cap (record { words = words; homes = homes; views = set s.views id w })
   move_kept s c id v w stage item words homes at is puts asks seat reached none_out lists lies words_are knows =
-      let p = c.world in
+      let p = c.cell.world in
       let k = (c.runners id v at is.2).1 in
       let old = seated p.runner k.seated in
       let new = seated stage seat in
       let over : is_over p.runner ≡ is_over stage = old.over ∙ sym new.over in
       record {
-        world = record p { runner = stage };
+        cell = record c.cell { world = record p { runner = stage }; item = item; away = true };
         reached = reached;
-        log = c.log;
-        taken = c.taken;
-        item = item;
-        free = c.free;
-        control = c.control;
-        flags = c.flags;
-        answers = c.answers;
-        away = true;
-        left = c.left;
-        producer = c.producer;
-        handle = c.handle;
-        runner = c.runner;
         lists = lists;
         shows = record { sized = c.shows.sized; accepted = c.shows.accepted; given = c.shows.given; none_out = none_out; started = c.shows.started ∙ old.runs ∙ sym new.runs; new = c.shows.new; causes = c.shows.causes; home = λ e. (let not : true ≡ false = sym seat ∙ e in cc); settled = c.shows.settled };
         reads = c.reads;
-        words = words_are ∙ ap (λ b. marked b p.given ∷ p.accepted ∷ marked c.left p.asked ∷ c.control ∷ []) over;
+        words = words_are ∙ ap (λ b. marked b p.given ∷ p.accepted ∷ marked c.cell.left p.asked ∷ c.cell.control ∷ []) over;
         lies = lies;
         lodges = λ e. cc;
-        producers = other has_put c.producer _ _ s.views id w c.producers puts (λ d o. subst (λ b. AsProducer cap c.log p.given c.free b c.flags.closing c.flags.state p.producer d) over o);
-        handles = other has_ask c.handle _ _ s.views id w c.handles asks (λ d h. h);
-        runners = mine has_run c.runner _ _ s.views id v w c.runners at is.2 knows;
+        producers = other has_put c.cell.producer _ _ s.views id w c.producers puts (λ d o. subst (λ b. AsProducer cap c.cell.log p.given c.cell.free b c.cell.flags.closing c.cell.flags.state p.producer d) over o);
+        handles = other has_ask c.cell.handle _ _ s.views id w c.handles asks (λ d h. h);
+        runners = mine has_run c.cell.runner _ _ s.views id v w c.runners at is.2 knows;
       }

@@ -6,7 +6,7 @@ use lib.ListN.{get_elem?}
 use Rattle.atomic_table.proofs.Lists.{at_map}
 use Rattle.atomic_table.specs.Table.{opening, takes, Allows, Splits}
 use Rattle.feed_core.specs.Cause.{no_causes}
-use Rattle.feed_core.specs.Prelude.{Signal, UNBOUNDED}
+use Rattle.feed_core.specs.Prelude.{Signal}
 use Rattle.feed_core.specs.LaneCalls.{IsCapacity}
 use Rattle.feed_core.specs.World.Runs.{made}
 use Rattle.feed_cell.specs.Types.{Free, Idle, Runner, Fresh}
@@ -17,8 +17,8 @@ use Rattle.feed_cell.proofs.Seats.{alone, mine, other, added, moved}
 use Rattle.feed_cell.specs.Cell.{Lies, CellRule, AsProducer, AsHandle, AsRunner, LodgesAt}
 use Rattle.feed_cell.specs.Parties.{IsUngreeted}
 use Rattle.feed_cell.specs.Plays.{SeatOf, Enters}
-use Rattle.feed_cell.specs.Steps.{MayOffer, MayRequest}
-use Rattle.feed_cell.specs.Views.{IsRunner, first_view, has_put, has_ask, has_run, without_asking, asking_alone, without_running, running_alone}
+use Rattle.feed_cell.specs.Steps.{IsProducerOf, IsHandleOf}
+use Rattle.feed_cell.specs.Views.{IsRunner, RunsFree, first_view, has_put, has_ask, has_run, without_asking, asking_alone, without_running, running_alone}
 use Rattle.feed_cell.specs.declared.cell.Held.{Held}
 use Rattle.feed_cell.specs.declared.cell.View.{View}
 
@@ -37,20 +37,22 @@ module _ {B : Type 0} (told : B → List Signal) where
       let slots : List (Held B) = replicate (cap + 1) Held.Empty in
       let home : (k : ℕ) → k < cap + 1 → get_elem? (map some slots) k ≡ some (some Held.Empty) = λ k within. at_map some slots k Held.Empty (at_replicate (cap + 1) Held.Empty k within) in
       record {
-        world = made cap;
+        cell = record {
+          world = made cap;
+          log = [];
+          taken = [];
+          item = [];
+          free = 0;
+          control = 1;
+          flags = record { run = true; active = false; cancel = false; argument = false; state = false; closing = None };
+          answers = no_causes;
+          away = false;
+          left = false;
+          producer = 0;
+          handle = 0;
+          runner = 0;
+        };
         reached = reached_made cap capacity;
-        log = [];
-        taken = [];
-        item = [];
-        free = 0;
-        control = 1;
-        flags = record { run = true; active = false; cancel = false; argument = false; state = false; closing = None };
-        answers = no_causes;
-        away = false;
-        left = false;
-        producer = 0;
-        handle = 0;
-        runner = 0;
         lists = record { sized = sized; begins = refl; one_out = omega arith; within = omega arith; above = omega arith; below = omega arith };
         shows = record { sized = refl; accepted = refl; given = refl; none_out = λ _. refl; started = refl; new = refl; causes = refl; home = λ _. refl; settled = λ e. refl };
         reads = record { run = refl; active = refl; cancel = refl; argument = refl; state = refl; error = refl; complete = refl; code = refl };
@@ -74,31 +76,19 @@ module _ {B : Type 0} (told : B → List Signal) where
       let h = (c.handles id v at asks).1 in
       let r = (c.runners id v at runs).1 in
       record {
-        world = c.world;
+        cell = record c.cell { runner = length s.views };
         reached = reached_with (running_alone v) (reached_too id v (without_running v) c.reached at (inl puts) (refl, refl, refl)) (c.reached.goes id v at (inl puts)) refl refl;
-        log = c.log;
-        taken = c.taken;
-        item = c.item;
-        free = c.free;
-        control = c.control;
-        flags = c.flags;
-        answers = c.answers;
-        away = c.away;
-        left = c.left;
-        producer = c.producer;
-        handle = c.handle;
-        runner = length s.views;
         lists = c.lists;
         shows = c.shows;
         reads = c.reads;
         words = c.words;
         lies = c.lies;
         lodges = c.lodges;
-        producers = added has_put c.producer _ (set s.views id (without_running v)) (running_alone v)
-            (mine has_put c.producer _ _ s.views id v (without_running v) c.producers at puts (record { sized = p.sized; put = p.put; seen = p.seen; places = p.places; over = p.over; closed = p.closed; doubled = p.doubled; stands = p.stands })) refl;
-        handles = added has_ask c.handle _ (set s.views id (without_running v)) (running_alone v)
-            (mine has_ask c.handle _ _ s.views id v (without_running v) c.handles at asks (record { sized = h.sized; total = h.total; cancels = h.cancels; bad = h.bad; leaves = h.leaves; stands = h.stands })) refl;
-        runners = moved has_run c.runner _ _ s.views id v (without_running v) (running_alone v) c.runners at runs refl
+        producers = added has_put c.cell.producer _ (set s.views id (without_running v)) (running_alone v)
+            (mine has_put c.cell.producer _ _ s.views id v (without_running v) c.producers at puts (record { sized = p.sized; put = p.put; seen = p.seen; places = p.places; over = p.over; closed = p.closed; doubled = p.doubled; stands = p.stands })) refl;
+        handles = added has_ask c.cell.handle _ (set s.views id (without_running v)) (running_alone v)
+            (mine has_ask c.cell.handle _ _ s.views id v (without_running v) c.handles at asks (record { sized = h.sized; total = h.total; cancels = h.cancels; bad = h.bad; leaves = h.leaves; stands = h.stands })) refl;
+        runners = moved has_run c.cell.runner _ _ s.views id v (without_running v) (running_alone v) c.runners at runs refl
             (record { sized = r.sized; seated = r.seated; stands = r.stands; out = r.out; knows = λ e. (let k = r.knows e in record { taken_is = k.taken_is; own_is = k.own_is; answers_are = k.answers_are }); fresh = λ e. (let k = r.fresh e in record { taken_is = k.taken_is; own_is = k.own_is; answers_are = k.answers_are }); item_is = r.item_is; latest = r.latest });
       }
 
@@ -108,82 +98,58 @@ module _ {B : Type 0} (told : B → List Signal) where
       let p = (c.producers id v at puts).1 in
       let h = (c.handles id v at asks).1 in
       record {
-        world = c.world;
+        cell = record c.cell { handle = length s.views };
         reached = reached_with (asking_alone v) (reached_too id v (without_asking v) c.reached at (inl puts) (refl, refl, refl)) (c.reached.goes id v at (inl puts)) refl refl;
-        log = c.log;
-        taken = c.taken;
-        item = c.item;
-        free = c.free;
-        control = c.control;
-        flags = c.flags;
-        answers = c.answers;
-        away = c.away;
-        left = c.left;
-        producer = c.producer;
-        handle = length s.views;
-        runner = c.runner;
         lists = c.lists;
         shows = c.shows;
         reads = c.reads;
         words = c.words;
         lies = c.lies;
         lodges = c.lodges;
-        producers = added has_put c.producer _ (set s.views id (without_asking v)) (asking_alone v)
-            (mine has_put c.producer _ _ s.views id v (without_asking v) c.producers at puts (record { sized = p.sized; put = p.put; seen = p.seen; places = p.places; over = p.over; closed = p.closed; doubled = p.doubled; stands = p.stands })) refl;
-        handles = moved has_ask c.handle _ _ s.views id v (without_asking v) (asking_alone v) c.handles at asks refl
+        producers = added has_put c.cell.producer _ (set s.views id (without_asking v)) (asking_alone v)
+            (mine has_put c.cell.producer _ _ s.views id v (without_asking v) c.producers at puts (record { sized = p.sized; put = p.put; seen = p.seen; places = p.places; over = p.over; closed = p.closed; doubled = p.doubled; stands = p.stands })) refl;
+        handles = moved has_ask c.cell.handle _ _ s.views id v (without_asking v) (asking_alone v) c.handles at asks refl
             (record { sized = h.sized; total = h.total; cancels = h.cancels; bad = h.bad; leaves = h.leaves; stands = h.stands });
-        runners = added has_run c.runner _ (set s.views id (without_asking v)) (asking_alone v)
-            (other has_run c.runner _ _ s.views id (without_asking v) c.runners runs (λ d k. k)) refl;
+        runners = added has_run c.cell.runner _ (set s.views id (without_asking v)) (asking_alone v)
+            (other has_run c.cell.runner _ _ s.views id (without_asking v) c.runners runs (λ d k. k)) refl;
       }
 
   -- a load takes the subscriber's slot out
   pub enters : (cap n id : ℕ) (v : View) (more : List (ℕ × Held B)) → IsRunner v → v.runner ≡ Fresh → v.away ≡ false → Allows (CellRule told cap) n id (v, more) 3 (λ n. n) (λ _. Enters (v, more))
   enters cap n id v more is fresh home s c wide at small =
       let k = (c.runners id v at is.2).1 in
-      let stage : c.world.runner ≡ Fresh = sym k.stands ∙ fresh in
-      let inside : c.away ≡ false = sym k.out ∙ home in
-      let vacant : LodgesAt told cap Fresh c.taken c.world.own c.answers s.homes = subst (λ (r : Runner). LodgesAt told cap r c.taken c.world.own c.answers s.homes) stage (c.lodges inside) in
+      let stage : c.cell.world.runner ≡ Fresh = sym k.stands ∙ fresh in
+      let inside : c.cell.away ≡ false = sym k.out ∙ home in
+      let vacant : LodgesAt told cap Fresh c.cell.taken c.cell.world.own c.cell.answers s.homes = subst (λ (r : Runner). LodgesAt told cap r c.cell.taken c.cell.world.own c.cell.answers s.homes) stage (c.lodges inside) in
       let knows = k.fresh stage in
       let w : View = record v { away = true } in (
         w,
         takes v.capacity Held.Empty,
         ap (λ (j : ℕ). get_elem? s.homes j) k.sized ∙ vacant,
         record {
-          world = c.world;
+          cell = record c.cell { away = true };
           reached = reached_too id v w c.reached at (inr (inr is.2)) (refl, refl, refl);
-          log = c.log;
-          taken = c.taken;
-          item = c.item;
-          free = c.free;
-          control = c.control;
-          flags = c.flags;
-          answers = c.answers;
-          away = true;
-          left = c.left;
-          producer = c.producer;
-          handle = c.handle;
-          runner = c.runner;
           lists = c.lists;
           shows = record { sized = c.shows.sized; accepted = c.shows.accepted; given = c.shows.given; none_out = c.shows.none_out; started = c.shows.started; new = c.shows.new; causes = c.shows.causes; home = λ e. (let h = k.seated in cc); settled = c.shows.settled };
           reads = c.reads;
           words = ap (λ (ws : List ℕ). set ws 3 (slice_index ws 3)) c.words;
-          lies = subst (λ (j : ℕ). Lies cap c.log (length c.taken) (length c.taken + length c.item) c.free (set s.homes j none)) (sym k.sized)
-              (lies_guest cap c.log s.homes (length c.taken) (length c.taken + length c.item) c.free none c.lists.sized c.lies);
+          lies = subst (λ (j : ℕ). Lies cap c.cell.log (length c.cell.taken) (length c.cell.taken + length c.cell.item) c.cell.free (set s.homes j none)) (sym k.sized)
+              (lies_guest cap c.cell.log s.homes (length c.cell.taken) (length c.cell.taken + length c.cell.item) c.cell.free none c.lists.sized c.lies);
           lodges = λ e. cc;
-          producers = other has_put c.producer _ _ s.views id w c.producers is.0 (λ d p. p);
-          handles = other has_ask c.handle _ _ s.views id w c.handles is.1 (λ d h. h);
-          runners = mine has_run c.runner _ _ s.views id v w c.runners at is.2
+          producers = other has_put c.cell.producer _ _ s.views id w c.producers is.0 (λ d p. p);
+          handles = other has_ask c.cell.handle _ _ s.views id w c.handles is.1 (λ d h. h);
+          runners = mine has_run c.cell.runner _ _ s.views id v w c.runners at is.2
               (record { sized = k.sized; seated = k.seated; stands = k.stands; out = refl; knows = λ _. record { taken_is = knows.taken_is; own_is = knows.own_is; answers_are = knows.answers_are }; fresh = λ _. record { taken_is = knows.taken_is; own_is = knows.own_is; answers_are = knows.answers_are }; item_is = k.item_is; latest = k.latest });
         },
         refl,
       )
 
   -- the first task, with its subscriber placed in the slot
-  pub lodged : (capacity : ℕ) (v : View) (b : B) (me : SeatOf B) → v.capacity ≡ capacity → v.runner ≡ Fresh → v.taken ≡ [] → v.own ≡ 0 → v.answers ≡ no_causes → told b ≡ []
-      → me ≡ (record v { away = true }, (capacity, Held.Guest (record { subscriber = b; given = 0; own = 0; answers = no_causes; how = None })) ∷ []) → IsUngreeted told me
-  lodged capacity v b me sized stage taken own answers untold is = subst (λ (m : SeatOf B). IsUngreeted told m) (sym is) (record {
+  lodged : (v : View) (b : B) (me : SeatOf B) → v.runner ≡ Fresh → v.taken ≡ [] → v.own ≡ 0 → v.answers ≡ no_causes → told b ≡ []
+      → me ≡ (record v { away = true }, (v.capacity, Held.Guest (record { subscriber = b; given = 0; own = 0; answers = no_causes; how = None })) ∷ []) → IsUngreeted told me
+  lodged v b me stage taken own answers untold is = subst (λ (m : SeatOf B). IsUngreeted told m) (sym is) (record {
     guest = record { subscriber = b; given = 0; own = 0; answers = no_causes; how = None };
-    slot = ap (λ (n : ℕ). (n, Held.Guest (record { subscriber = b; given = 0; own = 0; answers = no_causes; how = None })) ∷ []) (sym sized);
+    slot = refl;
     away = refl;
     stage = stage;
     taken = taken;
@@ -195,39 +161,24 @@ module _ {B : Type 0} (told : B → List Signal) where
   })
 
   -- the producer's seat at first
-  pub producer_first : (capacity : ℕ) (maker left me : SeatOf B) → maker ≡ (first_view capacity, []) → left ≡ (without_running maker.0, maker.1) → me ≡ (without_asking left.0, left.1)
-      → (me.1 ≡ []) × MayOffer me × (me.0.capacity ≡ capacity) × (me.0.closing ≡ None) × (length me.0.put ≡ 0)
+  pub producer_first : (capacity : ℕ) (maker left me : SeatOf B) → maker ≡ (first_view capacity, []) → left ≡ (without_running maker.0, maker.1) → me ≡ (without_asking left.0, left.1) → (me.0.capacity ≡ capacity) × IsProducerOf 0 None me
   producer_first capacity maker left me made left_is me_is =
-      let is : me ≡ (without_asking (without_running (first_view capacity)), []) = me_is ∙ ap (λ (m : SeatOf B). (without_asking m.0, m.1)) left_is ∙ ap (λ (m : SeatOf B). (without_asking (without_running m.0), m.1)) made in (
-        ap (λ (m : SeatOf B). m.1) is,
-        subst (λ (m : SeatOf B). MayOffer m) (sym is) (record { is = (refl, refl, refl); none_out = refl; begins = inl refl }),
-        ap (λ (m : SeatOf B). m.0.capacity) is,
-        ap (λ (m : SeatOf B). m.0.closing) is,
-        ap (λ (m : SeatOf B). length m.0.put) is,
-      )
+      let is : me ≡ (without_asking (without_running (first_view capacity)), []) = me_is ∙ ap (λ (m : SeatOf B). (without_asking m.0, m.1)) left_is ∙ ap (λ (m : SeatOf B). (without_asking (without_running m.0), m.1)) made in
+      (ap (λ (m : SeatOf B). m.0.capacity) is, subst (λ (m : SeatOf B). IsProducerOf 0 None m) (sym is) (record { may = record { is = (refl, refl, refl); none_out = refl; begins = inl refl }; no_slot = refl; closed = refl; counted = refl }))
 
-  -- the handle's seat at first
-  pub handle_first : (capacity : ℕ) (maker left me : SeatOf B) → maker ≡ (first_view capacity, []) → left ≡ (without_running maker.0, maker.1) → me ≡ (asking_alone left.0, [])
-      → (me.1 ≡ []) × MayRequest me × (me.0.capacity ≡ capacity) × (me.0.asked ≡ 0) × (0 ≤ UNBOUNDED) × (me.0.cancel ≡ false)
+  -- the handle
+  pub handle_first : (capacity : ℕ) (maker left me : SeatOf B) → maker ≡ (first_view capacity, []) → left ≡ (without_running maker.0, maker.1) → me ≡ (asking_alone left.0, []) → (me.0.capacity ≡ capacity) × IsHandleOf 0 false me
   handle_first capacity maker left me made left_is me_is =
-      let is : me ≡ (asking_alone (without_running (first_view capacity)), []) = me_is ∙ ap (λ (m : SeatOf B). (asking_alone m.0, [])) left_is ∙ ap (λ (m : SeatOf B). (asking_alone (without_running m.0), [])) made in (
-        ap (λ (m : SeatOf B). m.1) is,
-        subst (λ (m : SeatOf B). MayRequest m) (sym is) (record { is = (refl, refl, refl); idle = refl; stays = refl }),
-        ap (λ (m : SeatOf B). m.0.capacity) is,
-        ap (λ (m : SeatOf B). m.0.asked) is,
-        omega arith,
-        ap (λ (m : SeatOf B). m.0.cancel) is,
-      )
+      let is : me ≡ (asking_alone (without_running (first_view capacity)), []) = me_is ∙ ap (λ (m : SeatOf B). (asking_alone m.0, [])) left_is ∙ ap (λ (m : SeatOf B). (asking_alone (without_running m.0), [])) made in
+      (ap (λ (m : SeatOf B). m.0.capacity) is, subst (λ (m : SeatOf B). IsHandleOf 0 false m) (sym is) (record { may = record { is = (refl, refl, refl); idle = refl; stays = refl }; no_slot = refl; counted = refl; bounded = omega arith; cancels = refl }))
 
   -- the seat of the first task, with its subscriber placed in the slot
   pub task_first : (capacity : ℕ) (b : B) (maker run me : SeatOf B) → maker ≡ (first_view capacity, []) → run ≡ (running_alone maker.0, []) → told b ≡ []
-      → me ≡ (record run.0 { away = true }, (capacity, Held.Guest (record { subscriber = b; given = 0; own = 0; answers = no_causes; how = None })) ∷ [])
-      → IsRunner me.0 × (me.0.capacity ≡ capacity) × (me.0.item ≡ []) × IsUngreeted told me
+      → me ≡ (record run.0 { away = true }, (run.0.capacity, Held.Guest (record { subscriber = b; given = 0; own = 0; answers = no_causes; how = None })) ∷ [])
+      → RunsFree me.0 × IsUngreeted told me
   task_first capacity b maker run me made run_is untold me_is =
       let is : run ≡ (running_alone (first_view capacity), []) = run_is ∙ ap (λ (m : SeatOf B). (running_alone m.0, [])) made in
       let view : me.0 ≡ record (running_alone (first_view capacity)) { away = true } = ap (λ (m : SeatOf B). m.0) me_is ∙ ap (λ (m : SeatOf B). record m.0 { away = true }) is in (
-        subst (λ (v : View). IsRunner v) (sym view) (refl, refl, refl),
-        ap (λ (v : View). v.capacity) view,
-        ap (λ (v : View). v.item) view,
-        lodged capacity run.0 b me (ap (λ (m : SeatOf B). m.0.capacity) is) (ap (λ (m : SeatOf B). m.0.runner) is) (ap (λ (m : SeatOf B). m.0.taken) is) (ap (λ (m : SeatOf B). m.0.own) is) (ap (λ (m : SeatOf B). m.0.answers) is) untold me_is,
+        subst (λ (v : View). RunsFree v) (sym view) ((refl, refl, refl), refl),
+        lodged run.0 b me (ap (λ (m : SeatOf B). m.0.runner) is) (ap (λ (m : SeatOf B). m.0.taken) is) (ap (λ (m : SeatOf B). m.0.own) is) (ap (λ (m : SeatOf B). m.0.answers) is) untold me_is,
       )

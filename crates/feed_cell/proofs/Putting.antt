@@ -25,15 +25,15 @@ module _ {B : Type 0} (told : B → List Signal) where
       → Allows (CellRule told cap) n id (v, (i, Held.Item x) ∷ more) 1 (λ _. new) (λ _. IsPut (v, (i, Held.Item x) ∷ more))
   puts_item cap n id v i new x more is stage one closed slot_at new_is s c wide at small =
       let k = (c.producers id v at is.0).1 in
-      let p = c.world in
-      let log : List Item = c.log ++ x ∷ [] in
-      let longer : length log ≡ length c.log + 1 = length-append c.log (x ∷ []) in
-      let put_is : length v.put ≡ length c.log = ap length k.put in
-      let slot_is : i ≡ length c.log % cap = slot_at ∙ ap (λ (m : ℕ). m % v.capacity) put_is ∙ ap (λ (m : ℕ). length c.log % m) k.sized in
-      let within : length c.taken + length c.item ≤ length c.log = c.lists.within in
-      let below : c.free ≤ length c.taken + cap = c.lists.below in
-      let free_is : c.free ≡ length c.log + 1 = k.places ∙ ap (λ (m : ℕ). length c.log + m) one in
-      let accepted : p.accepted ≡ length c.log = c.shows.accepted in
+      let p = c.cell.world in
+      let log : List Item = c.cell.log ++ x ∷ [] in
+      let longer : length log ≡ length c.cell.log + 1 = length-append c.cell.log (x ∷ []) in
+      let put_is : length v.put ≡ length c.cell.log = ap length k.put in
+      let slot_is : i ≡ length c.cell.log % cap = slot_at ∙ ap (λ (m : ℕ). m % v.capacity) put_is ∙ ap (λ (m : ℕ). length c.cell.log % m) k.sized in
+      let within : length c.cell.taken + length c.cell.item ≤ length c.cell.log = c.lists.within in
+      let below : c.cell.free ≤ length c.cell.taken + cap = c.lists.below in
+      let free_is : c.cell.free ≡ length c.cell.log + 1 = k.places ∙ ap (λ (m : ℕ). length c.cell.log + m) one in
+      let accepted : p.accepted ≡ length c.cell.log = c.shows.accepted in
       let stage_is : p.producer ≡ HasRoom = sym k.stands ∙ stage in
       let closing_is : p.causes.closing ≡ None = ap (λ z. z.closing) c.shows.causes ∙ sym k.closed ∙ closed in
       let w : View = record v { put = v.put ++ x ∷ []; producing = HasPut; places = 0 } in (
@@ -41,39 +41,27 @@ module _ {B : Type 0} (told : B → List Signal) where
         gives,
         tt,
         record {
-          world = after Put p;
+          cell = record c.cell { world = after Put p; log = log; free = length c.cell.log + 1 };
           reached = reached_more Put id v w c.reached (stage_is, closing_is) at (inl is.0) (refl, refl, refl) (stays_same p.runner);
-          log = log;
-          taken = c.taken;
-          item = c.item;
-          free = length c.log + 1;
-          control = c.control;
-          flags = c.flags;
-          answers = c.answers;
-          away = c.away;
-          left = c.left;
-          producer = c.producer;
-          handle = c.handle;
-          runner = c.runner;
-          lists = record { sized = c.lists.sized; begins = c.lists.begins ∙ sym (take-append-le (length c.taken + length c.item) c.log (x ∷ []) within); one_out = c.lists.one_out; within = omega arith; above = omega arith; below = omega arith };
+          lists = record { sized = c.lists.sized; begins = c.lists.begins ∙ sym (take-append-le (length c.cell.taken + length c.cell.item) c.cell.log (x ∷ []) within); one_out = c.lists.one_out; within = omega arith; above = omega arith; below = omega arith };
           shows = record { sized = c.shows.sized; accepted = omega arith; given = c.shows.given; none_out = c.shows.none_out; started = c.shows.started; new = c.shows.new; causes = c.shows.causes; home = c.shows.home; settled = c.shows.settled };
           reads = c.reads;
-          words = ap (λ (ws : List ℕ). set ws 1 new) c.words ∙ ap (λ (m : ℕ). marked (is_over p.runner) p.given ∷ m ∷ marked c.left p.asked ∷ c.control ∷ []) (omega arith);
-          lies = lies_put cap c.log s.homes (length c.taken) (length c.taken + length c.item) i x c.lists.sized (omega arith) (omega arith) (omega arith) slot_is
-              (subst (λ (m : ℕ). Lies cap c.log (length c.taken) (length c.taken + length c.item) m s.homes) free_is c.lies);
-          lodges = λ e. lodges_else told cap p.runner c.taken p.own c.answers s.homes (set s.homes i (some (Held.Item x))) (λ y at. stays_home cap c.log s.homes i (length c.log) (some (Held.Item x)) y c.lists.sized slot_is at) (c.lodges e);
-          producers = mine has_put c.producer _ _ s.views id v w c.producers at is.0
+          words = ap (λ (ws : List ℕ). set ws 1 new) c.words ∙ ap (λ (m : ℕ). marked (is_over p.runner) p.given ∷ m ∷ marked c.cell.left p.asked ∷ c.cell.control ∷ []) (omega arith);
+          lies = lies_put cap c.cell.log s.homes (length c.cell.taken) (length c.cell.taken + length c.cell.item) i x c.lists.sized (omega arith) (omega arith) (omega arith) slot_is
+              (subst (λ (m : ℕ). Lies cap c.cell.log (length c.cell.taken) (length c.cell.taken + length c.cell.item) m s.homes) free_is c.lies);
+          lodges = λ e. lodges_else told cap p.runner c.cell.taken p.own c.cell.answers s.homes (set s.homes i (some (Held.Item x))) (λ y at. stays_home cap c.cell.log s.homes i (length c.cell.log) (some (Held.Item x)) y c.lists.sized slot_is at) (c.lodges e);
+          producers = mine has_put c.cell.producer _ _ s.views id v w c.producers at is.0
               (record { sized = k.sized; put = ap (λ (l : List Item). l ++ x ∷ []) k.put; seen = k.seen; places = omega arith; over = k.over; closed = k.closed; doubled = k.doubled; stands = refl });
-          handles = other has_ask c.handle _ _ s.views id w c.handles is.1 (λ d k. k);
-          runners = other has_run c.runner _ _ s.views id w c.runners is.2 (λ d k. k);
+          handles = other has_ask c.cell.handle _ _ s.views id w c.handles is.1 (λ d k. k);
+          runners = other has_run c.cell.runner _ _ s.views id w c.runners is.2 (λ d k. k);
         },
         refl,
       )
 
   -- the same, of a seat that placed its item
-  pub puts_placed : (cap n id : ℕ) (capacity tail : ℕ) (before me : SeatOf B) (i new : ℕ) (x : Item) → HasFreeSlot capacity tail before → me ≡ (before.0, (i, Held.Item x) ∷ rest before.1) → i ≡ tail % capacity → new ≡ tail + 1
+  pub puts_placed : (cap n id : ℕ) (capacity tail : ℕ) (before me : SeatOf B) (i new : ℕ) (x : Item) → HasFreeSlot tail before → before.0.capacity ≡ capacity → me ≡ (before.0, (i, Held.Item x) ∷ rest before.1) → i ≡ tail % capacity → new ≡ tail + 1
       → Allows (CellRule told cap) n id me 1 (λ _. new) (λ _. IsPut me)
-  puts_placed cap n id capacity tail before me i new x h placed slot_at new_is =
-      let at : i ≡ length before.0.put % before.0.capacity = slot_at ∙ ap₂ (λ (a b : ℕ). a % b) (sym h.counted) (sym h.sized) in
+  puts_placed cap n id capacity tail before me i new x h sized placed slot_at new_is =
+      let at : i ≡ length before.0.put % before.0.capacity = slot_at ∙ ap₂ (λ (a b : ℕ). a % b) (sym h.counted) (sym sized) in
       let next : new ≡ length before.0.put + 1 = new_is ∙ ap (λ (m : ℕ). m + 1) (sym h.counted) in
       subst (λ (m : SeatOf B). Allows (CellRule told cap) n id m 1 (λ _. new) (λ _. IsPut m)) (sym placed) (puts_item cap n id before.0 i new x (rest before.1) h.is h.stage h.one_out h.closing at next)

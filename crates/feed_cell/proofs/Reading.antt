@@ -1,12 +1,12 @@
 -- Marks and causes in the control word: what a signal sets and what the task clears.
-use Rattle.std.proofs.Common.{◌≡◌, ℕ, ◌+◌, ◌*◌, ◌/◌, ◌^◌, ◌<◌, ◌⊎◌, Bool, true, false, ◌||◌, min, max, bit_and, bit_or, Option, Some, None, refl, ap, ap₂, ◌∙◌, inl, inr, arith}
+use Rattle.std.proofs.Common.{◌≡◌, ℕ, ◌/◌, ◌^◌, ◌<◌, ◌⊎◌, Bool, true, false, ◌||◌, min, max, bit_and, bit_or, Option, Some, None, refl, ap, ap₂, ◌∙◌, inl, inr, arith}
 use Rattle.std.specs.Int.{bit_at}
 use Rattle.std.proofs.lemmas.Nat.Bits.{bit_at_or, bit_at_and}
 use lib.Bits.{or_shr, and_shr, and_mask, or_comm, or_zero_r}
 use Rattle.feed_core.specs.Prelude.{Ending}
 use Rattle.feed_core.specs.World.Table.{joined}
 use Rattle.feed_cell.specs.Types.{Causes, Cause, Cancel, Argument, State, Closing}
-use Rattle.feed_cell.specs.Control.{Flags, number, is_error, is_complete, code_of, Reads, signal_of, closing_of, both, causes_of}
+use Rattle.feed_cell.specs.Control.{Flags, number, is_error, is_complete, code_of, Reads, signal_of, closing_of, both, causes_of, QUIET, RESTING}
 
 either_bit : (a b : Bool) → max (number b) (number a) ≡ number (a || b)
 either_bit true true = refl
@@ -64,48 +64,29 @@ leaves_bit x mask i f p one_there = bit_at_and x mask i ∙ ap₂ (λ (a b : ℕ
 leaves_code : (x mask : ℕ) → x < 2 ^ 64 → mask / 2 ^ 32 ≡ 4294967295 → bit_and x mask / 2 ^ 32 ≡ x / 2 ^ 32
 leaves_code x mask small ones = and_shr x mask 32 ∙ ap (bit_and (x / 2 ^ 32)) ones ∙ and_mask (x / 2 ^ 32) 32 ∙ omega arith
 
-pub reads_look : {x : ℕ} {f : Flags} → x < 2 ^ 64 → Reads x f → Reads (bit_and x 18446744073709551613) (record f { active = false })
+pub reads_look : {x : ℕ} {f : Flags} → x < 2 ^ 64 → Reads x f → Reads (bit_and x QUIET) (record f { active = false })
 reads_look {x} {f} small r = record {
-  run = leaves_bit x 18446744073709551613 0 f.run r.run refl;
-  active = clears x 18446744073709551613 1 refl;
-  cancel = leaves_bit x 18446744073709551613 2 f.cancel r.cancel refl;
-  argument = leaves_bit x 18446744073709551613 3 f.argument r.argument refl;
-  state = leaves_bit x 18446744073709551613 4 f.state r.state refl;
-  error = leaves_bit x 18446744073709551613 5 (is_error f.closing) r.error refl;
-  complete = leaves_bit x 18446744073709551613 6 (is_complete f.closing) r.complete refl;
-  code = leaves_code x 18446744073709551613 small refl ∙ r.code;
+  run = leaves_bit x QUIET 0 f.run r.run refl;
+  active = clears x QUIET 1 refl;
+  cancel = leaves_bit x QUIET 2 f.cancel r.cancel refl;
+  argument = leaves_bit x QUIET 3 f.argument r.argument refl;
+  state = leaves_bit x QUIET 4 f.state r.state refl;
+  error = leaves_bit x QUIET 5 (is_error f.closing) r.error refl;
+  complete = leaves_bit x QUIET 6 (is_complete f.closing) r.complete refl;
+  code = leaves_code x QUIET small refl ∙ r.code;
 }
 
-pub reads_rest : {x : ℕ} {f : Flags} → x < 2 ^ 64 → Reads x f → Reads (bit_and x 18446744073709551614) (record f { run = false })
+pub reads_rest : {x : ℕ} {f : Flags} → x < 2 ^ 64 → Reads x f → Reads (bit_and x RESTING) (record f { run = false })
 reads_rest {x} {f} small r = record {
-  run = clears x 18446744073709551614 0 refl;
-  active = leaves_bit x 18446744073709551614 1 f.active r.active refl;
-  cancel = leaves_bit x 18446744073709551614 2 f.cancel r.cancel refl;
-  argument = leaves_bit x 18446744073709551614 3 f.argument r.argument refl;
-  state = leaves_bit x 18446744073709551614 4 f.state r.state refl;
-  error = leaves_bit x 18446744073709551614 5 (is_error f.closing) r.error refl;
-  complete = leaves_bit x 18446744073709551614 6 (is_complete f.closing) r.complete refl;
-  code = leaves_code x 18446744073709551614 small refl ∙ r.code;
+  run = clears x RESTING 0 refl;
+  active = leaves_bit x RESTING 1 f.active r.active refl;
+  cancel = leaves_bit x RESTING 2 f.cancel r.cancel refl;
+  argument = leaves_bit x RESTING 3 f.argument r.argument refl;
+  state = leaves_bit x RESTING 4 f.state r.state refl;
+  error = leaves_bit x RESTING 5 (is_error f.closing) r.error refl;
+  complete = leaves_bit x RESTING 6 (is_complete f.closing) r.complete refl;
+  code = leaves_code x RESTING small refl ∙ r.code;
 }
-
--- the masks of the signals
-pub mask_plain : Reads 3 (signal_of None)
-mask_plain = record { run = refl; active = refl; cancel = refl; argument = refl; state = refl; error = refl; complete = refl; code = refl }
-
-pub mask_cancel : Reads 7 (signal_of (Some Cancel))
-mask_cancel = record { run = refl; active = refl; cancel = refl; argument = refl; state = refl; error = refl; complete = refl; code = refl }
-
-pub mask_argument : Reads 11 (signal_of (Some Argument))
-mask_argument = record { run = refl; active = refl; cancel = refl; argument = refl; state = refl; error = refl; complete = refl; code = refl }
-
-pub mask_state : Reads 19 (signal_of (Some State))
-mask_state = record { run = refl; active = refl; cancel = refl; argument = refl; state = refl; error = refl; complete = refl; code = refl }
-
-pub mask_complete : Reads 67 (signal_of (Some (Closing Ending.Normal)))
-mask_complete = record { run = refl; active = refl; cancel = refl; argument = refl; state = refl; error = refl; complete = refl; code = refl }
-
-pub mask_error : (code : ℕ) → Reads (code * 4294967296 + 35) (signal_of (Some (Closing (Ending.Failed code))))
-mask_error code = record { run = omega arith; active = omega arith; cancel = omega arith; argument = omega arith; state = omega arith; error = omega arith; complete = omega arith; code = omega arith }
 
 -- what a signal adds, beside its cause
 pub record Adds (cause : Option Cause) (f : Flags) (answers : Causes) : Type 0 where

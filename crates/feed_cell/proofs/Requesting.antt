@@ -19,37 +19,25 @@ module _ {B : Type 0} (told : B → List Signal) where
   asks_more cap n id me new m is idle stays some new_is s c wide at small =
       let v : View = me.0 in
       let k = (c.handles id v at is.1).1 in
-      let p = c.world in
-      let here : c.left ≡ false = sym k.leaves ∙ stays in
+      let p = c.cell.world in
+      let here : c.cell.left ≡ false = sym k.leaves ∙ stays in
       let total : new ≡ total_after p.asked m = new_is ∙ ap (λ (a : ℕ). total_after a m) k.total in
       let w : View = record v { asked = new; requesting = HasAsked } in (
         w,
         keeps,
         tt,
         record {
-          world = after (Ask m) p;
+          cell = record c.cell { world = after (Ask m) p };
           reached = reached_more (Ask m) id v w c.reached (sym k.stands ∙ idle, some) at (inr (inl is.1)) (refl, refl, refl) (stays_same p.runner);
-          log = c.log;
-          taken = c.taken;
-          item = c.item;
-          free = c.free;
-          control = c.control;
-          flags = c.flags;
-          answers = c.answers;
-          away = c.away;
-          left = c.left;
-          producer = c.producer;
-          handle = c.handle;
-          runner = c.runner;
           lists = c.lists;
           shows = record { sized = c.shows.sized; accepted = c.shows.accepted; given = c.shows.given; none_out = c.shows.none_out; started = c.shows.started; new = c.shows.new; causes = c.shows.causes; home = c.shows.home; settled = λ e. absurd (true≢false (sym e ∙ here)) };
           reads = c.reads;
-          words = ap (λ (ws : List ℕ). set ws 2 new) c.words ∙ ap (λ (a : ℕ). marked (is_over p.runner) p.given ∷ p.accepted ∷ a ∷ c.control ∷ []) (total ∙ ap (λ b. marked b (total_after p.asked m)) (sym here));
+          words = ap (λ (ws : List ℕ). set ws 2 new) c.words ∙ ap (λ (a : ℕ). marked (is_over p.runner) p.given ∷ p.accepted ∷ a ∷ c.cell.control ∷ []) (total ∙ ap (λ b. marked b (total_after p.asked m)) (sym here));
           lies = c.lies;
           lodges = c.lodges;
-          producers = other has_put c.producer _ _ s.views id w c.producers is.0 (λ d k. k);
-          handles = mine has_ask c.handle _ _ s.views id v w c.handles at is.1 (record { sized = k.sized; total = total; cancels = k.cancels; bad = k.bad; leaves = k.leaves; stands = refl });
-          runners = other has_run c.runner _ _ s.views id w c.runners is.2 (λ d k. k);
+          producers = other has_put c.cell.producer _ _ s.views id w c.producers is.0 (λ d k. k);
+          handles = mine has_ask c.cell.handle _ _ s.views id v w c.handles at is.1 (record { sized = k.sized; total = total; cancels = k.cancels; bad = k.bad; leaves = k.leaves; stands = refl });
+          runners = other has_run c.cell.runner _ _ s.views id w c.runners is.2 (λ d k. k);
         },
         refl,
       )
@@ -59,36 +47,24 @@ module _ {B : Type 0} (told : B → List Signal) where
   leaves cap n id me new is idle new_is s c wide at small =
       let v : View = me.0 in
       let k = (c.handles id v at is.1).1 in
-      let p = c.world in
+      let p = c.cell.world in
       let total : new ≡ p.asked + MARK = new_is ∙ ap (λ (a : ℕ). a + MARK) k.total in
       let w : View = record v { left = true } in (
         w,
         keeps,
         tt,
         record {
-          world = p;
+          cell = record c.cell { left = true };
           reached = reached_too id v w c.reached at (inr (inl is.1)) (refl, refl, refl);
-          log = c.log;
-          taken = c.taken;
-          item = c.item;
-          free = c.free;
-          control = c.control;
-          flags = c.flags;
-          answers = c.answers;
-          away = c.away;
-          left = true;
-          producer = c.producer;
-          handle = c.handle;
-          runner = c.runner;
           lists = c.lists;
           shows = record { sized = c.shows.sized; accepted = c.shows.accepted; given = c.shows.given; none_out = c.shows.none_out; started = c.shows.started; new = c.shows.new; causes = c.shows.causes; home = c.shows.home; settled = λ _. sym k.stands ∙ idle };
           reads = c.reads;
-          words = ap (λ (ws : List ℕ). set ws 2 new) c.words ∙ ap (λ (a : ℕ). marked (is_over p.runner) p.given ∷ p.accepted ∷ a ∷ c.control ∷ []) total;
+          words = ap (λ (ws : List ℕ). set ws 2 new) c.words ∙ ap (λ (a : ℕ). marked (is_over p.runner) p.given ∷ p.accepted ∷ a ∷ c.cell.control ∷ []) total;
           lies = c.lies;
           lodges = c.lodges;
-          producers = other has_put c.producer _ _ s.views id w c.producers is.0 (λ d k. k);
-          handles = mine has_ask c.handle _ _ s.views id v w c.handles at is.1 (record { sized = k.sized; total = k.total; cancels = k.cancels; bad = k.bad; leaves = refl; stands = k.stands });
-          runners = other has_run c.runner _ _ s.views id w c.runners is.2 (λ d k. k);
+          producers = other has_put c.cell.producer _ _ s.views id w c.producers is.0 (λ d k. k);
+          handles = mine has_ask c.cell.handle _ _ s.views id v w c.handles at is.1 (record { sized = k.sized; total = k.total; cancels = k.cancels; bad = k.bad; leaves = refl; stands = k.stands });
+          runners = other has_run c.cell.runner _ _ s.views id w c.runners is.2 (λ d k. k);
         },
         refl,
       )

@@ -12,17 +12,17 @@ use Rattle.feed_cell.proofs.Resting.{rests}
 use Rattle.feed_cell.proofs.Seeing.{measures}
 use Rattle.feed_cell.proofs.Taking.{takes_item}
 use Rattle.feed_cell.specs.Cell.{CellRule}
-use Rattle.feed_cell.specs.Control.{MARK}
+use Rattle.feed_cell.specs.Control.{MARK, QUIET, RESTING}
 use Rattle.feed_cell.specs.Parties.{IsGoing, IsHome}
-use Rattle.feed_cell.specs.Plays.{SeatOf, QUIET, own_out, answers_out, LooksOut, LooksFirst, Measures, IsTake, IsRest, IsEnd}
+use Rattle.feed_cell.specs.Plays.{SeatOf, own_out, answers_out, LooksOut, LooksFirst, Measures, IsTake, IsRest, IsEnd}
 use Rattle.feed_cell.specs.Running.{HasItem, Carries, HasLookedAt, IsEnding}
 use Rattle.feed_cell.specs.Views.{IsRunner}
 use Rattle.feed_cell.specs.declared.cell.Held.{Held}
 
 module _ {B : Type 0} (told : B → List Signal) where
   -- a look with the subscriber
-  pub looks_going : (cap n id : ℕ) (me : SeatOf B) → IsRunner me.0 → IsGoing told me → Allows (CellRule told cap) n id me 3 (λ n. bit_and n 18446744073709551613) (LooksOut me)
-  looks_going cap n id me is g = subst (λ (slots : List (ℕ × Held B)). Allows (CellRule told cap) n id (me.0, slots) 3 (λ n. bit_and n 18446744073709551613) (LooksOut (me.0, slots))) (sym g.slot)
+  pub looks_going : (cap n id : ℕ) (me : SeatOf B) → IsRunner me.0 → IsGoing told me → Allows (CellRule told cap) n id me 3 (λ n. bit_and n QUIET) (LooksOut me)
+  looks_going cap n id me is g = subst (λ (slots : List (ℕ × Held B)). Allows (CellRule told cap) n id (me.0, slots) 3 (λ n. bit_and n QUIET) (LooksOut (me.0, slots))) (sym g.slot)
       (looks told cap n id me.0 me.0.capacity g.guest [] g.answer is g.away g.may g.own g.answers)
 
   pub looked_going : (before after : SeatOf B) (word : ℕ) → IsRunner before.0 → before.0.item ≡ [] → IsGoing told before → LooksOut before word after → HasLookedAt told word after
@@ -65,7 +65,7 @@ module _ {B : Type 0} (told : B → List Signal) where
   quiet_bit word = let both = bit_at_and word QUIET 1 in let clear : bit_at QUIET 1 ≡ 0 = refl in omega arith
 
   -- a compare-and-exchange of control, from the word after the last look
-  pub rests_there : (cap n id : ℕ) (me : SeatOf B) (word look new : ℕ) → Carries told me → MayRest (length me.0.taken) me.0.runner → me.0.look ≡ bit_and word QUIET → look ≡ bit_and word QUIET → new ≡ bit_and look 18446744073709551614
+  pub rests_there : (cap n id : ℕ) (me : SeatOf B) (word look new : ℕ) → Carries told me → MayRest (length me.0.taken) me.0.runner → me.0.look ≡ bit_and word QUIET → look ≡ bit_and word QUIET → new ≡ bit_and look RESTING
       → Allows (CellRule told cap) n id me 3 (λ (m : ℕ). either (m == look) new m) (IsRest look me)
   rests_there cap n id me word look new c may looked look_is new_is = subst (λ (slots : List (ℕ × Held B)). Allows (CellRule told cap) n id (me.0, slots) 3 (λ (m : ℕ). either (m == look) new m) (IsRest look (me.0, slots))) (sym c.slot)
       (rests told cap n id me.0 c.guest [] look new c.is c.away may c.none_out (look_is ∙ sym looked) (ap (λ (m : ℕ). bit_at m 1) look_is ∙ quiet_bit word) new_is c.given c.own c.answers c.how c.text)

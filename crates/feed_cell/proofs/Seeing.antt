@@ -31,7 +31,7 @@ module _ {B : Type 0} (told : B → List Signal) where
   sees_item cap n id me is out may s c wide at small =
       let v : View = me.0 in
       let k = (c.runners id v at is.2).1 in
-      let p = c.world in
+      let p = c.cell.world in
       let stage : p.runner ≡ Looked may.0 = sym k.stands ∙ may.1 in
       let know = k.knows (sym k.out ∙ out) in
       let found : ℕ = slice_index s.words 1 in
@@ -41,46 +41,46 @@ module _ {B : Type 0} (told : B → List Signal) where
       λ w same. subst (IsReachedBy (set s.views id w)) (ap (λ (r : Runner). record p { runner = seeing p.accepted r }) stage)
       (reached_more See id v w c.reached (may.0, stage, may.2) at (inr (inr is.2)) same (stays_on p.runner (seeing p.accepted p.runner) (ap is_over stage) (ap (λ (r : Runner). is_started (seeing p.accepted r)) stage) (λ e. (let clash : Saw may.0 p.accepted ≡ Ready = sym (ap (seeing p.accepted) stage) ∙ e in cc)))) in
       let stands : seeing found v.runner ≡ Saw may.0 p.accepted = ap (seeing found) may.1 ∙ ap (Saw may.0) found_is in
-      let taken_is : length v.taken ≡ length c.taken = ap length know.taken_is in
-      let slot_is : length v.taken % v.capacity ≡ length c.taken % cap = ap (λ (m : ℕ). m % v.capacity) taken_is ∙ ap (λ (m : ℕ). length c.taken % m) k.sized in
-      let item_is : c.item ≡ [] = c.shows.none_out (ap may_hold stage) in
-      let none_is : length c.item ≡ 0 = ap length item_is in
-      let accepted : p.accepted ≡ length c.log = c.shows.accepted in
-      let within : length c.taken + length c.item ≤ length c.log = c.lists.within in
-      let above : length c.log ≤ c.free = c.lists.above in
-      let below : c.free ≤ length c.taken + cap = c.lists.below in
-      let lies : Lies cap c.log (length c.taken) (length c.taken) c.free s.homes = lies_at cap c.log (length c.taken) (length c.taken + length c.item) (length c.taken) c.free s.homes (omega arith) c.lies in
-      dite (dec_lt (length c.taken) (length c.log))
+      let taken_is : length v.taken ≡ length c.cell.taken = ap length know.taken_is in
+      let slot_is : length v.taken % v.capacity ≡ length c.cell.taken % cap = ap (λ (m : ℕ). m % v.capacity) taken_is ∙ ap (λ (m : ℕ). length c.cell.taken % m) k.sized in
+      let item_is : c.cell.item ≡ [] = c.shows.none_out (ap may_hold stage) in
+      let none_is : length c.cell.item ≡ 0 = ap length item_is in
+      let accepted : p.accepted ≡ length c.cell.log = c.shows.accepted in
+      let within : length c.cell.taken + length c.cell.item ≤ length c.cell.log = c.lists.within in
+      let above : length c.cell.log ≤ c.cell.free = c.lists.above in
+      let below : c.cell.free ≤ length c.cell.taken + cap = c.lists.below in
+      let lies : Lies cap c.cell.log (length c.cell.taken) (length c.cell.taken) c.cell.free s.homes = lies_at cap c.cell.log (length c.cell.taken) (length c.cell.taken + length c.cell.item) (length c.cell.taken) c.cell.free s.homes (omega arith) c.lies in
+      dite (dec_lt (length c.cell.taken) (length c.cell.log))
       (λ more.
-      let next = there c.log (length c.taken) more in
+      let next = there c.cell.log (length c.cell.taken) more in
       let x : Item = next.0 in
       let w : View = record v { runner = seeing found v.runner; item = x ∷ [] } in (
         w,
         takes (length v.taken % v.capacity) (Held.Item x),
-        ap (λ (j : ℕ). get_elem? s.homes j) slot_is ∙ lies.items (length c.taken) x (omega arith) next.1,
+        ap (λ (j : ℕ). get_elem? s.homes j) slot_is ∙ lies.items (length c.cell.taken) x (omega arith) next.1,
         move_kept told cap s c id v w (Saw may.0 p.accepted) (x ∷ []) _ (set s.homes (length v.taken % v.capacity) none) at is is.0 is.1 refl (reached w (refl, refl, refl)) (λ e. cc)
             (record {
               sized = c.lists.sized;
-              begins = ap (λ (l : List Item). l ++ x ∷ []) (sym (append-nil c.taken) ∙ ap (λ (l : List Item). c.taken ++ l) (sym item_is) ∙ c.lists.begins ∙ ap (λ (m : ℕ). take m c.log) (omega arith))
-                  ∙ sym (take_one_more c.log (length c.taken) x next.1) ∙ ap (λ (m : ℕ). take m c.log) (sym (add-one (length c.taken)));
+              begins = ap (λ (l : List Item). l ++ x ∷ []) (sym (append-nil c.cell.taken) ∙ ap (λ (l : List Item). c.cell.taken ++ l) (sym item_is) ∙ c.lists.begins ∙ ap (λ (m : ℕ). take m c.cell.log) (omega arith))
+                  ∙ sym (take_one_more c.cell.log (length c.cell.taken) x next.1) ∙ ap (λ (m : ℕ). take m c.cell.log) (sym (add-one (length c.cell.taken)));
               one_out = omega arith;
               within = omega arith;
               above = above;
               below = below;
             })
-            (lies_out cap c.log s.homes (length c.taken) c.free (length v.taken % v.capacity) c.lists.sized (omega arith) (omega arith) slot_is lies)
+            (lies_out cap c.cell.log s.homes (length c.cell.taken) c.cell.free (length v.taken % v.capacity) c.lists.sized (omega arith) (omega arith) slot_is lies)
             words_are
-            (record { sized = k.sized; seated = refl; stands = stands; out = out; knows = λ _. knows_too c.taken p.own c.answers v w refl refl refl know; fresh = λ e. cc; item_is = refl; latest = λ _ quiet. k.latest (ap has_looked stage) quiet }),
-        record { put = omega arith; waits = λ _. (x, refl); empty = λ none_there. absurd (omega arith) },
+            (record { sized = k.sized; seated = refl; stands = stands; out = out; knows = λ _. knows_too c.cell.taken p.own c.cell.answers v w refl refl refl know; fresh = λ e. cc; item_is = refl; latest = λ _ quiet. k.latest (ap has_looked stage) quiet }),
+        record { put = omega arith; waits = λ _. (x, refl); empty = λ none_there. absurd (omega arith); sized = refl },
       ))
       (λ none_more.
       let w : View = record v { runner = seeing found v.runner } in (
         w,
         keeps,
         tt,
-        move_kept told cap s c id v w (Saw may.0 p.accepted) c.item _ s.homes at is is.0 is.1 refl (reached w (refl, refl, refl)) (λ e. cc) c.lists c.lies words_are
-            (record { sized = k.sized; seated = refl; stands = stands; out = out; knows = λ _. knows_too c.taken p.own c.answers v w refl refl refl know; fresh = λ e. cc; item_is = k.item_is; latest = λ _ quiet. k.latest (ap has_looked stage) quiet }),
-        record { put = omega arith; waits = λ more. absurd (omega (arith, none_more)); empty = λ _. refl },
+        move_kept told cap s c id v w (Saw may.0 p.accepted) c.cell.item _ s.homes at is is.0 is.1 refl (reached w (refl, refl, refl)) (λ e. cc) c.lists c.lies words_are
+            (record { sized = k.sized; seated = refl; stands = stands; out = out; knows = λ _. knows_too c.cell.taken p.own c.cell.answers v w refl refl refl know; fresh = λ e. cc; item_is = k.item_is; latest = λ _ quiet. k.latest (ap has_looked stage) quiet }),
+        record { put = omega arith; waits = λ more. absurd (omega (arith, none_more)); empty = λ _. refl; sized = refl },
       ))
 
   -- a load of asked, with no item out
@@ -88,7 +88,7 @@ module _ {B : Type 0} (told : B → List Signal) where
   measures_none cap n id me is out may none_out s c wide at small =
       let v : View = me.0 in
       let k = (c.runners id v at is.2).1 in
-      let p = c.world in
+      let p = c.cell.world in
       let kept = reached_kept c.reached in
       let stage : p.runner ≡ Saw may.0 may.1 = sym k.stands ∙ may.2 in
       let know = k.knows (sym k.out ∙ out) in
@@ -97,16 +97,16 @@ module _ {B : Type 0} (told : B → List Signal) where
       λ w same. subst (IsReachedBy (set s.views id w)) (ap (λ (r : Runner). record p { runner = measuring (total_of p) r }) stage)
       (reached_more Measure id v w c.reached (may.0, may.1, stage) at (inr (inr is.2)) same (stays_on p.runner (measuring (total_of p) p.runner) (ap is_over stage) (ap (λ (r : Runner). is_started (measuring (total_of p) r)) stage) (λ e. (let clash : Measured may.0 may.1 (total_of p) ≡ Ready = sym (ap (measuring (total_of p)) stage) ∙ e in cc)))) in
       let stands : measuring (total_after p.asked v.own) v.runner ≡ Measured may.0 may.1 (total_of p) = ap (measuring (total_after p.asked v.own)) may.2 ∙ ap (Measured may.0 may.1) total in
-      let taken_is : length v.taken ≡ length c.taken = ap length know.taken_is in
-      let given : p.given ≡ length c.taken = c.shows.given in
+      let taken_is : length v.taken ≡ length c.cell.taken = ap length know.taken_is in
+      let given : p.given ≡ length c.cell.taken = c.shows.given in
       let requested : p.given ≤ total_of p = kept.requested in
       let w : View = record v { runner = measuring (total_after p.asked v.own) v.runner } in (
         w,
         keeps,
         tt,
-        move_kept told cap s c id v w (Measured may.0 may.1 (total_of p)) c.item _ s.homes at is is.0 is.1 refl (reached w (refl, refl, refl)) (λ e. cc) c.lists c.lies (ap (λ (ws : List ℕ). set ws 2 (slice_index ws 2)) c.words)
-            (record { sized = k.sized; seated = refl; stands = stands; out = out; knows = λ _. knows_too c.taken p.own c.answers v w refl refl refl know; fresh = λ e. cc; item_is = k.item_is; latest = λ _ quiet. k.latest (ap has_looked stage) quiet }),
-        record { asked = p.asked; left = c.left; found_is = ap (λ ws. slice_index ws 2) c.words; bounded = kept.asked_bounded; met = omega arith; measured = refl },
+        move_kept told cap s c id v w (Measured may.0 may.1 (total_of p)) c.cell.item _ s.homes at is is.0 is.1 refl (reached w (refl, refl, refl)) (λ e. cc) c.lists c.lies (ap (λ (ws : List ℕ). set ws 2 (slice_index ws 2)) c.words)
+            (record { sized = k.sized; seated = refl; stands = stands; out = out; knows = λ _. knows_too c.cell.taken p.own c.cell.answers v w refl refl refl know; fresh = λ e. cc; item_is = k.item_is; latest = λ _ quiet. k.latest (ap has_looked stage) quiet }),
+        record { asked = p.asked; left = c.cell.left; found_is = ap (λ ws. slice_index ws 2) c.words; bounded = kept.asked_bounded; met = omega arith; measured = refl },
       )
 
   -- a load of asked gives the slot back where no more is requested
@@ -114,7 +114,7 @@ module _ {B : Type 0} (told : B → List Signal) where
       → Allows (CellRule told cap) n id (v, (i, Held.Item x) ∷ more) 2 (λ n. n) (Measures (v, (i, Held.Item x) ∷ more))
   measures cap n id v i x more is out may one slot_at s c wide at small =
       let k = (c.runners id v at is.2).1 in
-      let p = c.world in
+      let p = c.cell.world in
       let kept = reached_kept c.reached in
       let stage : p.runner ≡ Saw may.0 may.1 = sym k.stands ∙ may.2 in
       let know = k.knows (sym k.out ∙ out) in
@@ -123,41 +123,41 @@ module _ {B : Type 0} (told : B → List Signal) where
       λ w same. subst (IsReachedBy (set s.views id w)) (ap (λ (r : Runner). record p { runner = measuring (total_of p) r }) stage)
       (reached_more Measure id v w c.reached (may.0, may.1, stage) at (inr (inr is.2)) same (stays_on p.runner (measuring (total_of p) p.runner) (ap is_over stage) (ap (λ (r : Runner). is_started (measuring (total_of p) r)) stage) (λ e. (let clash : Measured may.0 may.1 (total_of p) ≡ Ready = sym (ap (measuring (total_of p)) stage) ∙ e in cc)))) in
       let stands : measuring (total_after p.asked v.own) v.runner ≡ Measured may.0 may.1 (total_of p) = ap (measuring (total_after p.asked v.own)) may.2 ∙ ap (Measured may.0 may.1) total in
-      let taken_is : length v.taken ≡ length c.taken = ap length know.taken_is in
-      let given : p.given ≡ length c.taken = c.shows.given in
+      let taken_is : length v.taken ≡ length c.cell.taken = ap length know.taken_is in
+      let given : p.given ≡ length c.cell.taken = c.shows.given in
       let requested : p.given ≤ total_of p = kept.requested in
       let words_are = ap (λ (ws : List ℕ). set ws 2 (slice_index ws 2)) c.words in
-      let slot_is : i ≡ length c.taken % cap = slot_at ∙ ap (λ (m : ℕ). m % v.capacity) taken_is ∙ ap (λ (m : ℕ). length c.taken % m) k.sized in
-      let item_is : c.item ≡ x ∷ [] = sym k.item_is ∙ one in
-      let one_is : length c.item ≡ 1 = ap length item_is in
-      let within : length c.taken + length c.item ≤ length c.log = c.lists.within in
-      let above : length c.log ≤ c.free = c.lists.above in
-      let below : c.free ≤ length c.taken + cap = c.lists.below in
+      let slot_is : i ≡ length c.cell.taken % cap = slot_at ∙ ap (λ (m : ℕ). m % v.capacity) taken_is ∙ ap (λ (m : ℕ). length c.cell.taken % m) k.sized in
+      let item_is : c.cell.item ≡ x ∷ [] = sym k.item_is ∙ one in
+      let one_is : length c.cell.item ≡ 1 = ap length item_is in
+      let within : length c.cell.taken + length c.cell.item ≤ length c.cell.log = c.lists.within in
+      let above : length c.cell.log ≤ c.cell.free = c.lists.above in
+      let below : c.cell.free ≤ length c.cell.taken + cap = c.lists.below in
       dite (dec_lt (length v.taken) (total_after p.asked v.own))
       (λ wanted.
       let w : View = record v { runner = measuring (total_after p.asked v.own) v.runner } in (
         w,
         keeps,
         tt,
-        move_kept told cap s c id v w (Measured may.0 may.1 (total_of p)) c.item _ s.homes at is is.0 is.1 refl (reached w (refl, refl, refl)) (λ e. cc) c.lists c.lies words_are
-            (record { sized = k.sized; seated = refl; stands = stands; out = out; knows = λ _. knows_too c.taken p.own c.answers v w refl refl refl know; fresh = λ e. cc; item_is = k.item_is; latest = λ _ quiet. k.latest (ap has_looked stage) quiet }),
-        record { asked = p.asked; left = c.left; found_is = ap (λ ws. slice_index ws 2) c.words; bounded = kept.asked_bounded; met = omega arith; wanted = λ _. refl; enough = λ e. absurd (omega arith) },
+        move_kept told cap s c id v w (Measured may.0 may.1 (total_of p)) c.cell.item _ s.homes at is is.0 is.1 refl (reached w (refl, refl, refl)) (λ e. cc) c.lists c.lies words_are
+            (record { sized = k.sized; seated = refl; stands = stands; out = out; knows = λ _. knows_too c.cell.taken p.own c.cell.answers v w refl refl refl know; fresh = λ e. cc; item_is = k.item_is; latest = λ _ quiet. k.latest (ap has_looked stage) quiet }),
+        record { asked = p.asked; left = c.cell.left; found_is = ap (λ ws. slice_index ws 2) c.words; bounded = kept.asked_bounded; met = omega arith; wanted = λ _. refl; enough = λ e. absurd (omega arith); sized = refl },
       ))
       (λ met.
-      let next = there c.log (length c.taken) (omega arith) in
-      let begun : c.taken ++ x ∷ [] ≡ take (length c.taken) c.log ++ next.0 ∷ [] = ap (λ (l : List Item). c.taken ++ l) (sym item_is) ∙ c.lists.begins ∙ ap (λ (m : ℕ). take m c.log) (ap (λ (m : ℕ). length c.taken + m) one_is ∙ add-one (length c.taken)) ∙ take_one_more c.log (length c.taken) next.0 next.1 in
-      let lengths : length (take (length c.taken) c.log) ≡ length c.taken = length-take-le (length c.taken) c.log (omega arith) in
-      let parts = parted c.taken (take (length c.taken) c.log) x next.0 (sym lengths) begun in
+      let next = there c.cell.log (length c.cell.taken) (omega arith) in
+      let begun : c.cell.taken ++ x ∷ [] ≡ take (length c.cell.taken) c.cell.log ++ next.0 ∷ [] = ap (λ (l : List Item). c.cell.taken ++ l) (sym item_is) ∙ c.lists.begins ∙ ap (λ (m : ℕ). take m c.cell.log) (ap (λ (m : ℕ). length c.cell.taken + m) one_is ∙ add-one (length c.cell.taken)) ∙ take_one_more c.cell.log (length c.cell.taken) next.0 next.1 in
+      let lengths : length (take (length c.cell.taken) c.cell.log) ≡ length c.cell.taken = length-take-le (length c.cell.taken) c.cell.log (omega arith) in
+      let parts = parted c.cell.taken (take (length c.cell.taken) c.cell.log) x next.0 (sym lengths) begun in
       let w : View = record v { runner = measuring (total_after p.asked v.own) v.runner; item = [] } in (
         w,
         gives,
         tt,
         move_kept told cap s c id v w (Measured may.0 may.1 (total_of p)) [] _ (set s.homes i (some (Held.Item x))) at is is.0 is.1 refl (reached w (refl, refl, refl)) (λ _. refl)
-            (record { sized = c.lists.sized; begins = append-nil c.taken ∙ parts.0 ∙ ap (λ (m : ℕ). take m c.log) (omega arith); one_out = omega arith; within = omega arith; above = above; below = below })
-            (lies_at cap c.log (length c.taken) (length c.taken) (length c.taken + 0) c.free _ (omega arith)
-            (lies_back cap c.log s.homes (length c.taken) c.free i x c.lists.sized (omega arith) (omega arith) slot_is (next.1 ∙ ap (λ (y : Item). some y) (sym parts.1))
-            (lies_at cap c.log (length c.taken) (length c.taken + length c.item) (length c.taken + 1) c.free s.homes (omega arith) c.lies)))
+            (record { sized = c.lists.sized; begins = append-nil c.cell.taken ∙ parts.0 ∙ ap (λ (m : ℕ). take m c.cell.log) (omega arith); one_out = omega arith; within = omega arith; above = above; below = below })
+            (lies_at cap c.cell.log (length c.cell.taken) (length c.cell.taken) (length c.cell.taken + 0) c.cell.free _ (omega arith)
+            (lies_back cap c.cell.log s.homes (length c.cell.taken) c.cell.free i x c.lists.sized (omega arith) (omega arith) slot_is (next.1 ∙ ap (λ (y : Item). some y) (sym parts.1))
+            (lies_at cap c.cell.log (length c.cell.taken) (length c.cell.taken + length c.cell.item) (length c.cell.taken + 1) c.cell.free s.homes (omega arith) c.lies)))
             words_are
-            (record { sized = k.sized; seated = refl; stands = stands; out = out; knows = λ _. knows_too c.taken p.own c.answers v w refl refl refl know; fresh = λ e. cc; item_is = refl; latest = λ _ quiet. k.latest (ap has_looked stage) quiet }),
-        record { asked = p.asked; left = c.left; found_is = ap (λ ws. slice_index ws 2) c.words; bounded = kept.asked_bounded; met = omega arith; wanted = λ e. absurd (omega (arith, met)); enough = λ _. refl },
+            (record { sized = k.sized; seated = refl; stands = stands; out = out; knows = λ _. knows_too c.cell.taken p.own c.cell.answers v w refl refl refl know; fresh = λ e. cc; item_is = refl; latest = λ _ quiet. k.latest (ap has_looked stage) quiet }),
+        record { asked = p.asked; left = c.cell.left; found_is = ap (λ ws. slice_index ws 2) c.words; bounded = kept.asked_bounded; met = omega arith; wanted = λ e. absurd (omega (arith, met)); enough = λ _. refl; sized = refl },
       ))

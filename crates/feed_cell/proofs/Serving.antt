@@ -11,7 +11,7 @@ use Rattle.feed_cell.specs.Plays.{SeatOf, how_out, outlook_by}
 use Rattle.feed_cell.specs.Running.{Carries, IsEnding, HasTaken, FindsNone, TakesNext, grant_of}
 use Rattle.feed_cell.specs.Serving.{MissesRest, RestsNow, Serves, GivesAs, FinishesAs, Concludes}
 use Rattle.feed_cell.specs.Views.{IsRunner}
-use Rattle.feed_cell.specs.declared.cell.serving.Served.{Served}
+use Rattle.feed_cell.specs.declared.cell.task.looks.Served.{Served}
 use Rattle.feed_cell.specs.declared.cell.View.{View}
 
 module _ {B : Type 0} (told : B → List Signal) where

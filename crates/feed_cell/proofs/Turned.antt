@@ -1,5 +1,5 @@
 -- What a turn did, by what its subscriber was told in all.
-use Rattle.std.proofs.Common.{◌≡◌, ℕ, suc, ◌+◌, ◌≤◌, ◌⊎◌, true, false, List, [], ◌∷◌, ◌++◌, map, length, Contains, refl, ap, sym, ◌∙◌, subst, inl, inr, arith, append-nil, length-append, append_assoc}
+use Rattle.std.proofs.Common.{◌↔◌, ◌≡◌, ℕ, suc, ◌+◌, ◌≤◌, ◌⊎◌, true, false, List, [], ◌∷◌, ◌++◌, map, length, Contains, refl, ap, sym, ◌∙◌, subst, inl, inr, arith, append-nil, length-append, append_assoc}
 use Rattle.std.proofs.lemmas.List.{append_cancel_left, length-map, map-append}
 use Rattle.flow_rules.proofs.Items.{items_of_append}
 use Rattle.feed_core.specs.PlainTurn.{terminal_of}
@@ -115,6 +115,11 @@ after_base base took start seen last (inr s) e = (
       (ap (λ z. z ++ seen) (sym s) ∙ e ∙ ap (λ z. (Subscribed ∷ z) ++ last) (map-append Next base took) ∙ append_assoc (greeted base) (map Next took) last),
 )
 
+-- how many items were told
+given_length : (outlook : Outlook) (given took : List Item) → AreGivenOf outlook given took → length given ≤ length took
+given_length outlook given took (inl e) = let a = ap length e in omega arith
+given_length outlook given took (inr h) = let a = ap length h.1.1 in let b = length-append given (h.1.0 ∷ []) in omega arith
+
 -- how many signals a turn saw, with one for its greeting and one for its end
 pub few_by : (outlook : Outlook) (taken : List Item) (text : List Signal) → IsShaped outlook taken text → length text ≤ length taken + 2
 few_by outlook taken text (inl h) = let a = ap length h.0 in omega arith
@@ -125,10 +130,6 @@ few_by outlook taken text (inr h) =
     let one = last_one outlook in
     let most = given_length outlook h.0 taken h.2 in
     omega arith
-  where
-    given_length : (outlook : Outlook) (given took : List Item) → AreGivenOf outlook given took → length given ≤ length took
-    given_length outlook given took (inl e) = let a = ap length e in omega arith
-    given_length outlook given took (inr h) = let a = ap length h.1.1 in let b = length-append given (h.1.0 ∷ []) in omega arith
 
 -- without the items before
 pub given_by : (outlook : Outlook) (base took given : List Item) → AreGivenOf outlook (base ++ given) (base ++ took) → AreGivenOf outlook given took
@@ -162,21 +163,39 @@ whole_turn old known seen start base took outlook knew met before at_most grants
       text = text;
       allowed = allowed_by outlook (base ++ took) (start ++ seen) shape;
       given = given_by outlook base took (items_of seen) (subst (λ (l : List Item). AreGivenOf outlook l (base ++ took)) items (items_by outlook (base ++ took) (start ++ seen) shape));
-      few =
-          let all = few_by outlook (base ++ took) (start ++ seen) shape in
-          let apart = length-append base took in
-          let told = length-append start seen in
-          let first = base_length base start before in
-          omega arith;
-      completed = (
-        λ ends. completes_by outlook (last_by outlook (base ++ took) (start ++ seen) Complete tt shape (inside Complete ends)),
-        λ e. after_base base took start seen (Complete ∷ []) before (subst (λ (o : Outlook). IsTextAfter o (base ++ took) (start ++ seen)) e text),
-      );
-      errored = λ fault. (
-        λ ends. errs_by outlook fault (last_by outlook (base ++ took) (start ++ seen) (Error fault) tt shape (inside (Error fault) ends)),
-        λ e. after_base base took start seen (Error fault ∷ []) before (subst (λ (o : Outlook). IsTextAfter o (base ++ took) (start ++ seen)) e text),
-      );
     }
-  where
-    inside : (s : Signal) → EndsIn seen s → Contains (start ++ seen) s
-    inside s ends = last_contained (start ++ seen) s (start ++ ends.0, ap (λ l. start ++ l) ends.1 ∙ sym (append_assoc start ends.0 (s ∷ [])))
+
+-- what follows from that for the signals that it saw
+module _ {old : View} {known seen : List Signal} {outlook : Outlook} (t : IsTurnOf old known seen outlook) where
+  shape : IsShaped outlook (t.base ++ t.took) (t.start ++ seen)
+  shape = shaped outlook (t.base ++ t.took) (t.start ++ seen) t.text
+
+  -- they are few
+  pub few_seen : length seen ≤ 66
+  few_seen =
+      let all = few_by outlook (t.base ++ t.took) (t.start ++ seen) shape in
+      let apart = length-append t.base t.took in
+      let told = length-append t.start seen in
+      let first = base_length t.base t.start t.before in
+      let most = t.at_most in
+      omega arith
+
+  -- and so are their items
+  pub few_items : length (items_of seen) ≤ 64
+  few_items = let given = given_length outlook (items_of seen) t.took t.given in let most = t.at_most in omega arith
+
+  inside : (s : Signal) → EndsIn seen s → Contains (t.start ++ seen) s
+  inside s ends = last_contained (t.start ++ seen) s (t.start ++ ends.0, ap (λ l. t.start ++ l) ends.1 ∙ sym (append_assoc t.start ends.0 (s ∷ [])))
+
+  -- the last one tells the end
+  pub completed_by : EndsIn seen Complete ↔ (outlook ≡ Ended How.Completed)
+  completed_by = (
+    λ ends. completes_by outlook (last_by outlook (t.base ++ t.took) (t.start ++ seen) Complete tt shape (inside Complete ends)),
+    λ e. after_base t.base t.took t.start seen (Complete ∷ []) t.before (subst (λ (o : Outlook). IsTextAfter o (t.base ++ t.took) (t.start ++ seen)) e t.text),
+  )
+
+  pub errored_by : (fault : Fault) → EndsIn seen (Error fault) ↔ (outlook ≡ Ended (How.Errored fault))
+  errored_by fault = (
+    λ ends. errs_by outlook fault (last_by outlook (t.base ++ t.took) (t.start ++ seen) (Error fault) tt shape (inside (Error fault) ends)),
+    λ e. after_base t.base t.took t.start seen (Error fault ∷ []) t.before (subst (λ (o : Outlook). IsTextAfter o (t.base ++ t.took) (t.start ++ seen)) e t.text),
+  )

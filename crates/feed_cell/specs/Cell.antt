@@ -147,31 +147,50 @@ pub record AsRunner (capacity : ℕ) (runner : Runner) (active : Bool) (control 
   pub item_is : d.item ≡ item
   pub latest : has_looked runner ≡ true → active ≡ false → control ≡ d.look
 
+-- what there is of a subscription
+pub record CellData : Type 0 where
+  -- its parts, which some list of possible events leads to
+  pub world : Parts
+  -- what was put, what was taken of it, the item whose slot is out, and the number from which on places are free and at home
+  pub log : List Item
+  pub taken : List Item
+  pub item : List Item
+  pub free : ℕ
+  -- the control word, and what that says
+  pub control : ℕ
+  pub flags : Flags
+  -- the causes that answers of callbacks have brought about, as far as looks brought them in
+  pub answers : Causes
+  -- whether the subscriber's slot is out, and whether the handle has left
+  pub away : Bool
+  pub left : Bool
+  -- the seats of the producer, the handle and the task
+  pub producer : ℕ
+  pub handle : ℕ
+  pub runner : ℕ
+
+-- what each party knows of it
+abbrev pub KnownByProducer : ℕ → CellData → View → Type 0
+KnownByProducer capacity cell = AsProducer capacity cell.log cell.world.given cell.free (is_over cell.world.runner) cell.flags.closing cell.flags.state cell.world.producer
+
+abbrev pub KnownByHandle : ℕ → CellData → View → Type 0
+KnownByHandle capacity cell = AsHandle capacity cell.world.asked cell.flags.cancel cell.flags.argument cell.left cell.world.handle
+
+abbrev pub KnownByRunner : ℕ → CellData → View → Type 0
+KnownByRunner capacity cell = AsRunner capacity cell.world.runner cell.world.active cell.control cell.away cell.taken cell.item cell.world.own cell.answers
+
 module _ {B : Type 0} (told : B → List Signal) where
-  -- the rule of a subscription of this capacity
+  -- the rule of a subscription of this capacity: what there is, and what of it the words, the slots and the seats show
   pub record CellRule (capacity : ℕ) (s : State (Held B) View) : Type 0 where
-    -- what there is, which some list of possible events leads to; the seats show each rest and the end that are among these
-    pub world : Parts
-    pub reached : IsReachedBy s.views world
-    pub log : List Item
-    pub taken : List Item
-    pub item : List Item
-    pub free : ℕ
-    pub control : ℕ
-    pub flags : Flags
-    pub answers : Causes
-    pub away : Bool
-    pub left : Bool
-    -- the seats of the producer, the handle and the task
-    pub producer : ℕ
-    pub handle : ℕ
-    pub runner : ℕ
-    pub lists : Lists capacity log taken item free
-    pub shows : ShowsParts capacity world log taken item flags answers away left
-    pub reads : Reads control flags
-    pub words : s.words ≡ words_of world left control
-    pub lies : Lies capacity log (length taken) (length taken + length item) free s.homes
-    pub lodges : away ≡ false → LodgesAt told capacity world.runner taken world.own answers s.homes
-    pub producers : Only has_put producer (AsProducer capacity log world.given free (is_over world.runner) flags.closing flags.state world.producer) s.views
-    pub handles : Only has_ask handle (AsHandle capacity world.asked flags.cancel flags.argument left world.handle) s.views
-    pub runners : Only has_run runner (AsRunner capacity world.runner world.active control away taken item world.own answers) s.views
+    pub cell : CellData
+    -- the seats show each rest and the end that are among the events
+    pub reached : IsReachedBy s.views cell.world
+    pub lists : Lists capacity cell.log cell.taken cell.item cell.free
+    pub shows : ShowsParts capacity cell.world cell.log cell.taken cell.item cell.flags cell.answers cell.away cell.left
+    pub reads : Reads cell.control cell.flags
+    pub words : s.words ≡ words_of cell.world cell.left cell.control
+    pub lies : Lies capacity cell.log (length cell.taken) (length cell.taken + length cell.item) cell.free s.homes
+    pub lodges : cell.away ≡ false → LodgesAt told capacity cell.world.runner cell.taken cell.world.own cell.answers s.homes
+    pub producers : Only has_put cell.producer (KnownByProducer capacity cell) s.views
+    pub handles : Only has_ask cell.handle (KnownByHandle capacity cell) s.views
+    pub runners : Only has_run cell.runner (KnownByRunner capacity cell) s.views

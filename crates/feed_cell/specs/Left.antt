@@ -1,10 +1,12 @@
 -- What is left of a subscription that is closed for good.
-use Rattle.std.specs.Prelude.{◌≡◌, ℕ, ◌+◌, ◌≤◌, Bool, true, ◌||◌, Option, Some, None, IfSome, IsSome, List, length}
+use Rattle.std.specs.Prelude.{◌≡◌, ℕ, ◌+◌, ◌%◌, ◌<◌, ◌≤◌, ◌⊎◌, Bool, true, false, ◌||◌, Option, Some, None, IfSome, IsSome, List, length}
+use Rattle.std.specs.Int.{bit_at}
 use Rattle.feed_core.specs.Lane.{LaneState}
 use Rattle.feed_core.specs.LeftLane.{IsLeftLane}
 use Rattle.feed_core.specs.Prelude.{Signal, total_after}
 use Rattle.feed_core.specs.declared.lane.Lane.{Lane}
 use Rattle.feed_cell.specs.Types.{Causes}
+use Rattle.feed_cell.specs.Control.{MARK, RUNNING}
 use Rattle.flow_rules.specs.Feed.{End}
 use Rattle.feed_cell.specs.declared.cell.Held.{Held}
 use Rattle.feed_cell.specs.declared.cell.Lodger.{Lodger}
@@ -17,6 +19,18 @@ lane_with g given accepted asked running = record { subscriber = Some g.subscrib
 -- what is left where a task was lost with it
 abbrev pub lane_without : {B : Type 0} → ℕ → ℕ → ℕ → Lane B
 lane_without given accepted asked = record { subscriber = None; accepted = accepted; given = given; asked = asked; ending = None; running = true }
+
+-- the subscriber is at home, by head and control
+abbrev pub IsHomeBy : ℕ → ℕ → Type 0
+IsHomeBy head control = (MARK ≤ head) ⊎ (bit_at control RUNNING ≡ 0)
+
+-- this lane is what is left by these words where this subscriber is at home: it runs on if neither it has ended nor its handle has left
+abbrev pub IsLaneWith : {B : Type 0} → ℕ → ℕ → ℕ → Lane B → Lodger B → Type 0
+IsLaneWith head tail asked lane guest =
+    (running : Bool)
+    × (running ≡ false → (MARK ≤ head) ⊎ (MARK ≤ asked))
+    × (running ≡ true → (head < MARK) × (asked < MARK))
+    × (lane ≡ lane_with guest (head % MARK) tail (asked % MARK) running)
 
 -- the causes of a subscription: its publisher's, its handle's, and those that the answers of callbacks brought about
 abbrev pub causes_left : End → HandleState → Causes → Causes

@@ -6,7 +6,7 @@ use Rattle.feed_cell.specs.Control.{MARK}
 use Rattle.feed_cell.specs.Parties.{ProducerState, TaskState, IsStarted}
 use Rattle.feed_cell.specs.Plays.{SeatOf, FindsRoom}
 use Rattle.feed_cell.specs.Views.{starts_after}
-use Rattle.feed_cell.specs.declared.cell.offering.Found.{Found}
+use Rattle.feed_cell.specs.declared.cell.producer.steps.Found.{Found}
 
 -- what this head says to a producer that has put as many items as tail
 abbrev pub SaysOf : ℕ → ℕ → ℕ → Found → Type 0
@@ -15,8 +15,8 @@ SaysOf capacity tail head Found.Full = (head < MARK) × (tail - head ≡ capacit
 SaysOf capacity tail head (Found.Room held) = (head < MARK) × (tail - head < capacity) × (held ≡ tail - head)
 
 -- a look for room showed some head, which says this
-abbrev pub Finds : {B : Type 0} → ℕ → ℕ → Found → SeatOf B → SeatOf B → Type 0
-Finds capacity tail found before after = (head : ℕ) × FindsRoom before head after × SaysOf capacity tail head found
+abbrev pub Finds : {B : Type 0} → ℕ → Found → SeatOf B → SeatOf B → Type 0
+Finds tail found before after = (head : ℕ) × FindsRoom before head after × SaysOf before.0.capacity tail head found
 
 -- the task that a call started, if it did
 abbrev pub started_in : Call TaskState → Option TaskState

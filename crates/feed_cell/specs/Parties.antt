@@ -20,8 +20,16 @@ pub record ProducerState : Type 0 where
   pub started : ℕ
 
 -- the producer's end, by what its seat knows and whether it is ready
-abbrev pub known_end : ℕ → View → Bool → End
-known_end capacity v ready = record { capacity = capacity; accepted = v.put; seen = v.seen; looks = v.looks; over = v.over; closing = v.closing; state = v.state; ready = ready }
+abbrev pub known_end : View → Bool → End
+known_end v ready = record { capacity = v.capacity; accepted = v.put; seen = v.seen; looks = v.looks; over = v.over; closing = v.closing; state = v.state; ready = ready }
+
+-- the producer's seat knows this
+abbrev pub KnowsEnd : End → View → Type 0
+KnowsEnd end v = end ≡ known_end v end.ready
+
+-- a producer that has not what a started task needs
+abbrev pub not_ready : ProducerState → ProducerState
+not_ready producer = record producer { end = record producer.end { ready = false } }
 
 -- the handle: how many items it requested in all, whether it cancelled, whether it requested a number that is not positive, whether
 -- it has what one started task needs, and how many tasks its calls have started

@@ -6,23 +6,19 @@ use Rattle.feed_core.specs.Prelude.{How, Item, Signal, UNBOUNDED, total_after}
 use Rattle.feed_core.specs.Cause.{no_causes}
 use Rattle.feed_core.specs.declared.turn.outlook.Outlook.{Outlook}
 use Rattle.feed_core.specs.declared.turn.outlook.Outlook.TheVariants.{Again, Resting, Ended}
-use Rattle.feed_core.specs.World.Table.{seeing, measuring}
-use Rattle.feed_cell.specs.Types.{Causes, Cause, Cancel, Argument, State, Closing, Producing, Free, HasRoom, HasPut, Hands, Requesting, Idle, HasAsked, HandsOver, Runner, Nobody, Ready, Looked, Measured, Taken}
+use Rattle.feed_core.specs.World.Table.{seeing, measuring, producing_after, requesting_after}
+use Rattle.feed_cell.specs.Types.{Causes, Cause, Cancel, Argument, State, Closing, Producing, Free, HasRoom, HasPut, Idle, HasAsked, Runner, Nobody, Ready, Looked, Measured, Taken}
 use Rattle.feed_cell.specs.declared.cell.Grant.{Grant}
 use Rattle.feed_cell.specs.declared.cell.Held.{Held}
 use Rattle.feed_cell.specs.declared.cell.Lodger.{Lodger}
 use Rattle.feed_cell.specs.declared.cell.View.{View}
 use Rattle.feed_cell.specs.Cell.{greeted}
 use Rattle.feed_cell.specs.Views.{starts_after}
-use Rattle.feed_cell.specs.Control.{Flags, Reads, causes_of, MARK, marked}
+use Rattle.feed_cell.specs.Control.{QUIET, RUNNING, Flags, Reads, causes_of, MARK, marked, number}
 
 -- what a party knows, and the slots that it has out
 abbrev pub SeatOf : Type 0 → Type 0
 SeatOf B = Me (Held B) View
-
--- the control word without its mark of something new
-abbrev pub QUIET : ℕ
-QUIET = 18446744073709551613
 
 module _ {B : Type 0} where
   -- an item or nothing, as a list
@@ -79,6 +75,7 @@ pub record FindsRoom {B : Type 0} (before : SeatOf B) (found : ℕ) (after : Sea
   pub full : ended ≡ false → length before.0.put ≡ head + before.0.capacity → after ≡ (after_look before.0 head ended Free 0, before.1)
   pub room : ended ≡ false → length before.0.put < head + before.0.capacity
       → after ≡ (after_look before.0 head ended HasRoom 1, (length before.0.put % before.0.capacity, Held.Empty) ∷ before.1)
+  pub sized : after.0.capacity ≡ before.0.capacity
 
 -- the same, where no slot is taken
 pub record FindsHead {B : Type 0} (before : SeatOf B) (found : ℕ) (after : SeatOf B) : Type 0 where
@@ -98,47 +95,32 @@ pub record FindsHead {B : Type 0} (before : SeatOf B) (found : ℕ) (after : Sea
 abbrev pub IsPut : {B : Type 0} → SeatOf B → SeatOf B → Type 0
 IsPut before after = after ≡ (record before.0 { put = before.0.put ++ item_out before.1; producing = HasPut; places = 0 }, rest before.1)
 
--- the producer after a signal with this cause
-abbrev pub sent : Option Cause → Producing → View → View
-sent None producing v = record v { producing = producing }
-sent (Some Cancel) producing v = record v { producing = producing }
-sent (Some Argument) producing v = record v { producing = producing }
-sent (Some State) producing v = record v { producing = producing; state = true }
-sent (Some (Closing ending)) producing v = record v { producing = producing; closing = Some ending }
+-- what a party knows, with this cause
+abbrev pub with_cause : Option Cause → View → View
+with_cause None v = v
+with_cause (Some Cancel) v = record v { cancel = true }
+with_cause (Some Argument) v = record v { argument = true }
+with_cause (Some State) v = record v { state = true }
+with_cause (Some (Closing ending)) v = record v { closing = Some ending }
+
+-- a party after a signal with this cause, by whether the task was started before: where it was not, the party has to hand it over
+abbrev pub sent : Option Cause → Bool → View → View
+sent cause started v = record (with_cause cause v) { producing = producing_after started; requesting = requesting_after started }
 
 -- the same, once it has handed over the task that the signal started, if it did
 abbrev pub after_signal : {T : Type 0} → Option T → Option Cause → View → View
-after_signal task cause v = record (sent cause Free v) { started = starts_after task v.started }
+after_signal task cause v = record (with_cause cause v) { producing = Free; requesting = Idle; started = starts_after task v.started }
 
--- its signal starts the task where the word had no mark of that, and then the producer has to hand it over
-pub record ProducerSignals {B : Type 0} (cause : Option Cause) (before : SeatOf B) (found : ℕ) (after : SeatOf B) : Type 0 where
-  pub producing : Producing
-  pub runs : bit_at found 0 ≡ 1 → producing ≡ Free
-  pub starts : bit_at found 0 ≡ 0 → producing ≡ Hands
-  pub signalled : after ≡ (sent cause producing before.0, before.1)
+-- a signal starts the task where the word had no mark of that
+pub record Signals {B : Type 0} (cause : Option Cause) (before : SeatOf B) (found : ℕ) (after : SeatOf B) : Type 0 where
+  pub started : Bool
+  pub found_is : bit_at found RUNNING ≡ number started
+  pub signalled : after ≡ (sent cause started before.0, before.1)
+  pub sized : after.0.capacity ≡ before.0.capacity
 
 -- this number is requested in all
 abbrev pub IsAsk : {B : Type 0} → SeatOf B → ℕ → SeatOf B → Type 0
 IsAsk before asked after = after ≡ (record before.0 { asked = asked; requesting = HasAsked }, before.1)
-
--- the handle after a signal with this cause
-abbrev pub sent_by_handle : Option Cause → Requesting → View → View
-sent_by_handle None requesting v = record v { requesting = requesting }
-sent_by_handle (Some Cancel) requesting v = record v { requesting = requesting; cancel = true }
-sent_by_handle (Some Argument) requesting v = record v { requesting = requesting; argument = true }
-sent_by_handle (Some State) requesting v = record v { requesting = requesting }
-sent_by_handle (Some (Closing ending)) requesting v = record v { requesting = requesting }
-
--- the same, once it has handed over the task that the signal started, if it did
-abbrev pub handle_after_signal : {T : Type 0} → Option T → Option Cause → View → View
-handle_after_signal task cause v = record (sent_by_handle cause Idle v) { started = starts_after task v.started }
-
--- its signal starts the task as one of the producer's does
-pub record HandleSignals {B : Type 0} (cause : Option Cause) (before : SeatOf B) (found : ℕ) (after : SeatOf B) : Type 0 where
-  pub requesting : Requesting
-  pub runs : bit_at found 0 ≡ 1 → requesting ≡ Idle
-  pub starts : bit_at found 0 ≡ 0 → requesting ≡ HandsOver
-  pub signalled : after ≡ (sent_by_handle cause requesting before.0, before.1)
 
 -- the handle makes no step any more
 abbrev pub Leaves : {B : Type 0} → SeatOf B → SeatOf B → Type 0
@@ -179,6 +161,7 @@ pub record SeesPut {B : Type 0} (before : SeatOf B) (found : ℕ) (after : SeatO
   pub put : length before.0.taken ≤ found
   pub waits : length before.0.taken < found → (x : Item) × (after ≡ (record before.0 { runner = seeing found before.0.runner; item = x ∷ [] }, (length before.0.taken % before.0.capacity, Held.Item x) ∷ before.1))
   pub empty : found ≡ length before.0.taken → after ≡ (record before.0 { runner = seeing found before.0.runner }, before.1)
+  pub sized : after.0.capacity ≡ before.0.capacity
 
 -- the task found this in asked; where no more is requested than was taken, the slot that was out is given back
 pub record Measures {B : Type 0} (before : SeatOf B) (found : ℕ) (after : SeatOf B) : Type 0 where
@@ -189,6 +172,7 @@ pub record Measures {B : Type 0} (before : SeatOf B) (found : ℕ) (after : Seat
   pub met : length before.0.taken ≤ total_after asked before.0.own
   pub wanted : length before.0.taken < total_after asked before.0.own → after ≡ (record before.0 { runner = measuring (total_after asked before.0.own) before.0.runner }, before.1)
   pub enough : length before.0.taken ≡ total_after asked before.0.own → after ≡ (record before.0 { runner = measuring (total_after asked before.0.own) before.0.runner; item = [] }, rest before.1)
+  pub sized : after.0.capacity ≡ before.0.capacity
 
 -- the same, where no item is out
 pub record MeasuresNone {B : Type 0} (before : SeatOf B) (found : ℕ) (after : SeatOf B) : Type 0 where
@@ -212,6 +196,7 @@ IsTake before after = after ≡ (record before.0 { taken = before.0.taken ++ bef
 pub record IsRest {B : Type 0} (look : ℕ) (before : SeatOf B) (found : ℕ) (after : SeatOf B) : Type 0 where
   pub rested : found ≡ look → after ≡ (record before.0 { runner = Nobody; runs = false; away = false; outlook = Resting }, rest before.1)
   pub missed : found ≢ look → after ≡ (record before.0 { runner = Ready; misses = before.0.misses + 1 }, before.1)
+  pub sized : after.0.capacity ≡ before.0.capacity
 
 -- what became of the task, by how its subscriber has ended
 abbrev pub outlook_by : Option How → Outlook

@@ -1,5 +1,5 @@
 -- Where a task stands in the middle of a turn.
-use Rattle.std.specs.Prelude.{◌≡◌, ℕ, ◌+◌, ◌%◌, ◌<◌, ◌≤◌, ◌⊎◌, true, List, [], ◌∷◌, ◌++◌, length, Option, None, Some, bit_and}
+use Rattle.std.specs.Prelude.{◌≡◌, ℕ, ◌+◌, ◌%◌, ◌<◌, ◌≤◌, ◌⊎◌, true, false, List, [], ◌∷◌, ◌++◌, length, Option, None, Some, bit_and}
 use Rattle.atomic_table.specs.Table.{rest}
 use Rattle.feed_core.specs.Cause.{stops, closes, with_cause_of}
 use Rattle.feed_core.specs.PlainTurn.{terminal_of}
@@ -7,14 +7,16 @@ use Rattle.feed_core.specs.Prelude.{Answer, How, Item, Signal, UNBOUNDED}
 use Rattle.feed_core.specs.Seen.{SeenState, seen_with}
 use Rattle.feed_core.specs.Steps.{HasTerminal}
 use Rattle.feed_core.specs.World.Table.{MayEnd}
-use Rattle.feed_cell.specs.Types.{Causes, Looked, Measured, Taken}
+use Rattle.feed_core.specs.declared.turn.outlook.Outlook.TheVariants.{Resting}
+use Rattle.feed_cell.specs.Types.{Causes, Nobody, Ready, Looked, Measured, Taken}
 use Rattle.feed_cell.specs.declared.cell.Grant.{Grant}
 use Rattle.feed_cell.specs.declared.cell.Held.{Held}
 use Rattle.feed_cell.specs.declared.cell.Lodger.{Lodger}
+use Rattle.feed_cell.specs.declared.cell.View.{View}
 use Rattle.feed_cell.specs.Cell.{greeted, IsToldAtEnd}
-use Rattle.feed_cell.specs.Control.{Flags, Reads, causes_of}
+use Rattle.feed_cell.specs.Control.{Flags, Reads, causes_of, QUIET}
 use Rattle.feed_cell.specs.Paused.{told_out}
-use Rattle.feed_cell.specs.Plays.{SeatOf, QUIET}
+use Rattle.feed_cell.specs.Plays.{SeatOf, grants_by, how_out, outlook_by}
 use Rattle.feed_cell.specs.Turning.{own_after, answers_after}
 use Rattle.feed_cell.specs.Parties.{IsGoing}
 use Rattle.feed_cell.specs.Views.{IsRunner}
@@ -33,6 +35,38 @@ IsQuietEnd (How.Errored _) = ⊥
 IsQuietEnd How.Cancelled = Unit {0}
 IsQuietEnd (How.Failed _) = Unit {0}
 IsQuietEnd How.OutOfMemory = ⊥
+
+-- the item that was out is taken, and its slot given back
+abbrev pub TakesOut : {B : Type 0} → Item → SeatOf B → SeatOf B → Type 0
+TakesOut item before after = after ≡ (record before.0 { taken = before.0.taken ++ item ∷ []; item = []; grants = before.0.grants ++ grants_by before.0.runner; runner = Taken }, rest before.1)
+
+-- the task is at rest, and its subscriber at home
+abbrev pub IsAtRest : {B : Type 0} → SeatOf B → SeatOf B → Type 0
+IsAtRest before after = after ≡ (record before.0 { runner = Nobody; runs = false; away = false; outlook = Resting }, [])
+
+-- it could not rest, since something was new
+abbrev pub HasMissed : {B : Type 0} → SeatOf B → SeatOf B → Type 0
+HasMissed before after = after ≡ (record before.0 { runner = Ready; misses = before.0.misses + 1 }, before.1)
+
+-- it tried no rest, and took nothing
+abbrev pub KeepsCounts : View → View → Type 0
+KeepsCounts before after = (after.misses ≡ before.misses) × (after.grants ≡ before.grants)
+
+-- it has its subscriber with it as before, and has taken what it had
+abbrev pub KeepsSubscriber : {B : Type 0} → SeatOf B → SeatOf B → Type 0
+KeepsSubscriber before after = (after.1 ≡ before.1) × (after.0.taken ≡ before.0.taken)
+
+-- what lies beside a subscriber that is out: how many items were taken, how many its answers requested, and the causes of these
+abbrev pub notes_of : View → ℕ × ℕ × Causes
+notes_of v = (length v.taken, v.own, v.answers)
+
+-- this end may be told, and the end that comes where its callback is refused memory may come
+abbrev pub MayFinish : How → View → Type 0
+MayFinish due v = MayEnd due (length v.taken) v.runner × (HasTerminal due → MayEnd How.OutOfMemory (length v.taken) v.runner)
+
+-- it has ended the subscription, and its subscriber is at home
+abbrev pub HasLeft : {B : Type 0} → SeatOf B → SeatOf B → Type 0
+HasLeft ending after = after ≡ (record ending.0 { runs = false; away = false; outlook = outlook_by (how_out ending.1) }, [])
 
 -- the task has an item out, and the subscriber's slot behind it
 pub record HasItem {B : Type 0} (me : SeatOf B) : Type 0 where

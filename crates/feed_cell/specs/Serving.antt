@@ -5,17 +5,13 @@ use Rattle.feed_core.specs.Seen.{SeenState, seen_with}
 use Rattle.feed_core.specs.World.Table.{MayEnd}
 use Rattle.feed_core.specs.declared.turn.outlook.Outlook.TheVariants.{Resting, Ended}
 use Rattle.feed_cell.specs.Types.{Nobody}
-use Rattle.feed_cell.specs.declared.cell.serving.Served.{Served}
+use Rattle.feed_cell.specs.declared.cell.task.looks.Served.{Served}
 use Rattle.feed_cell.specs.Cell.{greeted, IsToldAtEnd}
 use Rattle.feed_cell.specs.Parties.{IsGoing}
 use Rattle.feed_cell.specs.Paused.{told_out}
-use Rattle.feed_cell.specs.Plays.{SeatOf, how_out, outlook_by}
-use Rattle.feed_cell.specs.Running.{IsGranted, grant_of, EndsThere, FinishesThere, GoesOnThere}
+use Rattle.feed_cell.specs.Plays.{SeatOf}
+use Rattle.feed_cell.specs.Running.{HasLeft, IsGranted, grant_of, EndsThere, FinishesThere, GoesOnThere}
 use Rattle.feed_cell.specs.Views.{IsRunner}
-
--- the seat after it ended the subscription
-abbrev pub HasLeft : {B : Type 0} → SeatOf B → SeatOf B → Type 0
-HasLeft ending after = after ≡ (record ending.0 { runs = false; away = false; outlook = outlook_by (how_out ending.1) }, [])
 
 -- the last item, if one was taken, and by what
 abbrev pub IsLastGrant : {B : Type 0} → SeatOf B → SeatOf B → List Item → Type 0

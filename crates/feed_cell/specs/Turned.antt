@@ -1,21 +1,21 @@
 -- What a turn of a task did (`Flow.Subscriber`, Java SE 17; Reactive Streams 1.0, 1.1, 1.3, 1.5, 1.7 and 1.9).
-use Rattle.std.specs.Prelude.{◌≡◌, ℕ, ◌+◌, ◌<◌, ◌≤◌, ◌↔◌, ◌⊎◌, true, false, None, List, [], ◌∷◌, ◌++◌, length}
+use Rattle.std.specs.Prelude.{◌≡◌, ℕ, ◌+◌, ◌<◌, ◌≤◌, ◌⊎◌, true, false, None, List, [], ◌∷◌, ◌++◌, length}
 use Rattle.feed_core.specs.Cause.{stops}
 use Rattle.feed_core.specs.World.Table.{MayEnd}
-use Rattle.feed_core.specs.Prelude.{Complete, Error, Fault, How, IsFlowText, Item, Signal, items_of}
-use Rattle.feed_core.specs.declared.turn.TheConstants.{ITEMS_IN_A_TURN, SIGNALS_IN_A_TURN}
+use Rattle.feed_core.specs.Prelude.{How, IsFlowText, Item, Signal, items_of}
+use Rattle.feed_core.specs.declared.turn.TheConstants.{ITEMS_IN_A_TURN}
 use Rattle.feed_core.specs.declared.turn.outlook.Outlook.{Outlook}
 use Rattle.feed_core.specs.declared.turn.outlook.Outlook.TheVariants.{Again, Resting, Ended}
-use Rattle.feed_core.specs.Turn.{EndsIn}
 use Rattle.feed_cell.specs.Types.{Nobody}
 use Rattle.feed_cell.specs.Cell.{greeted, IsToldAtEnd}
 use Rattle.feed_cell.specs.Parties.{TaskState, IsGoing, IsHome}
 use Rattle.feed_cell.specs.Paused.{told_out}
 use Rattle.feed_cell.specs.Plays.{SeatOf}
+use Rattle.feed_cell.specs.Running.{KeepsSubscriber}
 use Rattle.feed_cell.specs.declared.cell.Grant.{Grant}
 use Rattle.feed_cell.specs.declared.cell.View.{View}
 use Rattle.feed_cell.specs.declared.cell.task.Stage.{Stage}
-use Rattle.feed_cell.specs.declared.cell.turning.Turn.{Turn}
+use Rattle.feed_cell.specs.declared.cell.task.turns.Turn.{Turn}
 
 -- all that a subscriber was told that these items were taken for, after a turn with this outlook
 abbrev pub IsTextAfter : Outlook → List Item → List Signal → Type 0
@@ -57,12 +57,12 @@ pub record IsTurnOf (old : View) (known seen : List Signal) (outlook : Outlook) 
   pub text : IsTextAfter outlook (base ++ took) (start ++ seen)
   pub allowed : IsFlowText (start ++ seen)
   pub given : AreGivenOf outlook (items_of seen) took
-  pub few : length seen ≤ SIGNALS_IN_A_TURN
-  -- the last signal tells the end
-  pub completed : EndsIn seen Complete ↔ (outlook ≡ Ended How.Completed)
-  pub errored : (fault : Fault) → EndsIn seen (Error fault) ↔ (outlook ≡ Ended (How.Errored fault))
 
--- another turn is owed: this one took as many items as it may, or something was new when it would have rested
+-- why another turn is owed: this one told as many items as it may, or something was new when it would have rested
+abbrev pub MayGoOn : View → View → List Signal → Type 0
+MayGoOn old new seen = ((length (items_of seen) ≡ ITEMS_IN_A_TURN) × (new.misses ≡ old.misses)) ⊎ (new.misses ≡ old.misses + 1)
+
+-- another turn is owed
 pub record GoesOnAs (old new : View) (known later seen : List Signal) : Type 0 where
   pub turned : IsTurnOf old known seen Again
   pub taken : new.taken ≡ turned.base ++ turned.took
@@ -70,7 +70,6 @@ pub record GoesOnAs (old new : View) (known later seen : List Signal) : Type 0 w
   -- its subscriber stays with it, so that it knows what that was told
   pub away : new.away ≡ true
   pub told_is : later ≡ turned.start ++ seen
-  pub why : ((length (items_of seen) ≡ ITEMS_IN_A_TURN) × (new.misses ≡ old.misses)) ⊎ (new.misses ≡ old.misses + 1)
 
 -- no turn is owed: the task rests or the subscription has ended, and its seat runs the task no more. The seat shows which, and the
 -- rule of the table counts that among the rests of its events, or has it as the end that is among them
@@ -109,7 +108,7 @@ module _ {B : Type 0} (told : B → List Signal) where
 
   -- a turn that ran on a seat, by its outlook
   abbrev pub RunsAs : Outlook → SeatOf B → SeatOf B → List Signal → Type 0
-  RunsAs Again before after seen = IsGoing told after × GoesOnAs before.0 after.0 (told_out told before.1) (told_out told after.1) seen
+  RunsAs Again before after seen = IsGoing told after × GoesOnAs before.0 after.0 (told_out told before.1) (told_out told after.1) seen × MayGoOn before.0 after.0 seen
   RunsAs Resting before after seen = StopsAs before.0 after.0 (told_out told before.1) seen Resting × (after.0.runner ≡ Nobody)
   RunsAs (Ended how) before after seen = StopsAs before.0 after.0 (told_out told before.1) seen (Ended how) × MayEnd how (length after.0.taken) after.0.runner
 
@@ -123,7 +122,18 @@ module _ {B : Type 0} (told : B → List Signal) where
 abbrev pub KeepsGoing : {B : Type 0} → Stage → SeatOf B → SeatOf B → Type 0
 KeepsGoing Stage.Fresh before after = ⊥
 KeepsGoing Stage.Home before after = Unit {0}
-KeepsGoing Stage.Going before after = (after.1 ≡ before.1) × (after.0.taken ≡ before.0.taken)
+KeepsGoing Stage.Going before after = KeepsSubscriber before after
+
+-- the outlook that a turn tells
+abbrev pub outlook_of : {B : Type 0} → Turn B → Outlook
+outlook_of (Turn.Again next) = Again
+outlook_of (Turn.Resting spent) = Resting
+outlook_of (Turn.Ended how spent) = Ended how
+
+-- of the task that goes on, if one does
+abbrev pub OnAgain : {B : Type 0} → Turn B → (TaskState → Type 0) → Type 0
+OnAgain (Turn.Again next) P = P next
+OnAgain _ P = Unit {0}
 
 -- what came of a turn of a task: the task that goes on, or its seat, which runs nothing any more. It rested; or it ended the
 -- subscription, as what its last look saw or its last callback answered allows

@@ -1,7 +1,9 @@
 -- What the task brings to its next look, by what a callback answered.
-use Rattle.std.specs.Prelude.{ℕ, zero, suc, pos, negsuc, true}
-use Rattle.feed_core.specs.Prelude.{Answer, total_after}
+use Rattle.std.specs.Prelude.{ℕ, zero, suc, pos, negsuc, true, None, Some}
+use Rattle.feed_core.specs.Cause.{no_causes, with_cause_of}
+use Rattle.feed_core.specs.Prelude.{Answer, How, total_after}
 use Rattle.feed_cell.specs.Types.{Causes}
+use Rattle.feed_cell.specs.declared.cell.Lodger.{Lodger}
 
 -- what the answers have requested, after one more
 abbrev pub own_after : Answer → ℕ → ℕ
@@ -13,3 +15,15 @@ abbrev pub answers_after : Answer → Causes → Causes
 answers_after (Answer.Request (pos zero)) answers = record answers { argument = true }
 answers_after (Answer.Request (negsuc n)) answers = record answers { argument = true }
 answers_after _ answers = answers
+
+-- what lies beside a subscriber after its answer, which goes on
+abbrev pub answered : {B : Type 0} → Answer → Lodger B → Lodger B
+answered answer guest = record guest { own = own_after answer guest.own; answers = answers_after answer guest.answers }
+
+-- and after an end
+abbrev pub ended_as : {B : Type 0} → How → Lodger B → Lodger B
+ended_as how guest = record guest { answers = with_cause_of how guest.answers; how = Some how }
+
+-- a subscriber that was told nothing, with what lies beside it
+abbrev pub new_lodger : {B : Type 0} → B → Lodger B
+new_lodger subscriber = record { subscriber = subscriber; given = 0; own = 0; answers = no_causes; how = None }

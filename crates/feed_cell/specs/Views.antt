@@ -63,20 +63,20 @@ abbrev pub running_alone : View → View
 running_alone v = record v { puts = false; asks = false; misses = 0; started = 0 }
 
 -- a side has handed over the task that its signal started
-abbrev pub producer_handed : View → View
-producer_handed v = record v { producing = Free; started = v.started + 1 }
-
-abbrev pub handle_handed : View → View
-handle_handed v = record v { requesting = Idle; started = v.started + 1 }
+abbrev pub handed : View → View
+handed v = record v { producing = Free; requesting = Idle; started = v.started + 1 }
 
 -- how many tasks were started, with this one, if there is one
 abbrev pub starts_after : {T : Type 0} → Option T → ℕ → ℕ
 starts_after None started = started
 starts_after (Some task) started = started + 1
 
--- the task that was handed over is ready, and its subscriber is at home
+-- a task that was handed over is ready, and its subscriber is at home
+abbrev pub ready_view : ℕ → View
+ready_view capacity = record (first_view capacity) { puts = false; asks = false; runner = Ready }
+
 abbrev pub running_handed : View → View
-running_handed v = record (first_view v.capacity) { puts = false; asks = false; runner = Ready }
+running_handed v = ready_view v.capacity
 
 -- the producer's seat takes in what the handle's knows, and that has no part any more
 abbrev pub with_asking : View → View → View
@@ -94,3 +94,11 @@ IsHandle v = (v.puts ≡ false) × (v.asks ≡ true) × (v.runs ≡ false)
 
 abbrev pub IsRunner : View → Type 0
 IsRunner v = (v.puts ≡ false) × (v.asks ≡ false) × (v.runs ≡ true)
+
+-- the task, with no item out
+abbrev pub RunsFree : View → Type 0
+RunsFree v = IsRunner v × (v.item ≡ [])
+
+-- the task, with its subscriber out
+abbrev pub RunsAway : View → Type 0
+RunsAway v = IsRunner v × (v.away ≡ true)

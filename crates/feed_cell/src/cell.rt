@@ -1,21 +1,11 @@
 //! The table that the parties of a subscription share: its words and slots, its rule, and what a party knows.
-pub mod calling;
-pub mod causes;
-pub mod closing;
+pub mod close;
 pub mod handle;
-pub mod joining;
-pub mod making;
-pub mod offering;
-pub mod plays;
+pub mod maker;
 pub mod producer;
-pub mod requesting;
-pub mod running;
-pub mod serving;
-pub mod splits;
-pub mod taking;
+mod seated;
+mod signal;
 pub mod task;
-pub mod telling;
-pub mod turning;
 
 ghost use Rattle.std.specs.Prelude.{◌≡◌};
 
@@ -41,36 +31,62 @@ pub(crate) const ASKED: usize = 2;
 /// The word of the marks and causes.
 pub(crate) const CONTROL: usize = 3;
 
-/// Bit 63, of head and of asked.
-pub(crate) const MARK: u64 = 9223372036854775808;
+/// The mark of head and of asked, which is their bit 63.
+pub(crate) const MARK: u64 = 1 << 63;
 
-/// A control word without its mark of something new.
-pub(crate) const QUIET: u64 = 18446744073709551613;
+/// The bit of control that says that the task was started, and is not at rest since.
+pub(crate) const RUNNING: u32 = 0;
 
-/// A control word without the mark of its task.
-pub(crate) const RESTING: u64 = 18446744073709551614;
+/// The bit of control that says that there was a signal since the task's last look.
+pub(crate) const NEW: u32 = 1;
 
-/// The mark of the task in the control word: it was started, and is not at rest since.
-pub(crate) const RUN: u64 = 1;
+/// The bit of control that says that the owner cancelled.
+pub(crate) const CANCELLED: u32 = 2;
 
-/// What a signal sets in the control word: the mark of the task, that of something new, and its cause.
-pub(crate) const ITEM: u64 = 3;
+/// The bit of control that says that a number was requested that is not positive.
+pub(crate) const BAD_REQUEST: u32 = 3;
 
-pub(crate) const CANCEL: u64 = 7;
+/// The bit of control that says that the subscriber subscribed a second time.
+pub(crate) const DOUBLED: u32 = 4;
 
-pub(crate) const ARGUMENT: u64 = 11;
+/// The bit of control that says that it was closed with an error.
+pub(crate) const FAILED: u32 = 5;
 
-pub(crate) const STATE: u64 = 19;
+/// The bit of control that says that it was closed without one.
+pub(crate) const COMPLETED: u32 = 6;
 
-pub(crate) const ERROR: u64 = 35;
+/// The bit of control from which on the code of a closing error stands.
+pub(crate) const CODE: u32 = 32;
 
-pub(crate) const COMPLETE: u64 = 67;
+/// The mark of the task, in control.
+pub(crate) const RUN: u64 = 1 << RUNNING;
 
-/// The code of a closing error stands in the control word from here on.
-pub(crate) const ERRORS: u64 = 4294967296;
+/// All of control but its mark of something new, which a look clears.
+pub(crate) const QUIET: u64 = !(1 << NEW);
+
+/// All of control but the mark of the task, which a rest clears.
+pub(crate) const RESTING: u64 = !RUN;
+
+/// What the signal of an item or of a request sets in control: the two marks.
+pub(crate) const ITEM: u64 = RUN | 1 << NEW;
+
+/// What the signal of a cancel sets in control.
+pub(crate) const CANCEL: u64 = ITEM | 1 << CANCELLED;
+
+/// What the signal of a bad request sets in control.
+pub(crate) const ARGUMENT: u64 = ITEM | 1 << BAD_REQUEST;
+
+/// What the signal of a second subscribing sets in control.
+pub(crate) const STATE: u64 = ITEM | 1 << DOUBLED;
+
+/// What the signal of a close with an error sets in control, beside the code.
+pub(crate) const ERROR: u64 = ITEM | 1 << FAILED;
+
+/// What the signal of a close without an error sets in control.
+pub(crate) const COMPLETE: u64 = ITEM | 1 << COMPLETED;
 
 /// What the words are at first: nothing was taken, put or asked for, and the task is started.
-pub(crate) const FIRST_WORDS: [u64; 4] = [0, 0, 0, 1];
+pub(crate) const FIRST_WORDS: [u64; 4] = [0, 0, 0, RUN];
 
 /// Who is told, and what lies beside it while nobody runs the task.
 #[derive(Drop)]

@@ -61,9 +61,9 @@
 
 mod cell;
 
-pub use cell::closing::close;
+pub use cell::close::close;
 pub use cell::handle::Handle;
-pub use cell::making::Cell;
+pub use cell::maker::Cell;
 pub use cell::producer::Producer;
+pub use cell::task::turns::Turn;
 pub use cell::task::{Spent, Task};
-pub use cell::turning::Turn;

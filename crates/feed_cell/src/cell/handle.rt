@@ -1,12 +1,16 @@
 //! The handle of a subscription, which its owner has (`Flow.Subscription`).
+mod plays;
+pub mod steps;
+
 ghost use Rattle.std.specs.Prelude.{◌≡◌, true, false, None, IfSome, IsSome, IsNone, OnOk, OnErr, IsOk};
 ghost use Rattle.feed_cell.specs.Parties.{MayAsk, handle_after_request, IsStarted};
 ghost use Rattle.feed_cell.specs.Views.{starts_after};
 
-use super::producer::start;
-use super::requesting::{ask_more, signal_argument, signal_cancel, signal_request};
+use self::steps::ask_more;
+use super::seated::Seated;
+use super::signal::{signal, start};
 use super::task::Task;
-use super::{CellSeat, CellTable, SharedTable};
+use super::{ARGUMENT, CANCEL, ITEM, SharedTable};
 use flow_rules::{Listener, NoMemory};
 use std::marker::Model;
 use std::sync::Arc;
@@ -14,11 +18,9 @@ use std::sync::Arc;
 /// The handle of a subscription (`Flow.Subscription`, Java SE 17).
 #[derive(Drop)]
 pub struct Handle<B: Listener> {
-    pub(crate) table: SharedTable<B>,
+    pub(crate) party: Seated<B>,
     /// What a started task gets, where it is there.
     pub(crate) spare: Option<SharedTable<B>>,
-    pub(crate) seat: CellSeat<B>,
-    pub(crate) capacity: u64,
     /// The number of items requested, as in the word asked, which this end alone writes.
     pub(crate) asked: u64,
     /// Whether it cancelled.
@@ -26,18 +28,27 @@ pub struct Handle<B: Listener> {
 }
 
 impl<B: Listener> Model for Handle<B> {
-    ghost use Rattle.std.specs.Prelude.{◌≡◌, ◌<◌, ◌≤◌, [], is_some, IfSome};
+    ghost use Rattle.std.specs.Prelude.{◌≡◌, is_some, IfSome};
     ghost use Rattle.std.specs.Arc.{arc_value};
     ghost use Rattle.crossbeam_utils.specs.Padded.{padded_value};
-    ghost use Rattle.feed_core.specs.Prelude.{UNBOUNDED};
     ghost use Rattle.feed_cell.specs.Parties.{HandleState};
-    ghost use Rattle.feed_cell.specs.Steps.{HasFourWords, MayRequest};
+    ghost use Rattle.feed_cell.specs.Steps.{IsHandleOf};
 
     ghost Value = { HandleState };
 
-    ghost view = { λ h. record { table = h.seat.table_id; capacity = h.capacity; asked = h.seat.me.0.asked; cancelled = h.seat.me.0.cancel; argument = h.seat.me.0.argument; ready = is_some h.spare; started = h.seat.me.0.started } };
+    ghost view = { λ h. record {
+      table = h.party.seat.table_id;
+      capacity = h.party.capacity;
+      asked = h.party.seat.me.0.asked;
+      cancelled = h.party.seat.me.0.cancel;
+      argument = h.party.seat.me.0.argument;
+      ready = is_some h.spare;
+      started = h.party.seat.me.0.started;
+    } };
 
-    ghost invariant = { λ h. ((padded_value (arc_value h.table)).shared.table_id ≡ h.seat.table_id) × IfSome h.spare (λ spare. (padded_value (arc_value spare)).shared.table_id ≡ h.seat.table_id) × HasFourWords h.seat.table_id × (0 < h.capacity) × (h.seat.me.1 ≡ []) × MayRequest h.seat.me × (h.seat.me.0.capacity ≡ h.capacity) × (h.seat.me.0.asked ≡ h.asked) × (h.asked ≤ UNBOUNDED) × (h.seat.me.0.cancel ≡ h.cancelled) };
+    ghost invariant = { λ h.
+        IfSome h.spare (λ spare. (padded_value (arc_value spare)).shared.table_id ≡ h.party.seat.table_id)
+        × IsHandleOf h.asked h.cancelled h.party.seat.me };
 }
 
 impl<B: Listener> Handle<B> {
@@ -51,11 +62,11 @@ impl<B: Listener> Handle<B> {
     /// Takes what one started task needs. Where that is there, it is not refused.
     pub fn ready(&mut self) -> Result<(), NoMemory>
         ensures ok { OnOk result (self.new ≡ record self.old { ready = true }) }
-        ensures err { OnErr result (self.new ≡ self.old) }
-        ensures stays { self.old.ready ≡ true → IsOk result }
+        ensures unchanged { OnErr result (self.new ≡ self.old) }
+        ensures not_refused { self.old.ready ≡ true → IsOk result }
     {
         if self.spare.is_none() {
-            self.spare = Some(Arc::try_clone(&self.table)?);
+            self.spare = Some(Arc::try_clone(&self.party.table)?);
         }
         Ok(())
     }
@@ -67,7 +78,8 @@ impl<B: Listener> Handle<B> {
     pub fn request(&mut self, n: i64) -> Option<Task<B>>
         requires may { MayAsk self.old }
         ensures ignored { self.old.cancelled ≡ true → (self.new ≡ self.old) × IsNone result }
-        ensures requested { self.old.cancelled ≡ false → self.new ≡ record (handle_after_request n self.old) { ready = self.new.ready; started = self.new.started } }
+        ensures requested { self.old.cancelled ≡ false
+            → self.new ≡ record (handle_after_request n self.old) { ready = self.new.ready; started = self.new.started } }
         ensures counts { self.new.started ≡ starts_after result self.old.started }
         ensures starts { IfSome result (IsStarted self.old.table self.old.capacity) }
         ensures spent { IsSome result → self.new.ready ≡ false }
@@ -76,14 +88,13 @@ impl<B: Listener> Handle<B> {
         if self.cancelled {
             return None;
         }
-        let table: &CellTable<B> = &self.table;
         let task = if n > 0 {
-            self.asked = ask_more(table, &mut self.seat, self.asked, n.unsigned_abs());
-            signal_request(table, &mut self.seat)
+            self.asked = ask_more(&mut self.party, self.asked, n.unsigned_abs());
+            signal(&mut self.party, ITEM)
         } else {
-            signal_argument(table, &mut self.seat)
+            signal(&mut self.party, ARGUMENT)
         };
-        start(&mut self.spare, task, self.capacity)
+        start(&self.party, &mut self.spare, task)
     }
 
     /// Ends the subscription (`Flow.Subscription.cancel`; Reactive Streams 1.0, rules 3.5, 3.7 and 3.12): its subscriber is given at
@@ -92,7 +103,8 @@ impl<B: Listener> Handle<B> {
     pub fn cancel(&mut self) -> Option<Task<B>>
         requires may { MayAsk self.old }
         ensures ignored { self.old.cancelled ≡ true → (self.new ≡ self.old) × IsNone result }
-        ensures cancelled { self.old.cancelled ≡ false → self.new ≡ record self.old { cancelled = true; ready = self.new.ready; started = self.new.started } }
+        ensures cancelled { self.old.cancelled ≡ false
+            → self.new ≡ record self.old { cancelled = true; ready = self.new.ready; started = self.new.started } }
         ensures counts { self.new.started ≡ starts_after result self.old.started }
         ensures starts { IfSome result (IsStarted self.old.table self.old.capacity) }
         ensures spent { IsSome result → self.new.ready ≡ false }
@@ -101,9 +113,8 @@ impl<B: Listener> Handle<B> {
         if self.cancelled {
             return None;
         }
-        let table: &CellTable<B> = &self.table;
-        let task = signal_cancel(table, &mut self.seat);
+        let task = signal(&mut self.party, CANCEL);
         self.cancelled = true;
-        start(&mut self.spare, task, self.capacity)
+        start(&self.party, &mut self.spare, task)
     }
 }

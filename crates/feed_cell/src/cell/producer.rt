@@ -1,17 +1,12 @@
 //! The producer's end of a subscription, which its publisher has.
-ghost use Rattle.std.specs.Prelude.{◌≡◌, ◌<◌, ℕ, IfSome, IfNone, IsSome, None, []};
-ghost use Rattle.std.specs.Arc.{arc_value};
-ghost use Rattle.crossbeam_utils.specs.Padded.{padded_value};
-ghost use Rattle.feed_cell.specs.Parties.{IsStarted};
-ghost use Rattle.feed_cell.specs.Steps.{HasFourWords};
-ghost use Rattle.feed_cell.specs.Views.{running_handed, starts_after};
-ghost use Rattle.feed_cell.specs.declared.cell.View.{View};
+mod plays;
+pub mod steps;
 
-use super::offering::{
-    Found, find_room, look, place, signal_complete, signal_error, signal_item, signal_state,
-};
-use super::task::{Stage, Task};
-use super::{CellSeat, CellTable, MARK, SharedTable};
+use self::steps::{Found, find_room, look, place, signal_end};
+use super::seated::Seated;
+use super::signal::{signal, start};
+use super::task::Task;
+use super::{ITEM, MARK, STATE, SharedTable};
 use flow_rules::{Ending, Feed, Item, Listener, NoMemory, Put, Standing};
 use std::marker::Model;
 use std::sync::Arc;
@@ -19,11 +14,9 @@ use std::sync::Arc;
 /// The producer's end of a subscription.
 #[derive(Drop)]
 pub struct Producer<B: Listener> {
-    pub(crate) table: SharedTable<B>,
+    pub(crate) party: Seated<B>,
     /// What a started task gets, where it is there.
     pub(crate) spare: Option<SharedTable<B>>,
-    pub(crate) seat: CellSeat<B>,
-    pub(crate) capacity: u64,
     /// The number of items put, as in the word tail, which this end alone writes.
     pub(crate) tail: u64,
     /// How it closed the subscription, if it did.
@@ -31,17 +24,23 @@ pub struct Producer<B: Listener> {
 }
 
 impl<B: Listener> Model for Producer<B> {
-    ghost use Rattle.std.specs.Prelude.{◌≡◌, ◌<◌, [], length, is_some, IfSome};
+    ghost use Rattle.std.specs.Prelude.{◌≡◌, is_some, IfSome};
     ghost use Rattle.std.specs.Arc.{arc_value};
     ghost use Rattle.crossbeam_utils.specs.Padded.{padded_value};
     ghost use Rattle.feed_cell.specs.Parties.{ProducerState, known_end};
-    ghost use Rattle.feed_cell.specs.Steps.{HasFourWords, MayOffer};
+    ghost use Rattle.feed_cell.specs.Steps.{IsProducerOf};
 
     ghost Value = { ProducerState };
 
-    ghost view = { λ p. record { table = p.seat.table_id; end = known_end p.capacity p.seat.me.0 (is_some p.spare); started = p.seat.me.0.started } };
+    ghost view = { λ p. record {
+      table = p.party.seat.table_id;
+      end = known_end p.party.seat.me.0 (is_some p.spare);
+      started = p.party.seat.me.0.started;
+    } };
 
-    ghost invariant = { λ p. ((padded_value (arc_value p.table)).shared.table_id ≡ p.seat.table_id) × IfSome p.spare (λ spare. (padded_value (arc_value spare)).shared.table_id ≡ p.seat.table_id) × HasFourWords p.seat.table_id × (0 < p.capacity) × (p.seat.me.1 ≡ []) × MayOffer p.seat.me × (p.seat.me.0.capacity ≡ p.capacity) × (p.seat.me.0.closing ≡ p.closing) × (length p.seat.me.0.put ≡ p.tail) };
+    ghost invariant = { λ p.
+        IfSome p.spare (λ spare. (padded_value (arc_value spare)).shared.table_id ≡ p.party.seat.table_id)
+        × IsProducerOf p.tail p.closing p.party.seat.me };
 }
 
 impl<B: Listener> Feed for Producer<B> {
@@ -55,7 +54,7 @@ impl<B: Listener> Feed for Producer<B> {
 
     fn ready(&mut self) -> Result<(), NoMemory> {
         if self.spare.is_none() {
-            self.spare = Some(Arc::try_clone(&self.table)?);
+            self.spare = Some(Arc::try_clone(&self.party.table)?);
         }
         Ok(())
     }
@@ -64,18 +63,17 @@ impl<B: Listener> Feed for Producer<B> {
         if self.closing.is_some() {
             return Put::Gone(item);
         }
-        let table: &CellTable<B> = &self.table;
-        let held = match find_room(table, &mut self.seat, self.capacity, self.tail) {
+        let held = match find_room(&mut self.party, self.tail) {
             Found::Ended => return Put::Gone(item),
             Found::Full => return Put::Full(item),
             Found::Room(held) => held,
         };
-        place(table, &mut self.seat, self.capacity, self.tail, item);
-        let task = signal_item(table, &mut self.seat);
+        place(&mut self.party, self.tail, item);
+        let task = signal(&mut self.party, ITEM);
         self.tail += 1;
         Put::Accepted {
             lag: held + 1,
-            start: start(&mut self.spare, task, self.capacity),
+            start: start(&self.party, &mut self.spare, task),
         }
     }
 
@@ -83,24 +81,18 @@ impl<B: Listener> Feed for Producer<B> {
         if self.closing.is_some() {
             return None;
         }
-        let table: &CellTable<B> = &self.table;
-        let task = match ending {
-            Ending::Normal => signal_complete(table, &mut self.seat),
-            Ending::Failed(code) => signal_error(table, &mut self.seat, code),
-        };
+        let task = signal_end(&mut self.party, ending);
         self.closing = Some(ending);
-        start(&mut self.spare, task, self.capacity)
+        start(&self.party, &mut self.spare, task)
     }
 
     fn duplicate(&mut self) -> Option<Task<B>> {
-        let table: &CellTable<B> = &self.table;
-        let task = signal_state(table, &mut self.seat);
-        start(&mut self.spare, task, self.capacity)
+        let task = signal(&mut self.party, STATE);
+        start(&self.party, &mut self.spare, task)
     }
 
     fn standing(&mut self) -> Standing {
-        let table: &CellTable<B> = &self.table;
-        let head = look(table, &mut self.seat);
+        let head = look(&mut self.party);
         if head >= MARK {
             Standing {
                 ended: true,
@@ -113,30 +105,4 @@ impl<B: Listener> Feed for Producer<B> {
             }
         }
     }
-}
-
-/// The task that a signal started, if it did: what was spare is spent for it.
-pub(crate) fn start<B: Listener>(
-    spare: &mut Option<SharedTable<B>>,
-    seat: Option<CellSeat<B>>,
-    capacity: u64,
-) -> Option<Task<B>>
-    requires ready { IsSome spare.old }
-    requires fits { IfSome seat (λ seat. IfSome spare.old (λ spare. (padded_value (arc_value spare)).shared.table_id ≡ seat.table_id) × HasFourWords seat.table_id) }
-    requires handed { IfSome seat (λ seat. (view : View) × (view.capacity ≡ capacity) × (seat.me ≡ (running_handed view, []))) }
-    requires sized { 0 < capacity }
-    ensures none { IfNone result ((seat ≡ None) × (spare.new ≡ spare.old)) }
-    ensures spent { IfSome result (λ task. spare.new ≡ None) }
-    ensures started { IfSome result (λ task. IfSome seat (λ seat. IsStarted seat.table_id capacity task)) }
-    ensures some { IfSome result (λ task. IsSome seat) }
-    ensures counts { (started : ℕ) → starts_after result started ≡ starts_after seat started }
-{
-    let seat = seat?;
-    let table = spare.take()?;
-    Some(Task {
-        table,
-        seat,
-        capacity,
-        stage: Stage::Home,
-    })
 }

@@ -1,5 +1,13 @@
 //! The task of a subscription, which whoever runs it has.
-use super::{CellSeat, SharedTable};
+mod calls;
+mod causes;
+mod looks;
+pub mod plays;
+mod steps;
+pub mod turns;
+
+use super::CellSeat;
+use super::seated::Seated;
 use flow_rules::Listener;
 use std::marker::Model;
 
@@ -18,26 +26,28 @@ pub enum Stage {
 #[must_use]
 #[derive(Drop)]
 pub struct Task<B: Listener> {
-    pub(crate) table: SharedTable<B>,
-    pub(crate) seat: CellSeat<B>,
-    pub(crate) capacity: u64,
+    pub(crate) party: Seated<B>,
     pub(crate) stage: Stage,
 }
 
 impl<B: Listener> Model for Task<B> {
-    ghost use Rattle.std.specs.Prelude.{◌≡◌, ◌<◌, []};
-    ghost use Rattle.std.specs.Arc.{arc_value};
-    ghost use Rattle.crossbeam_utils.specs.Padded.{padded_value};
+    ghost use Rattle.std.specs.Prelude.{◌≡◌};
     ghost use Rattle.feed_cell.specs.Parties.{TaskState};
     ghost use Rattle.feed_cell.specs.Paused.{told_out, IsPaused};
-    ghost use Rattle.feed_cell.specs.Steps.{HasFourWords};
-    ghost use Rattle.feed_cell.specs.Views.{IsRunner};
+    ghost use Rattle.feed_cell.specs.Views.{RunsFree};
 
     ghost Value = { TaskState };
 
-    ghost view = { λ t. record { table = t.seat.table_id; seat = t.seat.id; knows = t.seat.me.0; told = told_out B.told t.seat.me.1 } };
+    ghost view = { λ t. record {
+      table = t.party.seat.table_id;
+      seat = t.party.seat.id;
+      knows = t.party.seat.me.0;
+      told = told_out B.told t.party.seat.me.1;
+    } };
 
-    ghost invariant = { λ t. ((padded_value (arc_value t.table)).shared.table_id ≡ t.seat.table_id) × HasFourWords t.seat.table_id × (0 < t.capacity) × IsRunner t.seat.me.0 × (t.seat.me.0.capacity ≡ t.capacity) × (t.seat.me.0.item ≡ []) × IsPaused B.told t.stage t.seat.me };
+    ghost invariant = { λ t.
+        RunsFree t.party.seat.me.0
+        × IsPaused B.told t.stage t.party.seat.me };
 }
 
 /// The seat of a task that is over, as its last turn gives it back: what it showed last. It does nothing any more, and has no bytes.

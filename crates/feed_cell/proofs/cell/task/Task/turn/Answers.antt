@@ -1,12 +1,54 @@
-use Rattle.std.proofs.Common.{◌≡◌, length, subst}
+-- What came of the turn, and what that says of the signals that it saw.
+use Rattle.std.proofs.Common.{◌≡◌, length, subst, sym}
 use Rattle.feed_core.specs.World.Table.{MayEnd}
 use Rattle.feed_core.specs.declared.turn.outlook.Outlook.TheVariants.{Ended}
 use Rattle.feed_cell.specs.Parties.{TaskState}
-use Rattle.feed_cell.specs.Turned.{StopsAs}
+use Rattle.feed_cell.specs.Steps.{CellSeat}
+use Rattle.feed_cell.specs.Turned.{MayGoOn, StopsAs}
+use Rattle.feed_cell.proofs.Turned.{few_seen, few_items, completed_by, errored_by}
 use Rattle.feed_cell.proofs.cell.task.Task.turn.Goals as goal
+
+pub returns-in-Again-clause-at_most : goal.returns-in-Again-clause-at_most
+returns-in-Again-clause-at_most g c = few_items c.in-Again.ensures.runs.1.turned
+
+pub returns-in-Again-clause-few : goal.returns-in-Again-clause-few
+returns-in-Again-clause-few g c = few_seen c.in-Again.ensures.runs.1.turned
+
+pub returns-in-Again-clause-again : goal.returns-in-Again-clause-again
+returns-in-Again-clause-again g c = subst (λ (t : TaskState). MayGoOn t.knows c.run.new.party.seat.me.0 c.run.new.seen.signals) c.self.view_is c.in-Again.ensures.runs.2
+
+pub returns-in-Again-clause-completed : goal.returns-in-Again-clause-completed
+returns-in-Again-clause-completed g c = completed_by c.in-Again.ensures.runs.1.turned
+
+pub returns-in-Again-clause-errored : goal.returns-in-Again-clause-errored
+returns-in-Again-clause-errored g c = errored_by c.in-Again.ensures.runs.1.turned
+
+pub returns-in-Resting-clause-at_most : goal.returns-in-Resting-clause-at_most
+returns-in-Resting-clause-at_most g c = few_items c.in-Resting.ensures.runs.0.turned
+
+pub returns-in-Resting-clause-few : goal.returns-in-Resting-clause-few
+returns-in-Resting-clause-few g c = few_seen c.in-Resting.ensures.runs.0.turned
+
+pub returns-in-Resting-clause-completed : goal.returns-in-Resting-clause-completed
+returns-in-Resting-clause-completed g c = completed_by c.in-Resting.ensures.runs.0.turned
+
+pub returns-in-Resting-clause-errored : goal.returns-in-Resting-clause-errored
+returns-in-Resting-clause-errored g c = errored_by c.in-Resting.ensures.runs.0.turned
 
 pub returns-in-Ended-clause-turned : goal.returns-in-Ended-clause-turned
 returns-in-Ended-clause-turned g c =
-    let after = c.run.new.seat in
-    subst (λ (t : TaskState). (after.table_id ≡ t.table) × (after.id ≡ t.seat) × StopsAs t.knows after.me.0 t.told c.run.new.seen.signals (Ended c.in-Ended.how) × MayEnd c.in-Ended.how (length after.me.0.taken) after.me.0.runner)
-    c.self.view_is (c.in-Ended.ensures.table.0, c.in-Ended.ensures.table.1, c.in-Ended.ensures.runs.0, c.in-Ended.ensures.runs.1)
+    let ended = λ (t : TaskState) (after : CellSeat g.row.B.Denot). (after.table_id ≡ t.table) × (after.id ≡ t.seat) × StopsAs t.knows after.me.0 t.told c.run.new.seen.signals (Ended c.in-Ended.how) × MayEnd c.in-Ended.how (length after.me.0.taken) after.me.0.runner in
+    let end = c.in-Ended.ensures in
+    subst (ended c.args.self) (sym c.into_seat-seat-in-Ended.ensures) (subst (λ (t : TaskState). ended t c.run.new.party.seat) c.self.view_is (end.seat.0, end.seat.1, end.runs.0, end.runs.1))
+
+pub returns-in-Ended-clause-at_most : goal.returns-in-Ended-clause-at_most
+returns-in-Ended-clause-at_most g c = few_items c.in-Ended.ensures.runs.0.turned
+
+pub returns-in-Ended-clause-few : goal.returns-in-Ended-clause-few
+returns-in-Ended-clause-few g c = few_seen c.in-Ended.ensures.runs.0.turned
+
+pub returns-in-Ended-clause-completed : goal.returns-in-Ended-clause-completed
+returns-in-Ended-clause-completed g c = completed_by c.in-Ended.ensures.runs.0.turned
+
+pub returns-in-Ended-clause-errored : goal.returns-in-Ended-clause-errored
+returns-in-Ended-clause-errored g c = errored_by c.in-Ended.ensures.runs.0.turned

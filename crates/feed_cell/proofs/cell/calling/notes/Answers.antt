@@ -1,7 +1,0 @@
-use Rattle.std.proofs.Common.{rules}
-use Rattle.feed_cell.proofs.Calling.{top}
-use Rattle.feed_cell.specs.declared.cell.Held.TheVariants as Held
-use Rattle.feed_cell.proofs.cell.calling.notes.Goals as goal
-
-pub slot_mut-requires : goal.slot_mut-requires
-slot_mut-requires g c = (search rules, (Held.Guest c.requires.carries.guest, top g.B.Listener.told c.args.seat.now.me.1 _ c.args.slot _ c.requires.carries.slot c.requires.slot))

@@ -1,5 +1,0 @@
-use Rattle.feed_cell.proofs.Flagging.{flagged}
-use Rattle.feed_cell.proofs.cell.causes.is_set.Goals as goal
-
-pub returns : goal.returns
-returns c flag is = flagged c.args.word c.args.bit flag is

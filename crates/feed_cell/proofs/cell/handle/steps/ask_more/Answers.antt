@@ -1,0 +1,10 @@
+use Rattle.std.proofs.Common.{ℕ, rules, sym, ap, ◌∙◌}
+use Rattle.feed_core.specs.Prelude.{total_after}
+use Rattle.feed_cell.proofs.Requesting.{asks_more}
+use Rattle.feed_cell.proofs.cell.handle.steps.ask_more.Goals as goal
+
+pub store-requires : goal.store-requires
+store-requires g c = (search rules, search rules, asks_more g.B.Listener.told _ _ _ c.args.party.now.seat.me _ c.args.more c.requires.may.is c.requires.may.idle c.requires.may.stays c.requires.some.0 (c.min-total.ensures ∙ ap (λ (n : ℕ). total_after n c.args.more) (sym c.requires.counted)))
+
+pub returns-clause-asked : goal.returns-clause-asked
+returns-clause-asked g c = c.min-total.ensures

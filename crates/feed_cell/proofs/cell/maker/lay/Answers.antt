@@ -1,0 +1,10 @@
+use Rattle.std.proofs.Common.{◌∷◌, [], List, sym, subst}
+use Rattle.atomic_table.specs.Table.{opening}
+use Rattle.feed_cell.proofs.Opening.{opens}
+use Rattle.feed_cell.specs.Cell.{CellRule}
+use Rattle.feed_cell.specs.Views.{first_view}
+use Rattle.feed_cell.specs.declared.cell.Held.{Held}
+use Rattle.feed_cell.proofs.cell.maker.lay.Goals as goal
+
+pub new-requires : goal.new-requires
+new-requires g c = subst (λ (slots : List (Held g.row.B.Denot)). CellRule g.B.Listener.told c.args.capacity (opening (0 ∷ 0 ∷ 0 ∷ 1 ∷ []) slots (first_view c.args.capacity))) (sym c.in_ok-slots.ensures) (opens g.B.Listener.told c.args.capacity c.requires.capacity)

@@ -1,6 +1,0 @@
-use Rattle.std.proofs.Common.{rules, refl}
-use Rattle.feed_cell.proofs.Putting.{puts_placed}
-use Rattle.feed_cell.proofs.cell.offering.place.Goals as goal
-
-pub store-requires : goal.store-requires
-store-requires g c = (search rules, search rules, puts_placed g.B.Listener.told _ _ _ _ _ c.args.seat.now.me c.exchange-nothing.new.seat.me _ _ c.args.item c.requires.place c.exchange-nothing.ensures.3 refl refl)

@@ -1,6 +1,0 @@
-use Rattle.std.proofs.Common.{rules}
-use Rattle.feed_cell.proofs.Requesting.{leaves}
-use Rattle.feed_cell.proofs.cell.requesting.leave.Goals as goal
-
-pub store-requires : goal.store-requires
-store-requires g c = (search rules, search rules, leaves g.B.Listener.told _ _ _ c.args.seat.now.me _ c.requires.may.is c.requires.may.idle (search rules))

@@ -1,6 +1,0 @@
-use Rattle.std.proofs.Common.{rules, refl}
-use Rattle.feed_cell.proofs.Running.{takes_out}
-use Rattle.feed_cell.proofs.cell.running.take.Goals as goal
-
-pub store-requires : goal.store-requires
-store-requires g c = (search rules, search rules, takes_out g.B.Listener.told _ _ _ c.args.seat.now.me c.exchange-held.new.seat.me c.args.capacity c.args.given _ _ c.requires.may.0 c.requires.may.1 c.requires.may.2 c.requires.item c.requires.counted.0 c.requires.sized.0 c.exchange-held.ensures.3 refl refl)

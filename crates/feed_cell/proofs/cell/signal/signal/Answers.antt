@@ -1,0 +1,20 @@
+use Rattle.std.proofs.Common.{rules, ◌∙◌}
+use Rattle.feed_cell.specs.Control.{cause_in}
+use Rattle.feed_cell.proofs.Handing.{on_some}
+use Rattle.feed_cell.proofs.Signalling.{signals}
+use Rattle.feed_cell.proofs.Starting.{signalled, must_hand_over}
+use Rattle.feed_cell.proofs.cell.signal.signal.Goals as goal
+
+pub fetch_or-found-requires : goal.fetch_or-found-requires
+fetch_or-found-requires g c = (search rules, search rules, signals g.B.Listener.told _ _ _ c.args.party.now.seat.me _ (cause_in c.args.mask) c.requires.may c.requires.mask)
+
+pub hand_over-requires : goal.hand_over-requires
+hand_over-requires g c = record { hands = must_hand_over (cause_in c.args.mask) c.fetch_or-found.result c.args.party.now.seat.me c.fetch_or-found.new.seat.me c.requires.may c.fetch_or-found.ensures.2 }
+
+pub returns-clause-sent : goal.returns-clause-sent
+returns-clause-sent g c =
+    let there = c.hand_over.ensures.handed in
+    ((there.0.0 ∙ c.fetch_or-found.ensures.0, there.0.1 ∙ c.fetch_or-found.ensures.1), signalled (cause_in c.args.mask) c.fetch_or-found.result c.hand_over.result c.args.party.now.seat.me c.fetch_or-found.new.seat.me c.hand_over.new.party.seat.me c.fetch_or-found.ensures.2 there.1)
+
+pub returns-clause-starts : goal.returns-clause-starts
+returns-clause-starts g c = on_some c.hand_over.result (λ task ready. (ready.0 ∙ c.fetch_or-found.ensures.0, ready.1)) c.hand_over.ensures.starts

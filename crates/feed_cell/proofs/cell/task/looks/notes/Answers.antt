@@ -1,0 +1,7 @@
+use Rattle.std.proofs.Common.{rules}
+use Rattle.feed_cell.proofs.Calling.{top}
+use Rattle.feed_cell.specs.declared.cell.Held.TheVariants as Held
+use Rattle.feed_cell.proofs.cell.task.looks.notes.Goals as goal
+
+pub slot_mut-requires : goal.slot_mut-requires
+slot_mut-requires g c = (search rules, (Held.Guest c.requires.carries.guest, top g.B.Listener.told c.args.party.now.seat.me.1 _ c.args.party.now.capacity _ c.requires.carries.slot c.args.party.now.sized))

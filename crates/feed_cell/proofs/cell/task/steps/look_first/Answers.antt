@@ -1,0 +1,10 @@
+use Rattle.std.proofs.Common.{rules}
+use Rattle.feed_cell.proofs.Looking.{looks_first}
+use Rattle.feed_cell.proofs.Running.{looked_first}
+use Rattle.feed_cell.proofs.cell.task.steps.look_first.Goals as goal
+
+pub fetch_and-requires : goal.fetch_and-requires
+fetch_and-requires g c = (search rules, search rules, looks_first g.B.Listener.told _ _ _ _ c.requires.runner.0 c.requires.home.home c.requires.home.stage)
+
+pub returns-clause-looked : goal.returns-clause-looked
+returns-clause-looked g c = looked_first g.B.Listener.told c.args.party.now.seat.me _ _ c.requires.runner.0 c.requires.runner.1 c.requires.home c.fetch_and.ensures.2

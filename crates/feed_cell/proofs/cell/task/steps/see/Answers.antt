@@ -1,0 +1,6 @@
+use Rattle.std.proofs.Common.{rules}
+use Rattle.feed_cell.proofs.Seeing.{sees_item}
+use Rattle.feed_cell.proofs.cell.task.steps.see.Goals as goal
+
+pub load-requires : goal.load-requires
+load-requires g c = (search rules, search rules, sees_item g.B.Listener.told _ _ _ _ c.requires.away.0 c.requires.away.1 c.requires.may)

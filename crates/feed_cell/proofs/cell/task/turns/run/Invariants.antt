@@ -1,0 +1,13 @@
+-- As many items were given as looks were made.
+use Rattle.std.proofs.Common.{◌≡◌}
+use Rattle.feed_cell.specs.Steps.{IsSameSeat}
+use Rattle.feed_cell.specs.Turned.{IsBeforeLook}
+use Rattle.feed_cell.specs.Views.{RunsFree}
+use Rattle.feed_cell.proofs.cell.task.turns.run.Given as goal
+
+abbrev pub invariant-loop : goal.invariant-loop
+invariant-loop g l =
+    IsBeforeLook g.B.Listener.told l.stage l.counter l.fn.party.seat.me l.party.seat.me l.seen.signals
+    × (l.seen.room ≡ l.fn.seen.room)
+    × IsSameSeat l.fn.party.seat l.party.seat
+    × RunsFree l.party.seat.me.0

@@ -1,0 +1,36 @@
+//! The steps of the handle.
+ghost use Rattle.std.specs.Prelude.{◌≡◌, ◌+◌, ◌≤◌};
+ghost use Rattle.feed_core.specs.Prelude.{total_after};
+ghost use Rattle.feed_cell.specs.Plays.{IsAsk, Leaves};
+ghost use Rattle.feed_cell.specs.Steps.{Steps, MayRequest};
+
+use super::plays::{AskStep, LeaveStep};
+use crate::cell::seated::Seated;
+use crate::cell::{ASKED, MARK};
+use flow_rules::{Listener, UNBOUNDED};
+
+/// Stores the total with so many more, and answers it.
+pub(crate) fn ask_more<B: Listener>(party: &mut Seated<B>, asked: u64, more: u64) -> u64
+    requires may { MayRequest party.old.seat.me }
+    requires counted { party.old.seat.me.0.asked ≡ asked }
+    requires bounded { asked ≤ UNBOUNDED }
+    requires some { (1 ≤ more) × (more ≤ UNBOUNDED + 1) }
+    ensures asked { result ≡ total_after asked more }
+    ensures stored { Steps party.old.seat (IsAsk party.old.seat.me result) party.new.seat }
+{
+    let table = &party.table.shared;
+    let total = (asked + more).min(UNBOUNDED);
+    table.store::<AskStep>(&mut party.seat, ASKED, total);
+    total
+}
+
+/// Stores that the handle makes no step any more.
+pub(crate) fn leave<B: Listener>(party: &mut Seated<B>, asked: u64)
+    requires may { MayRequest party.old.seat.me }
+    requires counted { party.old.seat.me.0.asked ≡ asked }
+    requires bounded { asked ≤ UNBOUNDED }
+    ensures left { Steps party.old.seat (Leaves party.old.seat.me) party.new.seat }
+{
+    let table = &party.table.shared;
+    table.store::<LeaveStep>(&mut party.seat, ASKED, asked + MARK);
+}

@@ -1,0 +1,31 @@
+//! What each step of the producer tells it.
+use crate::cell::{Held, View};
+use atomic_table::Play;
+use flow_rules::Listener;
+
+/// A put looks for room: a load of head, which takes the next slot out where it is free.
+pub(crate) struct RoomStep;
+
+impl<B: Listener> Play<Held<B>, View> for RoomStep {
+    ghost use Rattle.feed_cell.specs.Plays.{FindsRoom};
+
+    ghost then = { λ _. FindsRoom };
+}
+
+/// The producer looks how things stand: a load of head.
+pub(crate) struct StandStep;
+
+impl<B: Listener> Play<Held<B>, View> for StandStep {
+    ghost use Rattle.feed_cell.specs.Plays.{FindsHead};
+
+    ghost then = { λ _. FindsHead };
+}
+
+/// An item is put: a store of tail, which gives its slot back.
+pub(crate) struct PutStep;
+
+impl<B: Listener> Play<Held<B>, View> for PutStep {
+    ghost use Rattle.feed_cell.specs.Plays.{IsPut};
+
+    ghost then = { λ _ before _. IsPut before };
+}

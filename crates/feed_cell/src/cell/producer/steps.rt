@@ -1,0 +1,93 @@
+//! The steps of the producer.
+ghost use Rattle.std.specs.Prelude.{◌≡◌, Some, None, IfSome, length};
+ghost use Rattle.feed_cell.specs.Types.{Closing};
+ghost use Rattle.feed_cell.specs.Offering.{Finds};
+ghost use Rattle.feed_cell.specs.Plays.{FindsRoom, FindsHead};
+ghost use Rattle.feed_cell.specs.Steps.{IsSameSeat, Steps, MayOffer, HasFreeSlot, HasPlaced, IsSent, IsReadySeat};
+ghost use Rattle.feed_cell.specs.declared.cell.Held.TheVariants as Held;
+
+use super::plays::{PutStep, RoomStep, StandStep};
+use crate::cell::seated::Seated;
+use crate::cell::signal::signal;
+use crate::cell::{CODE, COMPLETE, CellSeat, ERROR, HEAD, Held, MARK, TAIL};
+use flow_rules::{Ending, Item, Listener};
+use std::mem::ManuallyDrop;
+
+/// What a put finds when it looks for room.
+#[derive(Clone, Copy)]
+pub(crate) enum Found {
+    /// The subscription has ended.
+    Ended,
+    /// The buffer holds as many items as its capacity.
+    Full,
+    /// There is room, and so many items are held. The slot of the next item is out.
+    Room(u64),
+}
+
+/// Looks for room, for a producer that has put so many items.
+pub(crate) fn find_room<B: Listener>(party: &mut Seated<B>, tail: u64) -> Found
+    requires may { MayOffer party.old.seat.me }
+    requires counted { length party.old.seat.me.0.put ≡ tail }
+    ensures finds { Steps party.old.seat (Finds tail result party.old.seat.me) party.new.seat }
+{
+    let head = look_for_room(party);
+    if head >= MARK {
+        return Found::Ended;
+    }
+    let held = tail - head;
+    if held == party.capacity {
+        return Found::Full;
+    }
+    Found::Room(held)
+}
+
+/// Loads head, and takes the slot of the next item out where there is room.
+fn look_for_room<B: Listener>(party: &mut Seated<B>) -> u64
+    requires may { MayOffer party.old.seat.me }
+    ensures finds { Steps party.old.seat (FindsRoom party.old.seat.me result) party.new.seat }
+{
+    let table = &party.table.shared;
+    table.load::<RoomStep>(&mut party.seat, HEAD)
+}
+
+/// Loads head.
+pub(crate) fn look<B: Listener>(party: &mut Seated<B>) -> u64
+    requires may { MayOffer party.old.seat.me }
+    ensures stands { Steps party.old.seat (FindsHead party.old.seat.me result) party.new.seat }
+{
+    let table = &party.table.shared;
+    table.load::<StandStep>(&mut party.seat, HEAD)
+}
+
+/// Places the item in the slot that is out, and stores the new tail.
+pub(crate) fn place<B: Listener>(party: &mut Seated<B>, tail: u64, item: Item)
+    requires place { HasFreeSlot tail party.old.seat.me }
+    ensures put { Steps party.old.seat (HasPlaced item party.old.seat.me) party.new.seat }
+{
+    let table = &party.table.shared;
+    let slot = (tail % party.capacity) as usize;
+    let nothing = table.exchange(&mut party.seat, slot, Held::Item(item));
+    leave(nothing);
+    table.store::<PutStep>(&mut party.seat, TAIL, tail + 1);
+}
+
+/// Leaves what an empty slot held. To drop it would be to read it, which would fetch the slot from the task's cache once more.
+fn leave<B: Listener>(nothing: Held<B>)
+    requires empty { nothing ≡ Held.Empty }
+{
+    let _ = ManuallyDrop::new(nothing);
+}
+
+/// Signals a close.
+pub(crate) fn signal_end<B: Listener>(party: &mut Seated<B>, ending: Ending) -> Option<CellSeat<B>>
+    requires may { MayOffer party.old.seat.me }
+    requires unclosed { party.old.seat.me.0.closing ≡ None }
+    ensures sent { Steps party.old.seat
+        (IsSent (Some (Closing ending)) result party.old.seat.me) party.new.seat }
+    ensures starts { IfSome result (IsReadySeat party.old.seat.table_id party.old.capacity) }
+{
+    match ending {
+        Ending::Normal => signal(party, COMPLETE),
+        Ending::Failed(code) => signal(party, (u64::from(code) << CODE) + ERROR),
+    }
+}

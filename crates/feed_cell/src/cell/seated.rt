@@ -1,0 +1,35 @@
+//! A party at the table of its subscription.
+ghost use Rattle.std.specs.Prelude.{◌≡◌, ◌<◌};
+ghost use Rattle.std.specs.Arc.{arc_value};
+ghost use Rattle.crossbeam_utils.specs.Padded.{padded_value};
+ghost use Rattle.feed_cell.specs.Steps.{HasFourWords};
+
+use super::{CellSeat, SharedTable};
+use flow_rules::Listener;
+
+/// A party at the table of its subscription: the table, the party's seat there, and how many items the buffer has room for.
+#[derive(Drop)]
+pub(crate) struct Seated<B: Listener> {
+    pub(crate) table: SharedTable<B>,
+    pub(crate) seat: CellSeat<B>,
+    pub(crate) capacity: u64,
+    ghost its_table: { (padded_value (arc_value table)).shared.table_id ≡ seat.table_id },
+    ghost four_words: { HasFourWords seat.table_id },
+    ghost sized: { seat.me.0.capacity ≡ capacity },
+    ghost some_room: { 0 < capacity },
+}
+
+impl<B: Listener> Seated<B> {
+    /// Leaves the table, with what its seat knows.
+    pub(crate) fn into_seat(self) -> CellSeat<B>
+        ensures { result ≡ self.seat }
+    {
+        let Seated {
+            table,
+            seat,
+            capacity: _,
+        } = self;
+        drop(table);
+        seat
+    }
+}

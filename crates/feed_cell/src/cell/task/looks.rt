@@ -1,0 +1,173 @@
+//! What the task does after a look.
+ghost use Rattle.std.specs.Prelude.{◌≡◌, ◌+◌, ◌≤◌, ◌<◌, length, bit_and, IfSome, IfNone};
+ghost use Rattle.feed_core.specs.Prelude.{UNBOUNDED};
+ghost use Rattle.feed_core.specs.World.Table.{MayRest, MaySee};
+ghost use Rattle.feed_core.specs.declared.turn.TheConstants.{SIGNALS_IN_A_TURN};
+ghost use Rattle.feed_cell.specs.Control.{QUIET};
+ghost use Rattle.feed_cell.specs.Running.{notes_of, MayFinish, Carries, HasLookedAt, HasTaken, HasNoneToGive, FindsNone, TakesNext};
+ghost use Rattle.feed_cell.specs.Serving.{Serves, GivesAs, FinishesAs, TriesRest, Concludes};
+ghost use Rattle.feed_cell.specs.Steps.{IsSameSeat};
+
+use super::causes::causes_in;
+use super::steps::{end, measure, measure_none, see, take, try_rest};
+use crate::cell::seated::Seated;
+use crate::cell::{Held, MARK};
+use feed_core::{Causes, Seen};
+use flow_rules::{How, Item, Listener, UNBOUNDED};
+
+/// What the task did after a look.
+#[derive(Clone, Copy, Debug, PartialEq, Eq)]
+pub(crate) enum Served {
+    /// It gave an item.
+    Gave,
+    /// It rests.
+    Rested,
+    /// It could not rest, since something was new.
+    Missed,
+    /// It ended the subscription.
+    Ended(How),
+}
+
+/// Does what a look that found this word allows: the end at once, or the next item, or the end that waits for the items, or rest.
+pub(crate) fn serve<B: Listener>(party: &mut Seated<B>, word: u64, seen: &mut Seen) -> Served
+    requires looked { HasLookedAt B.told word party.old.seat.me }
+    requires room { length seen.old.signals < SIGNALS_IN_A_TURN }
+    ensures seat { IsSameSeat party.old.seat party.new.seat }
+    ensures serves { Serves B.told result party.old.seat.me party.new.seat.me seen.old seen.new }
+{
+    let (given, own, answers) = notes(party);
+    let causes = causes_in(word, answers);
+    if let Some(due) = causes.stops() {
+        return finish(party, given, due, seen);
+    }
+    let (tail, next) = next_item(party, given, own);
+    match next {
+        Some(item) => give(party, given, item, seen),
+        None => close_or_rest(party, given, tail, causes.closes(), word, seen),
+    }
+}
+
+/// Where no item is to be given: the end that waits for the items, if every item was given that there is, or rest.
+fn close_or_rest<B: Listener>(
+    party: &mut Seated<B>,
+    given: u64,
+    tail: u64,
+    due: Option<How>,
+    word: u64,
+    seen: &mut Seen,
+) -> Served
+    requires carries { Carries B.told party.old.seat.me }
+    requires measured { HasNoneToGive tail due party.old.seat.me }
+    requires counted { (length party.old.seat.me.0.taken ≡ given) × (given ≤ UNBOUNDED) }
+    requires look { party.old.seat.me.0.look ≡ bit_and word QUIET }
+    requires room { length seen.old.signals < SIGNALS_IN_A_TURN }
+    ensures seat { IsSameSeat party.old.seat party.new.seat }
+    ensures concludes { Concludes B.told result party.old.seat.me party.new.seat.me seen.old seen.new }
+{
+    match due {
+        Some(due) if given == tail => finish(party, given, due, seen),
+        _ => rest(party, word),
+    }
+}
+
+/// Gives the item that was taken. Ends the subscription, if what its callback answers is an end.
+fn give<B: Listener>(party: &mut Seated<B>, given: u64, item: Item, seen: &mut Seen) -> Served
+    requires taken { HasTaken B.told item party.old.seat.me }
+    requires counted { (length party.old.seat.me.0.taken ≡ given + 1) × (given < UNBOUNDED) }
+    requires room { length seen.old.signals < SIGNALS_IN_A_TURN }
+    ensures seat { IsSameSeat party.old.seat party.new.seat }
+    ensures gives { GivesAs B.told item result party.old.seat.me party.new.seat.me seen.old seen.new }
+{
+    match party
+        .seat
+        .slot_mut(&party.table.shared, party.capacity as usize)
+    {
+        Held::Guest(guest) => match guest.give(item, seen) {
+            None => Served::Gave,
+            Some(how) => {
+                end(party, given + 1);
+                Served::Ended(how)
+            }
+        },
+        _ => unreachable!(),
+    }
+}
+
+/// Tells the end that is due, and ends the subscription.
+fn finish<B: Listener>(party: &mut Seated<B>, given: u64, due: How, seen: &mut Seen) -> Served
+    requires carries { Carries B.told party.old.seat.me }
+    requires due { MayFinish due party.old.seat.me.0 }
+    requires counted { (length party.old.seat.me.0.taken ≡ given) × (given ≤ UNBOUNDED) }
+    requires room { length seen.old.signals < SIGNALS_IN_A_TURN }
+    ensures seat { IsSameSeat party.old.seat party.new.seat }
+    ensures finishes { FinishesAs B.told due result party.old.seat.me party.new.seat.me seen.old seen.new }
+{
+    match party
+        .seat
+        .slot_mut(&party.table.shared, party.capacity as usize)
+    {
+        Held::Guest(guest) => {
+            let how = guest.finish(due, seen);
+            end(party, given);
+            Served::Ended(how)
+        }
+        _ => unreachable!(),
+    }
+}
+
+/// Rests, unless something is new since the look that found this word.
+fn rest<B: Listener>(party: &mut Seated<B>, word: u64) -> Served
+    requires carries { Carries B.told party.old.seat.me }
+    requires may { MayRest (length party.old.seat.me.0.taken) party.old.seat.me.0.runner }
+    requires look { party.old.seat.me.0.look ≡ bit_and word QUIET }
+    ensures seat { IsSameSeat party.old.seat party.new.seat }
+    ensures rests { TriesRest B.told result party.old.seat.me party.new.seat.me }
+{
+    if try_rest(party, word) {
+        Served::Rested
+    } else {
+        Served::Missed
+    }
+}
+
+/// Takes the next item, where one was put and requested: it sees, measures, and takes. Answers how many items it saw, too.
+pub(crate) fn next_item<B: Listener>(
+    party: &mut Seated<B>,
+    given: u64,
+    own: u64,
+) -> (u64, Option<Item>)
+    requires carries { Carries B.told party.old.seat.me }
+    requires stage { MaySee party.old.seat.me.0.runner }
+    requires counted { length party.old.seat.me.0.taken ≡ given }
+    requires own { own ≡ party.old.seat.me.0.own }
+    ensures seat { IsSameSeat party.old.seat party.new.seat }
+    ensures none { IfNone result.1 (FindsNone result.0 party.old.seat.me party.new.seat.me) }
+    ensures some { IfSome result.1 (λ item. TakesNext item party.old.seat.me party.new.seat.me) }
+{
+    let tail = see(party);
+    if tail == given {
+        measure_none(party);
+        return (tail, None);
+    }
+    let asked = measure(party) % MARK;
+    if asked.saturating_add(own).min(UNBOUNDED) <= given {
+        return (tail, None);
+    }
+    (tail, Some(take(party, given)))
+}
+
+/// What lies beside the subscriber: how many items were taken, how many its answers requested, and the causes that they brought about.
+fn notes<B: Listener>(party: &mut Seated<B>) -> (u64, u64, Causes)
+    requires carries { Carries B.told party.old.seat.me }
+    ensures seat { IsSameSeat party.old.seat party.new.seat }
+    ensures same { party.new.seat.me ≡ party.old.seat.me }
+    ensures notes { result ≡ notes_of party.old.seat.me.0 }
+{
+    match party
+        .seat
+        .slot_mut(&party.table.shared, party.capacity as usize)
+    {
+        Held::Guest(guest) => guest.notes(),
+        _ => unreachable!(),
+    }
+}

@@ -1,0 +1,85 @@
+//! What each step of the task tells it.
+use crate::cell::{Held, View};
+use atomic_table::Play;
+use flow_rules::Listener;
+
+/// The first task takes its subscriber's slot out, for the subscriber to be placed there: a load.
+pub(crate) struct EnterStep;
+
+impl<B: Listener> Play<Held<B>, View> for EnterStep {
+    ghost use Rattle.feed_cell.specs.Plays.{Enters};
+
+    ghost then = { λ _ before _. Enters before };
+}
+
+/// The task looks, with its subscriber: a fetch-and of control.
+pub(crate) struct LookStep;
+
+impl<B: Listener> Play<Held<B>, View> for LookStep {
+    ghost use Rattle.feed_cell.specs.Plays.{LooksOut};
+
+    ghost then = { λ _. LooksOut };
+}
+
+/// A task that was handed over looks for the first time, and takes its subscriber with it.
+pub(crate) struct LookFirstStep;
+
+impl<B: Listener> Play<Held<B>, View> for LookFirstStep {
+    ghost use Rattle.feed_cell.specs.Plays.{LooksFirst};
+
+    ghost then = { λ _. LooksFirst B.told };
+}
+
+/// The task looks for an item: a load of tail, which takes its slot out where there is one.
+pub(crate) struct SeeStep;
+
+impl<B: Listener> Play<Held<B>, View> for SeeStep {
+    ghost use Rattle.feed_cell.specs.Plays.{SeesPut};
+
+    ghost then = { λ _. SeesPut };
+}
+
+/// The task looks for demand, with an item out: a load of asked, which gives the slot back where there is none.
+pub(crate) struct MeasureStep;
+
+impl<B: Listener> Play<Held<B>, View> for MeasureStep {
+    ghost use Rattle.feed_cell.specs.Plays.{Measures};
+
+    ghost then = { λ _. Measures };
+}
+
+/// The same, with no item out.
+pub(crate) struct MeasureNoneStep;
+
+impl<B: Listener> Play<Held<B>, View> for MeasureNoneStep {
+    ghost use Rattle.feed_cell.specs.Plays.{MeasuresNone};
+
+    ghost then = { λ _. MeasuresNone };
+}
+
+/// An item is taken: a store of head, which gives its slot back.
+pub(crate) struct TakeStep;
+
+impl<B: Listener> Play<Held<B>, View> for TakeStep {
+    ghost use Rattle.feed_cell.specs.Plays.{IsTake};
+
+    ghost then = { λ _ before _. IsTake before };
+}
+
+/// The task rests, unless something is new: a compare-and-exchange of control, from the word after its look.
+pub(crate) struct RestStep;
+
+impl<B: Listener> Play<Held<B>, View> for RestStep {
+    ghost use Rattle.feed_cell.specs.Plays.{IsRest};
+
+    ghost then = { λ step. IsRest step.first };
+}
+
+/// The subscription ends: a store of head, with its mark.
+pub(crate) struct EndStep;
+
+impl<B: Listener> Play<Held<B>, View> for EndStep {
+    ghost use Rattle.feed_cell.specs.Plays.{IsEnd};
+
+    ghost then = { λ _ before _. IsEnd before };
+}

@@ -1,0 +1,124 @@
+//! The steps of the task.
+ghost use Rattle.std.specs.Prelude.{◌≡◌, ◌+◌, ◌%◌, ◌<◌, ◌⊎◌, ℕ, [], ◌∷◌, ◌++◌, length, true, false, None, IfSome, IfNone, bit_and};
+ghost use Rattle.std.specs.Int.{bit_at};
+ghost use Rattle.atomic_table.specs.Table.{rest};
+ghost use Rattle.feed_core.specs.Cause.{stops};
+ghost use Rattle.feed_core.specs.Prelude.{Item, How, UNBOUNDED};
+ghost use Rattle.feed_core.specs.World.Table.{MaySee, MayMeasure, MayTake, MayRest};
+ghost use Rattle.feed_core.specs.declared.turn.outlook.Outlook.TheVariants.{Resting};
+ghost use Rattle.feed_cell.specs.Types.{Nobody, Ready, Taken};
+ghost use Rattle.feed_cell.specs.Control.{MARK, QUIET};
+ghost use Rattle.feed_cell.specs.Parties.{IsGoing, IsHome};
+ghost use Rattle.feed_cell.specs.Plays.{SeesPut, Measures, MeasuresNone, grants_by, how_out, outlook_by};
+ghost use Rattle.feed_cell.specs.Running.{HasItem, KeepsCounts, KeepsSubscriber, Carries, HasLookedAt, IsEnding, TakesOut, IsAtRest, HasMissed, HasLeft};
+ghost use Rattle.feed_cell.specs.Steps.{IsSameSeat, Steps};
+ghost use Rattle.feed_cell.specs.Views.{RunsFree, RunsAway};
+ghost use Rattle.feed_cell.specs.declared.cell.Held.TheVariants as Held;
+
+use super::plays::{
+    EndStep, LookFirstStep, LookStep, MeasureNoneStep, MeasureStep, RestStep, SeeStep, TakeStep,
+};
+use crate::cell::seated::Seated;
+use crate::cell::{ASKED, CONTROL, CellSeat, HEAD, Held, MARK, QUIET, RESTING, TAIL};
+use flow_rules::{Item, Listener};
+
+/// Looks at the marks and causes, and clears the mark of something new. Answers the word that it found.
+pub(crate) fn look<B: Listener>(party: &mut Seated<B>) -> u64
+    requires runner { RunsFree party.old.seat.me.0 }
+    requires going { IsGoing B.told party.old.seat.me }
+    ensures seat { IsSameSeat party.old.seat party.new.seat }
+    ensures looked { HasLookedAt B.told result party.new.seat.me }
+    ensures counts { KeepsCounts party.old.seat.me.0 party.new.seat.me.0 }
+    ensures keeps { KeepsSubscriber party.old.seat.me party.new.seat.me }
+{
+    let table = &party.table.shared;
+    table.fetch_and::<LookStep>(&mut party.seat, CONTROL, QUIET)
+}
+
+/// The first look of a task that was handed over. It takes the subscriber out of its slot.
+pub(crate) fn look_first<B: Listener>(party: &mut Seated<B>) -> u64
+    requires runner { RunsFree party.old.seat.me.0 }
+    requires home { IsHome party.old.seat.me }
+    ensures seat { IsSameSeat party.old.seat party.new.seat }
+    ensures looked { HasLookedAt B.told result party.new.seat.me }
+    ensures counts { KeepsCounts party.old.seat.me.0 party.new.seat.me.0 }
+{
+    let table = &party.table.shared;
+    table.fetch_and::<LookFirstStep>(&mut party.seat, CONTROL, QUIET)
+}
+
+/// Sees how many items were put, and takes the slot of the next one out where there is one.
+pub(crate) fn see<B: Listener>(party: &mut Seated<B>) -> u64
+    requires away { RunsAway party.old.seat.me.0 }
+    requires may { MaySee party.old.seat.me.0.runner }
+    ensures sees { Steps party.old.seat (SeesPut party.old.seat.me result) party.new.seat }
+{
+    let table = &party.table.shared;
+    table.load::<SeeStep>(&mut party.seat, TAIL)
+}
+
+/// Measures how many items were requested by the handle, with an item out, whose slot it gives back where no more are.
+pub(crate) fn measure<B: Listener>(party: &mut Seated<B>) -> u64
+    requires away { RunsAway party.old.seat.me.0 }
+    requires may { MayMeasure party.old.seat.me.0.runner }
+    requires item { HasItem party.old.seat.me }
+    ensures measures { Steps party.old.seat (Measures party.old.seat.me result) party.new.seat }
+{
+    let table = &party.table.shared;
+    table.load::<MeasureStep>(&mut party.seat, ASKED)
+}
+
+/// The same, with no item out.
+pub(crate) fn measure_none<B: Listener>(party: &mut Seated<B>)
+    requires away { RunsAway party.old.seat.me.0 }
+    requires may { MayMeasure party.old.seat.me.0.runner }
+    requires none { party.old.seat.me.0.item ≡ [] }
+    ensures measures { Steps party.old.seat
+        (λ me. (found : ℕ) × MeasuresNone party.old.seat.me found me) party.new.seat }
+{
+    let table = &party.table.shared;
+    let _ = table.load::<MeasureNoneStep>(&mut party.seat, ASKED);
+}
+
+/// Takes the item that is out, and stores the new head.
+pub(crate) fn take<B: Listener>(party: &mut Seated<B>, given: u64) -> Item
+    requires away { RunsAway party.old.seat.me.0 }
+    requires may { MayTake (length party.old.seat.me.0.taken) party.old.seat.me.0.runner }
+    requires item { HasItem party.old.seat.me }
+    requires counted { (length party.old.seat.me.0.taken ≡ given) × (given < UNBOUNDED) }
+    ensures item { party.old.seat.me.0.item ≡ result ∷ [] }
+    ensures taken { Steps party.old.seat (TakesOut result party.old.seat.me) party.new.seat }
+{
+    let table = &party.table.shared;
+    let slot = (given % party.capacity) as usize;
+    let held = table.exchange(&mut party.seat, slot, Held::Empty);
+    table.store::<TakeStep>(&mut party.seat, HEAD, given + 1);
+    match held {
+        Held::Item(item) => item,
+        _ => unreachable!(),
+    }
+}
+
+/// Rests, unless something is new since the look that found this word. Answers whether it rests.
+pub(crate) fn try_rest<B: Listener>(party: &mut Seated<B>, word: u64) -> bool
+    requires carries { Carries B.told party.old.seat.me }
+    requires may { MayRest (length party.old.seat.me.0.taken) party.old.seat.me.0.runner }
+    requires look { party.old.seat.me.0.look ≡ bit_and word QUIET }
+    ensures seat { IsSameSeat party.old.seat party.new.seat }
+    ensures rests { result ≡ true → IsAtRest party.old.seat.me party.new.seat.me }
+    ensures missed { result ≡ false → HasMissed party.old.seat.me party.new.seat.me }
+{
+    let table = &party.table.shared;
+    let look = word & QUIET;
+    table.compare_exchange::<RestStep>(&mut party.seat, CONTROL, look, look & RESTING) == look
+}
+
+/// Ends the subscription: stores head with its mark, and gives the subscriber back.
+pub(crate) fn end<B: Listener>(party: &mut Seated<B>, given: u64)
+    requires ending { (how : How) × IsEnding B.told how party.old.seat.me }
+    requires counted { (length party.old.seat.me.0.taken ≡ given) × (given < MARK) }
+    ensures ended { Steps party.old.seat (HasLeft party.old.seat.me) party.new.seat }
+{
+    let table = &party.table.shared;
+    table.store::<EndStep>(&mut party.seat, HEAD, given + MARK);
+}
