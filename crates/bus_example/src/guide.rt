@@ -10,6 +10,7 @@ use std::sync::atomic::Ordering::SeqCst;
 use std::sync::ledger::Ledger;
 use std::sync::{Arc, Wait};
 use std::thread;
+use std::thread::Threads;
 
 /// Ends one subscription after the close: with all that is left for it, or at once.
 pub fn end_one<L: Ledger + Send, D: Ledger + Send, B: Listener + Send, R: Wait>(
@@ -95,4 +96,18 @@ pub fn wait_for<R: Wait>(rt: &R, told: &AtomicU64, wanted: u64) {
         }
         told.park(rt, (now % (1 << 32)) as u32);
     }
+}
+
+/// Asks a publisher from two threads at once: how many subscribe, and the longest backlog.
+pub fn ask_from_two_threads<
+    L: Ledger + Send + Sync + 'static,
+    D: Ledger + Send + Sync + 'static,
+    B: Listener + Send + 'static,
+    R: Threads + Wait + Sync,
+>(rt: &R, publisher: &Publisher<L, D, B>) -> (usize, u64) {
+    thread::join(
+        rt,
+        || publisher.number_of_subscribers(rt),
+        || publisher.estimate_maximum_lag(rt),
+    )
 }
