@@ -1,4 +1,4 @@
-"""Holds the blocks of code of some documents to the repository.
+"""Holds the blocks of code and the links of some documents to the repository.
 
 usage: blocks.py PROGRAM FOLDER [FILE..]
 
@@ -12,10 +12,12 @@ A block stands between lines of three backticks. The first of these says what it
 - `sh`: commands that are not run, since they take long. The first word of each is in the repository or a command of this machine, and so is
   each path in a command. `#` begins a remark; a word in capitals, as NAME, stands for what a reader puts there.
 
-Any other block is a fault, and so is code that is only indented. The files are the three named in FILES, if none is given. What the test
-itself would pass over is tried first: each block of FLAWS has to be one fault.
+Any other block is a fault, and so is code that is only indented. The files are the three named in FILES, if none is given. Of these, and of
+all documents of the repository, each link leads to a file that is there, and to a heading of it. What the test itself would pass over is tried
+first: each block of FLAWS has to be one fault, and so has each link of BROKEN.
 """
 
+import glob
 import os
 import re
 import shutil
@@ -25,6 +27,9 @@ import sys
 SECONDS = 20
 TOP = os.path.realpath(f"{os.path.dirname(os.path.realpath(__file__))}/../..")
 FILES = ("README.md", "docs/GUIDE.md", "docs/SCRIPTS.md")
+DOCUMENTS = ("README.md", "docs/*.md", "tests/*.md", "bench/*.md", "crates/*/wrong-bodies/*.md")
+LINK = re.compile(r"\]\(([^)\s]+)\)")
+BROKEN = ("[x](none.md)", "[x](docs/none.md#a)", "[x](docs/MODEL.md#none)", "[x](#none)")
 FOLDERS = ("bench", "crates", "docs", "examples", "tests")
 FLAWS = (
     ("", ["echo"]),
@@ -70,6 +75,12 @@ def place_of(part, lines, start):
     return None
 
 
+def anchors_of(file):
+    """The headings of a document, as a link names them."""
+    headings = (re.sub(r"^#+ ", "", it) for it in lines_of(file) if re.match(r"#+ ", it))
+    return {re.sub(r"[^\w\- ]", "", re.sub(r"\[([^]]*)\]\([^)]*\)", r"\1", it)).strip(" ").lower().replace(" ", "-") for it in headings}
+
+
 def parts_of(lines):
     """The lines between the cuts."""
     parts = [[]]
@@ -83,7 +94,7 @@ def parts_of(lines):
 
 class Documents:
     def __init__(self, program, folder):
-        self.folder, self.faults, self.blocks = folder, [], 0
+        self.folder, self.faults, self.blocks, self.links = folder, [], 0, 0
         for name in ("tests", "crates/lines_demo/out"):
             os.makedirs(f"{folder}/{name}")
         for name in ("play", "crates.txt", "tests/program.sh"):
@@ -111,6 +122,25 @@ class Documents:
             before = line
         if mark is not None:
             self.fault("the block has no end")
+
+    def check_link(self, file, link):
+        """Whether a link of a document leads to a file that is there, and to a heading of it."""
+        path, _, heading = link.partition("#")
+        target = os.path.normpath(f"{TOP}/{os.path.dirname(file)}/{path}") if path else f"{TOP}/{file}"
+        self.links += 1
+        if not os.path.exists(target):
+            self.fault(f"there is nothing at {path}")
+        elif heading and heading not in anchors_of(target):
+            self.fault(f"{path or 'this document'} has no heading {heading}")
+
+    def read_links(self, file):
+        is_code = False
+        for number, line in enumerate(lines_of(f"{TOP}/{file}"), 1):
+            self.where = f"{file}:{number}"
+            is_code ^= line.startswith("```")
+            for link in () if is_code else LINK.findall(line):
+                if not re.match(r"https?:", link):
+                    self.check_link(file, link)
 
     def check(self, mark, block):
         self.blocks += 1
@@ -185,14 +215,19 @@ class Documents:
                     self.fault(f"there is no {word}")
 
     def check_flaws(self):
-        """Whether each block of FLAWS is one fault."""
+        """Whether each block of FLAWS and each link of BROKEN is one fault."""
         missed = []
+        for link in BROKEN:
+            self.where, self.faults = "a flaw", []
+            self.check_link("README.md", LINK.findall(link)[0])
+            if len(self.faults) != 1:
+                missed.append(f"a link that is broken has {len(self.faults)} faults and not one: {link}")
         for mark, block in FLAWS:
             self.where, self.faults = "a flaw", []
             self.check(mark, block)
             if len(self.faults) != 1:
                 missed.append(f"a block that is wrong has {len(self.faults)} faults and not one: {[mark, *block]}")
-        self.faults, self.blocks = missed, 0
+        self.faults, self.blocks, self.links = missed, 0, 0
 
 
 def main(words):
@@ -200,9 +235,12 @@ def main(words):
     documents.check_flaws()
     for file in words[2:] or FILES:
         documents.read(file)
-    if not documents.blocks:
-        documents.faults.append("no block was found")
-    print("\n".join([*documents.faults, f"{documents.blocks} blocks, {len(documents.faults)} faults"]))
+    for pattern in DOCUMENTS:
+        for file in sorted(glob.glob(pattern, root_dir=TOP)):
+            documents.read_links(file)
+    if not documents.blocks or not documents.links:
+        documents.faults.append("no block or no link was found")
+    print("\n".join([*documents.faults, f"{documents.blocks} blocks, {documents.links} links, {len(documents.faults)} faults"]))
     return 1 if documents.faults else 0
 
 
