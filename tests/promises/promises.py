@@ -2,7 +2,12 @@
 
 usage: tests/promises/promises.sh [FILE]
 
-The form of the file. A section `## NAME` for a crate has tables with these five columns, and a row has one clause:
+The form of the file. The section `## Thirty promises` has the rows to read first, whose second column names the crate in backticks; each
+stands once more in the section of that crate:
+
+| Promise | Crate | Function | Clause | Shown by |
+
+A section `## NAME` for a crate has tables with these five columns, and a row has one clause:
 
 | Promise | Function | Clause | Premise | Shown by |
 
@@ -18,7 +23,8 @@ The form of the file. A section `## NAME` for a crate has tables with these five
   An edit of the row's own function has to say that it is refused at the row's clause, or at a goal before it; that it is
   refused there, tests/wrong_bodies sees.
 
-The other way round, each edit is named in a row of its crate's section, or in a README.md beside the crate's edits.
+The other way round, each edit is named in a row of its crate's section, or in a README.md beside the crate's edits; and each clause of
+a call that a library hands on by its lib.rt stands in a row.
 """
 
 import glob
@@ -32,6 +38,7 @@ sys.path += [f"{HERE}/../lib", f"{HERE}/../wrong_bodies"]
 from edits import Edit
 from functions import functions_of, owner_of, without_texts
 
+FIRST = "Thirty promises"
 TESTED = re.compile(r"#\[test\]\s*(?:#\[[^\]]*\]\s*)*fn (\w+)")
 
 
@@ -55,6 +62,17 @@ def owner_in(head):
     return plain(f"<{kind} as {trait}>"), plain(trait.partition("<")[0])
 
 
+def exported_by(file):
+    """What another crate can name, by the root file of a library: what that hands on, and what the modules that are public declare or hand on."""
+    names, text = set(), without_texts(text_of(file))
+    for used in re.findall(r"^pub use ([^;]*);", text, re.M):
+        names |= set(re.findall(r"\b(\w+)\b(?!::)", used))
+    for module in re.findall(r"^pub mod (\w+);", text, re.M):
+        inside = f"{os.path.dirname(file)}/{module}.rt"
+        names |= exported_by(inside) | set(re.findall(r"^pub (?:struct|enum|trait|fn) (\w+)", without_texts(text_of(inside)), re.M))
+    return names
+
+
 def changed_by(edit):
     """How rows may name the functions that an edit changes: a method of the impl of a trait also as the trait's."""
     names = set()
@@ -69,16 +87,22 @@ class Crate:
     """The clauses of the functions, the ghost members, the edits and the tests of a crate."""
 
     def __init__(self, folder):
-        self.clauses, self.ghosts, self.traits, self.tests = {}, {}, {}, set()
+        self.clauses, self.ghosts, self.traits, self.tests, self.public = {}, {}, {}, set(), []
+        exported = exported_by(f"{folder}/src/lib.rt") if os.path.exists(f"{folder}/src/lib.rt") else set()
         for file in glob.glob(f"{folder}/src/**/*.rt", recursive=True):
             text = text_of(file)
             self.tests |= {*TESTED.findall(text)}
-            self.read_ghosts(without_texts(text))
+            code = without_texts(text)
+            self.read_ghosts(code)
             for it in functions_of(text):
                 heads = [head for head in it.around if re.search(r"\b(impl|trait)\b", head)]
                 owner, trait = owner_in(heads[-1]) if heads else ("", "")
                 self.traits[owner] = trait
-                self.clauses.setdefault(f"{owner}::{it.name}" if owner else it.name, []).extend(it.clauses)
+                name = f"{owner}::{it.name}" if owner else it.name
+                self.clauses.setdefault(name, []).extend(it.clauses)
+                is_pub = trait or re.match(r"trait\b|pub trait\b", " ".join(heads)) or re.match(rf"[^;{{}}]*\bpub (?:const )?fn {it.name}\b", code[it.item :])
+                if is_pub and (re.findall(r"\w+", owner) or [it.name])[0] in exported:
+                    self.public.append((name, it.clauses))
         beside = glob.glob(f"{folder}/wrong-bodies/*")
         self.edits = {it.name: it for it in (Edit(file, folder) for file in beside if file.endswith(".edit"))}
         self.readme = "\n".join(text_of(it) for it in beside if it.endswith("README.md"))
@@ -106,7 +130,8 @@ class Promises:
         self.crates = {os.path.basename(it): Crate(it) for it in sorted(glob.glob(f"{root}/crates/*")) if os.path.isdir(f"{it}/src")}
         self.tests = {name for it in self.crates.values() for name in it.tests}
         self.named = {it: set() for it in self.crates}
-        self.where, self.crate = "", None
+        self.stated, self.first = {}, []
+        self.where, self.crate, self.name = "", None, ""
 
     def fault(self, text):
         self.faults.append(f"{self.where}: {text}")
@@ -115,15 +140,32 @@ class Promises:
         for number, line in enumerate(text_of(self.file).split("\n"), 1):
             self.where = f"{os.path.relpath(self.file, self.root)}:{number}"
             if line.startswith("## "):
-                self.crate = self.crates.get(line[3:].strip())
                 self.name = line[3:].strip()
-            elif self.crate and re.match(r"\|(?!\s*(Promise\s*\||-))", line):
+                self.crate = self.crates.get(self.name)
+                if self.crate:
+                    self.stated.setdefault(self.name, set())
+            elif (self.crate or self.name == FIRST) and re.match(r"\|(?!\s*(Promise\s*\||-))", line):
                 self.rows += 1
                 cells = [it.strip() for it in line.strip().strip("|").split(" | ")]
-                if len(cells) == 5:
-                    self.row(*cells[1:])
-                else:
+                if len(cells) != 5:
                     self.fault(f"the row has {len(cells)} cells, and not 5")
+                elif self.name == FIRST:
+                    self.first_row(*cells[1:])
+                else:
+                    self.row(*cells[1:])
+
+    def first_row(self, crate, function, clause, shown):
+        """A row of those to read first. It is compared with the others at the end."""
+        self.name = crate.strip("`")
+        self.crate = self.crates.get(self.name)
+        if self.crate:
+            stated, self.stated = self.stated, {self.name: set()}
+            self.row(function, clause, "", shown)
+            self.first += [(self.where, self.name, it) for it in self.stated[self.name]]
+            self.stated = stated
+        else:
+            self.fault(f"there is no crate {crate}")
+        self.crate, self.name = None, FIRST
 
     def row(self, function, clause, premise, shown):
         names = re.findall(r"`([^`]+)`", function)
@@ -135,6 +177,7 @@ class Promises:
             self.fault(f"Clause is not one name in backticks, `its only one` or a ghost member: {clause}")
             return
         for name in names:
+            self.stated[self.name].add((plain(name), f"ghost {ghost[1]}" if ghost else named[1] if named else ""))
             owner, _, last = name.rpartition("::")
             clauses = self.crate.clauses_of(plain(owner), last)
             if ghost:
@@ -198,6 +241,19 @@ class Promises:
             if clause not in edit.clauses and not edit.goals:
                 self.fault(f"the edit `{edit.name}` names no clause `{clause}` that it breaks, and no goal before")
 
+    def check_stated(self):
+        """Each clause of a public call has a row, and so has what the first rows say."""
+        for where, name, stated in self.first:
+            if stated not in self.stated.get(name, ()):
+                self.faults.append(f"{where}: no row of {name} has `{stated[0]}`, {stated[1] or 'its only one'}")
+        for name in self.stated:
+            for function, clauses in self.crates[name].public:
+                trait = self.crates[name].traits.get(function.rpartition("::")[0], "")
+                called = {plain(function), f"{trait}::{function.rpartition('::')[2]}"}
+                for clause in (it for kind, it in clauses if kind == "ensures"):
+                    if not any((it, clause) in self.stated[name] for it in called):
+                        self.faults.append(f"crates/{name}: no row has `{function}`, {clause or 'its only one'}")
+
     def check_edits(self):
         """Each edit is named by a row of its crate, or in the README beside it."""
         for name, crate in self.crates.items():
@@ -210,6 +266,7 @@ def main(words):
     root = os.path.realpath(f"{HERE}/../..")
     promises = Promises(root, os.path.realpath(words[0]) if words else f"{root}/docs/PROMISES.md")
     promises.read()
+    promises.check_stated()
     promises.check_edits()
     if not promises.rows:
         promises.faults.append("no row was found")

@@ -4,6 +4,7 @@
 //! lines gets a submitter; threads publish, and are joined; the publisher is closed; and it is finished, which gives the subscribers back.
 #![tactic(auto)]
 
+mod guide;
 mod watches;
 
 use anyhow::bail;
