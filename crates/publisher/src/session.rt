@@ -22,6 +22,11 @@ use std::thread::Threads;
 /// [`with_publisher`] makes the publisher and ends it when the session is over, however that ends. The two ledgers name the publisher: a
 /// function that takes what belongs to it, as a [`Submitter`], is generic in both.
 pub trait Session<B: Listener + Send + 'static>: Drop {
+    ghost use Rattle.std.specs.Prelude.{⊤};
+
+    /// What holds of a session that is handed in, as that the subscribers in it were told nothing. By default it is nothing.
+    ghost is_ready: { Self → Type 0 } = { λ _. ⊤ };
+
     /// What the session answers.
     type Answer: Drop;
 
@@ -37,7 +42,8 @@ pub trait Session<B: Listener + Send + 'static>: Drop {
         alloc: Global,
         publisher: &Publisher<L, D, B>,
         handed_in: &mut HandedIn<L, D, B>,
-    ) -> Self::Answer;
+    ) -> Self::Answer
+        requires { is_ready self };
 }
 
 /// What belongs to a publisher and goes back to it at its end.
@@ -73,6 +79,8 @@ pub fn with_publisher<
     options: PublisherOptions,
     session: S,
 ) -> Result<Ended<S::Answer, B>, Refusal>
+    requires { S.is_ready session }
+
     // What each subscriber was told, whatever the threads did and whatever the answers.
     ensures { IfOk result (λ ended. IsOutcome B.told (outcome_of ended.finished)) }
 {
@@ -103,6 +111,7 @@ fn hold_session<
 ) -> Result<Ended<S::Answer, B>, Refusal>
     requires publications { IsBlankOf publications L.name L.parts }
     requires drops { IsBlankOf drops D.name D.parts }
+    requires ready { S.is_ready session }
     ensures { IfOk result (λ ended. IsOutcome B.told (outcome_of ended.finished)) }
 {
     let PublisherOptions { workers, capacity } = options;

@@ -6,9 +6,11 @@ mod mixing;
 mod stand;
 mod waiting;
 
+use acting::Acting;
+use flow_rules::{Listener, Watching};
 use handling::offer_twice;
 use meeting::meet;
-use mixing::mix;
+use mixing::{Ones, Tens, mix};
 use publisher::PARTS;
 use std::alloc::Global;
 use std::marker::Brand;
@@ -78,7 +80,15 @@ fn a_handler_finds_room_that_is_made_meanwhile(rt: HostRuntime) -> Result<(), Fa
 
 #[test]
 fn listeners_of_two_types_hear_one_publisher(rt: HostRuntime) -> Result<(), Fail> {
-    let count = mix::<Brand, Brand, _>(rt, rt.alloc(), Blank::new(PARTS), Blank::new(PARTS))?;
+    let alloc = rt.alloc();
+    let count = Arc::new(alloc, AtomicU64::new(0))?;
+    let tens = Watching::new(Tens(Arc::try_clone(&count)?));
+    let ones = Acting::new(Ones(Arc::try_clone(&count)?));
+    let tens: Box<dyn Listener + Send> = Box::new(alloc, tens)?;
+    let ones: Box<dyn Listener + Send> = Box::new(alloc, ones)?;
+    let (publications, drops) = (Blank::new(PARTS), Blank::new(PARTS));
+    mix::<Brand, Brand, _, _>(rt, alloc, publications, drops, tens, ones)?;
+    let count = count.load(SeqCst);
     // The watch counts two items as ten each, and the other one an item as one.
     assert!(rt; count == 21, "counted {count}");
     Ok(())
