@@ -1,0 +1,152 @@
+//! The bus: what is done with its publisher, from the first subscription to the close.
+ghost use Rattle.std.specs.Prelude.{◌≡◌, []};
+
+use flow_rules::{DropHandler, Item, Listener, Name, Refusal};
+use publisher::{HandedIn, Publisher, Session, Submitter, Subscription};
+use std::alloc::{AllocError, Global};
+use std::sync::Wait;
+use std::sync::ledger::Ledger;
+use std::thread;
+use std::thread::Threads;
+
+/// The lines of each thread.
+const LINES: u64 = 100;
+
+/// How many lines the slow subscriber takes at a time.
+const PORTION: i64 = 10;
+
+/// The subscribers of the bus, which were told nothing.
+#[derive(Drop)]
+pub struct Bus<B> {
+    pub file: B,
+    pub counter: B,
+    pub slow: B,
+}
+
+impl<B: Listener + Send + 'static> Session<B> for Bus<B> {
+    ghost use Rattle.std.specs.Prelude.{◌≡◌, []};
+
+    ghost is_ready = { λ bus. (B.told bus.file ≡ []) × ((B.told bus.counter ≡ []) × (B.told bus.slow ≡ [])) };
+
+    type Answer = Result<(), Refusal>;
+
+    fn run<
+        L: Ledger + Send + Sync + 'static,
+        D: Ledger + Send + Sync + 'static,
+        R: Threads + Wait + Copy + Send + Sync + 'static,
+    >(
+        self,
+        rt: R,
+        alloc: Global,
+        publisher: &Publisher<L, D, B>,
+        handed_in: &mut HandedIn<L, D, B>,
+    ) -> Result<(), Refusal> {
+        // Subscribe, each under a name of its own.
+        let file = publisher.subscribe(&rt, alloc, name_of("file")?, self.file)?;
+        handed_in.subscriptions.push(file)?;
+        let counter = publisher.subscribe(&rt, alloc, name_of("counter")?, self.counter)?;
+        handed_in.subscriptions.push(counter)?;
+        let slow = publisher.subscribe(&rt, alloc, name_of("slow")?, self.slow)?;
+        // A submitter for each source. What it was told of the close, its note knows.
+        let mut note = publisher.note();
+        let mut sources = Vec::new(alloc);
+        for source in 0..3 {
+            let submitter = publisher.submitter(&rt, alloc, &mut note)?;
+            sources.push(Source { source, submitter })?;
+        }
+        // Publish from three threads, while a fourth requests for the slow subscriber; all are joined.
+        let (published, slow) = publish_all(&rt, alloc, sources, slow);
+        handed_in.subscriptions.push(slow)?;
+        for source in published? {
+            handed_in.submitters.push(source.submitter)?;
+        }
+        // Close: each subscriber completes after its last line. `with_publisher` finishes the publisher afterwards, in any case.
+        publisher.close(&rt, alloc, &mut note)?;
+        publisher.wait_drained(&rt);
+        Ok(())
+    }
+}
+
+fn name_of(name: &str) -> Result<Name, Refusal> {
+    Name::parse(name).ok_or(Refusal::BadCommand)
+}
+
+/// Publishes the lines of each source from a thread of its own, while another one requests for the slow subscriber.
+fn publish_all<
+    L: Ledger + Send + Sync + 'static,
+    D: Ledger + Send + Sync + 'static,
+    B: Listener + Send + 'static,
+    R: Threads + Wait + Sync,
+>(
+    rt: &R,
+    alloc: Global,
+    sources: Vec<Source<L, D, B>>,
+    slow: Subscription<L, D, B>,
+) -> (
+    Result<Vec<Source<L, D, B>>, AllocError>,
+    Subscription<L, D, B>,
+) {
+    let publish = |source: Source<L, D, B>| source.publish(rt, alloc);
+    thread::join(
+        rt,
+        || thread::map_vec(rt, sources, &publish),
+        || request_all(rt, slow),
+    )
+}
+
+/// Requests all lines for a slow subscriber, a portion at a time, and gives its subscription back.
+fn request_all<L: Ledger + Send, D: Ledger + Send, B: Listener + Send, R: Wait>(
+    rt: &R,
+    mut slow: Subscription<L, D, B>,
+) -> Subscription<L, D, B> {
+    for _ in 0..LINES {
+        // Refused only if memory is: nothing has changed then, and the next portion is requested all the same.
+        let _ = slow.request(rt, PORTION);
+        thread::yield_now();
+    }
+    slow
+}
+
+/// A source of lines, with its submitter.
+#[derive(Drop)]
+struct Source<L: Ledger + Send, D: Ledger + Send, B: Listener + Send> {
+    source: u32,
+    submitter: Submitter<L, D, B>,
+}
+
+impl<L: Ledger + Send, D: Ledger + Send, B: Listener + Send> Source<L, D, B> {
+    /// Publishes its lines: the first source by offers, which drop a line where there is no room, and the others by `submit`, which waits.
+    fn publish<R: Wait>(mut self, rt: &R, alloc: Global) -> Source<L, D, B> {
+        let mut drops = Drops(0);
+        for number in 0..LINES {
+            let line: &[u8] = if number % 10 == 0 {
+                b"error: it broke"
+            } else {
+                b"info: it works"
+            };
+            let refused = match self.source {
+                0 => self
+                    .submitter
+                    .offer_with(rt, alloc, line, &mut drops)
+                    .is_err(),
+                _ => self.submitter.submit(rt, alloc, line).is_err(),
+            };
+            // Refused for want of memory; and after a close, which comes later here.
+            if refused {
+                break;
+            }
+        }
+        self
+    }
+}
+
+/// Counts the lines that are dropped.
+#[derive(Drop)]
+struct Drops(u64);
+
+impl DropHandler for Drops {
+    fn on_drop(&mut self, _name: Name, _item: &Item) -> bool {
+        self.0 = self.0.saturating_add(1);
+        false
+    }
+}
