@@ -11,6 +11,7 @@ use crate::ticket::Ticket;
 use atomic_table::Seat;
 use flow_rules::{NoMemory, Refusal};
 use std::alloc::Global;
+use std::fmt;
 use std::sync::Arc;
 
 /// The first ticket of a count, which makes all others. One that is dropped is never spent.
@@ -25,6 +26,12 @@ pub struct Opening {
     ghost seated: { seat.table_id ≡ (arc_value counter).shared.table_id },
     ghost knows: { seat.me ≡ (opening_view made, []) },
     ghost bounded: { made ≤ MOST_TICKETS },
+}
+
+impl fmt::Debug for Opening {
+    fn fmt<W: fmt::Write>(&self, f: &mut fmt::Formatter<W>) -> fmt::Result {
+        f.write_str("Opening")
+    }
 }
 
 impl Opening {

@@ -6,6 +6,7 @@ ghost use Rattle.close_count.specs.Tickets.{one_if, HasAllRoom, CompletesAt};
 use crate::rule::{Complete, Counter, UNSPENT, View};
 use atomic_table::Seat;
 use std::alloc::Global;
+use std::fmt;
 use std::sync::Arc;
 
 /// A ticket, or the opening, that was spent.
@@ -22,6 +23,12 @@ pub struct Spent {
     ghost found: { seat.me.0.last ≡ one_if last },
     // Only the opening makes tickets, and the right to make any was its own.
     ghost maker: { 1 ≤ seat.me.0.made → HasAllRoom seat.me.0 },
+}
+
+impl fmt::Debug for Spent {
+    fn fmt<W: fmt::Write>(&self, f: &mut fmt::Formatter<W>) -> fmt::Result {
+        f.write_str("Spent")
+    }
 }
 
 impl Spent {

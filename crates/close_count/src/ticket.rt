@@ -7,6 +7,7 @@ use crate::rule::{Counter, View};
 use crate::spent::Spent;
 use atomic_table::Seat;
 use std::alloc::Global;
+use std::fmt;
 use std::sync::Arc;
 
 /// One ticket of a count. One that is dropped is never spent.
@@ -18,6 +19,12 @@ pub struct Ticket {
     ghost one_word: { (arc_value counter).shared.table_id.words ≡ 1 },
     ghost seated: { seat.table_id ≡ (arc_value counter).shared.table_id },
     ghost knows: { seat.me ≡ (ticket_view, []) },
+}
+
+impl fmt::Debug for Ticket {
+    fn fmt<W: fmt::Write>(&self, f: &mut fmt::Formatter<W>) -> fmt::Result {
+        f.write_str("Ticket")
+    }
 }
 
 impl Ticket {

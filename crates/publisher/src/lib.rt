@@ -35,6 +35,11 @@ mod submitter;
 mod subscription;
 mod the_end;
 
+pub use async_pool::MOST_WORKERS;
+pub use feed_core::Lane;
+pub use flow_rules::{
+    DropHandler, Ending, Fault, How, LARGEST_CAPACITY, Listener, Name, NoMemory, Refusal, Text,
+};
 pub use note::Note;
 pub use options::PublisherOptions;
 pub use outcome::{NamedLane, Outcome};

@@ -3,7 +3,7 @@ use feed_core::Lane;
 use flow_rules::Name;
 
 /// What is left of a publisher that was finished.
-#[derive(Drop)]
+#[derive(Debug, Drop)]
 pub struct Outcome<B> {
     /// What is left of its subscriptions, in order of subscription.
     pub lanes: Vec<NamedLane<B>>,
@@ -18,7 +18,7 @@ pub struct Outcome<B> {
 }
 
 /// What is left of one subscription.
-#[derive(Drop)]
+#[derive(Debug, Drop)]
 pub struct NamedLane<B> {
     /// The name that its subscriber subscribed with.
     pub name: Name,

@@ -21,14 +21,20 @@ use std::marker::Model;
 use std::sync::atomic::AtomicU64;
 use std::sync::ledger::{Blank, Ledger};
 use std::sync::{Arc, Condvar, Mutex, Wait};
-use std::thread;
 use std::thread::Threads;
+use std::{fmt, thread};
 
 /// A publisher that threads share (`java.util.concurrent.SubmissionPublisher`).
 #[derive(Drop)]
 pub struct Publisher<L: Ledger + Send, D: Ledger + Send, B: Listener + Send> {
     pub(crate) shared: Arc<Shared<L, D, B>>,
     pool: Arc<Pool<ConsumerTask<L, D, B>>>,
+}
+
+impl<L: Ledger + Send, D: Ledger + Send, B: Listener + Send> fmt::Debug for Publisher<L, D, B> {
+    fn fmt<W: fmt::Write>(&self, f: &mut fmt::Formatter<W>) -> fmt::Result {
+        write!(f, "Publisher {{ capacity: {} }}", self.shared.capacity)
+    }
 }
 
 impl<L: Ledger + Send, D: Ledger + Send, B: Listener + Send> Model for Publisher<L, D, B> {

@@ -47,7 +47,7 @@ pub trait Session<B: Listener + Send + 'static>: Drop {
 }
 
 /// What belongs to a publisher and goes back to it at its end.
-#[derive(Drop)]
+#[derive(Debug, Drop)]
 pub struct HandedIn<L: Ledger + Send, D: Ledger + Send, B: Listener + Send> {
     /// Its submitters, in any order.
     pub submitters: Vec<Submitter<L, D, B>>,
@@ -56,7 +56,7 @@ pub struct HandedIn<L: Ledger + Send, D: Ledger + Send, B: Listener + Send> {
 }
 
 /// What a session came to.
-#[derive(Drop)]
+#[derive(Debug, Drop)]
 pub struct Ended<A, B> {
     /// What the session answered.
     pub answer: A,

@@ -16,6 +16,7 @@ use feed_cell::Task;
 use flow_rules::{DropHandler, Listener, NoMemory, Refusal, Text};
 use publisher_hub::{Unpublished, Work};
 use std::alloc::Global;
+use std::fmt;
 use std::marker::Model;
 use std::sync::ledger::Ledger;
 use std::sync::{Arc, Wait};
@@ -31,6 +32,12 @@ pub struct Submitter<L: Ledger + Send, D: Ledger + Send, B: Listener + Send> {
     note: Note,
     /// The tasks that a publication has started. Between two calls there are none.
     due: Vec<Work<Task<B>>>,
+}
+
+impl<L: Ledger + Send, D: Ledger + Send, B: Listener + Send> fmt::Debug for Submitter<L, D, B> {
+    fn fmt<W: fmt::Write>(&self, f: &mut fmt::Formatter<W>) -> fmt::Result {
+        write!(f, "Submitter {{ source: {} }}", self.own.source)
+    }
 }
 
 impl<L: Ledger + Send, D: Ledger + Send, B: Listener + Send> Model for Submitter<L, D, B> {

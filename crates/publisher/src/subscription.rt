@@ -2,6 +2,7 @@
 use crate::caller::Caller;
 use feed_cell::Handle;
 use flow_rules::{Listener, NoMemory};
+use std::fmt;
 use std::marker::Model;
 use std::sync::Wait;
 use std::sync::ledger::Ledger;
@@ -12,6 +13,12 @@ pub struct Subscription<L: Ledger + Send, D: Ledger + Send, B: Listener + Send> 
     caller: Caller<L, D, B>,
     entry: u32,
     handle: Handle<B>,
+}
+
+impl<L: Ledger + Send, D: Ledger + Send, B: Listener + Send> fmt::Debug for Subscription<L, D, B> {
+    fn fmt<W: fmt::Write>(&self, f: &mut fmt::Formatter<W>) -> fmt::Result {
+        write!(f, "Subscription {{ entry: {} }}", self.entry)
+    }
 }
 
 impl<L: Ledger + Send, D: Ledger + Send, B: Listener + Send> Model for Subscription<L, D, B> {

@@ -2,7 +2,7 @@
 
 /// A started task, with the number of its subscription. Who gets it has to see that the task is run.
 #[must_use]
-#[derive(Drop)]
+#[derive(Debug, Drop)]
 pub struct Work<T> {
     /// The number of the subscription, in the order in which they were made, from 0.
     pub entry: u32,

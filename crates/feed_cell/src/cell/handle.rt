@@ -12,6 +12,7 @@ use super::signal::{signal, start};
 use super::task::Task;
 use super::{ARGUMENT, CANCEL, ITEM, SharedTable};
 use flow_rules::{Listener, NoMemory};
+use std::fmt;
 use std::marker::Model;
 use std::sync::Arc;
 
@@ -25,6 +26,12 @@ pub struct Handle<B: Listener> {
     pub(crate) asked: u64,
     /// Whether it cancelled.
     pub(crate) cancelled: bool,
+}
+
+impl<B: Listener> fmt::Debug for Handle<B> {
+    fn fmt<W: fmt::Write>(&self, f: &mut fmt::Formatter<W>) -> fmt::Result {
+        write!(f, "Handle {{ requested: {} }}", self.asked)
+    }
 }
 
 impl<B: Listener> Model for Handle<B> {

@@ -8,6 +8,7 @@ use super::signal::{signal, start};
 use super::task::Task;
 use super::{ITEM, MARK, STATE, SharedTable};
 use flow_rules::{Ending, Feed, Item, Listener, NoMemory, Put, Standing};
+use std::fmt;
 use std::marker::Model;
 use std::sync::Arc;
 
@@ -21,6 +22,12 @@ pub struct Producer<B: Listener> {
     pub(crate) tail: u64,
     /// How it closed the subscription, if it did.
     pub(crate) closing: Option<Ending>,
+}
+
+impl<B: Listener> fmt::Debug for Producer<B> {
+    fn fmt<W: fmt::Write>(&self, f: &mut fmt::Formatter<W>) -> fmt::Result {
+        write!(f, "Producer {{ accepted: {} }}", self.tail)
+    }
 }
 
 impl<B: Listener> Model for Producer<B> {

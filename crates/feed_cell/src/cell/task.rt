@@ -9,6 +9,7 @@ pub mod turns;
 use super::CellSeat;
 use super::seated::Seated;
 use flow_rules::Listener;
+use std::fmt;
 use std::marker::Model;
 
 /// Where a task stands between two turns.
@@ -28,6 +29,12 @@ pub enum Stage {
 pub struct Task<B: Listener> {
     pub(crate) party: Seated<B>,
     pub(crate) stage: Stage,
+}
+
+impl<B: Listener> fmt::Debug for Task<B> {
+    fn fmt<W: fmt::Write>(&self, f: &mut fmt::Formatter<W>) -> fmt::Result {
+        f.write_str("Task")
+    }
 }
 
 impl<B: Listener> Model for Task<B> {
@@ -54,6 +61,12 @@ impl<B: Listener> Model for Task<B> {
 #[derive(Drop)]
 pub struct Spent<B: Listener> {
     pub(crate) seat: CellSeat<B>,
+}
+
+impl<B: Listener> fmt::Debug for Spent<B> {
+    fn fmt<W: fmt::Write>(&self, f: &mut fmt::Formatter<W>) -> fmt::Result {
+        f.write_str("Spent")
+    }
 }
 
 impl<B: Listener> Model for Spent<B> {

@@ -18,6 +18,8 @@ use super::{Hub, SOURCES};
 use crate::rounds::give_all;
 use crate::work::Work;
 use flow_rules::{Feed, Item, NoMemory, PUBLICATIONS, Refusal, Text};
+use std::error::Error;
+use std::fmt;
 
 /// Why an item was not published.
 #[derive(Debug, Drop)]
@@ -27,6 +29,17 @@ pub enum Unpublished {
     /// A live subscription has no room. The text comes back.
     NoRoom(Text),
 }
+
+impl fmt::Display for Unpublished {
+    fn fmt<W: fmt::Write>(&self, f: &mut fmt::Formatter<W>) -> fmt::Result {
+        match self {
+            Unpublished::Refused(refusal) => write!(f, "{refusal}"),
+            Unpublished::NoRoom(_) => f.write_str("a live subscription has no room"),
+        }
+    }
+}
+
+impl Error for Unpublished {}
 
 impl<F: Feed> Hub<F> {
     /// Gives a text to all live subscriptions at once, if all have room (`SubmissionPublisher.submit`, without waiting).

@@ -20,7 +20,7 @@ use flow_rules::{How, Listener};
 
 /// What came of a turn.
 #[must_use]
-#[derive(Drop)]
+#[derive(Debug, Drop)]
 pub enum Turn<B: Listener> {
     /// Another turn is owed, of this task.
     Again(Task<B>),
