@@ -1,6 +1,8 @@
 """Holds docs/PROMISES.md to the crates: each function, clause, edit and test that a row names has to be there.
 
-usage: tests/promises/promises.sh [FILE]
+usage: tests/promises/promises.sh [FILE..]
+
+The files are docs/PROMISES.md and those of docs/promises/, if that is there.
 
 The form of the file. The section `## Thirty promises` has the rows to read first, whose second column names the crate in backticks; each
 stands once more in the section of that crate:
@@ -123,10 +125,10 @@ class Crate:
 
 
 class Promises:
-    """The file, row by row, with what is wrong with it."""
+    """The files, row by row, with what is wrong with them."""
 
-    def __init__(self, root, file):
-        self.root, self.file, self.faults, self.rows = root, file, [], 0
+    def __init__(self, root):
+        self.root, self.faults, self.rows = root, [], 0
         self.crates = {os.path.basename(it): Crate(it) for it in sorted(glob.glob(f"{root}/crates/*")) if os.path.isdir(f"{it}/src")}
         self.tests = {name for it in self.crates.values() for name in it.tests}
         self.named = {it: set() for it in self.crates}
@@ -136,9 +138,9 @@ class Promises:
     def fault(self, text):
         self.faults.append(f"{self.where}: {text}")
 
-    def read(self):
-        for number, line in enumerate(text_of(self.file).split("\n"), 1):
-            self.where = f"{os.path.relpath(self.file, self.root)}:{number}"
+    def read(self, file):
+        for number, line in enumerate(text_of(file).split("\n"), 1):
+            self.where = f"{os.path.relpath(file, self.root)}:{number}"
             if line.startswith("## "):
                 self.name = line[3:].strip()
                 self.crate = self.crates.get(self.name)
@@ -264,8 +266,9 @@ class Promises:
 
 def main(words):
     root = os.path.realpath(f"{HERE}/../..")
-    promises = Promises(root, os.path.realpath(words[0]) if words else f"{root}/docs/PROMISES.md")
-    promises.read()
+    promises = Promises(root)
+    for file in words or [f"{root}/docs/PROMISES.md", *sorted(glob.glob(f"{root}/docs/promises/*.md"))]:
+        promises.read(os.path.realpath(file))
     promises.check_stated()
     promises.check_edits()
     if not promises.rows:
