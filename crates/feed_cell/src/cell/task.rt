@@ -32,7 +32,7 @@ pub struct Task<B: Listener> {
 
 impl<B: Listener> Model for Task<B> {
     ghost use Rattle.std.specs.Prelude.{◌≡◌};
-    ghost use Rattle.feed_cell.specs.Parties.{TaskState};
+    ghost use Rattle.feed_cell.specs.Parties.{TaskState, known_by_task};
     ghost use Rattle.feed_cell.specs.Paused.{told_out, IsPaused};
     ghost use Rattle.feed_cell.specs.Views.{RunsFree};
 
@@ -41,7 +41,7 @@ impl<B: Listener> Model for Task<B> {
     ghost view = { λ t. record {
       table = t.party.seat.table_id;
       seat = t.party.seat.id;
-      knows = t.party.seat.me.0;
+      knows = known_by_task t.party.seat.me.0;
       told = told_out B.told t.party.seat.me.1;
     } };
 
@@ -57,9 +57,9 @@ pub struct Spent<B: Listener> {
 }
 
 impl<B: Listener> Model for Spent<B> {
-    ghost use Rattle.feed_cell.specs.Parties.{SpentState};
+    ghost use Rattle.feed_cell.specs.Parties.{SpentState, known_by_task};
 
     ghost Value = { SpentState };
 
-    ghost view = { λ s. record { table = s.seat.table_id; seat = s.seat.id; knows = s.seat.me.0 } };
+    ghost view = { λ s. record { table = s.seat.table_id; seat = s.seat.id; knows = known_by_task s.seat.me.0 } };
 }
