@@ -5,7 +5,7 @@ ghost use Rattle.crossbeam_utils.specs.Padded.{padded_value};
 ghost use Rattle.feed_core.specs.LaneCalls.{IsCapacity};
 ghost use Rattle.feed_cell.specs.Parties.{new_producer, new_handle, IsNewTask};
 ghost use Rattle.feed_cell.specs.Steps.{HasFourWords, Steps, IsUnlodged, HasLodged};
-ghost use Rattle.feed_cell.specs.Turning.{new_lodger};
+ghost use Rattle.feed_cell.specs.TaskAnswers.{new_lodger};
 ghost use Rattle.feed_cell.specs.Views.{first_view};
 ghost use Rattle.feed_cell.specs.declared.cell.Held.TheVariants as Held;
 

@@ -33,7 +33,7 @@ pub struct Task<B: Listener> {
 impl<B: Listener> Model for Task<B> {
     ghost use Rattle.std.specs.Prelude.{◌≡◌};
     ghost use Rattle.feed_cell.specs.Parties.{TaskState, known_by_task};
-    ghost use Rattle.feed_cell.specs.Paused.{told_out, IsPaused};
+    ghost use Rattle.feed_cell.specs.TaskPauses.{told_out, IsPaused};
     ghost use Rattle.feed_cell.specs.Views.{RunsFree};
 
     ghost Value = { TaskState };

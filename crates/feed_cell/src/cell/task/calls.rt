@@ -2,8 +2,8 @@
 ghost use Rattle.std.specs.Prelude.{◌≡◌, ◌<◌, length, IfSome, IfNone};
 ghost use Rattle.feed_core.specs.Prelude.{Subscribed, Next, UNBOUNDED};
 ghost use Rattle.feed_core.specs.declared.turn.TheConstants.{SIGNALS_IN_A_TURN};
-ghost use Rattle.feed_cell.specs.Running.{IsGoOn, IsQuietEnd, GoesOnWith, EndsWith, FinishesWith};
-ghost use Rattle.feed_cell.specs.Turning.{answered, ended_as};
+ghost use Rattle.feed_cell.specs.TaskSteps.{IsGoOn, IsQuietEnd, GoesOnWith, EndsWith, FinishesWith};
+ghost use Rattle.feed_cell.specs.TaskAnswers.{answered, ended_as};
 
 use crate::cell::{BoxedLodger, Lodger};
 use feed_core::{Seen, tell_next, tell_subscribed, tell_terminal};

@@ -4,8 +4,8 @@ ghost use Rattle.feed_core.specs.Prelude.{UNBOUNDED};
 ghost use Rattle.feed_core.specs.World.Table.{MayRest, MaySee};
 ghost use Rattle.feed_core.specs.declared.turn.TheConstants.{SIGNALS_IN_A_TURN};
 ghost use Rattle.feed_cell.specs.Control.{QUIET};
-ghost use Rattle.feed_cell.specs.Running.{notes_of, MayFinish, Carries, HasLookedAt, HasTaken, HasNoneToGive, FindsNone, TakesNext};
-ghost use Rattle.feed_cell.specs.Serving.{Serves, GivesAs, FinishesAs, TriesRest, Concludes};
+ghost use Rattle.feed_cell.specs.TaskSteps.{notes_of, MayFinish, Carries, HasLookedAt, HasTaken, HasNoneToGive, FindsNone, TakesNext};
+ghost use Rattle.feed_cell.specs.TaskLooks.{Serves, GivesAs, FinishesAs, TriesRest, Concludes};
 ghost use Rattle.feed_cell.specs.Steps.{IsSameSeat};
 
 use super::causes::causes_in;

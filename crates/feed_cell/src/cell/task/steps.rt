@@ -10,7 +10,7 @@ ghost use Rattle.feed_cell.specs.Types.{Nobody, Ready, Taken};
 ghost use Rattle.feed_cell.specs.Control.{MARK, QUIET};
 ghost use Rattle.feed_cell.specs.Parties.{IsGoing, IsHome};
 ghost use Rattle.feed_cell.specs.Plays.{SeesPut, Measures, MeasuresNone, grants_by, how_out, outlook_by};
-ghost use Rattle.feed_cell.specs.Running.{HasItem, KeepsCounts, KeepsSubscriber, Carries, HasLookedAt, IsEnding, TakesOut, IsAtRest, HasMissed, HasLeft};
+ghost use Rattle.feed_cell.specs.TaskSteps.{HasItem, KeepsCounts, KeepsSubscriber, Carries, HasLookedAt, IsEnding, TakesOut, IsAtRest, HasMissed, HasLeft};
 ghost use Rattle.feed_cell.specs.Steps.{IsSameSeat, Steps};
 ghost use Rattle.feed_cell.specs.Views.{RunsFree, RunsAway};
 ghost use Rattle.feed_cell.specs.declared.cell.Held.TheVariants as Held;

@@ -4,10 +4,10 @@ ghost use Rattle.feed_core.specs.Prelude.{Complete, Error, Fault, How, items_of}
 ghost use Rattle.feed_core.specs.Turn.{EndsIn};
 ghost use Rattle.feed_core.specs.declared.turn.TheConstants.{ITEMS_IN_A_TURN, SIGNALS_IN_A_TURN};
 ghost use Rattle.feed_core.specs.declared.turn.outlook.Outlook.TheVariants.{Again, Ended};
-ghost use Rattle.feed_cell.specs.Paused.{IsPaused};
-ghost use Rattle.feed_cell.specs.Running.{HasLookedAt, KeepsCounts};
+ghost use Rattle.feed_cell.specs.TaskPauses.{IsPaused};
+ghost use Rattle.feed_cell.specs.TaskSteps.{HasLookedAt, KeepsCounts};
 ghost use Rattle.feed_cell.specs.Steps.{IsSameSeat};
-ghost use Rattle.feed_cell.specs.Turned.{MayGoOn, OnAgain, outlook_of, IsBeforeLook, RunsAs, TurnsInto, MayLookNext, KeepsGoing};
+ghost use Rattle.feed_cell.specs.TaskTurns.{MayGoOn, OnAgain, outlook_of, IsBeforeLook, RunsAs, TurnsInto, MayLookNext, KeepsGoing};
 ghost use Rattle.feed_cell.specs.Views.{RunsFree};
 
 use super::looks::{Served, serve};

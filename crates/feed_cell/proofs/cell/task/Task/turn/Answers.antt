@@ -4,8 +4,8 @@ use Rattle.feed_core.specs.World.Table.{MayEnd}
 use Rattle.feed_core.specs.declared.turn.outlook.Outlook.TheVariants.{Ended}
 use Rattle.feed_cell.specs.Parties.{TaskState, known_by_task}
 use Rattle.feed_cell.specs.Steps.{CellSeat}
-use Rattle.feed_cell.specs.Turned.{MayGoOn, StopsAs}
-use Rattle.feed_cell.proofs.Turned.{few_seen, few_items, completed_by, errored_by}
+use Rattle.feed_cell.specs.TaskTurns.{MayGoOn, StopsAs}
+use Rattle.feed_cell.proofs.TurnSignals.{few_seen, few_items, completed_by, errored_by}
 use Rattle.feed_cell.proofs.cell.task.Task.turn.Goals as goal
 
 pub returns-in-Again-clause-at_most : goal.returns-in-Again-clause-at_most

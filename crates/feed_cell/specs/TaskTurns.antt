@@ -9,9 +9,9 @@ use Rattle.feed_core.specs.declared.turn.outlook.Outlook.TheVariants.{Again, Res
 use Rattle.feed_cell.specs.Types.{Nobody}
 use Rattle.feed_cell.specs.Cell.{greeted, IsToldAtEnd}
 use Rattle.feed_cell.specs.Parties.{TaskKnows, TaskState, known_by_task, IsGoing, IsHome}
-use Rattle.feed_cell.specs.Paused.{told_out}
+use Rattle.feed_cell.specs.TaskPauses.{told_out}
 use Rattle.feed_cell.specs.Plays.{SeatOf}
-use Rattle.feed_cell.specs.Running.{KeepsSubscriber}
+use Rattle.feed_cell.specs.TaskSteps.{KeepsSubscriber}
 use Rattle.feed_cell.specs.declared.cell.Grant.{Grant}
 use Rattle.feed_cell.specs.declared.cell.task.Stage.{Stage}
 use Rattle.feed_cell.specs.declared.cell.task.turns.Turn.{Turn}

@@ -11,7 +11,7 @@ use Rattle.feed_core.proofs.SignalLists.{IsTerminal, complete_last, contains_non
 use Rattle.feed_core.proofs.TurnLoop.{last_contained}
 use Rattle.feed_cell.specs.Cell.{greeted}
 use Rattle.feed_cell.specs.Parties.{TaskKnows}
-use Rattle.feed_cell.specs.Turned.{IsTextAfter, AreGivenOf, IsToldBefore, AreGranted, IsTurnOf}
+use Rattle.feed_cell.specs.TaskTurns.{IsTextAfter, AreGivenOf, IsToldBefore, AreGranted, IsTurnOf}
 use Rattle.feed_cell.specs.declared.cell.Grant.{Grant}
 
 -- the terminal signal of an outlook, if it has one

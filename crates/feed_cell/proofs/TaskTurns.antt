@@ -8,16 +8,16 @@ use Rattle.feed_core.specs.declared.turn.outlook.Outlook.TheVariants.{Again, Res
 use Rattle.feed_cell.specs.Types.{Nobody}
 use Rattle.feed_cell.specs.Cell.{greeted, IsToldAtEnd}
 use Rattle.feed_cell.specs.Parties.{known_by_task, IsUngreeted, IsGoing}
-use Rattle.feed_cell.specs.Paused.{told_out, IsPaused}
+use Rattle.feed_cell.specs.TaskPauses.{told_out, IsPaused}
 use Rattle.feed_cell.specs.Plays.{SeatOf, how_out, outlook_by}
-use Rattle.feed_cell.specs.Running.{EndsThere, GoesOnThere, HasLookedAt, IsGranted, grant_of}
-use Rattle.feed_cell.specs.Serving.{EndsAs, GivesItem, IsLastGrant, MissesRest, RestsNow}
-use Rattle.feed_cell.specs.Turned.{AreGivenOf, AreGranted, GoesOnAs, IsBeforeLook, KeepsGoing, MayLookNext, StopsAs, TellsSoFar, MayGoOn}
+use Rattle.feed_cell.specs.TaskSteps.{EndsThere, GoesOnThere, HasLookedAt, IsGranted, grant_of}
+use Rattle.feed_cell.specs.TaskLooks.{EndsAs, GivesItem, IsLastGrant, MissesRest, RestsNow}
+use Rattle.feed_cell.specs.TaskTurns.{AreGivenOf, AreGranted, GoesOnAs, IsBeforeLook, KeepsGoing, MayLookNext, StopsAs, TellsSoFar, MayGoOn}
 use Rattle.feed_cell.specs.declared.cell.Grant.{Grant}
 use Rattle.feed_cell.specs.declared.cell.View.{View}
 use Rattle.feed_cell.specs.declared.cell.task.Stage.{Stage}
-use Rattle.feed_cell.proofs.Serving.{ending_outlook}
-use Rattle.feed_cell.proofs.Turned.{base_length, granted_more, whole_turn}
+use Rattle.feed_cell.proofs.TaskLooks.{ending_outlook}
+use Rattle.feed_cell.proofs.TurnSignals.{base_length, granted_more, whole_turn}
 
 module _ {B : Type 0} (told : B → List Signal) where
   -- a task whose subscriber was greeted before
