@@ -36,7 +36,8 @@ use std::sync::Arc;
 /// With the handle of another, nothing is said of what this one's requested.
 pub fn close<B: Listener>(producer: Producer<B>, handle: Handle<B>) -> Result<Lane<B>, Producer<B>>
     ensures left { IfOk result (IsLeftOf B.told producer.end None) }
-    ensures own { handle.table ≡ producer.table → IfOk result (IsLeftOf B.told producer.end (Some handle)) }
+    ensures own { handle.table ≡ producer.table
+        → IfOk result (IsLeftOf B.told producer.end (Some handle)) }
     ensures back { IfErr result (λ back. back ≡ not_ready producer) }
 {
     let mut asking = step_out(handle);

@@ -62,7 +62,8 @@ fn close_or_rest<B: Listener>(
     requires look { party.old.seat.me.0.look ≡ bit_and word QUIET }
     requires room { length seen.old.signals < SIGNALS_IN_A_TURN }
     ensures seat { IsSameSeat party.old.seat party.new.seat }
-    ensures concludes { Concludes B.told result party.old.seat.me party.new.seat.me seen.old seen.new }
+    ensures concludes { Concludes B.told result
+        party.old.seat.me party.new.seat.me seen.old seen.new }
 {
     match due {
         Some(due) if given == tail => finish(party, given, due, seen),
@@ -76,7 +77,8 @@ fn give<B: Listener>(party: &mut Seated<B>, given: u64, item: Item, seen: &mut S
     requires counted { (length party.old.seat.me.0.taken ≡ given + 1) × (given < UNBOUNDED) }
     requires room { length seen.old.signals < SIGNALS_IN_A_TURN }
     ensures seat { IsSameSeat party.old.seat party.new.seat }
-    ensures gives { GivesAs B.told item result party.old.seat.me party.new.seat.me seen.old seen.new }
+    ensures gives { GivesAs B.told item result
+        party.old.seat.me party.new.seat.me seen.old seen.new }
 {
     match party
         .seat
@@ -100,7 +102,8 @@ fn finish<B: Listener>(party: &mut Seated<B>, given: u64, due: How, seen: &mut S
     requires counted { (length party.old.seat.me.0.taken ≡ given) × (given ≤ UNBOUNDED) }
     requires room { length seen.old.signals < SIGNALS_IN_A_TURN }
     ensures seat { IsSameSeat party.old.seat party.new.seat }
-    ensures finishes { FinishesAs B.told due result party.old.seat.me party.new.seat.me seen.old seen.new }
+    ensures finishes { FinishesAs B.told due result
+        party.old.seat.me party.new.seat.me seen.old seen.new }
 {
     match party
         .seat

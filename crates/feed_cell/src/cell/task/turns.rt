@@ -48,7 +48,8 @@ impl<B: Listener> Task<B> {
 
         // What it answers.
         ensures again { OnAgain result (λ next. MayGoOn self.knows next.knows seen.new.signals) }
-        ensures completed { EndsIn seen.new.signals Complete ↔ (outlook_of result ≡ Ended How.Completed) }
+        ensures completed { EndsIn seen.new.signals Complete
+            ↔ (outlook_of result ≡ Ended How.Completed) }
         ensures errored { (fault : Fault)
             → EndsIn seen.new.signals (Error fault) ↔ (outlook_of result ≡ Ended (How.Errored fault)) }
     {
