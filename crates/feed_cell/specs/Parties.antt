@@ -59,7 +59,7 @@ pub record TaskKnows : Type 0 where
   pub runs : Bool
   pub outlook : Outlook
 
--- the same, by what its seat knows
+-- what a task knows, by what its seat knows
 abbrev pub known_by_task : View → TaskKnows
 known_by_task v = record {
   capacity = v.capacity;

@@ -22,7 +22,8 @@ pub enum Stage {
     Going,
 }
 
-/// The task of a subscription. It has to be run until it is at rest or has ended: one that is dropped takes its subscriber with it.
+/// The task of a subscription. It has to be run until it is at rest or has ended: one that is dropped takes its subscriber with
+/// it.
 #[must_use]
 #[derive(Drop)]
 pub struct Task<B: Listener> {
@@ -50,7 +51,8 @@ impl<B: Listener> Model for Task<B> {
         × IsPaused B.told t.stage t.party.seat.me };
 }
 
-/// The seat of a task that is over, as its last turn gives it back: what it showed last. It does nothing any more, and has no bytes.
+/// The seat of a task that is over, as its last turn gives it back: what it showed last. It does nothing any more, and has no
+/// bytes.
 #[derive(Drop)]
 pub struct Spent<B: Listener> {
     pub(crate) seat: CellSeat<B>,

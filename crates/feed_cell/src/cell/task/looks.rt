@@ -1,4 +1,4 @@
-//! What the task does after a look.
+//! What the task does after a look: it gives one item, or ends the subscription, or rests. It never looks again by itself.
 ghost use Rattle.std.specs.Prelude.{◌≡◌, ◌+◌, ◌≤◌, ◌<◌, length, bit_and, IfSome, IfNone};
 ghost use Rattle.feed_core.specs.Prelude.{UNBOUNDED};
 ghost use Rattle.feed_core.specs.World.Table.{MayRest, MaySee};
@@ -28,7 +28,8 @@ pub(crate) enum Served {
     Ended(How),
 }
 
-/// Does what a look that found this word allows: the end at once, or the next item, or the end that waits for the items, or rest.
+/// Does what a look that found this word allows: the end at once, or the next item, or the end that waits for the items, or
+/// rest.
 pub(crate) fn serve<B: Listener>(party: &mut Seated<B>, word: u64, seen: &mut Seen) -> Served
     requires looked { HasLookedAt B.told word party.old.seat.me }
     requires room { length seen.old.signals < SIGNALS_IN_A_TURN }
@@ -47,7 +48,7 @@ pub(crate) fn serve<B: Listener>(party: &mut Seated<B>, word: u64, seen: &mut Se
     }
 }
 
-/// Where no item is to be given: the end that waits for the items, if every item was given that there is, or rest.
+/// Does what is left to do if no item is to be given: the end that waits for the items, if all of them were given, or rest.
 fn close_or_rest<B: Listener>(
     party: &mut Seated<B>,
     given: u64,
@@ -133,7 +134,7 @@ fn rest<B: Listener>(party: &mut Seated<B>, word: u64) -> Served
     }
 }
 
-/// Takes the next item, where one was put and requested: it sees, measures, and takes. Answers how many items it saw, too.
+/// Takes the next item, if one was put and requested: it sees, measures, and takes. Answers how many items it saw, too.
 pub(crate) fn next_item<B: Listener>(
     party: &mut Seated<B>,
     given: u64,
@@ -159,7 +160,8 @@ pub(crate) fn next_item<B: Listener>(
     (tail, Some(take(party, given)))
 }
 
-/// What lies beside the subscriber: how many items were taken, how many its answers requested, and the causes that they brought about.
+/// What lies beside the subscriber: how many items were taken, how many its answers requested, and the causes that they brought
+/// about.
 fn notes<B: Listener>(party: &mut Seated<B>) -> (u64, u64, Causes)
     requires carries { Carries B.told party.old.seat.me }
     ensures seat { IsSameSeat party.old.seat party.new.seat }
