@@ -4,12 +4,12 @@ pub mod Left
 pub mod Offering
 pub mod Outlooks
 pub mod Parties
-pub mod Paused
 pub mod Plays
-pub mod Running
-pub mod Serving
 pub mod Steps
-pub mod Turned
-pub mod Turning
+pub mod TaskAnswers
+pub mod TaskLooks
+pub mod TaskPauses
+pub mod TaskSteps
+pub mod TaskTurns
 pub mod Types
 pub mod Views

@@ -3,15 +3,17 @@ use Rattle.std.specs.Prelude.{◌≡◌, ℕ, zero, suc, ℤ, pos, negsuc, Bool,
 use Rattle.atomic_table.specs.Seated.{TableId}
 use Rattle.flow_rules.specs.Feed.{End}
 use Rattle.feed_core.specs.Cause.{no_causes}
-use Rattle.feed_core.specs.Prelude.{Answer, Signal, total_after}
+use Rattle.feed_core.specs.Prelude.{Answer, Item, Signal, total_after}
 use Rattle.feed_core.specs.World.Table.{MayLook}
-use Rattle.feed_cell.specs.Types.{Fresh, Ready}
+use Rattle.feed_cell.specs.Types.{Causes, Runner, Fresh, Ready}
 use Rattle.feed_cell.specs.Cell.{greeted}
+use Rattle.feed_core.specs.declared.turn.outlook.Outlook.{Outlook}
+use Rattle.feed_cell.specs.declared.cell.Grant.{Grant}
 use Rattle.feed_cell.specs.declared.cell.Held.{Held}
 use Rattle.feed_cell.specs.declared.cell.Lodger.{Lodger}
 use Rattle.feed_cell.specs.declared.cell.View.{View}
 use Rattle.feed_cell.specs.Plays.{SeatOf}
-use Rattle.feed_cell.specs.Turning.{own_after, answers_after}
+use Rattle.feed_cell.specs.TaskAnswers.{own_after, answers_after}
 
 -- the producer: whose subscription it is, what its publisher knows of that, and how many tasks its calls have started
 pub record ProducerState : Type 0 where
@@ -42,18 +44,48 @@ pub record HandleState : Type 0 where
   pub ready : Bool
   pub started : ℕ
 
+-- what a task knows of its subscription: its capacity, where the task stands, whether its subscriber is with it, all that was taken and
+-- by what, what the answers requested and the causes that they brought about, by what it brought to its last look, how often it could not
+-- rest, whether it runs still, and what became of it
+pub record TaskKnows : Type 0 where
+  pub capacity : ℕ
+  pub runner : Runner
+  pub away : Bool
+  pub taken : List Item
+  pub grants : List Grant
+  pub own : ℕ
+  pub answers : Causes
+  pub misses : ℕ
+  pub runs : Bool
+  pub outlook : Outlook
+
+-- what a task knows, by what its seat knows
+abbrev pub known_by_task : View → TaskKnows
+known_by_task v = record {
+  capacity = v.capacity;
+  runner = v.runner;
+  away = v.away;
+  taken = v.taken;
+  grants = v.grants;
+  own = v.own;
+  answers = v.answers;
+  misses = v.misses;
+  runs = v.runs;
+  outlook = v.outlook;
+}
+
 -- the task: its seat, what it knows of the subscription, and what its subscriber was told, where that is with it
 pub record TaskState : Type 0 where
   pub table : TableId
   pub seat : ℕ
-  pub knows : View
+  pub knows : TaskKnows
   pub told : List Signal
 
 -- a seat whose task is over: what it knew when it stopped
 pub record SpentState : Type 0 where
   pub table : TableId
   pub seat : ℕ
-  pub knows : View
+  pub knows : TaskKnows
 
 -- a new subscription's parties
 abbrev pub new_producer : ℕ → TableId → ProducerState

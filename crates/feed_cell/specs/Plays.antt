@@ -77,7 +77,7 @@ pub record FindsRoom {B : Type 0} (before : SeatOf B) (found : ℕ) (after : Sea
       → after ≡ (after_look before.0 head ended HasRoom 1, (length before.0.put % before.0.capacity, Held.Empty) ∷ before.1)
   pub sized : after.0.capacity ≡ before.0.capacity
 
--- the same, where no slot is taken
+-- the producer looks how things stand: it finds this in head, and takes no slot
 pub record FindsHead {B : Type 0} (before : SeatOf B) (found : ℕ) (after : SeatOf B) : Type 0 where
   pub head : ℕ
   pub ended : Bool
@@ -107,7 +107,7 @@ with_cause (Some (Closing ending)) v = record v { closing = Some ending }
 abbrev pub sent : Option Cause → Bool → View → View
 sent cause started v = record (with_cause cause v) { producing = producing_after started; requesting = requesting_after started }
 
--- the same, once it has handed over the task that the signal started, if it did
+-- a party after a signal with this cause, and after it has handed over the task that the signal started, if it did
 abbrev pub after_signal : {T : Type 0} → Option T → Option Cause → View → View
 after_signal task cause v = record (with_cause cause v) { producing = Free; requesting = Idle; started = starts_after task v.started }
 
@@ -174,7 +174,7 @@ pub record Measures {B : Type 0} (before : SeatOf B) (found : ℕ) (after : Seat
   pub enough : length before.0.taken ≡ total_after asked before.0.own → after ≡ (record before.0 { runner = measuring (total_after asked before.0.own) before.0.runner; item = [] }, rest before.1)
   pub sized : after.0.capacity ≡ before.0.capacity
 
--- the same, where no item is out
+-- the task found this in asked, with no item out
 pub record MeasuresNone {B : Type 0} (before : SeatOf B) (found : ℕ) (after : SeatOf B) : Type 0 where
   pub asked : ℕ
   pub left : Bool

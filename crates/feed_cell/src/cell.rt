@@ -118,8 +118,8 @@ impl<B> Model for BoxedLodger<B> {
 }
 
 impl<B> BoxedLodger<B> {
-    /// What lies beside the subscriber: how many items were taken, how many its answers requested, and the causes that they brought
-    /// about.
+    /// What lies beside the subscriber: how many items were taken, how many its answers requested, and the causes that they
+    /// brought about.
     fn notes(&self) -> (u64, u64, Causes)
         ensures { result ≡ (self.now.given, self.now.own, self.now.answers) }
     {
@@ -210,14 +210,15 @@ pub struct View {
 /// The table of a subscription: the four words, a slot for each place, and a slot for the subscriber.
 pub type CellTable<B> = Table<Held<B>, View, u64, InCell<B>, Global>;
 
-/// The table, as its parties share it. How many share it changes with each task, so that number stands in a cache line of its own.
+/// The table, as its parties share it. How many share it changes with each task, so that number stands in a cache line of its
+/// own.
 pub(crate) type SharedTable<B> = Arc<CachePadded<CellTable<B>>, Global>;
 
 /// A party's seat at that table.
 pub type CellSeat<B> = Seat<Held<B>, View>;
 
-/// The rule: the words, slots and views show a subscription that some list of possible events leads to. The capacity is told when
-/// the table is made.
+/// The rule: the words, slots and views show a subscription that some list of possible events leads to. The capacity is told
+/// when the table is made.
 pub struct InCell<B> {
     marker: PhantomData<B>,
 }

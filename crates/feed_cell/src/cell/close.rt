@@ -26,17 +26,18 @@ use std::alloc::Global;
 use std::sync::Arc;
 
 /// Gives back the two ends of a subscription, and takes it apart, with its subscriber. Items that were put and not taken are
-/// dropped. The handle makes no step after this. Where the subscription is still shared, by a task or by its own handle, the producer's end comes
-/// back, not ready.
+/// dropped. The handle makes no step after this. If the subscription is still shared, by a task or by its own handle, the
+/// producer's end comes back, not ready.
 ///
-/// A lane that doesn't run is settled: its subscriber was told all that its demand and its ending allow. One that runs has lost a
-/// task, with its subscriber, or its own handle was never closed.
+/// A lane that doesn't run is settled: its subscriber was told all that its demand and its ending allow. One that runs has lost
+/// a task, with its subscriber, or its own handle was never closed.
 ///
-/// With the subscription's own handle, what that requested is part of the total, and its cancel and its bad requests are among the causes.
-/// With the handle of another, nothing is said of what this one's requested.
+/// With the subscription's own handle, what that requested is part of the total, and its cancel and its bad requests are among
+/// the causes. With the handle of another, nothing is said of what this one's requested.
 pub fn close<B: Listener>(producer: Producer<B>, handle: Handle<B>) -> Result<Lane<B>, Producer<B>>
     ensures left { IfOk result (IsLeftOf B.told producer.end None) }
-    ensures own { handle.table ≡ producer.table → IfOk result (IsLeftOf B.told producer.end (Some handle)) }
+    ensures own { handle.table ≡ producer.table
+        → IfOk result (IsLeftOf B.told producer.end (Some handle)) }
     ensures back { IfErr result (λ back. back ≡ not_ready producer) }
 {
     let mut asking = step_out(handle);
@@ -61,7 +62,7 @@ fn step_out<B: Listener>(handle: Handle<B>) -> CellSeat<B>
     party.into_seat()
 }
 
-/// The table with the producer's seat, where nobody else shares it. Else the producer's end comes back, not ready.
+/// Takes the table out with the producer's seat, if nobody else shares it. Otherwise the producer's end comes back, not ready.
 fn unshared<B: Listener>(producer: Producer<B>) -> Result<(CellTable<B>, CellSeat<B>), Producer<B>>
     ensures seat { IfOk result (λ parts. parts.1.table_id ≡ parts.0.shared.table_id) }
     ensures table { IfOk result (λ parts. parts.1.table_id ≡ producer.table) }

@@ -1,4 +1,4 @@
-//! The handle of a subscription, which its owner has (`Flow.Subscription`).
+//! The handle of a subscription, which its owner has (`Flow.Subscription`). It requests and cancels, and sees no item.
 mod plays;
 pub mod steps;
 
@@ -20,7 +20,7 @@ use std::sync::Arc;
 #[derive(Drop)]
 pub struct Handle<B: Listener> {
     pub(crate) party: Seated<B>,
-    /// What a started task gets, where it is there.
+    /// The share of the table that the next started task gets. After a start it is missing until the next `ready`.
     pub(crate) spare: Option<SharedTable<B>>,
     /// The number of items requested, as in the word asked, which this end alone writes.
     pub(crate) asked: u64,
@@ -59,6 +59,7 @@ impl<B: Listener> Model for Handle<B> {
 }
 
 impl<B: Listener> Handle<B> {
+<<<<<<< HEAD
     /// Tells how many items this handle has requested in all, saturated at 2^63-1.
     pub fn requested(&self) -> u64
         ensures { result ≡ self.now.asked }
@@ -67,6 +68,10 @@ impl<B: Listener> Handle<B> {
     }
 
     /// Takes what one started task needs. Where that is there, it is not refused.
+=======
+    /// Takes what one started task needs, one more share of the table. A handle that is ready is not refused. After `NoMemory`
+    /// it is as it was.
+>>>>>>> abf618bf7f8bfc41a2131e58a7852ec482b3e037
     pub fn ready(&mut self) -> Result<(), NoMemory>
         ensures ok { OnOk result (self.new ≡ record self.old { ready = true }) }
         ensures unchanged { OnErr result (self.new ≡ self.old) }
@@ -78,9 +83,9 @@ impl<B: Listener> Handle<B> {
         Ok(())
     }
 
-    /// Adds to the demand (`Flow.Subscription.request`; Reactive Streams 1.0, rules 3.6, 3.8, 3.9 and 3.17). A number that is not
-    /// positive ends the subscription with an error. Where the task was at rest, it comes back and has to be run. After a cancel
-    /// this does nothing.
+    /// Adds to the demand (`Flow.Subscription.request`; Reactive Streams 1.0, rules 3.6, 3.8, 3.9 and 3.17). A number that is
+    /// not positive ends the subscription with an error. If the task was at rest, it comes back and has to be run. After a
+    /// cancel this does nothing.
     #[must_use]
     pub fn request(&mut self, n: i64) -> Option<Task<B>>
         requires may { MayAsk self.old }
@@ -104,8 +109,9 @@ impl<B: Listener> Handle<B> {
         start(&self.party, &mut self.spare, task)
     }
 
-    /// Ends the subscription (`Flow.Subscription.cancel`; Reactive Streams 1.0, rules 3.5, 3.7 and 3.12): its subscriber is given at
-    /// most one item more. Where the task was at rest, it comes back and has to be run. Only the first cancel does anything.
+    /// Ends the subscription (`Flow.Subscription.cancel`; Reactive Streams 1.0, rules 3.5, 3.7 and 3.12): its subscriber is
+    /// given at most one item more. If the task was at rest, it comes back and has to be run. Only the first cancel does
+    /// anything.
     #[must_use]
     pub fn cancel(&mut self) -> Option<Task<B>>
         requires may { MayAsk self.old }

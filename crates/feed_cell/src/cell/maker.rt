@@ -1,11 +1,11 @@
-//! How a subscription is made.
+//! How a subscription is made: the table is laid and shared, and the seat of its maker is split among the three parties.
 ghost use Rattle.std.specs.Prelude.{◌≡◌, ◌+◌, [], ◌∷◌, replicate, IfOk, IfErr, None, true};
 ghost use Rattle.std.specs.Arc.{arc_value};
 ghost use Rattle.crossbeam_utils.specs.Padded.{padded_value};
 ghost use Rattle.feed_core.specs.LaneCalls.{IsCapacity};
 ghost use Rattle.feed_cell.specs.Parties.{new_producer, new_handle, IsNewTask};
 ghost use Rattle.feed_cell.specs.Steps.{HasFourWords, Steps, IsUnlodged, HasLodged};
-ghost use Rattle.feed_cell.specs.Turning.{new_lodger};
+ghost use Rattle.feed_cell.specs.TaskAnswers.{new_lodger};
 ghost use Rattle.feed_cell.specs.Views.{first_view};
 ghost use Rattle.feed_cell.specs.declared.cell.Held.TheVariants as Held;
 
@@ -28,8 +28,8 @@ use std::sync::Arc;
 pub struct Cell;
 
 impl Cell {
-    /// A new subscription of this subscriber, with a buffer of this capacity, which is one of `capacity`'s values: its producer's end,
-    /// its handle, and its task, which owes the first turn. Where memory is refused, the subscriber comes back.
+    /// Makes a new subscription of this subscriber, with a buffer of this capacity, which is one of `capacity`'s values: its
+    /// producer's end, its handle, and its task, which owes the first turn. If memory is refused, the subscriber comes back.
     pub fn new<B: Listener>(
         alloc: Global,
         capacity: usize,
@@ -87,7 +87,7 @@ impl Cell {
     }
 }
 
-/// The table, with all its slots empty, and the seat of its maker.
+/// Lays the table, with all its slots empty, and the seat of its maker.
 fn lay<B: Listener>(alloc: Global, capacity: usize) -> Result<(CellTable<B>, CellSeat<B>), NoMemory>
     requires capacity { IsCapacity capacity }
     ensures { IfOk result (λ made.
@@ -103,7 +103,7 @@ fn lay<B: Listener>(alloc: Global, capacity: usize) -> Result<(CellTable<B>, Cel
     }
 }
 
-/// So many empty slots.
+/// Makes this many empty slots.
 fn empty_slots<B: Listener>(alloc: Global, count: usize) -> Result<Vec<Held<B>>, NoMemory>
     ensures { IfOk result (λ slots. slots.items ≡ replicate count Held.Empty) }
 {
@@ -127,7 +127,7 @@ struct Shares<B: Listener> {
     handle_spare: SharedTable<B>,
 }
 
-/// The table, shared by all who need it.
+/// Shares the table among all who need it.
 fn share<B: Listener>(alloc: Global, table: CellTable<B>) -> Result<Shares<B>, NoMemory>
     ensures { IfOk result (λ shares.
         (padded_value (arc_value shares.producer) ≡ table)
@@ -148,7 +148,7 @@ fn share<B: Listener>(alloc: Global, table: CellTable<B>) -> Result<Shares<B>, N
     })
 }
 
-/// The subscriber before its first turn, boxed. Where memory is refused, it comes back.
+/// Boxes the subscriber before its first turn. If memory is refused, it comes back.
 fn lodger<B: Listener>(alloc: Global, subscriber: B) -> Result<BoxedLodger<B>, (NoMemory, B)>
     ensures new { IfOk result (λ guest. guest ≡ new_lodger subscriber) }
     ensures back { IfErr result (λ refused. refused.1 ≡ subscriber) }

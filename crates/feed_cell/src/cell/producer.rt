@@ -1,4 +1,5 @@
-//! The producer's end of a subscription, which its publisher has.
+//! The producer's end of a subscription, which its publisher has. It is the `Feed` of that publisher's Hub, and calls no
+//! subscriber.
 mod plays;
 pub mod steps;
 
@@ -16,7 +17,7 @@ use std::sync::Arc;
 #[derive(Drop)]
 pub struct Producer<B: Listener> {
     pub(crate) party: Seated<B>,
-    /// What a started task gets, where it is there.
+    /// The share of the table that the next started task gets. After a start it is missing until the next `ready`.
     pub(crate) spare: Option<SharedTable<B>>,
     /// The number of items put, as in the word tail, which this end alone writes.
     pub(crate) tail: u64,

@@ -35,7 +35,7 @@ impl Split<View> for HandOver {
     ghost right = { running_handed };
 }
 
-/// Signals what this mask says. Where the task was at rest, its seat comes back.
+/// Signals what this mask says. If the task was at rest, its seat comes back.
 pub(crate) fn signal<B: Listener>(party: &mut Seated<B>, mask: u64) -> Option<CellSeat<B>>
     requires mask { Reads mask (signal_of (cause_in mask)) }
     requires may { MaySignal (cause_in mask) party.old.seat.me.0 }
@@ -61,7 +61,7 @@ fn hand_over<B: Listener>(party: &mut Seated<B>, found: u64) -> Option<CellSeat<
     Some(table.split_seat::<HandOver>(&mut party.seat))
 }
 
-/// The task that a signal of this party started, if it did: what was spare is spent for it.
+/// Makes the task that a signal of this party started, if it did: what was spare is spent for it.
 pub(crate) fn start<B: Listener>(
     party: &Seated<B>,
     spare: &mut Option<SharedTable<B>>,

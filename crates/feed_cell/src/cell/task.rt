@@ -23,7 +23,8 @@ pub enum Stage {
     Going,
 }
 
-/// The task of a subscription. It has to be run until it is at rest or has ended: one that is dropped takes its subscriber with it.
+/// The task of a subscription. It has to be run until it is at rest or has ended: one that is dropped takes its subscriber with
+/// it.
 #[must_use]
 #[derive(Drop)]
 pub struct Task<B: Listener> {
@@ -39,8 +40,8 @@ impl<B: Listener> fmt::Debug for Task<B> {
 
 impl<B: Listener> Model for Task<B> {
     ghost use Rattle.std.specs.Prelude.{◌≡◌};
-    ghost use Rattle.feed_cell.specs.Parties.{TaskState};
-    ghost use Rattle.feed_cell.specs.Paused.{told_out, IsPaused};
+    ghost use Rattle.feed_cell.specs.Parties.{TaskState, known_by_task};
+    ghost use Rattle.feed_cell.specs.TaskPauses.{told_out, IsPaused};
     ghost use Rattle.feed_cell.specs.Views.{RunsFree};
 
     ghost Value = { TaskState };
@@ -48,7 +49,7 @@ impl<B: Listener> Model for Task<B> {
     ghost view = { λ t. record {
       table = t.party.seat.table_id;
       seat = t.party.seat.id;
-      knows = t.party.seat.me.0;
+      knows = known_by_task t.party.seat.me.0;
       told = told_out B.told t.party.seat.me.1;
     } };
 
@@ -57,7 +58,8 @@ impl<B: Listener> Model for Task<B> {
         × IsPaused B.told t.stage t.party.seat.me };
 }
 
-/// The seat of a task that is over, as its last turn gives it back: what it showed last. It does nothing any more, and has no bytes.
+/// The seat of a task that is over, as its last turn gives it back: what it showed last. It does nothing any more, and has no
+/// bytes.
 #[derive(Drop)]
 pub struct Spent<B: Listener> {
     pub(crate) seat: CellSeat<B>,
@@ -70,9 +72,9 @@ impl<B: Listener> fmt::Debug for Spent<B> {
 }
 
 impl<B: Listener> Model for Spent<B> {
-    ghost use Rattle.feed_cell.specs.Parties.{SpentState};
+    ghost use Rattle.feed_cell.specs.Parties.{SpentState, known_by_task};
 
     ghost Value = { SpentState };
 
-    ghost view = { λ s. record { table = s.seat.table_id; seat = s.seat.id; knows = s.seat.me.0 } };
+    ghost view = { λ s. record { table = s.seat.table_id; seat = s.seat.id; knows = known_by_task s.seat.me.0 } };
 }

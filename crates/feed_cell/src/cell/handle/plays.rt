@@ -1,4 +1,4 @@
-//! What each step of the handle tells it.
+//! What each step of the handle tells it. These types have no value and no code; the steps are in `steps.rt`.
 use crate::cell::{Held, View};
 use atomic_table::Play;
 use flow_rules::Listener;

@@ -1,4 +1,4 @@
-//! The steps of the handle.
+//! The steps of the handle on its own word. Its signals are in `signal.rt`.
 ghost use Rattle.std.specs.Prelude.{◌≡◌, ◌+◌, ◌≤◌};
 ghost use Rattle.feed_core.specs.Prelude.{total_after};
 ghost use Rattle.feed_cell.specs.Plays.{IsAsk, Leaves};
@@ -9,7 +9,7 @@ use crate::cell::seated::Seated;
 use crate::cell::{ASKED, MARK};
 use flow_rules::{Listener, UNBOUNDED};
 
-/// Stores the total with so many more, and answers it.
+/// Stores the total with this many more, and answers it.
 pub(crate) fn ask_more<B: Listener>(party: &mut Seated<B>, asked: u64, more: u64) -> u64
     requires may { MayRequest party.old.seat.me }
     requires counted { party.old.seat.me.0.asked ≡ asked }

@@ -1,9 +1,9 @@
-//! What each step of the producer tells it.
+//! What each step of the producer tells it. These types have no value and no code; the steps are in `steps.rt`.
 use crate::cell::{Held, View};
 use atomic_table::Play;
 use flow_rules::Listener;
 
-/// A put looks for room: a load of head, which takes the next slot out where it is free.
+/// A put looks for room: a load of head, which takes the next slot out if it is free.
 pub(crate) struct RoomStep;
 
 impl<B: Listener> Play<Held<B>, View> for RoomStep {

@@ -1,4 +1,4 @@
-//! The steps of the producer.
+//! The steps of the producer: its looks at head, and a put. Its signals are in `signal.rt`.
 ghost use Rattle.std.specs.Prelude.{◌≡◌, Some, None, IfSome, length};
 ghost use Rattle.feed_cell.specs.Types.{Closing};
 ghost use Rattle.feed_cell.specs.Offering.{Finds};
@@ -20,11 +20,11 @@ pub(crate) enum Found {
     Ended,
     /// The buffer holds as many items as its capacity.
     Full,
-    /// There is room, and so many items are held. The slot of the next item is out.
+    /// There is room, and this many items are held. The slot of the next item is out.
     Room(u64),
 }
 
-/// Looks for room, for a producer that has put so many items.
+/// Looks for room, for a producer that has put this many items.
 pub(crate) fn find_room<B: Listener>(party: &mut Seated<B>, tail: u64) -> Found
     requires may { MayOffer party.old.seat.me }
     requires counted { length party.old.seat.me.0.put ≡ tail }
@@ -41,7 +41,7 @@ pub(crate) fn find_room<B: Listener>(party: &mut Seated<B>, tail: u64) -> Found
     Found::Room(held)
 }
 
-/// Loads head, and takes the slot of the next item out where there is room.
+/// Loads head, and takes the slot of the next item out if there is room.
 fn look_for_room<B: Listener>(party: &mut Seated<B>) -> u64
     requires may { MayOffer party.old.seat.me }
     ensures finds { Steps party.old.seat (FindsRoom party.old.seat.me result) party.new.seat }
@@ -78,7 +78,7 @@ fn leave<B: Listener>(nothing: Held<B>)
     let _ = ManuallyDrop::new(nothing);
 }
 
-/// Signals a close.
+/// Signals a close, with the code of its error, if it has one.
 pub(crate) fn signal_end<B: Listener>(party: &mut Seated<B>, ending: Ending) -> Option<CellSeat<B>>
     requires may { MayOffer party.old.seat.me }
     requires unclosed { party.old.seat.me.0.closing ≡ None }

@@ -1,9 +1,9 @@
-//! The calls of the subscriber, and what its answers change beside it.
+//! The calls of the subscriber, and what its answers change beside it. Nothing here touches a word of the subscription.
 ghost use Rattle.std.specs.Prelude.{◌≡◌, ◌<◌, length, IfSome, IfNone};
 ghost use Rattle.feed_core.specs.Prelude.{Subscribed, Next, UNBOUNDED};
 ghost use Rattle.feed_core.specs.declared.turn.TheConstants.{SIGNALS_IN_A_TURN};
-ghost use Rattle.feed_cell.specs.Running.{IsGoOn, IsQuietEnd, GoesOnWith, EndsWith, FinishesWith};
-ghost use Rattle.feed_cell.specs.Turning.{answered, ended_as};
+ghost use Rattle.feed_cell.specs.TaskSteps.{IsGoOn, IsQuietEnd, GoesOnWith, EndsWith, FinishesWith};
+ghost use Rattle.feed_cell.specs.TaskAnswers.{answered, ended_as};
 
 use crate::cell::{BoxedLodger, Lodger};
 use feed_core::{Seen, tell_next, tell_subscribed, tell_terminal};
@@ -42,7 +42,7 @@ impl<B: Listener> BoxedLodger<B> {
         }
     }
 
-    /// Tells the end that is due, where it has a signal. Answers the end that it is.
+    /// Tells the end that is due, if it has a signal. Answers the end that it is.
     pub(crate) fn finish(&mut self, due: How, seen: &mut Seen) -> How
         requires room { length seen.old.signals < SIGNALS_IN_A_TURN }
         ensures { FinishesWith B.told due result self.old self.new seen.old seen.new }

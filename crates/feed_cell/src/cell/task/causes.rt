@@ -1,4 +1,4 @@
-//! The causes that the control word tells.
+//! The causes that the control word tells, with those that the answers of callbacks brought about.
 ghost use Rattle.std.specs.Prelude.{◌≡◌, ◌<◌, ℕ, Bool};
 ghost use Rattle.std.specs.Int.{bit_at};
 ghost use Rattle.feed_cell.specs.Control.{Flags, Reads, number, causes_of};
@@ -7,7 +7,7 @@ use crate::cell::{BAD_REQUEST, CANCELLED, CODE, COMPLETED, DOUBLED, FAILED};
 use feed_core::Causes;
 use flow_rules::Ending;
 
-/// The causes that this control word tells, and with them those of the answers.
+/// Reads the causes that this control word tells, and joins those of the answers.
 pub(crate) fn causes_in(word: u64, answers: Causes) -> Causes
     ensures { (flags : Flags) → Reads word flags → result ≡ causes_of flags answers }
 {
@@ -21,7 +21,7 @@ pub(crate) fn causes_in(word: u64, answers: Causes) -> Causes
     }
 }
 
-/// How the subscription was closed, if it was.
+/// Reads how the subscription was closed, if it was.
 fn closing_in(word: u64) -> Option<Ending>
     ensures { (flags : Flags) → Reads word flags → result ≡ flags.closing }
 {
@@ -34,7 +34,7 @@ fn closing_in(word: u64) -> Option<Ending>
     None
 }
 
-/// Whether this bit of the word is set.
+/// Answers whether this bit of the word is set.
 fn is_set(word: u64, bit: u32) -> bool
     requires { bit < 64 }
     ensures { (flag : Bool) → bit_at word bit ≡ number flag → result ≡ flag }

@@ -1,11 +1,11 @@
-//! What the task does after a look.
+//! What the task does after a look: it gives one item, or ends the subscription, or rests. It never looks again by itself.
 ghost use Rattle.std.specs.Prelude.{◌≡◌, ◌+◌, ◌≤◌, ◌<◌, length, bit_and, IfSome, IfNone};
 ghost use Rattle.feed_core.specs.Prelude.{UNBOUNDED};
 ghost use Rattle.feed_core.specs.World.Table.{MayRest, MaySee};
 ghost use Rattle.feed_core.specs.declared.turn.TheConstants.{SIGNALS_IN_A_TURN};
 ghost use Rattle.feed_cell.specs.Control.{QUIET};
-ghost use Rattle.feed_cell.specs.Running.{notes_of, MayFinish, Carries, HasLookedAt, HasTaken, HasNoneToGive, FindsNone, TakesNext};
-ghost use Rattle.feed_cell.specs.Serving.{Serves, GivesAs, FinishesAs, TriesRest, Concludes};
+ghost use Rattle.feed_cell.specs.TaskSteps.{notes_of, MayFinish, Carries, HasLookedAt, HasTaken, HasNoneToGive, FindsNone, TakesNext};
+ghost use Rattle.feed_cell.specs.TaskLooks.{Serves, GivesAs, FinishesAs, TriesRest, Concludes};
 ghost use Rattle.feed_cell.specs.Steps.{IsSameSeat};
 
 use super::causes::causes_in;
@@ -28,7 +28,8 @@ pub(crate) enum Served {
     Ended(How),
 }
 
-/// Does what a look that found this word allows: the end at once, or the next item, or the end that waits for the items, or rest.
+/// Does what a look that found this word allows: the end at once, or the next item, or the end that waits for the items, or
+/// rest.
 pub(crate) fn serve<B: Listener>(party: &mut Seated<B>, word: u64, seen: &mut Seen) -> Served
     requires looked { HasLookedAt B.told word party.old.seat.me }
     requires room { length seen.old.signals < SIGNALS_IN_A_TURN }
@@ -47,7 +48,7 @@ pub(crate) fn serve<B: Listener>(party: &mut Seated<B>, word: u64, seen: &mut Se
     }
 }
 
-/// Where no item is to be given: the end that waits for the items, if every item was given that there is, or rest.
+/// Does what is left to do if no item is to be given: the end that waits for the items, if all of them were given, or rest.
 fn close_or_rest<B: Listener>(
     party: &mut Seated<B>,
     given: u64,
@@ -62,7 +63,8 @@ fn close_or_rest<B: Listener>(
     requires look { party.old.seat.me.0.look ≡ bit_and word QUIET }
     requires room { length seen.old.signals < SIGNALS_IN_A_TURN }
     ensures seat { IsSameSeat party.old.seat party.new.seat }
-    ensures concludes { Concludes B.told result party.old.seat.me party.new.seat.me seen.old seen.new }
+    ensures concludes { Concludes B.told result
+        party.old.seat.me party.new.seat.me seen.old seen.new }
 {
     match due {
         Some(due) if given == tail => finish(party, given, due, seen),
@@ -76,7 +78,8 @@ fn give<B: Listener>(party: &mut Seated<B>, given: u64, item: Item, seen: &mut S
     requires counted { (length party.old.seat.me.0.taken ≡ given + 1) × (given < UNBOUNDED) }
     requires room { length seen.old.signals < SIGNALS_IN_A_TURN }
     ensures seat { IsSameSeat party.old.seat party.new.seat }
-    ensures gives { GivesAs B.told item result party.old.seat.me party.new.seat.me seen.old seen.new }
+    ensures gives { GivesAs B.told item result
+        party.old.seat.me party.new.seat.me seen.old seen.new }
 {
     match party
         .seat
@@ -100,7 +103,8 @@ fn finish<B: Listener>(party: &mut Seated<B>, given: u64, due: How, seen: &mut S
     requires counted { (length party.old.seat.me.0.taken ≡ given) × (given ≤ UNBOUNDED) }
     requires room { length seen.old.signals < SIGNALS_IN_A_TURN }
     ensures seat { IsSameSeat party.old.seat party.new.seat }
-    ensures finishes { FinishesAs B.told due result party.old.seat.me party.new.seat.me seen.old seen.new }
+    ensures finishes { FinishesAs B.told due result
+        party.old.seat.me party.new.seat.me seen.old seen.new }
 {
     match party
         .seat
@@ -130,7 +134,7 @@ fn rest<B: Listener>(party: &mut Seated<B>, word: u64) -> Served
     }
 }
 
-/// Takes the next item, where one was put and requested: it sees, measures, and takes. Answers how many items it saw, too.
+/// Takes the next item, if one was put and requested: it sees, measures, and takes. Answers how many items it saw, too.
 pub(crate) fn next_item<B: Listener>(
     party: &mut Seated<B>,
     given: u64,
@@ -156,7 +160,8 @@ pub(crate) fn next_item<B: Listener>(
     (tail, Some(take(party, given)))
 }
 
-/// What lies beside the subscriber: how many items were taken, how many its answers requested, and the causes that they brought about.
+/// What lies beside the subscriber: how many items were taken, how many its answers requested, and the causes that they brought
+/// about.
 fn notes<B: Listener>(party: &mut Seated<B>) -> (u64, u64, Causes)
     requires carries { Carries B.told party.old.seat.me }
     ensures seat { IsSameSeat party.old.seat party.new.seat }

@@ -1,4 +1,4 @@
-//! What each step of the task tells it.
+//! What each step of the task tells it. These types have no value and no code; the steps are in `steps.rt`.
 use crate::cell::{Held, View};
 use atomic_table::Play;
 use flow_rules::Listener;
@@ -30,7 +30,7 @@ impl<B: Listener> Play<Held<B>, View> for LookFirstStep {
     ghost then = { λ _. LooksFirst B.told };
 }
 
-/// The task looks for an item: a load of tail, which takes its slot out where there is one.
+/// The task looks for an item: a load of tail, which takes its slot out if there is one.
 pub(crate) struct SeeStep;
 
 impl<B: Listener> Play<Held<B>, View> for SeeStep {
@@ -39,7 +39,7 @@ impl<B: Listener> Play<Held<B>, View> for SeeStep {
     ghost then = { λ _. SeesPut };
 }
 
-/// The task looks for demand, with an item out: a load of asked, which gives the slot back where there is none.
+/// The task looks for demand, with an item out: a load of asked, which gives the slot back if there is none.
 pub(crate) struct MeasureStep;
 
 impl<B: Listener> Play<Held<B>, View> for MeasureStep {
@@ -48,7 +48,7 @@ impl<B: Listener> Play<Held<B>, View> for MeasureStep {
     ghost then = { λ _. Measures };
 }
 
-/// The same, with no item out.
+/// The task looks for demand with no item out: a load of asked, without which it may not rest.
 pub(crate) struct MeasureNoneStep;
 
 impl<B: Listener> Play<Held<B>, View> for MeasureNoneStep {

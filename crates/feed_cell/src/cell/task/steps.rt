@@ -1,4 +1,4 @@
-//! The steps of the task.
+//! The steps of the task, each on one word. They are put together in `looks.rt` and `turns.rt`.
 ghost use Rattle.std.specs.Prelude.{◌≡◌, ◌+◌, ◌%◌, ◌<◌, ◌⊎◌, ℕ, [], ◌∷◌, ◌++◌, length, true, false, None, IfSome, IfNone, bit_and};
 ghost use Rattle.std.specs.Int.{bit_at};
 ghost use Rattle.atomic_table.specs.Table.{rest};
@@ -10,7 +10,7 @@ ghost use Rattle.feed_cell.specs.Types.{Nobody, Ready, Taken};
 ghost use Rattle.feed_cell.specs.Control.{MARK, QUIET};
 ghost use Rattle.feed_cell.specs.Parties.{IsGoing, IsHome};
 ghost use Rattle.feed_cell.specs.Plays.{SeesPut, Measures, MeasuresNone, grants_by, how_out, outlook_by};
-ghost use Rattle.feed_cell.specs.Running.{HasItem, KeepsCounts, KeepsSubscriber, Carries, HasLookedAt, IsEnding, TakesOut, IsAtRest, HasMissed, HasLeft};
+ghost use Rattle.feed_cell.specs.TaskSteps.{HasItem, KeepsCounts, KeepsSubscriber, Carries, HasLookedAt, IsEnding, TakesOut, IsAtRest, HasMissed, HasLeft};
 ghost use Rattle.feed_cell.specs.Steps.{IsSameSeat, Steps};
 ghost use Rattle.feed_cell.specs.Views.{RunsFree, RunsAway};
 ghost use Rattle.feed_cell.specs.declared.cell.Held.TheVariants as Held;
@@ -47,7 +47,7 @@ pub(crate) fn look_first<B: Listener>(party: &mut Seated<B>) -> u64
     table.fetch_and::<LookFirstStep>(&mut party.seat, CONTROL, QUIET)
 }
 
-/// Sees how many items were put, and takes the slot of the next one out where there is one.
+/// Sees how many items were put, and takes the slot of the next one out if there is one.
 pub(crate) fn see<B: Listener>(party: &mut Seated<B>) -> u64
     requires away { RunsAway party.old.seat.me.0 }
     requires may { MaySee party.old.seat.me.0.runner }
@@ -57,7 +57,7 @@ pub(crate) fn see<B: Listener>(party: &mut Seated<B>) -> u64
     table.load::<SeeStep>(&mut party.seat, TAIL)
 }
 
-/// Measures how many items were requested by the handle, with an item out, whose slot it gives back where no more are.
+/// Measures how many items the handle requested, with an item out, whose slot it gives back if no more were requested.
 pub(crate) fn measure<B: Listener>(party: &mut Seated<B>) -> u64
     requires away { RunsAway party.old.seat.me.0 }
     requires may { MayMeasure party.old.seat.me.0.runner }
@@ -68,7 +68,7 @@ pub(crate) fn measure<B: Listener>(party: &mut Seated<B>) -> u64
     table.load::<MeasureStep>(&mut party.seat, ASKED)
 }
 
-/// The same, with no item out.
+/// Measures how many items the handle requested, with no item out.
 pub(crate) fn measure_none<B: Listener>(party: &mut Seated<B>)
     requires away { RunsAway party.old.seat.me.0 }
     requires may { MayMeasure party.old.seat.me.0.runner }

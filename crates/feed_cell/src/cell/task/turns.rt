@@ -1,13 +1,14 @@
-//! A turn of a task.
+//! A turn of a task: a greeting, if one is owed, and looks until it gave 64 items, rested or ended. Its words are the same as
+//! those of `Desk::turn`, which is a turn of one thread.
 ghost use Rattle.std.specs.Prelude.{◌≡◌, ◌≤◌, ◌↔◌, [], length, IfOk, IfErr, OnOk};
 ghost use Rattle.feed_core.specs.Prelude.{Complete, Error, Fault, How, items_of};
 ghost use Rattle.feed_core.specs.Turn.{EndsIn};
 ghost use Rattle.feed_core.specs.declared.turn.TheConstants.{ITEMS_IN_A_TURN, SIGNALS_IN_A_TURN};
 ghost use Rattle.feed_core.specs.declared.turn.outlook.Outlook.TheVariants.{Again, Ended};
-ghost use Rattle.feed_cell.specs.Paused.{IsPaused};
-ghost use Rattle.feed_cell.specs.Running.{HasLookedAt, KeepsCounts};
+ghost use Rattle.feed_cell.specs.TaskPauses.{IsPaused};
+ghost use Rattle.feed_cell.specs.TaskSteps.{HasLookedAt, KeepsCounts};
 ghost use Rattle.feed_cell.specs.Steps.{IsSameSeat};
-ghost use Rattle.feed_cell.specs.Turned.{MayGoOn, OnAgain, outlook_of, IsBeforeLook, RunsAs, TurnsInto, MayLookNext, KeepsGoing};
+ghost use Rattle.feed_cell.specs.TaskTurns.{MayGoOn, OnAgain, outlook_of, IsBeforeLook, RunsAs, TurnsInto, MayLookNext, KeepsGoing};
 ghost use Rattle.feed_cell.specs.Views.{RunsFree};
 
 use super::looks::{Served, serve};
@@ -31,11 +32,11 @@ pub enum Turn<B: Listener> {
 }
 
 impl<B: Listener> Task<B> {
-    /// Tells the subscriber what is owed: `onSubscribe` first of all, then items below the demand, 64 at most, then the terminal
-    /// signal. What it was told is what `seen` then holds (`Flow.Subscriber`; Reactive Streams 1.0, rules 1.1, 1.3, 1.5, 1.7 and
-    /// 1.9). Before each item it looks: that look showed no cancel, bad request, second subscribing or error, and a measure after it
-    /// showed that the item was requested. What a callback answers is done at once; one that is refused memory ends the subscription.
-    /// It goes on only after 64 items, or where something was new when it would have rested.
+    /// Tells the subscriber what is owed: `onSubscribe` first of all, then items below the demand, 64 at most, then the
+    /// terminal signal. What it was told is what `seen` then holds (`Flow.Subscriber`; Reactive Streams 1.0, rules 1.1, 1.3,
+    /// 1.5, 1.7 and 1.9). Before each item it looks: that look showed no cancel, bad request, second subscribing or error, and
+    /// a measure after it showed that the item was requested. What a callback answers is done at once; one that is refused
+    /// memory ends the subscription. It goes on only after 64 items, or if something was new when it would have rested.
     pub fn turn(self, seen: &mut Seen) -> Turn<B>
 
         // What it tells, by what it takes each item, and what became of the task.
@@ -48,7 +49,8 @@ impl<B: Listener> Task<B> {
 
         // What it answers.
         ensures again { OnAgain result (λ next. MayGoOn self.knows next.knows seen.new.signals) }
-        ensures completed { EndsIn seen.new.signals Complete ↔ (outlook_of result ≡ Ended How.Completed) }
+        ensures completed { EndsIn seen.new.signals Complete
+            ↔ (outlook_of result ≡ Ended How.Completed) }
         ensures errored { (fault : Fault)
             → EndsIn seen.new.signals (Error fault) ↔ (outlook_of result ≡ Ended (How.Errored fault)) }
     {
@@ -71,7 +73,7 @@ impl<B: Listener> Task<B> {
     }
 }
 
-/// Greets the subscriber, where it was told nothing yet, and looks until the turn is over.
+/// Greets the subscriber, if it was told nothing yet, and looks until the turn is over.
 fn run<B: Listener>(party: &mut Seated<B>, stage: Stage, seen: &mut Seen) -> Outlook
     requires runner { RunsFree party.old.seat.me.0 }
     requires paused { IsPaused B.told stage party.old.seat.me }
@@ -97,7 +99,7 @@ fn run<B: Listener>(party: &mut Seated<B>, stage: Stage, seen: &mut Seen) -> Out
     Outlook::Again
 }
 
-/// Tells `onSubscribe`, where nothing was told yet. Answers where the task stands then, or the end, if what the callback answers
+/// Tells `onSubscribe`, if nothing was told yet. Answers where the task stands then, or the end, if what the callback answers
 /// is one.
 fn greet<B: Listener>(party: &mut Seated<B>, stage: Stage, seen: &mut Seen) -> Result<Stage, How>
     requires runner { RunsFree party.old.seat.me.0 }

@@ -1,7 +1,7 @@
 use Rattle.std.proofs.Common.{◌-◌, ℕ, ap, ◌∙◌, sym}
 use Rattle.std.specs.Mem.Slots.{slots_items, slots_counts}
 use lib.ListN.{get_elem?}
-use Rattle.feed_cell.proofs.Closed.{left_of}
+use Rattle.feed_cell.proofs.ClosedTable.{left_of}
 use Rattle.feed_cell.proofs.cell.close.take_apart.Goals as goal
 
 pub returns : goal.returns

@@ -1,8 +1,8 @@
 use Rattle.std.proofs.Common.{rules, ◌∙◌}
 use Rattle.feed_cell.specs.Control.{cause_in}
-use Rattle.feed_cell.proofs.Handing.{on_some}
-use Rattle.feed_cell.proofs.Signalling.{signals}
-use Rattle.feed_cell.proofs.Starting.{signalled, must_hand_over}
+use Rattle.feed_cell.proofs.HandOver.{on_some}
+use Rattle.feed_cell.proofs.SignalStep.{signals}
+use Rattle.feed_cell.proofs.SignalSent.{signalled, must_hand_over}
 use Rattle.feed_cell.proofs.cell.signal.signal.Goals as goal
 
 pub fetch_or-found-requires : goal.fetch_or-found-requires

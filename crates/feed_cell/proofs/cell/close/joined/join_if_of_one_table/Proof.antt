@@ -11,7 +11,7 @@ use Rattle.atomic_table.specs.contracts.shared.Shared as table
 use Rattle.atomic_table.specs.contracts.shared.Seat as seat
 use Rattle.atomic_table.proofs.Fields.{HandData}
 use Rattle.atomic_table.proofs.Calls.{fm, seq_cst, found, finds, loads}
-use Rattle.feed_cell.proofs.Joining.{same_table, which_one, me_after, it_after, joined, takes_in}
+use Rattle.feed_cell.proofs.JoinWalk.{same_table, which_one, me_after, it_after, joined, takes_in}
 use Rattle.feed_cell.specs.contracts.cell.close.joined.join_if_of_one_table.{ended, clauses}
 use Rattle.feed_cell.specs.contracts.cell.close.joined.join_if_of_one_table.Key.{name as #self}
 use Rattle.feed_cell.proofs.cell.close.joined.join_if_of_one_table.Statement.{statement}

@@ -1,5 +1,5 @@
 use Rattle.std.proofs.Common.{rules}
-use Rattle.feed_cell.proofs.Rooming.{stands}
+use Rattle.feed_cell.proofs.ProducerRoom.{stands}
 use Rattle.feed_cell.proofs.cell.producer.steps.look.Goals as goal
 
 pub load-requires : goal.load-requires

@@ -2,10 +2,10 @@
 use Rattle.std.proofs.Common.{◌≡◌, length, subst, sym}
 use Rattle.feed_core.specs.World.Table.{MayEnd}
 use Rattle.feed_core.specs.declared.turn.outlook.Outlook.TheVariants.{Ended}
-use Rattle.feed_cell.specs.Parties.{TaskState}
+use Rattle.feed_cell.specs.Parties.{TaskState, known_by_task}
 use Rattle.feed_cell.specs.Steps.{CellSeat}
-use Rattle.feed_cell.specs.Turned.{MayGoOn, StopsAs}
-use Rattle.feed_cell.proofs.Turned.{few_seen, few_items, completed_by, errored_by}
+use Rattle.feed_cell.specs.TaskTurns.{MayGoOn, StopsAs}
+use Rattle.feed_cell.proofs.TurnSignals.{few_seen, few_items, completed_by, errored_by}
 use Rattle.feed_cell.proofs.cell.task.Task.turn.Goals as goal
 
 pub returns-in-Again-clause-at_most : goal.returns-in-Again-clause-at_most
@@ -15,7 +15,7 @@ pub returns-in-Again-clause-few : goal.returns-in-Again-clause-few
 returns-in-Again-clause-few g c = few_seen c.in-Again.ensures.runs.1.turned
 
 pub returns-in-Again-clause-again : goal.returns-in-Again-clause-again
-returns-in-Again-clause-again g c = subst (λ (t : TaskState). MayGoOn t.knows c.run.new.party.seat.me.0 c.run.new.seen.signals) c.self.view_is c.in-Again.ensures.runs.2
+returns-in-Again-clause-again g c = subst (λ (t : TaskState). MayGoOn t.knows (known_by_task c.run.new.party.seat.me.0) c.run.new.seen.signals) c.self.view_is c.in-Again.ensures.runs.2
 
 pub returns-in-Again-clause-completed : goal.returns-in-Again-clause-completed
 returns-in-Again-clause-completed g c = completed_by c.in-Again.ensures.runs.1.turned
@@ -37,7 +37,7 @@ returns-in-Resting-clause-errored g c = errored_by c.in-Resting.ensures.runs.0.t
 
 pub returns-in-Ended-clause-turned : goal.returns-in-Ended-clause-turned
 returns-in-Ended-clause-turned g c =
-    let ended = λ (t : TaskState) (after : CellSeat g.row.B.Denot). (after.table_id ≡ t.table) × (after.id ≡ t.seat) × StopsAs t.knows after.me.0 t.told c.run.new.seen.signals (Ended c.in-Ended.how) × MayEnd c.in-Ended.how (length after.me.0.taken) after.me.0.runner in
+    let ended = λ (t : TaskState) (after : CellSeat g.row.B.Denot). (after.table_id ≡ t.table) × (after.id ≡ t.seat) × StopsAs t.knows (known_by_task after.me.0) t.told c.run.new.seen.signals (Ended c.in-Ended.how) × MayEnd c.in-Ended.how (length after.me.0.taken) after.me.0.runner in
     let end = c.in-Ended.ensures in
     subst (ended c.args.self) (sym c.into_seat-seat-in-Ended.ensures) (subst (λ (t : TaskState). ended t c.run.new.party.seat) c.self.view_is (end.seat.0, end.seat.1, end.runs.0, end.runs.1))
 

@@ -1,5 +1,5 @@
 use Rattle.std.proofs.Common.{rules}
-use Rattle.feed_cell.proofs.Calling.{top}
+use Rattle.feed_cell.proofs.TaskCalls.{top}
 use Rattle.feed_cell.specs.declared.cell.Held.TheVariants as Held
 use Rattle.feed_cell.proofs.cell.task.looks.notes.Goals as goal
 

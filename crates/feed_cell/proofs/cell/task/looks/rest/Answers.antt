@@ -1,4 +1,4 @@
-use Rattle.feed_cell.proofs.Serving.{misses_rest, rests_now}
+use Rattle.feed_cell.proofs.TaskLooks.{misses_rest, rests_now}
 use Rattle.feed_cell.proofs.cell.task.looks.rest.Goals as goal
 
 pub returns-else-try_rest-clause-rests : goal.returns-else-try_rest-clause-rests

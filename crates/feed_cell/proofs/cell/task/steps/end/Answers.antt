@@ -1,5 +1,5 @@
 use Rattle.std.proofs.Common.{◌+◌, ℕ, rules, ap, sym}
-use Rattle.feed_cell.proofs.Running.{ends_there}
+use Rattle.feed_cell.proofs.TaskSteps.{ends_there}
 use Rattle.feed_cell.specs.Control.{MARK}
 use Rattle.feed_cell.proofs.cell.task.steps.end.Goals as goal
 

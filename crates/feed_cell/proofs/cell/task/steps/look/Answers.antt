@@ -1,5 +1,5 @@
 use Rattle.std.proofs.Common.{rules}
-use Rattle.feed_cell.proofs.Running.{looks_going, looked_going}
+use Rattle.feed_cell.proofs.TaskSteps.{looks_going, looked_going}
 use Rattle.feed_cell.proofs.cell.task.steps.look.Goals as goal
 
 pub fetch_and-requires : goal.fetch_and-requires

@@ -1,6 +1,6 @@
 use Rattle.std.proofs.Common.{rules}
-use Rattle.feed_cell.proofs.Looking.{looks_first}
-use Rattle.feed_cell.proofs.Running.{looked_first}
+use Rattle.feed_cell.proofs.TaskLook.{looks_first}
+use Rattle.feed_cell.proofs.TaskSteps.{looked_first}
 use Rattle.feed_cell.proofs.cell.task.steps.look_first.Goals as goal
 
 pub fetch_and-requires : goal.fetch_and-requires

@@ -1,5 +1,5 @@
 use Rattle.std.proofs.Common.{rules, refl}
-use Rattle.feed_cell.proofs.Running.{rests_there}
+use Rattle.feed_cell.proofs.TaskSteps.{rests_there}
 use Rattle.feed_cell.proofs.cell.task.steps.try_rest.Goals as goal
 
 pub compare_exchange-requires : goal.compare_exchange-requires

@@ -1,8 +1,8 @@
 -- A task that was never run is greeted first; any other was greeted before.
 use Rattle.std.proofs.Common.{refl, rules, subst}
-use Rattle.feed_cell.proofs.Calling.{top, greets_on, greets_end}
-use Rattle.feed_cell.proofs.MidTurn.{greeted_end, greeted_on, stays}
-use Rattle.feed_cell.specs.Paused.{IsPaused}
+use Rattle.feed_cell.proofs.TaskCalls.{top, greets_on, greets_end}
+use Rattle.feed_cell.proofs.TaskTurns.{greeted_end, greeted_on, stays}
+use Rattle.feed_cell.specs.TaskPauses.{IsPaused}
 use Rattle.feed_cell.specs.declared.cell.Held.TheVariants as Held
 use Rattle.feed_cell.proofs.cell.task.turns.greet.Goals as goal
 

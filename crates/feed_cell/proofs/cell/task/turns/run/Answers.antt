@@ -1,8 +1,8 @@
 -- Each look is one step of the turn, and the turn is over after 64 items at most.
 use Rattle.std.proofs.Common.{ℕ, ◌≡◌, ap, subst, ◌∙◌, arith}
 use Rattle.feed_core.specs.Seen.{SeenState}
-use Rattle.feed_cell.specs.Turned.{TellsSoFar}
-use Rattle.feed_cell.proofs.MidTurn.{ends_after, full, gave_on, going_on, looked_on, may_look_next, misses_after, rests_after, room_so_far}
+use Rattle.feed_cell.specs.TaskTurns.{TellsSoFar}
+use Rattle.feed_cell.proofs.TaskTurns.{ends_after, full, gave_on, going_on, looked_on, may_look_next, misses_after, rests_after, room_so_far}
 use Rattle.feed_cell.proofs.cell.task.turns.run.Goals as goal
 use Rattle.feed_cell.proofs.cell.task.turns.run.Goals.{After-look_next-word}
 use Rattle.feed_cell.proofs.cell.task.turns.run.Given.{Over}

@@ -8,7 +8,7 @@ use Rattle.feed_cell.specs.Types.{Take, Taken}
 use Rattle.feed_cell.proofs.Outlooks.{reached_more}
 use Rattle.feed_cell.proofs.Places.{lies_taken}
 use Rattle.feed_cell.proofs.Seats.{mine, other}
-use Rattle.feed_cell.proofs.Seeing.{lies_at}
+use Rattle.feed_cell.proofs.TaskSee.{lies_at}
 use Rattle.feed_cell.proofs.Stages.{seated}
 use Rattle.feed_cell.proofs.Tallies.{stays_on}
 use Rattle.feed_cell.specs.Cell.{Lies, CellRule, KnowsAway}

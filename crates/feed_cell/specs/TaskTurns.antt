@@ -8,12 +8,11 @@ use Rattle.feed_core.specs.declared.turn.outlook.Outlook.{Outlook}
 use Rattle.feed_core.specs.declared.turn.outlook.Outlook.TheVariants.{Again, Resting, Ended}
 use Rattle.feed_cell.specs.Types.{Nobody}
 use Rattle.feed_cell.specs.Cell.{greeted, IsToldAtEnd}
-use Rattle.feed_cell.specs.Parties.{TaskState, IsGoing, IsHome}
-use Rattle.feed_cell.specs.Paused.{told_out}
+use Rattle.feed_cell.specs.Parties.{TaskKnows, TaskState, known_by_task, IsGoing, IsHome}
+use Rattle.feed_cell.specs.TaskPauses.{told_out}
 use Rattle.feed_cell.specs.Plays.{SeatOf}
-use Rattle.feed_cell.specs.Running.{KeepsSubscriber}
+use Rattle.feed_cell.specs.TaskSteps.{KeepsSubscriber}
 use Rattle.feed_cell.specs.declared.cell.Grant.{Grant}
-use Rattle.feed_cell.specs.declared.cell.View.{View}
 use Rattle.feed_cell.specs.declared.cell.task.Stage.{Stage}
 use Rattle.feed_cell.specs.declared.cell.task.turns.Turn.{Turn}
 
@@ -38,7 +37,7 @@ AreGranted given [] = Unit {0}
 AreGranted given (grant ∷ more) = (stops grant.causes ≡ None) × (given < grant.asked) × AreGranted (given + 1) more
 
 -- a turn that saw these signals, of a task that knew this, and whose subscriber was known to have been told that
-pub record IsTurnOf (old : View) (known seen : List Signal) (outlook : Outlook) : Type 0 where
+pub record IsTurnOf (old : TaskKnows) (known seen : List Signal) (outlook : Outlook) : Type 0 where
   -- what its subscriber was told before, and the items that were taken by then: a task that has its subscriber with it knows them, and
   -- a task that a signal started has a subscriber that was greeted
   pub start : List Signal
@@ -59,11 +58,11 @@ pub record IsTurnOf (old : View) (known seen : List Signal) (outlook : Outlook) 
   pub given : AreGivenOf outlook (items_of seen) took
 
 -- why another turn is owed: this one told as many items as it may, or something was new when it would have rested
-abbrev pub MayGoOn : View → View → List Signal → Type 0
+abbrev pub MayGoOn : TaskKnows → TaskKnows → List Signal → Type 0
 MayGoOn old new seen = ((length (items_of seen) ≡ ITEMS_IN_A_TURN) × (new.misses ≡ old.misses)) ⊎ (new.misses ≡ old.misses + 1)
 
 -- another turn is owed
-pub record GoesOnAs (old new : View) (known later seen : List Signal) : Type 0 where
+pub record GoesOnAs (old new : TaskKnows) (known later seen : List Signal) : Type 0 where
   pub turned : IsTurnOf old known seen Again
   pub taken : new.taken ≡ turned.base ++ turned.took
   pub grants : new.grants ≡ old.grants ++ turned.grants
@@ -73,7 +72,7 @@ pub record GoesOnAs (old new : View) (known later seen : List Signal) : Type 0 w
 
 -- no turn is owed: the task rests or the subscription has ended, and its seat runs the task no more. The seat shows which, and the
 -- rule of the table counts that among the rests of its events, or has it as the end that is among them
-pub record StopsAs (old new : View) (known seen : List Signal) (outlook : Outlook) : Type 0 where
+pub record StopsAs (old new : TaskKnows) (known seen : List Signal) (outlook : Outlook) : Type 0 where
   pub turned : IsTurnOf old known seen outlook
   pub taken : new.taken ≡ turned.base ++ turned.took
   pub grants : new.grants ≡ old.grants ++ turned.grants
@@ -108,9 +107,9 @@ module _ {B : Type 0} (told : B → List Signal) where
 
   -- a turn that ran on a seat, by its outlook
   abbrev pub RunsAs : Outlook → SeatOf B → SeatOf B → List Signal → Type 0
-  RunsAs Again before after seen = IsGoing told after × GoesOnAs before.0 after.0 (told_out told before.1) (told_out told after.1) seen × MayGoOn before.0 after.0 seen
-  RunsAs Resting before after seen = StopsAs before.0 after.0 (told_out told before.1) seen Resting × (after.0.runner ≡ Nobody)
-  RunsAs (Ended how) before after seen = StopsAs before.0 after.0 (told_out told before.1) seen (Ended how) × MayEnd how (length after.0.taken) after.0.runner
+  RunsAs Again before after seen = IsGoing told after × GoesOnAs (known_by_task before.0) (known_by_task after.0) (told_out told before.1) (told_out told after.1) seen × MayGoOn (known_by_task before.0) (known_by_task after.0) seen
+  RunsAs Resting before after seen = StopsAs (known_by_task before.0) (known_by_task after.0) (told_out told before.1) seen Resting × (after.0.runner ≡ Nobody)
+  RunsAs (Ended how) before after seen = StopsAs (known_by_task before.0) (known_by_task after.0) (told_out told before.1) seen (Ended how) × MayEnd how (length after.0.taken) after.0.runner
 
   -- a task may look, once its subscriber was greeted
   abbrev pub MayLookNext : Stage → SeatOf B → Type 0

@@ -6,7 +6,7 @@ use Rattle.feed_core.specs.Prelude.{Item, Ending, Signal}
 use Rattle.feed_core.specs.World.Table.{ProducerMay, HandleMay, joined, is_started, is_over, producing_after, requesting_after, started}
 use Rattle.feed_cell.specs.Types.{Cause, Cancel, Argument, State as Doubled, Closing, Event, Producer, Handle, Producing, Requesting, Idle}
 use Rattle.feed_cell.proofs.Outlooks.{ShowsSame, reached_more}
-use Rattle.feed_cell.proofs.Reading.{reads_or, adds}
+use Rattle.feed_cell.proofs.ControlWord.{reads_or, adds}
 use Rattle.feed_cell.proofs.Seats.{mine, other}
 use Rattle.feed_cell.proofs.Stages.{starts, lodges_started}
 use Rattle.feed_cell.proofs.Tallies.{stays_started}

@@ -6,16 +6,16 @@ use Rattle.std.proofs.lemmas.Nat.Bits.{bit_at_and}
 use Rattle.atomic_table.specs.Table.{Allows, rest}
 use Rattle.feed_core.specs.Prelude.{How, Signal}
 use Rattle.feed_core.specs.World.Table.{MayMeasure, MayTake, MayRest}
-use Rattle.feed_cell.proofs.Ending.{ends}
-use Rattle.feed_cell.proofs.Looking.{looks}
-use Rattle.feed_cell.proofs.Resting.{rests}
-use Rattle.feed_cell.proofs.Seeing.{measures}
-use Rattle.feed_cell.proofs.Taking.{takes_item}
+use Rattle.feed_cell.proofs.TaskEnd.{ends}
+use Rattle.feed_cell.proofs.TaskLook.{looks}
+use Rattle.feed_cell.proofs.TaskRest.{rests}
+use Rattle.feed_cell.proofs.TaskSee.{measures}
+use Rattle.feed_cell.proofs.TaskTake.{takes_item}
 use Rattle.feed_cell.specs.Cell.{CellRule}
 use Rattle.feed_cell.specs.Control.{MARK, QUIET, RESTING}
 use Rattle.feed_cell.specs.Parties.{IsGoing, IsHome}
 use Rattle.feed_cell.specs.Plays.{SeatOf, own_out, answers_out, LooksOut, LooksFirst, Measures, IsTake, IsRest, IsEnd}
-use Rattle.feed_cell.specs.Running.{HasItem, Carries, HasLookedAt, IsEnding}
+use Rattle.feed_cell.specs.TaskSteps.{HasItem, Carries, HasLookedAt, IsEnding}
 use Rattle.feed_cell.specs.Views.{IsRunner}
 use Rattle.feed_cell.specs.declared.cell.Held.{Held}
 

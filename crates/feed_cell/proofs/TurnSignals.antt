@@ -10,9 +10,9 @@ use Rattle.feed_core.specs.Turn.{EndsIn}
 use Rattle.feed_core.proofs.SignalLists.{IsTerminal, complete_last, contains_none, error_last, items_of_nexts, terminal_last}
 use Rattle.feed_core.proofs.TurnLoop.{last_contained}
 use Rattle.feed_cell.specs.Cell.{greeted}
-use Rattle.feed_cell.specs.Turned.{IsTextAfter, AreGivenOf, IsToldBefore, AreGranted, IsTurnOf}
+use Rattle.feed_cell.specs.Parties.{TaskKnows}
+use Rattle.feed_cell.specs.TaskTurns.{IsTextAfter, AreGivenOf, IsToldBefore, AreGranted, IsTurnOf}
 use Rattle.feed_cell.specs.declared.cell.Grant.{Grant}
-use Rattle.feed_cell.specs.declared.cell.View.{View}
 
 -- the terminal signal of an outlook, if it has one
 abbrev last_of : Outlook → List Signal
@@ -142,7 +142,7 @@ granted_more given [] second a b = subst (λ (n : ℕ). AreGranted n second) (om
 granted_more given (x ∷ first) second a b = (a.0, a.1, granted_more (given + 1) first second a.2 (subst (λ (n : ℕ). AreGranted n second) (omega arith) b))
 
 -- the whole of a turn
-abbrev pub whole_turn : (old : View) (known seen start : List Signal) (base took : List Item) (outlook : Outlook)
+abbrev pub whole_turn : (old : TaskKnows) (known seen start : List Signal) (base took : List Item) (outlook : Outlook)
     → (old.away ≡ true → (start ≡ known) × (base ≡ old.taken)) → (old.away ≡ false → start ≡ greeted base) → IsToldBefore base start → length took ≤ 64
     → (grants : List Grant) → length grants ≡ length took → AreGranted (length base) grants
     → IsTextAfter outlook (base ++ took) (start ++ seen) → IsTurnOf old known seen outlook
@@ -166,7 +166,7 @@ whole_turn old known seen start base took outlook knew met before at_most grants
     }
 
 -- what follows from that for the signals that it saw
-module _ {old : View} {known seen : List Signal} {outlook : Outlook} (t : IsTurnOf old known seen outlook) where
+module _ {old : TaskKnows} {known seen : List Signal} {outlook : Outlook} (t : IsTurnOf old known seen outlook) where
   shape : IsShaped outlook (t.base ++ t.took) (t.start ++ seen)
   shape = shaped outlook (t.base ++ t.took) (t.start ++ seen) t.text
 

@@ -10,10 +10,10 @@ use Rattle.feed_core.specs.Prelude.{Signal}
 use Rattle.feed_core.specs.declared.turn.outlook.Outlook.TheVariants.{Resting}
 use Rattle.feed_core.specs.World.Table.{MayRest, is_started, resting_after}
 use Rattle.feed_cell.specs.Types.{Nobody, Ready, Runner}
-use Rattle.feed_cell.proofs.Moving.{knows_too, move_kept}
+use Rattle.feed_cell.proofs.TaskMove.{knows_too, move_kept}
 use Rattle.feed_cell.proofs.Outlooks.{reached_miss, reached_rest}
 use Rattle.feed_cell.proofs.Places.{lies_guest, changed}
-use Rattle.feed_cell.proofs.Reading.{reads_rest}
+use Rattle.feed_cell.proofs.ControlWord.{reads_rest}
 use Rattle.feed_cell.proofs.Seats.{other, spent}
 use Rattle.feed_cell.proofs.Stages.{seated}
 use Rattle.feed_cell.proofs.Tallies.{has_none}

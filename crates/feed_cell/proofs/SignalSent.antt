@@ -8,7 +8,7 @@ use Rattle.feed_cell.specs.Plays.{SeatOf, Signals, sent, after_signal}
 use Rattle.feed_cell.specs.Steps.{IsHanded, IsSent, MaySignal, MustHandOver}
 use Rattle.feed_cell.specs.Views.{handed}
 use Rattle.feed_cell.specs.declared.cell.View.{View}
-use Rattle.feed_cell.proofs.Signalling.{sent_stays}
+use Rattle.feed_cell.proofs.SignalStep.{sent_stays}
 
 -- whether the task was started, by the bit that was found
 started_by : (b : Bool) (word : ℕ) → bit_at word 0 ≡ number b → bit_at word 0 ≡ 1 → b ≡ true

@@ -7,7 +7,7 @@ use Rattle.feed_cell.specs.Types.{Runner, Measured, Taken}
 use Rattle.feed_cell.proofs.Marks.{unmark}
 use Rattle.feed_cell.specs.Control.{MARK}
 use Rattle.feed_cell.specs.Plays.{SeatOf, SeesPut, Measures, MeasuresNone, grants_by}
-use Rattle.feed_cell.specs.Running.{FindsNone, TakesNext}
+use Rattle.feed_cell.specs.TaskSteps.{FindsNone, TakesNext}
 
 module _ {B : Type 0} where
   -- it saw an item, and measured that more were requested than were taken

@@ -16,9 +16,9 @@ use Rattle.flow_rules.specs.Feed.{End}
 use Rattle.feed_cell.specs.Control.{Flags, causes_of}
 use Rattle.feed_cell.specs.Left.{lane_with, lane_without, causes_left, CountsHandle, IsLeftOf}
 use Rattle.feed_cell.specs.Parties.{HandleState, KnowsHandle, known_end}
-use Rattle.feed_cell.proofs.Caused.{caused, unended, goes_on, has_ended}
-use Rattle.feed_cell.proofs.Fitting.{fits_at}
-use Rattle.feed_cell.proofs.Handing.{on_some}
+use Rattle.feed_cell.proofs.LeftCauses.{caused, unended, goes_on, has_ended}
+use Rattle.feed_cell.proofs.LeftText.{fits_at}
+use Rattle.feed_cell.proofs.HandOver.{on_some}
 use Rattle.feed_cell.specs.declared.cell.Held.{Held}
 use Rattle.feed_cell.specs.declared.cell.View.{View}
 

@@ -11,10 +11,10 @@ use Rattle.feed_core.specs.World.Table.{MayLook, MayEnd, IsAnswered}
 use Rattle.feed_cell.specs.Types.{Runner, Fresh, Taken}
 use Rattle.feed_cell.specs.Cell.{greeted, IsToldAtEnd}
 use Rattle.feed_cell.specs.Parties.{IsUngreeted}
-use Rattle.feed_cell.specs.Paused.{told_out}
+use Rattle.feed_cell.specs.TaskPauses.{told_out}
 use Rattle.feed_cell.specs.Plays.{SeatOf}
-use Rattle.feed_cell.specs.Running.{IsGoOn, IsQuietEnd, Carries, GoesOnWith, EndsWith, FinishesWith, GoesOnThere, EndsThere, FinishesThere, HasTaken}
-use Rattle.feed_cell.specs.Turning.{own_after, answers_after}
+use Rattle.feed_cell.specs.TaskSteps.{IsGoOn, IsQuietEnd, Carries, GoesOnWith, EndsWith, FinishesWith, GoesOnThere, EndsThere, FinishesThere, HasTaken}
+use Rattle.feed_cell.specs.TaskAnswers.{own_after, answers_after}
 use Rattle.feed_cell.specs.Views.{IsRunner}
 use Rattle.feed_cell.specs.declared.cell.Held.{Held}
 use Rattle.feed_cell.specs.declared.cell.Lodger.{Lodger}

@@ -6,10 +6,10 @@ use Rattle.feed_core.specs.World.Table.{MayEnd}
 use Rattle.feed_core.specs.declared.turn.outlook.Outlook.TheVariants.{Resting, Ended}
 use Rattle.feed_cell.specs.Types.{Nobody, Ready, Taken}
 use Rattle.feed_cell.specs.Cell.{greeted, IsToldAtEnd}
-use Rattle.feed_cell.specs.Paused.{told_out}
+use Rattle.feed_cell.specs.TaskPauses.{told_out}
 use Rattle.feed_cell.specs.Plays.{SeatOf, how_out, outlook_by}
-use Rattle.feed_cell.specs.Running.{Carries, IsEnding, HasTaken, FindsNone, TakesNext, grant_of}
-use Rattle.feed_cell.specs.Serving.{MissesRest, RestsNow, Serves, GivesAs, FinishesAs, Concludes}
+use Rattle.feed_cell.specs.TaskSteps.{Carries, IsEnding, HasTaken, FindsNone, TakesNext, grant_of}
+use Rattle.feed_cell.specs.TaskLooks.{MissesRest, RestsNow, Serves, GivesAs, FinishesAs, Concludes}
 use Rattle.feed_cell.specs.Views.{IsRunner}
 use Rattle.feed_cell.specs.declared.cell.task.looks.Served.{Served}
 use Rattle.feed_cell.specs.declared.cell.View.{View}

@@ -18,7 +18,7 @@ use Rattle.feed_cell.specs.Parties.{HandleState, KnowsHandle, known_end}
 use Rattle.feed_cell.specs.declared.cell.Held.{Held}
 use Rattle.feed_cell.specs.declared.cell.Lodger.{Lodger}
 use Rattle.feed_cell.specs.declared.cell.View.{View}
-use Rattle.feed_cell.proofs.Leaving.{IsSafe, lodges_safe, left_there, left_away}
+use Rattle.feed_cell.proofs.LeftLane.{IsSafe, lodges_safe, left_there, left_away}
 use Rattle.feed_cell.proofs.Marks.{unmark, marked_by, unmarked_by, large_by}
 
 -- a fact of who is in a slot, where that is known

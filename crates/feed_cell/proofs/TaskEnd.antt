@@ -8,7 +8,7 @@ use Rattle.feed_core.specs.World.Table.{MayEnd, after}
 use Rattle.feed_cell.specs.Types.{Causes, End}
 use Rattle.feed_cell.proofs.Outlooks.{reached_end}
 use Rattle.feed_cell.proofs.Places.{lies_guest, changed}
-use Rattle.feed_cell.proofs.Reading.{or_true}
+use Rattle.feed_cell.proofs.ControlWord.{or_true}
 use Rattle.feed_cell.proofs.Seats.{other, spent}
 use Rattle.feed_cell.proofs.Stages.{seated}
 use Rattle.feed_cell.proofs.Tallies.{has_none}

@@ -9,7 +9,7 @@ use Rattle.feed_core.specs.World.Table.{MayLook, total_of, after}
 use Rattle.feed_cell.specs.Types.{Causes, Look, Runner, Ready, Looked, Parts}
 use Rattle.feed_cell.proofs.Outlooks.{reached_more, reached_kept}
 use Rattle.feed_cell.proofs.Places.{lies_guest}
-use Rattle.feed_cell.proofs.Reading.{reads_look, or_true}
+use Rattle.feed_cell.proofs.ControlWord.{reads_look, or_true}
 use Rattle.feed_cell.proofs.Seats.{mine, other}
 use Rattle.feed_cell.proofs.Stages.{seated}
 use Rattle.feed_cell.proofs.Tallies.{stays_on}
@@ -17,7 +17,7 @@ use Rattle.feed_cell.specs.Cell.{Lies, CellRule, AsProducer, AsRunner, LodgesAt,
 use Rattle.feed_cell.specs.Control.{Flags, Reads, causes_of, marked, QUIET}
 use Rattle.feed_cell.specs.Outlooks.{IsReachedBy}
 use Rattle.feed_cell.specs.Plays.{SeatOf, after_causes, LooksOut, LooksFirst}
-use Rattle.feed_cell.specs.Turning.{own_after, answers_after}
+use Rattle.feed_cell.specs.TaskAnswers.{own_after, answers_after}
 use Rattle.feed_cell.specs.Views.{IsRunner, has_put, has_ask, has_run}
 use Rattle.feed_cell.specs.declared.cell.Held.{Held}
 use Rattle.feed_cell.specs.declared.cell.Lodger.{Lodger}

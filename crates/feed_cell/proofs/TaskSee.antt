@@ -10,7 +10,7 @@ use Rattle.feed_core.specs.Prelude.{Item, Signal, total_after}
 use Rattle.feed_core.specs.World.Table.{MaySee, MayMeasure, is_started, is_over, seeing, measuring, total_of}
 use Rattle.feed_cell.specs.Types.{See, Measure, Runner, Ready, Looked, Saw, Measured}
 use Rattle.feed_cell.proofs.Lists.{there, take_one_more, parted}
-use Rattle.feed_cell.proofs.Moving.{knows_too, move_kept}
+use Rattle.feed_cell.proofs.TaskMove.{knows_too, move_kept}
 use Rattle.feed_cell.proofs.Outlooks.{ShowsSame, reached_more, reached_kept}
 use Rattle.feed_cell.proofs.Places.{lies_out, lies_back}
 use Rattle.feed_cell.proofs.Tallies.{stays_on}

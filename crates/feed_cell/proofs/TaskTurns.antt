@@ -7,17 +7,17 @@ use Rattle.feed_core.specs.World.Table.{MayEnd}
 use Rattle.feed_core.specs.declared.turn.outlook.Outlook.TheVariants.{Again, Resting, Ended}
 use Rattle.feed_cell.specs.Types.{Nobody}
 use Rattle.feed_cell.specs.Cell.{greeted, IsToldAtEnd}
-use Rattle.feed_cell.specs.Parties.{IsUngreeted, IsGoing}
-use Rattle.feed_cell.specs.Paused.{told_out, IsPaused}
+use Rattle.feed_cell.specs.Parties.{known_by_task, IsUngreeted, IsGoing}
+use Rattle.feed_cell.specs.TaskPauses.{told_out, IsPaused}
 use Rattle.feed_cell.specs.Plays.{SeatOf, how_out, outlook_by}
-use Rattle.feed_cell.specs.Running.{EndsThere, GoesOnThere, HasLookedAt, IsGranted, grant_of}
-use Rattle.feed_cell.specs.Serving.{EndsAs, GivesItem, IsLastGrant, MissesRest, RestsNow}
-use Rattle.feed_cell.specs.Turned.{AreGivenOf, AreGranted, GoesOnAs, IsBeforeLook, KeepsGoing, MayLookNext, StopsAs, TellsSoFar, MayGoOn}
+use Rattle.feed_cell.specs.TaskSteps.{EndsThere, GoesOnThere, HasLookedAt, IsGranted, grant_of}
+use Rattle.feed_cell.specs.TaskLooks.{EndsAs, GivesItem, IsLastGrant, MissesRest, RestsNow}
+use Rattle.feed_cell.specs.TaskTurns.{AreGivenOf, AreGranted, GoesOnAs, IsBeforeLook, KeepsGoing, MayLookNext, StopsAs, TellsSoFar, MayGoOn}
 use Rattle.feed_cell.specs.declared.cell.Grant.{Grant}
 use Rattle.feed_cell.specs.declared.cell.View.{View}
 use Rattle.feed_cell.specs.declared.cell.task.Stage.{Stage}
-use Rattle.feed_cell.proofs.Serving.{ending_outlook}
-use Rattle.feed_cell.proofs.Turned.{base_length, granted_more, whole_turn}
+use Rattle.feed_cell.proofs.TaskLooks.{ending_outlook}
+use Rattle.feed_cell.proofs.TurnSignals.{base_length, granted_more, whole_turn}
 
 module _ {B : Type 0} (told : B → List Signal) where
   -- a task whose subscriber was greeted before
@@ -77,7 +77,7 @@ module _ {B : Type 0} (told : B → List Signal) where
 
     -- that was its end
     pub greeted_end : (how : How) (last : SeatOf B) → EndsThere told Subscribed how before after seen later → last ≡ (record after.0 { runs = false; away = false; outlook = outlook_by (how_out after.1) }, [])
-        → StopsAs before.0 last.0 (told_out told before.1) later.signals (Ended how) × MayEnd how (length last.0.taken) last.0.runner
+        → StopsAs (known_by_task before.0) (known_by_task last.0) (told_out told before.1) later.signals (Ended how) × MayEnd how (length last.0.taken) last.0.runner
     greeted_end how last ends left =
         let taken : after.0.taken ≡ [] = ap (λ (v : View). v.taken) ends.tells.view ∙ fresh.taken in
         let saw : later.signals ≡ ends.last = ap (λ (s : SeenState). s.signals) ends.tells.saw ∙ ap (λ s. s ++ ends.last) nothing in
@@ -85,7 +85,7 @@ module _ {B : Type 0} (told : B → List Signal) where
         sym (ap (told_out told) ends.ending.slot) ∙ ends.tells.text ∙ ap (λ s. s ++ ends.last) untold ∙ sym saw
         in (
           record {
-            turned = whole_turn before.0 (told_out told before.1) later.signals [] [] [] (Ended how) (λ e. (sym untold, sym fresh.taken)) (λ e. (let clash : true ≡ false = sym fresh.away ∙ e in cc)) (inl (refl, refl)) (omega arith) [] refl tt
+            turned = whole_turn (known_by_task before.0) (told_out told before.1) later.signals [] [] [] (Ended how) (λ e. (sym untold, sym fresh.taken)) (λ e. (let clash : true ≡ false = sym fresh.away ∙ e in cc)) (inl (refl, refl)) (omega arith) [] refl tt
                 (subst (λ (l : List Item). IsToldAtEnd how l later.signals) taken (subst (λ (s : List Signal). IsToldAtEnd how after.0.taken s) text ends.ending.text));
             taken = ap (λ (m : SeatOf B). m.0.taken) left ∙ taken;
             grants = ap (λ (m : SeatOf B). m.0.grants) left ∙ ap (λ (v : View). v.grants) ends.tells.view ∙ sym (append-nil before.0.grants);
@@ -197,11 +197,11 @@ module _ {B : Type 0} (told : B → List Signal) where
         )
 
     -- it rests
-    pub rests_after : count < 64 → RestsNow told mid after → later ≡ seen → StopsAs before.0 after.0 (told_out told before.1) later.signals Resting × (after.0.runner ≡ Nobody)
+    pub rests_after : count < 64 → RestsNow told mid after → later ≡ seen → StopsAs (known_by_task before.0) (known_by_task after.0) (told_out told before.1) later.signals Resting × (after.0.runner ≡ Nobody)
     rests_after short rests same = (
-      subst (λ (s : SeenState). StopsAs before.0 after.0 (told_out told before.1) s.signals Resting) (sym same)
+      subst (λ (s : SeenState). StopsAs (known_by_task before.0) (known_by_task after.0) (told_out told before.1) s.signals Resting) (sym same)
           (record {
-            turned = whole_turn before.0 (told_out told before.1) seen.signals t.start t.base t.took Resting t.knew t.met t.opened (let c = t.counted in omega arith) t.grants (t.one_each ∙ sym t.counted) t.granted t.text;
+            turned = whole_turn (known_by_task before.0) (told_out told before.1) seen.signals t.start t.base t.took Resting t.knew t.met t.opened (let c = t.counted in omega arith) t.grants (t.one_each ∙ sym t.counted) t.granted t.text;
             taken = rests.taken ∙ t.taken;
             grants = rests.grants ∙ t.grants_are;
             misses = rests.misses ∙ t.misses;
@@ -212,11 +212,11 @@ module _ {B : Type 0} (told : B → List Signal) where
     )
 
     -- it could not rest
-    pub misses_after : count < 64 → MissesRest told mid after → later ≡ seen → GoesOnAs before.0 after.0 (told_out told before.1) (told_out told after.1) later.signals × MayGoOn before.0 after.0 later.signals
+    pub misses_after : count < 64 → MissesRest told mid after → later ≡ seen → GoesOnAs (known_by_task before.0) (known_by_task after.0) (told_out told before.1) (told_out told after.1) later.signals × MayGoOn (known_by_task before.0) (known_by_task after.0) later.signals
     misses_after short missed same = (
-      subst (λ (s : SeenState). GoesOnAs before.0 after.0 (told_out told before.1) (told_out told after.1) s.signals) (sym same)
+      subst (λ (s : SeenState). GoesOnAs (known_by_task before.0) (known_by_task after.0) (told_out told before.1) (told_out told after.1) s.signals) (sym same)
           (record {
-            turned = whole_turn before.0 (told_out told before.1) seen.signals t.start t.base t.took Again t.knew t.met t.opened (let c = t.counted in omega arith) t.grants (t.one_each ∙ sym t.counted) t.granted t.text;
+            turned = whole_turn (known_by_task before.0) (told_out told before.1) seen.signals t.start t.base t.took Again t.knew t.met t.opened (let c = t.counted in omega arith) t.grants (t.one_each ∙ sym t.counted) t.granted t.text;
             taken = missed.taken ∙ t.taken;
             grants = missed.grants ∙ t.grants_are;
             away = missed.going.away;
@@ -238,7 +238,7 @@ module _ {B : Type 0} (told : B → List Signal) where
         (t.grants ++ grant ∷ [], omega arith, one_more one.1.0, one.1.1 ∙ ap (λ l. l ++ grant ∷ []) t.grants_are ∙ append_assoc before.0.grants t.grants (grant ∷ []))
 
     -- it ended
-    pub ends_after : (how : How) → count < 64 → EndsAs told how mid after seen later → StopsAs before.0 after.0 (told_out told before.1) later.signals (Ended how) × MayEnd how (length after.0.taken) after.0.runner
+    pub ends_after : (how : How) → count < 64 → EndsAs told how mid after seen later → StopsAs (known_by_task before.0) (known_by_task after.0) (told_out told before.1) later.signals (Ended how) × MayEnd how (length after.0.taken) after.0.runner
     ends_after how short ends =
         let saw : later.signals ≡ seen.signals ++ ends.last = ap (λ (s : SeenState). s.signals) ends.saw in
         let items : mid.0.taken ++ ends.took ≡ t.base ++ (t.took ++ ends.took) = ap (λ l. l ++ ends.took) t.taken ∙ append_assoc t.base t.took ends.took in
@@ -247,7 +247,7 @@ module _ {B : Type 0} (told : B → List Signal) where
         in
         let last = all_granted ends.took ends.granted in (
           record {
-            turned = whole_turn before.0 (told_out told before.1) later.signals t.start t.base (t.took ++ ends.took) (Ended how) t.knew t.met t.opened
+            turned = whole_turn (known_by_task before.0) (told_out told before.1) later.signals t.start t.base (t.took ++ ends.took) (Ended how) t.knew t.met t.opened
                 (let c = t.counted in let few = ends.few in let l = length-append t.took ends.took in omega arith)
                 last.0 last.1 last.2
                 (subst (λ (l : List Item). IsToldAtEnd how l (t.start ++ later.signals)) items (subst (λ (s : List Signal). IsToldAtEnd how (mid.0.taken ++ ends.took) s) signals ends.text));
@@ -261,9 +261,9 @@ module _ {B : Type 0} (told : B → List Signal) where
         )
 
   -- a turn is over after 64 items
-  pub full : (before me : SeatOf B) (seen : List Signal) → IsGoing told me → TellsSoFar told 64 before me seen → GoesOnAs before.0 me.0 (told_out told before.1) (told_out told me.1) seen × MayGoOn before.0 me.0 seen
+  pub full : (before me : SeatOf B) (seen : List Signal) → IsGoing told me → TellsSoFar told 64 before me seen → GoesOnAs (known_by_task before.0) (known_by_task me.0) (told_out told before.1) (told_out told me.1) seen × MayGoOn (known_by_task before.0) (known_by_task me.0) seen
   full before me seen going t =
-      let turned = whole_turn before.0 (told_out told before.1) seen t.start t.base t.took Again t.knew t.met t.opened (let c = t.counted in omega arith) t.grants (t.one_each ∙ sym t.counted) t.granted t.text in (
+      let turned = whole_turn (known_by_task before.0) (told_out told before.1) seen t.start t.base t.took Again t.knew t.met t.opened (let c = t.counted in omega arith) t.grants (t.one_each ∙ sym t.counted) t.granted t.text in (
         record {
           turned = turned;
           taken = t.taken;
