@@ -1,11 +1,14 @@
-//! Pools: what happens behind the lock, and between threads.
+//! Pools: what one thread sees of them, and what happens between threads.
 ghost use Rattle.std.specs.Prelude.{◌≡◌, ◌<◌, IfOk};
 ghost use Rattle.std.specs.Arc.{arc_value};
 ghost use Rattle.async_pool.specs.Pool.{pool_workers};
 
 mod alone;
+mod crowds;
 mod sleepers;
+mod stealing;
 mod threads;
+mod waking;
 
 use async_pool::{Gate, Job, Pool};
 use std::alloc::{AllocError, Global};
@@ -91,6 +94,27 @@ fn wait_for(flag: &AtomicBool) -> bool {
         thread::yield_now();
     }
     false
+}
+
+// Waits until a count comes to a number, but not for ever.
+fn comes_to(count: &AtomicU64, number: u64) -> bool {
+    for _ in 0..MOST_LOOKS {
+        if count.load(SeqCst) >= number {
+            return true;
+        }
+        thread::yield_now();
+    }
+    false
+}
+
+// Whether each job ran so often.
+fn all_ran(runs: &Runs, number: u64) -> bool {
+    for run in runs.iter() {
+        if run.load(SeqCst) != number {
+            return false;
+        }
+    }
+    true
 }
 
 // What the threads of a pool's workers share: the pool, their gate, and how many of them have ended.
