@@ -29,6 +29,8 @@ pub(crate) enum Look<J: Drop> {
     Found(J),
     /// There was no job to take, and the pool is open.
     Nothing(Searched<J>),
+    /// There was no job to take, and the pool was shut, but a call that came before that may put one in still.
+    OnItsWay,
     Over(Over),
 }
 
@@ -38,7 +40,7 @@ pub(crate) struct Searched<J: Drop> {
     at: Snapshot<Crew<J>>,
 }
 
-/// The pool was shut, and no job was left. One look alone gives it, and it can't be dropped: a loop ends with it.
+/// The pool was shut, and no job was left or on its way in. One look alone gives it, and it can't be dropped: a loop ends with it.
 #[must_use]
 pub(crate) struct Over(());
 
@@ -85,17 +87,18 @@ impl<J: Drop> Crew<J> {
         self.queues[worker] = Some(queue);
     }
 
-    /// Says what a worker found that looked while it held the lock. It may lie down only if it found nothing, and its loop
-    /// may end only if all is over.
-    pub fn look(&self, found: Option<J>) -> Look<J>
-        ensures { LooksFor self.now found result }
+    /// Says what a worker found that looked while it held the lock, and before that saw whether a job was on its way in. It may
+    /// lie down only if it found nothing in an open pool, and its loop may end only if all is over.
+    pub fn look(&self, found: Option<J>, comes: bool) -> Look<J>
+        ensures { LooksFor self.now found comes result }
     {
         match found {
             Some(job) => Look::Found(job),
-            None if self.shut => Look::Over(Over(())),
-            None => Look::Nothing(Searched {
+            None if !self.shut => Look::Nothing(Searched {
                 at: Snapshot::of(self),
             }),
+            None if comes => Look::OnItsWay,
+            None => Look::Over(Over(())),
         }
     }
 

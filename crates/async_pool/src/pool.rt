@@ -18,6 +18,7 @@ use std::alloc::Global;
 use std::sync::atomic::Ordering::SeqCst;
 use std::sync::atomic::{AtomicBool, AtomicU64};
 use std::sync::{Condvar, Mutex, MutexGuard, Wait};
+use std::{fmt, thread};
 
 /// How often a worker looks for a job before it sleeps. From the eighth look on it yields to other threads in between.
 const LOOKS: u32 = 12;
@@ -34,8 +35,17 @@ pub struct Pool<J: Job> {
     idle: AtomicU64,
     /// Whether the pool was shut, as `execute` sees it without the lock.
     shut: AtomicBool,
+    /// How many calls of `execute` may put a job in still. Each is counted before it sees whether the pool was shut: so once that was
+    /// done and none is counted, no job comes any more.
+    entering: AtomicU64,
     left: Mutex<Left<J>>,
     ghost allowed: { IsWorkerCount workers },
+}
+
+impl<J: Job> fmt::Debug for Pool<J> {
+    fn fmt<W: fmt::Write>(&self, f: &mut fmt::Formatter<W>) -> fmt::Result {
+        write!(f, "Pool {{ workers: {} }}", self.workers)
+    }
 }
 
 impl<J: Job> Pool<J> {
@@ -74,6 +84,7 @@ impl<J: Job> Pool<J> {
             moved: Condvar::new(),
             idle: AtomicU64::new(0),
             shut: AtomicBool::new(false),
+            entering: AtomicU64::new(0),
             left: Mutex::new(Left::new(alloc)?),
         })
     }
@@ -81,16 +92,26 @@ impl<J: Job> Pool<J> {
     /// Hands a job in, behind all others of the inbox (`ForkJoinPool.execute`). It comes back, the same, if the inbox was full
     /// at one moment of the call, with [`CAPACITY`](crate::CAPACITY) jobs, or if the pool was shut.
     ///
-    /// Of a job that is handed in while another thread shuts the pool, either may become: it comes back or is taken, and what is
-    /// taken then may be left for [`Pool::stop`].
+    /// A job that is handed in while another thread shuts the pool comes back or is run: no loop ends before such a call has.
     pub fn execute<R: Wait>(&self, rt: &R, job: J) -> Result<(), J>
+        ensures same_job { IfErr result (λ back. back ≡ job) }
+    {
+        self.entering.fetch_add(1, SeqCst);
+        let entered = self.enter(rt, job);
+        self.entering.fetch_sub(1, SeqCst);
+        entered?;
+        self.call_one(rt);
+        Ok(())
+    }
+
+    /// Puts a job into the inbox, if the pool was not shut.
+    fn enter<R: Wait>(&self, rt: &R, job: J) -> Result<(), J>
         ensures same_job { IfErr result (λ back. back ≡ job) }
     {
         if self.shut.load(SeqCst) {
             return Err(job);
         }
         self.jobs.enqueue(rt, job)?;
-        self.call_one(rt);
         Ok(())
     }
 
@@ -146,6 +167,7 @@ impl<J: Job> Pool<J> {
             moved: _,
             idle: _,
             shut: _,
+            entering: _,
             left,
         } = self;
         let mut left = left.into_inner().into_room();
@@ -234,6 +256,11 @@ impl<J: Job> Pool<J> {
                     crew = self.moved.wait(rt, crew);
                     crew.get_up(sleeper);
                 }
+                Look::OnItsWay => {
+                    drop(crew);
+                    thread::yield_now();
+                    crew = self.crew.lock(rt);
+                }
             }
         }
         unreachable!()
@@ -245,7 +272,9 @@ impl<J: Job> Pool<J> {
         ensures of { IsTakerOf self.now.jobs taker.new }
         ensures looks { Looks crew.now result }
     {
-        crew.look(self.jobs.next(rt, taker))
+        // Read before the search, which then finds what a call has put in that is counted no more.
+        let comes = self.entering.load(SeqCst) > 0;
+        crew.look(self.jobs.next(rt, taker), comes)
     }
 
     /// Wakes a worker that sleeps, if there is one, since a job came.
