@@ -59,7 +59,6 @@ impl<B: Listener> Model for Handle<B> {
 }
 
 impl<B: Listener> Handle<B> {
-<<<<<<< HEAD
     /// Tells how many items this handle has requested in all, saturated at 2^63-1.
     pub fn requested(&self) -> u64
         ensures { result ≡ self.now.asked }
@@ -67,11 +66,8 @@ impl<B: Listener> Handle<B> {
         self.asked
     }
 
-    /// Takes what one started task needs. Where that is there, it is not refused.
-=======
     /// Takes what one started task needs, one more share of the table. A handle that is ready is not refused. After `NoMemory`
     /// it is as it was.
->>>>>>> abf618bf7f8bfc41a2131e58a7852ec482b3e037
     pub fn ready(&mut self) -> Result<(), NoMemory>
         ensures ok { OnOk result (self.new ≡ record self.old { ready = true }) }
         ensures unchanged { OnErr result (self.new ≡ self.old) }
