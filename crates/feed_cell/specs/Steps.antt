@@ -25,8 +25,8 @@ abbrev pub IsSameSeat : {B : Type 0} → CellSeat B → CellSeat B → Type 0
 IsSameSeat before after = (after.table_id ≡ before.table_id) × (after.id ≡ before.id)
 
 -- a step of a seat, after which this holds of what it knows and has out
-abbrev pub Steps : {B : Type 0} → CellSeat B → (SeatOf B → Type 0) → CellSeat B → Type 0
-Steps before Holds after = IsSameSeat before after × Holds after.me
+abbrev pub StepsTo : {B : Type 0} → CellSeat B → (SeatOf B → Type 0) → CellSeat B → Type 0
+StepsTo before Holds after = IsSameSeat before after × Holds after.me
 
 -- a party may signal this cause
 abbrev pub MaySignal : Option Cause → View → Type 0

@@ -5,7 +5,7 @@ ghost use Rattle.feed_core.specs.World.Table.{MayRest, MaySee};
 ghost use Rattle.feed_core.specs.declared.turn.TheConstants.{SIGNALS_IN_A_TURN};
 ghost use Rattle.feed_cell.specs.Control.{QUIET};
 ghost use Rattle.feed_cell.specs.TaskSteps.{notes_of, MayFinish, Carries, HasLookedAt, HasTaken, HasNoneToGive, FindsNone, TakesNext};
-ghost use Rattle.feed_cell.specs.TaskLooks.{Serves, GivesAs, FinishesAs, TriesRest, Concludes};
+ghost use Rattle.feed_cell.specs.TaskLooks.{Serves, GivesAs, FinishesAs, TriesRest, EndsOrRests};
 ghost use Rattle.feed_cell.specs.Steps.{IsSameSeat};
 
 use super::causes::causes_in;
@@ -63,7 +63,7 @@ fn close_or_rest<B: Listener>(
     requires look { party.old.seat.me.0.look ≡ bit_and word QUIET }
     requires room { length seen.old.signals < SIGNALS_IN_A_TURN }
     ensures seat { IsSameSeat party.old.seat party.new.seat }
-    ensures concludes { Concludes B.told result
+    ensures concludes { EndsOrRests B.told result
         party.old.seat.me party.new.seat.me seen.old seen.new }
 {
     match due {
