@@ -7,7 +7,8 @@ use Rattle.feed_core.specs.declared.turn.outlook.Outlook.TheVariants.{Resting, E
 use Rattle.feed_cell.specs.Types.{Nobody, Ready, Taken}
 use Rattle.feed_cell.specs.Cell.{greeted, IsToldAtEnd}
 use Rattle.feed_cell.specs.TaskPauses.{told_out}
-use Rattle.feed_cell.specs.Plays.{SeatOf, how_out, outlook_by}
+use Rattle.feed_cell.specs.Seats.{SeatOf, how_out}
+use Rattle.feed_cell.specs.TaskPlays.{outlook_by}
 use Rattle.feed_cell.specs.TaskSteps.{Carries, IsEnding, HasTaken, FindsNone, TakesNext, grant_of}
 use Rattle.feed_cell.specs.TaskLooks.{MissesRest, RestsNow, Serves, GivesAs, FinishesAs, EndsOrRests}
 use Rattle.feed_cell.specs.Views.{IsRunner}

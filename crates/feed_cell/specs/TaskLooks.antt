@@ -9,7 +9,7 @@ use Rattle.feed_cell.specs.declared.cell.task.looks.Served.{Served}
 use Rattle.feed_cell.specs.Cell.{greeted, IsToldAtEnd}
 use Rattle.feed_cell.specs.Parties.{IsGoing}
 use Rattle.feed_cell.specs.TaskPauses.{told_out}
-use Rattle.feed_cell.specs.Plays.{SeatOf}
+use Rattle.feed_cell.specs.Seats.{SeatOf}
 use Rattle.feed_cell.specs.TaskSteps.{HasLeft, IsGranted, grant_of, EndsThere, FinishesThere, GoesOnThere}
 use Rattle.feed_cell.specs.Views.{IsRunner}
 

@@ -16,7 +16,8 @@ use Rattle.feed_cell.specs.declared.cell.View.{View}
 use Rattle.feed_cell.specs.Cell.{greeted, IsToldAtEnd}
 use Rattle.feed_cell.specs.Control.{Flags, Reads, causes_of, QUIET}
 use Rattle.feed_cell.specs.TaskPauses.{told_out}
-use Rattle.feed_cell.specs.Plays.{SeatOf, grants_by, how_out, outlook_by}
+use Rattle.feed_cell.specs.Seats.{SeatOf, how_out}
+use Rattle.feed_cell.specs.TaskPlays.{grants_by, outlook_by}
 use Rattle.feed_cell.specs.TaskAnswers.{own_after, answers_after}
 use Rattle.feed_cell.specs.Parties.{IsGoing}
 use Rattle.feed_cell.specs.Views.{IsRunner}

@@ -5,7 +5,8 @@ ghost use Rattle.std.specs.Int.{bit_at};
 ghost use Rattle.crossbeam_utils.specs.Padded.{padded_value};
 ghost use Rattle.feed_cell.specs.Control.{RUNNING, Reads, signal_of, cause_in};
 ghost use Rattle.feed_cell.specs.Parties.{IsStarted};
-ghost use Rattle.feed_cell.specs.Steps.{IsSameSeat, StepsTo, MaySignal, IsSent, MustHandOver, IsHanded, IsReadySeat};
+ghost use Rattle.feed_cell.specs.Seats.{IsSameSeat, StepsTo};
+ghost use Rattle.feed_cell.specs.Signals.{MaySignal, IsSent, MustHandOver, IsHanded, IsReadySeat};
 ghost use Rattle.feed_cell.specs.Views.{starts_after};
 
 use super::seated::Seated;
@@ -19,7 +20,7 @@ pub(crate) struct SignalStep;
 
 impl<B: Listener> Play<Held<B>, View> for SignalStep {
     ghost use Rattle.feed_cell.specs.Control.{cause_in};
-    ghost use Rattle.feed_cell.specs.Plays.{Signals};
+    ghost use Rattle.feed_cell.specs.Signals.{Signals};
 
     ghost then = { λ step. Signals (cause_in step.first) };
 }

@@ -1,8 +1,9 @@
 //! The steps of the handle on its own word. Its signals are in `signal.rt`.
 ghost use Rattle.std.specs.Prelude.{◌≡◌, ◌+◌, ◌≤◌};
 ghost use Rattle.feed_core.specs.Prelude.{total_after};
-ghost use Rattle.feed_cell.specs.Plays.{IsAsk, Leaves};
-ghost use Rattle.feed_cell.specs.Steps.{StepsTo, MayRequest};
+ghost use Rattle.feed_cell.specs.HandleSteps.{IsAsk, Leaves};
+ghost use Rattle.feed_cell.specs.HandleSteps.{MayRequest};
+ghost use Rattle.feed_cell.specs.Seats.{StepsTo};
 
 use super::plays::{AskStep, LeaveStep};
 use crate::cell::seated::Seated;

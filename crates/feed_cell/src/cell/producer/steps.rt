@@ -2,8 +2,10 @@
 ghost use Rattle.std.specs.Prelude.{◌≡◌, Some, None, IfSome, length};
 ghost use Rattle.feed_cell.specs.Types.{Closing};
 ghost use Rattle.feed_cell.specs.Offering.{Finds};
-ghost use Rattle.feed_cell.specs.Plays.{FindsRoom, FindsHead};
-ghost use Rattle.feed_cell.specs.Steps.{IsSameSeat, StepsTo, MayOffer, HasFreeSlot, HasPlaced, IsSent, IsReadySeat};
+ghost use Rattle.feed_cell.specs.ProducerSteps.{FindsRoom, FindsHead};
+ghost use Rattle.feed_cell.specs.ProducerSteps.{MayOffer, HasFreeSlot, HasPlaced};
+ghost use Rattle.feed_cell.specs.Seats.{IsSameSeat, StepsTo};
+ghost use Rattle.feed_cell.specs.Signals.{IsSent, IsReadySeat};
 ghost use Rattle.feed_cell.specs.declared.cell.Held.TheVariants as Held;
 
 use super::plays::{PutStep, RoomStep, StandStep};

@@ -6,7 +6,7 @@ ghost use Rattle.feed_core.specs.declared.turn.TheConstants.{SIGNALS_IN_A_TURN};
 ghost use Rattle.feed_cell.specs.Control.{QUIET};
 ghost use Rattle.feed_cell.specs.TaskSteps.{notes_of, MayFinish, Carries, HasLookedAt, HasTaken, HasNoneToGive, FindsNone, TakesNext};
 ghost use Rattle.feed_cell.specs.TaskLooks.{Serves, GivesAs, FinishesAs, TriesRest, EndsOrRests};
-ghost use Rattle.feed_cell.specs.Steps.{IsSameSeat};
+ghost use Rattle.feed_cell.specs.Seats.{IsSameSeat};
 
 use super::causes::causes_in;
 use super::steps::{end, measure, measure_none, see, take, try_rest};

@@ -9,9 +9,10 @@ ghost use Rattle.feed_core.specs.declared.turn.outlook.Outlook.TheVariants.{Rest
 ghost use Rattle.feed_cell.specs.Types.{Nobody, Ready, Taken};
 ghost use Rattle.feed_cell.specs.Control.{MARK, QUIET};
 ghost use Rattle.feed_cell.specs.Parties.{IsGoing, IsHome};
-ghost use Rattle.feed_cell.specs.Plays.{SeesPut, Measures, MeasuresNone, grants_by, how_out, outlook_by};
+ghost use Rattle.feed_cell.specs.Seats.{how_out};
+ghost use Rattle.feed_cell.specs.TaskPlays.{SeesPut, Measures, MeasuresNone, grants_by, outlook_by};
 ghost use Rattle.feed_cell.specs.TaskSteps.{HasItem, KeepsCounts, KeepsSubscriber, Carries, HasLookedAt, IsEnding, MovesOut, ComesToRest, HasMissed, HasLeft};
-ghost use Rattle.feed_cell.specs.Steps.{IsSameSeat, StepsTo};
+ghost use Rattle.feed_cell.specs.Seats.{IsSameSeat, StepsTo};
 ghost use Rattle.feed_cell.specs.Views.{RunsFree, RunsAway};
 ghost use Rattle.feed_cell.specs.declared.cell.Held.TheVariants as Held;
 
