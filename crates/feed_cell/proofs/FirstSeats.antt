@@ -16,8 +16,10 @@ use Rattle.feed_cell.proofs.Places.{lies_guest}
 use Rattle.feed_cell.proofs.Seats.{alone, mine, other, added, moved}
 use Rattle.feed_cell.specs.Cell.{Lies, CellRule, AsProducer, AsHandle, AsRunner, LodgesAt}
 use Rattle.feed_cell.specs.Parties.{IsUngreeted}
-use Rattle.feed_cell.specs.Plays.{SeatOf, Enters}
-use Rattle.feed_cell.specs.Steps.{IsProducerOf, IsHandleOf}
+use Rattle.feed_cell.specs.Seats.{SeatOf}
+use Rattle.feed_cell.specs.TaskPlays.{Enters}
+use Rattle.feed_cell.specs.HandleSteps.{IsHandleOf}
+use Rattle.feed_cell.specs.ProducerSteps.{IsProducerOf}
 use Rattle.feed_cell.specs.Views.{IsRunner, RunsFree, first_view, has_put, has_ask, has_run, without_asking, asking_alone, without_running, running_alone}
 use Rattle.feed_cell.specs.declared.cell.Held.{Held}
 use Rattle.feed_cell.specs.declared.cell.View.{View}

@@ -9,7 +9,8 @@ use Rattle.feed_cell.proofs.Seats.{mine, other}
 use Rattle.feed_cell.proofs.Tallies.{stays_same}
 use Rattle.feed_cell.specs.Cell.{CellRule}
 use Rattle.feed_cell.specs.Control.{MARK, marked}
-use Rattle.feed_cell.specs.Plays.{SeatOf, IsAsk, Leaves}
+use Rattle.feed_cell.specs.HandleSteps.{IsAsk, Leaves}
+use Rattle.feed_cell.specs.Seats.{SeatOf}
 use Rattle.feed_cell.specs.Views.{IsHandle, has_put, has_ask, has_run}
 use Rattle.feed_cell.specs.declared.cell.View.{View}
 

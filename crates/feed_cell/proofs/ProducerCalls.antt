@@ -6,7 +6,9 @@ use Rattle.feed_cell.specs.Types.{Free, HasRoom, HasPut, Idle}
 use Rattle.feed_cell.specs.Control.{MARK, marked}
 use Rattle.feed_cell.specs.Offering.{SaysOf}
 use Rattle.feed_cell.specs.Parties.{known_end}
-use Rattle.feed_cell.specs.Plays.{SeatOf, FindsRoom, after_look, after_signal}
+use Rattle.feed_cell.specs.ProducerSteps.{FindsRoom, after_look}
+use Rattle.feed_cell.specs.Seats.{SeatOf}
+use Rattle.feed_cell.specs.Signals.{after_signal}
 use Rattle.feed_cell.specs.Views.{starts_after}
 use Rattle.feed_cell.specs.declared.cell.View.{View}
 use Rattle.feed_cell.specs.declared.cell.producer.steps.Found.{Found}

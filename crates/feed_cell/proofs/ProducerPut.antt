@@ -13,8 +13,9 @@ use Rattle.feed_cell.proofs.Stages.{lodges_else}
 use Rattle.feed_cell.proofs.Tallies.{stays_same}
 use Rattle.feed_cell.specs.Cell.{Lies, CellRule}
 use Rattle.feed_cell.specs.Control.{marked}
-use Rattle.feed_cell.specs.Plays.{SeatOf, IsPut}
-use Rattle.feed_cell.specs.Steps.{HasFreeSlot}
+use Rattle.feed_cell.specs.ProducerSteps.{IsPut}
+use Rattle.feed_cell.specs.Seats.{SeatOf}
+use Rattle.feed_cell.specs.ProducerSteps.{HasFreeSlot}
 use Rattle.feed_cell.specs.Views.{IsProducer, has_put, has_ask, has_run}
 use Rattle.feed_cell.specs.declared.cell.Held.{Held}
 use Rattle.feed_cell.specs.declared.cell.View.{View}

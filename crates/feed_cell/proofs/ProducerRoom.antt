@@ -17,7 +17,8 @@ use Rattle.feed_cell.proofs.Stages.{lodges_else}
 use Rattle.feed_cell.proofs.Tallies.{stays_same}
 use Rattle.feed_cell.specs.Cell.{Lists, Lies, LodgesAt, CellRule, AsProducer}
 use Rattle.feed_cell.specs.Control.{MARK, marked}
-use Rattle.feed_cell.specs.Plays.{SeatOf, FindsRoom, FindsHead, after_look}
+use Rattle.feed_cell.specs.ProducerSteps.{FindsRoom, FindsHead, after_look}
+use Rattle.feed_cell.specs.Seats.{SeatOf}
 use Rattle.feed_cell.specs.Views.{IsProducer, has_put, has_ask, has_run}
 use Rattle.feed_cell.specs.declared.cell.Held.{Held}
 use Rattle.feed_cell.specs.declared.cell.View.{View}

@@ -4,8 +4,9 @@ use Rattle.std.specs.Int.{bit_at}
 use Rattle.feed_core.specs.World.Table.{producing_after, requesting_after}
 use Rattle.feed_cell.specs.Types.{Cause, Cancel, Argument, State, Closing}
 use Rattle.feed_cell.specs.Control.{number}
-use Rattle.feed_cell.specs.Plays.{SeatOf, Signals, sent, after_signal}
-use Rattle.feed_cell.specs.Steps.{IsHanded, IsSent, MaySignal, MustHandOver}
+use Rattle.feed_cell.specs.Seats.{SeatOf}
+use Rattle.feed_cell.specs.Signals.{Signals, sent, after_signal}
+use Rattle.feed_cell.specs.Signals.{IsHanded, IsSent, MaySignal, MustHandOver}
 use Rattle.feed_cell.specs.Views.{handed}
 use Rattle.feed_cell.specs.declared.cell.View.{View}
 use Rattle.feed_cell.proofs.SignalStep.{sent_stays}

@@ -13,8 +13,9 @@ use Rattle.feed_cell.proofs.Tallies.{stays_started}
 use Rattle.feed_cell.specs.Cell.{Only, CellRule, AsProducer, AsHandle}
 use Rattle.feed_cell.specs.Control.{Flags, number, Reads, signal_of, both, marked}
 use Rattle.feed_cell.specs.Outlooks.{IsReachedBy}
-use Rattle.feed_cell.specs.Plays.{SeatOf, sent, Signals}
-use Rattle.feed_cell.specs.Steps.{MaySignal}
+use Rattle.feed_cell.specs.Seats.{SeatOf}
+use Rattle.feed_cell.specs.Signals.{sent, Signals}
+use Rattle.feed_cell.specs.Signals.{MaySignal}
 use Rattle.feed_cell.specs.Views.{IsProducer, IsHandle, has_put, has_ask, has_run}
 use Rattle.feed_cell.specs.declared.cell.Held.{Held}
 use Rattle.feed_cell.specs.declared.cell.View.{View}

@@ -12,7 +12,7 @@ use Rattle.feed_cell.specs.Types.{Runner, Fresh, Taken}
 use Rattle.feed_cell.specs.Cell.{greeted, IsToldAtEnd}
 use Rattle.feed_cell.specs.Parties.{IsUngreeted}
 use Rattle.feed_cell.specs.TaskPauses.{told_out}
-use Rattle.feed_cell.specs.Plays.{SeatOf}
+use Rattle.feed_cell.specs.Seats.{SeatOf}
 use Rattle.feed_cell.specs.TaskSteps.{IsGoOn, IsQuietEnd, Carries, GoesOnWith, EndsWith, FinishesWith, GoesOnThere, EndsThere, FinishesThere, HasTaken}
 use Rattle.feed_cell.specs.TaskAnswers.{own_after, answers_after}
 use Rattle.feed_cell.specs.Views.{IsRunner}

@@ -14,7 +14,7 @@ use Rattle.feed_cell.proofs.Stages.{seated}
 use Rattle.feed_cell.proofs.Tallies.{has_none}
 use Rattle.feed_cell.specs.Cell.{Lies, CellRule, IsToldAtEnd}
 use Rattle.feed_cell.specs.Control.{Flags, MARK, causes_of, marked}
-use Rattle.feed_cell.specs.Plays.{outlook_by, IsEnd}
+use Rattle.feed_cell.specs.TaskPlays.{outlook_by, IsEnd}
 use Rattle.feed_cell.specs.Views.{IsRunner, has_put, has_ask, has_run}
 use Rattle.feed_cell.specs.declared.cell.Held.{Held}
 use Rattle.feed_cell.specs.declared.cell.Lodger.{Lodger}

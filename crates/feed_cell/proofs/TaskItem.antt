@@ -6,7 +6,8 @@ use Rattle.feed_core.specs.World.Table.{MaySee, MayTake, seeing, measuring}
 use Rattle.feed_cell.specs.Types.{Runner, Measured, Taken}
 use Rattle.feed_cell.proofs.Marks.{unmark}
 use Rattle.feed_cell.specs.Control.{MARK}
-use Rattle.feed_cell.specs.Plays.{SeatOf, SeesPut, Measures, MeasuresNone, grants_by}
+use Rattle.feed_cell.specs.Seats.{SeatOf}
+use Rattle.feed_cell.specs.TaskPlays.{SeesPut, Measures, MeasuresNone, grants_by}
 use Rattle.feed_cell.specs.TaskSteps.{FindsNone, TakesNext}
 
 module _ {B : Type 0} where

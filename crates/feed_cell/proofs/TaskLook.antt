@@ -16,7 +16,8 @@ use Rattle.feed_cell.proofs.Tallies.{stays_on}
 use Rattle.feed_cell.specs.Cell.{Lies, CellRule, AsProducer, AsRunner, LodgesAt, may_hold}
 use Rattle.feed_cell.specs.Control.{Flags, Reads, causes_of, marked, QUIET}
 use Rattle.feed_cell.specs.Outlooks.{IsReachedBy}
-use Rattle.feed_cell.specs.Plays.{SeatOf, after_causes, LooksOut, LooksFirst}
+use Rattle.feed_cell.specs.Seats.{SeatOf}
+use Rattle.feed_cell.specs.TaskPlays.{after_causes, LooksOut, LooksFirst}
 use Rattle.feed_cell.specs.TaskAnswers.{own_after, answers_after}
 use Rattle.feed_cell.specs.Views.{IsRunner, has_put, has_ask, has_run}
 use Rattle.feed_cell.specs.declared.cell.Held.{Held}

@@ -7,9 +7,10 @@ use Rattle.feed_core.specs.declared.turn.outlook.Outlook.TheVariants.{Resting, E
 use Rattle.feed_cell.specs.Types.{Nobody, Ready, Taken}
 use Rattle.feed_cell.specs.Cell.{greeted, IsToldAtEnd}
 use Rattle.feed_cell.specs.TaskPauses.{told_out}
-use Rattle.feed_cell.specs.Plays.{SeatOf, how_out, outlook_by}
+use Rattle.feed_cell.specs.Seats.{SeatOf, how_out}
+use Rattle.feed_cell.specs.TaskPlays.{outlook_by}
 use Rattle.feed_cell.specs.TaskSteps.{Carries, IsEnding, HasTaken, FindsNone, TakesNext, grant_of}
-use Rattle.feed_cell.specs.TaskLooks.{MissesRest, RestsNow, Serves, GivesAs, FinishesAs, Concludes}
+use Rattle.feed_cell.specs.TaskLooks.{MissesRest, RestsNow, Serves, GivesAs, FinishesAs, EndsOrRests}
 use Rattle.feed_cell.specs.Views.{IsRunner}
 use Rattle.feed_cell.specs.declared.cell.task.looks.Served.{Served}
 use Rattle.feed_cell.specs.declared.cell.View.{View}
@@ -119,7 +120,7 @@ module _ {B : Type 0} (told : B → List Signal) where
       }
 
   -- there was no item to give
-  pub serves_none : (tail : ℕ) (result : Served) (before middle after : SeatOf B) (seen later : SeenState) → FindsNone tail before middle → Concludes told result middle after seen later → Serves told result before after seen later
+  pub serves_none : (tail : ℕ) (result : Served) (before middle after : SeatOf B) (seen later : SeenState) → FindsNone tail before middle → EndsOrRests told result middle after seen later → Serves told result before after seen later
   serves_none tail Served.Gave before middle after seen later f t = absurd t
   serves_none tail Served.Rested before middle after seen later f t = (
     record {

@@ -20,7 +20,7 @@ use Rattle.feed_cell.proofs.Tallies.{has_none}
 use Rattle.feed_cell.specs.Cell.{Lies, CellRule, AsProducer, greeted, has_looked}
 use Rattle.feed_cell.specs.Control.{Reads, number, marked, RESTING}
 use Rattle.feed_cell.specs.Outlooks.{IsReachedBy, miss_between, hand_between}
-use Rattle.feed_cell.specs.Plays.{IsRest}
+use Rattle.feed_cell.specs.TaskPlays.{IsRest}
 use Rattle.feed_cell.specs.Views.{IsRunner, has_put, has_ask, has_run}
 use Rattle.feed_cell.specs.declared.cell.Held.{Held}
 use Rattle.feed_cell.specs.declared.cell.Lodger.{Lodger}

@@ -16,7 +16,8 @@ use Rattle.feed_cell.proofs.Places.{lies_out, lies_back}
 use Rattle.feed_cell.proofs.Tallies.{stays_on}
 use Rattle.feed_cell.specs.Cell.{Lies, CellRule, may_hold, has_looked}
 use Rattle.feed_cell.specs.Outlooks.{IsReachedBy}
-use Rattle.feed_cell.specs.Plays.{SeatOf, SeesPut, Measures, MeasuresNone}
+use Rattle.feed_cell.specs.Seats.{SeatOf}
+use Rattle.feed_cell.specs.TaskPlays.{SeesPut, Measures, MeasuresNone}
 use Rattle.feed_cell.specs.Views.{IsRunner}
 use Rattle.feed_cell.specs.declared.cell.Held.{Held}
 use Rattle.feed_cell.specs.declared.cell.View.{View}

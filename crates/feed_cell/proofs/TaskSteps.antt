@@ -14,7 +14,8 @@ use Rattle.feed_cell.proofs.TaskTake.{takes_item}
 use Rattle.feed_cell.specs.Cell.{CellRule}
 use Rattle.feed_cell.specs.Control.{MARK, QUIET, RESTING}
 use Rattle.feed_cell.specs.Parties.{IsGoing, IsHome}
-use Rattle.feed_cell.specs.Plays.{SeatOf, own_out, answers_out, LooksOut, LooksFirst, Measures, IsTake, IsRest, IsEnd}
+use Rattle.feed_cell.specs.Seats.{SeatOf, own_out, answers_out}
+use Rattle.feed_cell.specs.TaskPlays.{LooksOut, LooksFirst, Measures, IsTake, IsRest, IsEnd}
 use Rattle.feed_cell.specs.TaskSteps.{HasItem, Carries, HasLookedAt, IsEnding}
 use Rattle.feed_cell.specs.Views.{IsRunner}
 use Rattle.feed_cell.specs.declared.cell.Held.{Held}

@@ -13,7 +13,7 @@ use Rattle.feed_cell.proofs.Stages.{seated}
 use Rattle.feed_cell.proofs.Tallies.{stays_on}
 use Rattle.feed_cell.specs.Cell.{Lies, CellRule, KnowsAway}
 use Rattle.feed_cell.specs.Control.{marked}
-use Rattle.feed_cell.specs.Plays.{IsTake, grants_by}
+use Rattle.feed_cell.specs.TaskPlays.{IsTake, grants_by}
 use Rattle.feed_cell.specs.Views.{IsRunner, has_put, has_ask, has_run}
 use Rattle.feed_cell.specs.declared.cell.Held.{Held}
 use Rattle.feed_cell.specs.declared.cell.View.{View}

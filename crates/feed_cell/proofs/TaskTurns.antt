@@ -9,7 +9,8 @@ use Rattle.feed_cell.specs.Types.{Nobody}
 use Rattle.feed_cell.specs.Cell.{greeted, IsToldAtEnd}
 use Rattle.feed_cell.specs.Parties.{known_by_task, IsUngreeted, IsGoing}
 use Rattle.feed_cell.specs.TaskPauses.{told_out, IsPaused}
-use Rattle.feed_cell.specs.Plays.{SeatOf, how_out, outlook_by}
+use Rattle.feed_cell.specs.Seats.{SeatOf, how_out}
+use Rattle.feed_cell.specs.TaskPlays.{outlook_by}
 use Rattle.feed_cell.specs.TaskSteps.{EndsThere, GoesOnThere, HasLookedAt, IsGranted, grant_of}
 use Rattle.feed_cell.specs.TaskLooks.{EndsAs, GivesItem, IsLastGrant, MissesRest, RestsNow}
 use Rattle.feed_cell.specs.TaskTurns.{AreGivenOf, AreGranted, GoesOnAs, IsBeforeLook, KeepsGoing, MayLookNext, StopsAs, TellsSoFar, MayGoOn}

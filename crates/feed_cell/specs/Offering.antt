@@ -4,7 +4,8 @@ use Rattle.flow_rules.specs.Call.{Call}
 use Rattle.flow_rules.specs.declared.feed.put.Put.TheVariants.{Accepted, Full, Gone}
 use Rattle.feed_cell.specs.Control.{MARK}
 use Rattle.feed_cell.specs.Parties.{ProducerState, TaskState, IsStarted}
-use Rattle.feed_cell.specs.Plays.{SeatOf, FindsRoom}
+use Rattle.feed_cell.specs.ProducerSteps.{FindsRoom}
+use Rattle.feed_cell.specs.Seats.{SeatOf}
 use Rattle.feed_cell.specs.Views.{starts_after}
 use Rattle.feed_cell.specs.declared.cell.producer.steps.Found.{Found}
 

@@ -12,7 +12,7 @@ use Rattle.feed_cell.specs.declared.cell.Grant.{Grant}
 use Rattle.feed_cell.specs.declared.cell.Held.{Held}
 use Rattle.feed_cell.specs.declared.cell.Lodger.{Lodger}
 use Rattle.feed_cell.specs.declared.cell.View.{View}
-use Rattle.feed_cell.specs.Plays.{SeatOf}
+use Rattle.feed_cell.specs.Seats.{SeatOf}
 use Rattle.feed_cell.specs.TaskAnswers.{own_after, answers_after}
 
 -- the producer: whose subscription it is, what its publisher knows of that, and how many tasks its calls have started

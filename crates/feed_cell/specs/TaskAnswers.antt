@@ -17,12 +17,12 @@ answers_after (Answer.Request (negsuc n)) answers = record answers { argument = 
 answers_after _ answers = answers
 
 -- what lies beside a subscriber after its answer, which goes on
-abbrev pub answered : {B : Type 0} → Answer → Lodger B → Lodger B
-answered answer guest = record guest { own = own_after answer guest.own; answers = answers_after answer guest.answers }
+abbrev pub after_answer : {B : Type 0} → Answer → Lodger B → Lodger B
+after_answer answer guest = record guest { own = own_after answer guest.own; answers = answers_after answer guest.answers }
 
 -- and after an end
-abbrev pub ended_as : {B : Type 0} → How → Lodger B → Lodger B
-ended_as how guest = record guest { answers = with_cause_of how guest.answers; how = Some how }
+abbrev pub after_end : {B : Type 0} → How → Lodger B → Lodger B
+after_end how guest = record guest { answers = with_cause_of how guest.answers; how = Some how }
 
 -- a subscriber that was told nothing, with what lies beside it
 abbrev pub new_lodger : {B : Type 0} → B → Lodger B

@@ -9,7 +9,7 @@ use Rattle.feed_cell.specs.declared.cell.task.looks.Served.{Served}
 use Rattle.feed_cell.specs.Cell.{greeted, IsToldAtEnd}
 use Rattle.feed_cell.specs.Parties.{IsGoing}
 use Rattle.feed_cell.specs.TaskPauses.{told_out}
-use Rattle.feed_cell.specs.Plays.{SeatOf}
+use Rattle.feed_cell.specs.Seats.{SeatOf}
 use Rattle.feed_cell.specs.TaskSteps.{HasLeft, IsGranted, grant_of, EndsThere, FinishesThere, GoesOnThere}
 use Rattle.feed_cell.specs.Views.{IsRunner}
 
@@ -95,8 +95,8 @@ module _ {B : Type 0} (told : B → List Signal) where
   TriesRest _ before after = ⊥
 
   -- where there was no item to give
-  abbrev pub Concludes : Served → SeatOf B → SeatOf B → SeenState → SeenState → Type 0
-  Concludes Served.Gave before after seen later = ⊥
-  Concludes Served.Rested before after seen later = TriesRest Served.Rested before after × (later ≡ seen)
-  Concludes Served.Missed before after seen later = TriesRest Served.Missed before after × (later ≡ seen)
-  Concludes (Served.Ended how) before after seen later = (due : How) × FinishesAs due (Served.Ended how) before after seen later
+  abbrev pub EndsOrRests : Served → SeatOf B → SeatOf B → SeenState → SeenState → Type 0
+  EndsOrRests Served.Gave before after seen later = ⊥
+  EndsOrRests Served.Rested before after seen later = TriesRest Served.Rested before after × (later ≡ seen)
+  EndsOrRests Served.Missed before after seen later = TriesRest Served.Missed before after × (later ≡ seen)
+  EndsOrRests (Served.Ended how) before after seen later = (due : How) × FinishesAs due (Served.Ended how) before after seen later

@@ -4,7 +4,7 @@ use Rattle.feed_core.specs.Prelude.{Signal}
 use Rattle.feed_cell.specs.declared.cell.Held.{Held}
 use Rattle.feed_cell.specs.declared.cell.task.Stage.{Stage}
 use Rattle.feed_cell.specs.Parties.{IsUngreeted, IsHome, IsGoing}
-use Rattle.feed_cell.specs.Plays.{SeatOf}
+use Rattle.feed_cell.specs.Seats.{SeatOf}
 
 module _ {B : Type 0} (told : B → List Signal) where
   -- what a subscriber in this slot was told

@@ -16,7 +16,8 @@ use Rattle.feed_cell.specs.declared.cell.View.{View}
 use Rattle.feed_cell.specs.Cell.{greeted, IsToldAtEnd}
 use Rattle.feed_cell.specs.Control.{Flags, Reads, causes_of, QUIET}
 use Rattle.feed_cell.specs.TaskPauses.{told_out}
-use Rattle.feed_cell.specs.Plays.{SeatOf, grants_by, how_out, outlook_by}
+use Rattle.feed_cell.specs.Seats.{SeatOf, how_out}
+use Rattle.feed_cell.specs.TaskPlays.{grants_by, outlook_by}
 use Rattle.feed_cell.specs.TaskAnswers.{own_after, answers_after}
 use Rattle.feed_cell.specs.Parties.{IsGoing}
 use Rattle.feed_cell.specs.Views.{IsRunner}
@@ -37,12 +38,12 @@ IsQuietEnd (How.Failed _) = Unit {0}
 IsQuietEnd How.OutOfMemory = ⊥
 
 -- the item that was out is taken, and its slot given back
-abbrev pub TakesOut : {B : Type 0} → Item → SeatOf B → SeatOf B → Type 0
-TakesOut item before after = after ≡ (record before.0 { taken = before.0.taken ++ item ∷ []; item = []; grants = before.0.grants ++ grants_by before.0.runner; runner = Taken }, rest before.1)
+abbrev pub MovesOut : {B : Type 0} → Item → SeatOf B → SeatOf B → Type 0
+MovesOut item before after = after ≡ (record before.0 { taken = before.0.taken ++ item ∷ []; item = []; grants = before.0.grants ++ grants_by before.0.runner; runner = Taken }, rest before.1)
 
 -- the task is at rest, and its subscriber at home
-abbrev pub IsAtRest : {B : Type 0} → SeatOf B → SeatOf B → Type 0
-IsAtRest before after = after ≡ (record before.0 { runner = Nobody; runs = false; away = false; outlook = Resting }, [])
+abbrev pub ComesToRest : {B : Type 0} → SeatOf B → SeatOf B → Type 0
+ComesToRest before after = after ≡ (record before.0 { runner = Nobody; runs = false; away = false; outlook = Resting }, [])
 
 -- it could not rest, since something was new
 abbrev pub HasMissed : {B : Type 0} → SeatOf B → SeatOf B → Type 0

@@ -11,7 +11,8 @@ ghost use Rattle.feed_cell.specs.Control.{MARK, RUNNING};
 ghost use Rattle.flow_rules.specs.Feed.{End};
 ghost use Rattle.feed_cell.specs.Left.{IsLeftOf, OnGuest, IsHomeBy, IsLaneWith, lane_without};
 ghost use Rattle.feed_cell.specs.Parties.{HandleState, KnowsEnd, KnowsHandle, not_ready};
-ghost use Rattle.feed_cell.specs.Steps.{HasFourWords, MayOffer};
+ghost use Rattle.feed_cell.specs.ProducerSteps.{MayOffer};
+ghost use Rattle.feed_cell.specs.Seats.{HasFourWords};
 
 use self::joined::{Gather, join_if_of_one_table};
 use super::handle::Handle;

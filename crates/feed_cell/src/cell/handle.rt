@@ -39,7 +39,7 @@ impl<B: Listener> Model for Handle<B> {
     ghost use Rattle.std.specs.Arc.{arc_value};
     ghost use Rattle.crossbeam_utils.specs.Padded.{padded_value};
     ghost use Rattle.feed_cell.specs.Parties.{HandleState};
-    ghost use Rattle.feed_cell.specs.Steps.{IsHandleOf};
+    ghost use Rattle.feed_cell.specs.HandleSteps.{IsHandleOf};
 
     ghost Value = { HandleState };
 

@@ -4,7 +4,8 @@ ghost use Rattle.std.specs.Arc.{arc_value};
 ghost use Rattle.crossbeam_utils.specs.Padded.{padded_value};
 ghost use Rattle.feed_core.specs.LaneCalls.{IsCapacity};
 ghost use Rattle.feed_cell.specs.Parties.{new_producer, new_handle, IsNewTask};
-ghost use Rattle.feed_cell.specs.Steps.{HasFourWords, Steps, IsUnlodged, HasLodged};
+ghost use Rattle.feed_cell.specs.Seats.{HasFourWords, StepsTo};
+ghost use Rattle.feed_cell.specs.TaskPlays.{IsUnlodged, HasLodged};
 ghost use Rattle.feed_cell.specs.TaskAnswers.{new_lodger};
 ghost use Rattle.feed_cell.specs.Views.{first_view};
 ghost use Rattle.feed_cell.specs.declared.cell.Held.TheVariants as Held;
@@ -169,7 +170,7 @@ fn lodger<B: Listener>(alloc: Global, subscriber: B) -> Result<BoxedLodger<B>, (
 /// Takes the subscriber's slot out with the task, and places the subscriber there.
 fn lodge<B: Listener>(party: &mut Seated<B>, guest: BoxedLodger<B>)
     requires fresh { IsUnlodged party.old.seat.me }
-    ensures lodged { Steps party.old.seat (HasLodged guest party.old.seat.me) party.new.seat }
+    ensures lodged { StepsTo party.old.seat (HasLodged guest party.old.seat.me) party.new.seat }
 {
     let table = &party.table.shared;
     let _ = table.load::<EnterStep>(&mut party.seat, CONTROL);

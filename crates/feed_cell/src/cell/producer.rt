@@ -36,7 +36,7 @@ impl<B: Listener> Model for Producer<B> {
     ghost use Rattle.std.specs.Arc.{arc_value};
     ghost use Rattle.crossbeam_utils.specs.Padded.{padded_value};
     ghost use Rattle.feed_cell.specs.Parties.{ProducerState, known_end};
-    ghost use Rattle.feed_cell.specs.Steps.{IsProducerOf};
+    ghost use Rattle.feed_cell.specs.ProducerSteps.{IsProducerOf};
 
     ghost Value = { ProducerState };
 

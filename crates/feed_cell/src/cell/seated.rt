@@ -2,7 +2,7 @@
 ghost use Rattle.std.specs.Prelude.{◌≡◌, ◌<◌};
 ghost use Rattle.std.specs.Arc.{arc_value};
 ghost use Rattle.crossbeam_utils.specs.Padded.{padded_value};
-ghost use Rattle.feed_cell.specs.Steps.{HasFourWords};
+ghost use Rattle.feed_cell.specs.Seats.{HasFourWords};
 
 use super::{CellSeat, SharedTable};
 use flow_rules::Listener;

@@ -5,7 +5,8 @@ ghost use Rattle.std.specs.Int.{bit_at};
 ghost use Rattle.crossbeam_utils.specs.Padded.{padded_value};
 ghost use Rattle.feed_cell.specs.Control.{RUNNING, Reads, signal_of, cause_in};
 ghost use Rattle.feed_cell.specs.Parties.{IsStarted};
-ghost use Rattle.feed_cell.specs.Steps.{IsSameSeat, Steps, MaySignal, IsSent, MustHandOver, IsHanded, IsReadySeat};
+ghost use Rattle.feed_cell.specs.Seats.{IsSameSeat, StepsTo};
+ghost use Rattle.feed_cell.specs.Signals.{MaySignal, IsSent, MustHandOver, IsHanded, IsReadySeat};
 ghost use Rattle.feed_cell.specs.Views.{starts_after};
 
 use super::seated::Seated;
@@ -19,7 +20,7 @@ pub(crate) struct SignalStep;
 
 impl<B: Listener> Play<Held<B>, View> for SignalStep {
     ghost use Rattle.feed_cell.specs.Control.{cause_in};
-    ghost use Rattle.feed_cell.specs.Plays.{Signals};
+    ghost use Rattle.feed_cell.specs.Signals.{Signals};
 
     ghost then = { λ step. Signals (cause_in step.first) };
 }
@@ -39,7 +40,7 @@ impl Split<View> for HandOver {
 pub(crate) fn signal<B: Listener>(party: &mut Seated<B>, mask: u64) -> Option<CellSeat<B>>
     requires mask { Reads mask (signal_of (cause_in mask)) }
     requires may { MaySignal (cause_in mask) party.old.seat.me.0 }
-    ensures sent { Steps party.old.seat
+    ensures sent { StepsTo party.old.seat
         (IsSent (cause_in mask) result party.old.seat.me) party.new.seat }
     ensures starts { IfSome result (IsReadySeat party.old.seat.table_id party.old.capacity) }
 {
@@ -51,7 +52,7 @@ pub(crate) fn signal<B: Listener>(party: &mut Seated<B>, mask: u64) -> Option<Ce
 /// Hands the task over that the signal that found this word has started, if it has.
 fn hand_over<B: Listener>(party: &mut Seated<B>, found: u64) -> Option<CellSeat<B>>
     requires hands { bit_at found RUNNING ≡ 0 → MustHandOver party.old.seat.me.0 }
-    ensures handed { Steps party.old.seat (IsHanded found result party.old.seat.me) party.new.seat }
+    ensures handed { StepsTo party.old.seat (IsHanded found result party.old.seat.me) party.new.seat }
     ensures starts { IfSome result (IsReadySeat party.old.seat.table_id party.old.capacity) }
 {
     let table = &party.table.shared;

@@ -7,7 +7,7 @@ use flow_rules::Listener;
 pub(crate) struct AskStep;
 
 impl<B: Listener> Play<Held<B>, View> for AskStep {
-    ghost use Rattle.feed_cell.specs.Plays.{IsAsk};
+    ghost use Rattle.feed_cell.specs.HandleSteps.{IsAsk};
 
     ghost then = { λ _. IsAsk };
 }
@@ -16,7 +16,7 @@ impl<B: Listener> Play<Held<B>, View> for AskStep {
 pub(crate) struct LeaveStep;
 
 impl<B: Listener> Play<Held<B>, View> for LeaveStep {
-    ghost use Rattle.feed_cell.specs.Plays.{Leaves};
+    ghost use Rattle.feed_cell.specs.HandleSteps.{Leaves};
 
     ghost then = { λ _ before _. Leaves before };
 }

@@ -1,8 +1,9 @@
 //! The steps of the handle on its own word. Its signals are in `signal.rt`.
 ghost use Rattle.std.specs.Prelude.{◌≡◌, ◌+◌, ◌≤◌};
 ghost use Rattle.feed_core.specs.Prelude.{total_after};
-ghost use Rattle.feed_cell.specs.Plays.{IsAsk, Leaves};
-ghost use Rattle.feed_cell.specs.Steps.{Steps, MayRequest};
+ghost use Rattle.feed_cell.specs.HandleSteps.{IsAsk, Leaves};
+ghost use Rattle.feed_cell.specs.HandleSteps.{MayRequest};
+ghost use Rattle.feed_cell.specs.Seats.{StepsTo};
 
 use super::plays::{AskStep, LeaveStep};
 use crate::cell::seated::Seated;
@@ -16,7 +17,7 @@ pub(crate) fn ask_more<B: Listener>(party: &mut Seated<B>, asked: u64, more: u64
     requires bounded { asked ≤ UNBOUNDED }
     requires some { (1 ≤ more) × (more ≤ UNBOUNDED + 1) }
     ensures asked { result ≡ total_after asked more }
-    ensures stored { Steps party.old.seat (IsAsk party.old.seat.me result) party.new.seat }
+    ensures stored { StepsTo party.old.seat (IsAsk party.old.seat.me result) party.new.seat }
 {
     let table = &party.table.shared;
     let total = (asked + more).min(UNBOUNDED);
@@ -29,7 +30,7 @@ pub(crate) fn leave<B: Listener>(party: &mut Seated<B>, asked: u64)
     requires may { MayRequest party.old.seat.me }
     requires counted { party.old.seat.me.0.asked ≡ asked }
     requires bounded { asked ≤ UNBOUNDED }
-    ensures left { Steps party.old.seat (Leaves party.old.seat.me) party.new.seat }
+    ensures left { StepsTo party.old.seat (Leaves party.old.seat.me) party.new.seat }
 {
     let table = &party.table.shared;
     table.store::<LeaveStep>(&mut party.seat, ASKED, asked + MARK);

@@ -7,7 +7,7 @@ use flow_rules::Listener;
 pub(crate) struct RoomStep;
 
 impl<B: Listener> Play<Held<B>, View> for RoomStep {
-    ghost use Rattle.feed_cell.specs.Plays.{FindsRoom};
+    ghost use Rattle.feed_cell.specs.ProducerSteps.{FindsRoom};
 
     ghost then = { λ _. FindsRoom };
 }
@@ -16,7 +16,7 @@ impl<B: Listener> Play<Held<B>, View> for RoomStep {
 pub(crate) struct StandStep;
 
 impl<B: Listener> Play<Held<B>, View> for StandStep {
-    ghost use Rattle.feed_cell.specs.Plays.{FindsHead};
+    ghost use Rattle.feed_cell.specs.ProducerSteps.{FindsHead};
 
     ghost then = { λ _. FindsHead };
 }
@@ -25,7 +25,7 @@ impl<B: Listener> Play<Held<B>, View> for StandStep {
 pub(crate) struct PutStep;
 
 impl<B: Listener> Play<Held<B>, View> for PutStep {
-    ghost use Rattle.feed_cell.specs.Plays.{IsPut};
+    ghost use Rattle.feed_cell.specs.ProducerSteps.{IsPut};
 
     ghost then = { λ _ before _. IsPut before };
 }

@@ -2,8 +2,10 @@
 ghost use Rattle.std.specs.Prelude.{◌≡◌, Some, None, IfSome, length};
 ghost use Rattle.feed_cell.specs.Types.{Closing};
 ghost use Rattle.feed_cell.specs.Offering.{Finds};
-ghost use Rattle.feed_cell.specs.Plays.{FindsRoom, FindsHead};
-ghost use Rattle.feed_cell.specs.Steps.{IsSameSeat, Steps, MayOffer, HasFreeSlot, HasPlaced, IsSent, IsReadySeat};
+ghost use Rattle.feed_cell.specs.ProducerSteps.{FindsRoom, FindsHead};
+ghost use Rattle.feed_cell.specs.ProducerSteps.{MayOffer, HasFreeSlot, HasPlaced};
+ghost use Rattle.feed_cell.specs.Seats.{IsSameSeat, StepsTo};
+ghost use Rattle.feed_cell.specs.Signals.{IsSent, IsReadySeat};
 ghost use Rattle.feed_cell.specs.declared.cell.Held.TheVariants as Held;
 
 use super::plays::{PutStep, RoomStep, StandStep};
@@ -28,7 +30,7 @@ pub(crate) enum Found {
 pub(crate) fn find_room<B: Listener>(party: &mut Seated<B>, tail: u64) -> Found
     requires may { MayOffer party.old.seat.me }
     requires counted { length party.old.seat.me.0.put ≡ tail }
-    ensures finds { Steps party.old.seat (Finds tail result party.old.seat.me) party.new.seat }
+    ensures finds { StepsTo party.old.seat (Finds tail result party.old.seat.me) party.new.seat }
 {
     let head = look_for_room(party);
     if head >= MARK {
@@ -44,7 +46,7 @@ pub(crate) fn find_room<B: Listener>(party: &mut Seated<B>, tail: u64) -> Found
 /// Loads head, and takes the slot of the next item out if there is room.
 fn look_for_room<B: Listener>(party: &mut Seated<B>) -> u64
     requires may { MayOffer party.old.seat.me }
-    ensures finds { Steps party.old.seat (FindsRoom party.old.seat.me result) party.new.seat }
+    ensures finds { StepsTo party.old.seat (FindsRoom party.old.seat.me result) party.new.seat }
 {
     let table = &party.table.shared;
     table.load::<RoomStep>(&mut party.seat, HEAD)
@@ -53,7 +55,7 @@ fn look_for_room<B: Listener>(party: &mut Seated<B>) -> u64
 /// Loads head.
 pub(crate) fn look<B: Listener>(party: &mut Seated<B>) -> u64
     requires may { MayOffer party.old.seat.me }
-    ensures stands { Steps party.old.seat (FindsHead party.old.seat.me result) party.new.seat }
+    ensures stands { StepsTo party.old.seat (FindsHead party.old.seat.me result) party.new.seat }
 {
     let table = &party.table.shared;
     table.load::<StandStep>(&mut party.seat, HEAD)
@@ -62,7 +64,7 @@ pub(crate) fn look<B: Listener>(party: &mut Seated<B>) -> u64
 /// Places the item in the slot that is out, and stores the new tail.
 pub(crate) fn place<B: Listener>(party: &mut Seated<B>, tail: u64, item: Item)
     requires place { HasFreeSlot tail party.old.seat.me }
-    ensures put { Steps party.old.seat (HasPlaced item party.old.seat.me) party.new.seat }
+    ensures put { StepsTo party.old.seat (HasPlaced item party.old.seat.me) party.new.seat }
 {
     let table = &party.table.shared;
     let slot = (tail % party.capacity) as usize;
@@ -82,7 +84,7 @@ fn leave<B: Listener>(nothing: Held<B>)
 pub(crate) fn signal_end<B: Listener>(party: &mut Seated<B>, ending: Ending) -> Option<CellSeat<B>>
     requires may { MayOffer party.old.seat.me }
     requires unclosed { party.old.seat.me.0.closing ≡ None }
-    ensures sent { Steps party.old.seat
+    ensures sent { StepsTo party.old.seat
         (IsSent (Some (Closing ending)) result party.old.seat.me) party.new.seat }
     ensures starts { IfSome result (IsReadySeat party.old.seat.table_id party.old.capacity) }
 {

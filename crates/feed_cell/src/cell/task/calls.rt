@@ -3,7 +3,7 @@ ghost use Rattle.std.specs.Prelude.{◌≡◌, ◌<◌, length, IfSome, IfNone};
 ghost use Rattle.feed_core.specs.Prelude.{Subscribed, Next, UNBOUNDED};
 ghost use Rattle.feed_core.specs.declared.turn.TheConstants.{SIGNALS_IN_A_TURN};
 ghost use Rattle.feed_cell.specs.TaskSteps.{IsGoOn, IsQuietEnd, GoesOnWith, EndsWith, FinishesWith};
-ghost use Rattle.feed_cell.specs.TaskAnswers.{answered, ended_as};
+ghost use Rattle.feed_cell.specs.TaskAnswers.{after_answer, after_end};
 
 use crate::cell::{BoxedLodger, Lodger};
 use feed_core::{Seen, tell_next, tell_subscribed, tell_terminal};
@@ -57,8 +57,8 @@ impl<B: Listener> BoxedLodger<B> {
 
 /// Does what an answer asks for: it adds to the demand, or ends the subscription.
 fn obey<B: Listener>(guest: &mut Lodger<B>, answer: Answer) -> Option<How>
-    ensures goes { IfNone result (IsGoOn answer × (guest.new ≡ answered answer guest.old)) }
-    ensures ends { IfSome result (λ how. IsQuietEnd how × (guest.new ≡ ended_as how guest.old)) }
+    ensures goes { IfNone result (IsGoOn answer × (guest.new ≡ after_answer answer guest.old)) }
+    ensures ends { IfSome result (λ how. IsQuietEnd how × (guest.new ≡ after_end how guest.old)) }
 {
     match answer {
         Answer::Go => None,
@@ -78,7 +78,7 @@ fn obey<B: Listener>(guest: &mut Lodger<B>, answer: Answer) -> Option<How>
 /// Notes that the subscription ends so, with the cause of that.
 fn end_as<B: Listener>(guest: &mut Lodger<B>, how: How) -> How
     ensures value { result ≡ how }
-    ensures ended { guest.new ≡ ended_as how guest.old }
+    ensures ended { guest.new ≡ after_end how guest.old }
 {
     guest.answers.join(how);
     guest.how = Some(how);

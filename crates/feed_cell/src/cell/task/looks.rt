@@ -5,8 +5,8 @@ ghost use Rattle.feed_core.specs.World.Table.{MayRest, MaySee};
 ghost use Rattle.feed_core.specs.declared.turn.TheConstants.{SIGNALS_IN_A_TURN};
 ghost use Rattle.feed_cell.specs.Control.{QUIET};
 ghost use Rattle.feed_cell.specs.TaskSteps.{notes_of, MayFinish, Carries, HasLookedAt, HasTaken, HasNoneToGive, FindsNone, TakesNext};
-ghost use Rattle.feed_cell.specs.TaskLooks.{Serves, GivesAs, FinishesAs, TriesRest, Concludes};
-ghost use Rattle.feed_cell.specs.Steps.{IsSameSeat};
+ghost use Rattle.feed_cell.specs.TaskLooks.{Serves, GivesAs, FinishesAs, TriesRest, EndsOrRests};
+ghost use Rattle.feed_cell.specs.Seats.{IsSameSeat};
 
 use super::causes::causes_in;
 use super::steps::{end, measure, measure_none, see, take, try_rest};
@@ -48,28 +48,43 @@ pub(crate) fn serve<B: Listener>(party: &mut Seated<B>, word: u64, seen: &mut Se
     }
 }
 
-/// Does what is left to do if no item is to be given: the end that waits for the items, if all of them were given, or rest.
-fn close_or_rest<B: Listener>(
-    party: &mut Seated<B>,
-    given: u64,
-    tail: u64,
-    due: Option<How>,
-    word: u64,
-    seen: &mut Seen,
-) -> Served
+/// What lies beside the subscriber: how many items were taken, how many its answers requested, and the causes that they brought
+/// about.
+fn notes<B: Listener>(party: &mut Seated<B>) -> (u64, u64, Causes)
     requires carries { Carries B.told party.old.seat.me }
-    requires measured { HasNoneToGive tail due party.old.seat.me }
-    requires counted { (length party.old.seat.me.0.taken ≡ given) × (given ≤ UNBOUNDED) }
-    requires look { party.old.seat.me.0.look ≡ bit_and word QUIET }
-    requires room { length seen.old.signals < SIGNALS_IN_A_TURN }
     ensures seat { IsSameSeat party.old.seat party.new.seat }
-    ensures concludes { Concludes B.told result
-        party.old.seat.me party.new.seat.me seen.old seen.new }
+    ensures same { party.new.seat.me ≡ party.old.seat.me }
+    ensures notes { result ≡ notes_of party.old.seat.me.0 }
 {
-    match due {
-        Some(due) if given == tail => finish(party, given, due, seen),
-        _ => rest(party, word),
+    match party
+        .seat
+        .slot_mut(&party.table.shared, party.capacity as usize)
+    {
+        Held::Guest(guest) => guest.notes(),
+        _ => unreachable!(),
     }
+}
+
+/// Takes the next item, if one was put and requested: it sees, measures, and takes. Answers how many items it saw, too.
+fn next_item<B: Listener>(party: &mut Seated<B>, given: u64, own: u64) -> (u64, Option<Item>)
+    requires carries { Carries B.told party.old.seat.me }
+    requires stage { MaySee party.old.seat.me.0.runner }
+    requires counted { length party.old.seat.me.0.taken ≡ given }
+    requires own { own ≡ party.old.seat.me.0.own }
+    ensures seat { IsSameSeat party.old.seat party.new.seat }
+    ensures none { IfNone result.1 (FindsNone result.0 party.old.seat.me party.new.seat.me) }
+    ensures some { IfSome result.1 (λ item. TakesNext item party.old.seat.me party.new.seat.me) }
+{
+    let tail = see(party);
+    if tail == given {
+        measure_none(party);
+        return (tail, None);
+    }
+    let asked = measure(party) % MARK;
+    if asked.saturating_add(own).min(UNBOUNDED) <= given {
+        return (tail, None);
+    }
+    (tail, Some(take(party, given)))
 }
 
 /// Gives the item that was taken. Ends the subscription, if what its callback answers is an end.
@@ -96,6 +111,45 @@ fn give<B: Listener>(party: &mut Seated<B>, given: u64, item: Item, seen: &mut S
     }
 }
 
+/// Does what is left to do if no item is to be given: the end that waits for the items, if all of them were given, or rest.
+fn close_or_rest<B: Listener>(
+    party: &mut Seated<B>,
+    given: u64,
+    tail: u64,
+    due: Option<How>,
+    word: u64,
+    seen: &mut Seen,
+) -> Served
+    requires carries { Carries B.told party.old.seat.me }
+    requires measured { HasNoneToGive tail due party.old.seat.me }
+    requires counted { (length party.old.seat.me.0.taken ≡ given) × (given ≤ UNBOUNDED) }
+    requires look { party.old.seat.me.0.look ≡ bit_and word QUIET }
+    requires room { length seen.old.signals < SIGNALS_IN_A_TURN }
+    ensures seat { IsSameSeat party.old.seat party.new.seat }
+    ensures concludes { EndsOrRests B.told result
+        party.old.seat.me party.new.seat.me seen.old seen.new }
+{
+    match due {
+        Some(due) if given == tail => finish(party, given, due, seen),
+        _ => rest(party, word),
+    }
+}
+
+/// Rests, unless something is new since the look that found this word.
+fn rest<B: Listener>(party: &mut Seated<B>, word: u64) -> Served
+    requires carries { Carries B.told party.old.seat.me }
+    requires may { MayRest (length party.old.seat.me.0.taken) party.old.seat.me.0.runner }
+    requires look { party.old.seat.me.0.look ≡ bit_and word QUIET }
+    ensures seat { IsSameSeat party.old.seat party.new.seat }
+    ensures rests { TriesRest B.told result party.old.seat.me party.new.seat.me }
+{
+    if try_rest(party, word) {
+        Served::Rested
+    } else {
+        Served::Missed
+    }
+}
+
 /// Tells the end that is due, and ends the subscription.
 fn finish<B: Listener>(party: &mut Seated<B>, given: u64, due: How, seen: &mut Seen) -> Served
     requires carries { Carries B.told party.old.seat.me }
@@ -115,64 +169,6 @@ fn finish<B: Listener>(party: &mut Seated<B>, given: u64, due: How, seen: &mut S
             end(party, given);
             Served::Ended(how)
         }
-        _ => unreachable!(),
-    }
-}
-
-/// Rests, unless something is new since the look that found this word.
-fn rest<B: Listener>(party: &mut Seated<B>, word: u64) -> Served
-    requires carries { Carries B.told party.old.seat.me }
-    requires may { MayRest (length party.old.seat.me.0.taken) party.old.seat.me.0.runner }
-    requires look { party.old.seat.me.0.look ≡ bit_and word QUIET }
-    ensures seat { IsSameSeat party.old.seat party.new.seat }
-    ensures rests { TriesRest B.told result party.old.seat.me party.new.seat.me }
-{
-    if try_rest(party, word) {
-        Served::Rested
-    } else {
-        Served::Missed
-    }
-}
-
-/// Takes the next item, if one was put and requested: it sees, measures, and takes. Answers how many items it saw, too.
-pub(crate) fn next_item<B: Listener>(
-    party: &mut Seated<B>,
-    given: u64,
-    own: u64,
-) -> (u64, Option<Item>)
-    requires carries { Carries B.told party.old.seat.me }
-    requires stage { MaySee party.old.seat.me.0.runner }
-    requires counted { length party.old.seat.me.0.taken ≡ given }
-    requires own { own ≡ party.old.seat.me.0.own }
-    ensures seat { IsSameSeat party.old.seat party.new.seat }
-    ensures none { IfNone result.1 (FindsNone result.0 party.old.seat.me party.new.seat.me) }
-    ensures some { IfSome result.1 (λ item. TakesNext item party.old.seat.me party.new.seat.me) }
-{
-    let tail = see(party);
-    if tail == given {
-        measure_none(party);
-        return (tail, None);
-    }
-    let asked = measure(party) % MARK;
-    if asked.saturating_add(own).min(UNBOUNDED) <= given {
-        return (tail, None);
-    }
-    (tail, Some(take(party, given)))
-}
-
-/// What lies beside the subscriber: how many items were taken, how many its answers requested, and the causes that they brought
-/// about.
-fn notes<B: Listener>(party: &mut Seated<B>) -> (u64, u64, Causes)
-    requires carries { Carries B.told party.old.seat.me }
-    ensures seat { IsSameSeat party.old.seat party.new.seat }
-    ensures same { party.new.seat.me ≡ party.old.seat.me }
-    ensures notes { result ≡ notes_of party.old.seat.me.0 }
-{
-    match party
-        .seat
-        .slot_mut(&party.table.shared, party.capacity as usize)
-    {
-        Held::Guest(guest) => guest.notes(),
         _ => unreachable!(),
     }
 }

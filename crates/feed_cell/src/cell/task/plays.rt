@@ -7,7 +7,7 @@ use flow_rules::Listener;
 pub(crate) struct EnterStep;
 
 impl<B: Listener> Play<Held<B>, View> for EnterStep {
-    ghost use Rattle.feed_cell.specs.Plays.{Enters};
+    ghost use Rattle.feed_cell.specs.TaskPlays.{Enters};
 
     ghost then = { λ _ before _. Enters before };
 }
@@ -16,7 +16,7 @@ impl<B: Listener> Play<Held<B>, View> for EnterStep {
 pub(crate) struct LookStep;
 
 impl<B: Listener> Play<Held<B>, View> for LookStep {
-    ghost use Rattle.feed_cell.specs.Plays.{LooksOut};
+    ghost use Rattle.feed_cell.specs.TaskPlays.{LooksOut};
 
     ghost then = { λ _. LooksOut };
 }
@@ -25,7 +25,7 @@ impl<B: Listener> Play<Held<B>, View> for LookStep {
 pub(crate) struct LookFirstStep;
 
 impl<B: Listener> Play<Held<B>, View> for LookFirstStep {
-    ghost use Rattle.feed_cell.specs.Plays.{LooksFirst};
+    ghost use Rattle.feed_cell.specs.TaskPlays.{LooksFirst};
 
     ghost then = { λ _. LooksFirst B.told };
 }
@@ -34,7 +34,7 @@ impl<B: Listener> Play<Held<B>, View> for LookFirstStep {
 pub(crate) struct SeeStep;
 
 impl<B: Listener> Play<Held<B>, View> for SeeStep {
-    ghost use Rattle.feed_cell.specs.Plays.{SeesPut};
+    ghost use Rattle.feed_cell.specs.TaskPlays.{SeesPut};
 
     ghost then = { λ _. SeesPut };
 }
@@ -43,7 +43,7 @@ impl<B: Listener> Play<Held<B>, View> for SeeStep {
 pub(crate) struct MeasureStep;
 
 impl<B: Listener> Play<Held<B>, View> for MeasureStep {
-    ghost use Rattle.feed_cell.specs.Plays.{Measures};
+    ghost use Rattle.feed_cell.specs.TaskPlays.{Measures};
 
     ghost then = { λ _. Measures };
 }
@@ -52,7 +52,7 @@ impl<B: Listener> Play<Held<B>, View> for MeasureStep {
 pub(crate) struct MeasureNoneStep;
 
 impl<B: Listener> Play<Held<B>, View> for MeasureNoneStep {
-    ghost use Rattle.feed_cell.specs.Plays.{MeasuresNone};
+    ghost use Rattle.feed_cell.specs.TaskPlays.{MeasuresNone};
 
     ghost then = { λ _. MeasuresNone };
 }
@@ -61,7 +61,7 @@ impl<B: Listener> Play<Held<B>, View> for MeasureNoneStep {
 pub(crate) struct TakeStep;
 
 impl<B: Listener> Play<Held<B>, View> for TakeStep {
-    ghost use Rattle.feed_cell.specs.Plays.{IsTake};
+    ghost use Rattle.feed_cell.specs.TaskPlays.{IsTake};
 
     ghost then = { λ _ before _. IsTake before };
 }
@@ -70,7 +70,7 @@ impl<B: Listener> Play<Held<B>, View> for TakeStep {
 pub(crate) struct RestStep;
 
 impl<B: Listener> Play<Held<B>, View> for RestStep {
-    ghost use Rattle.feed_cell.specs.Plays.{IsRest};
+    ghost use Rattle.feed_cell.specs.TaskPlays.{IsRest};
 
     ghost then = { λ step. IsRest step.first };
 }
@@ -79,7 +79,7 @@ impl<B: Listener> Play<Held<B>, View> for RestStep {
 pub(crate) struct EndStep;
 
 impl<B: Listener> Play<Held<B>, View> for EndStep {
-    ghost use Rattle.feed_cell.specs.Plays.{IsEnd};
+    ghost use Rattle.feed_cell.specs.TaskPlays.{IsEnd};
 
     ghost then = { λ _ before _. IsEnd before };
 }

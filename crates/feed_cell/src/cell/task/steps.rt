@@ -9,9 +9,10 @@ ghost use Rattle.feed_core.specs.declared.turn.outlook.Outlook.TheVariants.{Rest
 ghost use Rattle.feed_cell.specs.Types.{Nobody, Ready, Taken};
 ghost use Rattle.feed_cell.specs.Control.{MARK, QUIET};
 ghost use Rattle.feed_cell.specs.Parties.{IsGoing, IsHome};
-ghost use Rattle.feed_cell.specs.Plays.{SeesPut, Measures, MeasuresNone, grants_by, how_out, outlook_by};
-ghost use Rattle.feed_cell.specs.TaskSteps.{HasItem, KeepsCounts, KeepsSubscriber, Carries, HasLookedAt, IsEnding, TakesOut, IsAtRest, HasMissed, HasLeft};
-ghost use Rattle.feed_cell.specs.Steps.{IsSameSeat, Steps};
+ghost use Rattle.feed_cell.specs.Seats.{how_out};
+ghost use Rattle.feed_cell.specs.TaskPlays.{SeesPut, Measures, MeasuresNone, grants_by, outlook_by};
+ghost use Rattle.feed_cell.specs.TaskSteps.{HasItem, KeepsCounts, KeepsSubscriber, Carries, HasLookedAt, IsEnding, MovesOut, ComesToRest, HasMissed, HasLeft};
+ghost use Rattle.feed_cell.specs.Seats.{IsSameSeat, StepsTo};
 ghost use Rattle.feed_cell.specs.Views.{RunsFree, RunsAway};
 ghost use Rattle.feed_cell.specs.declared.cell.Held.TheVariants as Held;
 
@@ -51,7 +52,7 @@ pub(crate) fn look_first<B: Listener>(party: &mut Seated<B>) -> u64
 pub(crate) fn see<B: Listener>(party: &mut Seated<B>) -> u64
     requires away { RunsAway party.old.seat.me.0 }
     requires may { MaySee party.old.seat.me.0.runner }
-    ensures sees { Steps party.old.seat (SeesPut party.old.seat.me result) party.new.seat }
+    ensures sees { StepsTo party.old.seat (SeesPut party.old.seat.me result) party.new.seat }
 {
     let table = &party.table.shared;
     table.load::<SeeStep>(&mut party.seat, TAIL)
@@ -62,7 +63,7 @@ pub(crate) fn measure<B: Listener>(party: &mut Seated<B>) -> u64
     requires away { RunsAway party.old.seat.me.0 }
     requires may { MayMeasure party.old.seat.me.0.runner }
     requires item { HasItem party.old.seat.me }
-    ensures measures { Steps party.old.seat (Measures party.old.seat.me result) party.new.seat }
+    ensures measures { StepsTo party.old.seat (Measures party.old.seat.me result) party.new.seat }
 {
     let table = &party.table.shared;
     table.load::<MeasureStep>(&mut party.seat, ASKED)
@@ -73,7 +74,7 @@ pub(crate) fn measure_none<B: Listener>(party: &mut Seated<B>)
     requires away { RunsAway party.old.seat.me.0 }
     requires may { MayMeasure party.old.seat.me.0.runner }
     requires none { party.old.seat.me.0.item ≡ [] }
-    ensures measures { Steps party.old.seat
+    ensures measures { StepsTo party.old.seat
         (λ me. (found : ℕ) × MeasuresNone party.old.seat.me found me) party.new.seat }
 {
     let table = &party.table.shared;
@@ -87,7 +88,7 @@ pub(crate) fn take<B: Listener>(party: &mut Seated<B>, given: u64) -> Item
     requires item { HasItem party.old.seat.me }
     requires counted { (length party.old.seat.me.0.taken ≡ given) × (given < UNBOUNDED) }
     ensures item { party.old.seat.me.0.item ≡ result ∷ [] }
-    ensures taken { Steps party.old.seat (TakesOut result party.old.seat.me) party.new.seat }
+    ensures taken { StepsTo party.old.seat (MovesOut result party.old.seat.me) party.new.seat }
 {
     let table = &party.table.shared;
     let slot = (given % party.capacity) as usize;
@@ -105,7 +106,7 @@ pub(crate) fn try_rest<B: Listener>(party: &mut Seated<B>, word: u64) -> bool
     requires may { MayRest (length party.old.seat.me.0.taken) party.old.seat.me.0.runner }
     requires look { party.old.seat.me.0.look ≡ bit_and word QUIET }
     ensures seat { IsSameSeat party.old.seat party.new.seat }
-    ensures rests { result ≡ true → IsAtRest party.old.seat.me party.new.seat.me }
+    ensures rests { result ≡ true → ComesToRest party.old.seat.me party.new.seat.me }
     ensures missed { result ≡ false → HasMissed party.old.seat.me party.new.seat.me }
 {
     let table = &party.table.shared;
@@ -117,7 +118,7 @@ pub(crate) fn try_rest<B: Listener>(party: &mut Seated<B>, word: u64) -> bool
 pub(crate) fn end<B: Listener>(party: &mut Seated<B>, given: u64)
     requires ending { (how : How) × IsEnding B.told how party.old.seat.me }
     requires counted { (length party.old.seat.me.0.taken ≡ given) × (given < MARK) }
-    ensures ended { Steps party.old.seat (HasLeft party.old.seat.me) party.new.seat }
+    ensures ended { StepsTo party.old.seat (HasLeft party.old.seat.me) party.new.seat }
 {
     let table = &party.table.shared;
     table.store::<EndStep>(&mut party.seat, HEAD, given + MARK);

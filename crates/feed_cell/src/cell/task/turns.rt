@@ -7,7 +7,7 @@ ghost use Rattle.feed_core.specs.declared.turn.TheConstants.{ITEMS_IN_A_TURN, SI
 ghost use Rattle.feed_core.specs.declared.turn.outlook.Outlook.TheVariants.{Again, Ended};
 ghost use Rattle.feed_cell.specs.TaskPauses.{IsPaused};
 ghost use Rattle.feed_cell.specs.TaskSteps.{HasLookedAt, KeepsCounts};
-ghost use Rattle.feed_cell.specs.Steps.{IsSameSeat};
+ghost use Rattle.feed_cell.specs.Seats.{IsSameSeat};
 ghost use Rattle.feed_cell.specs.TaskTurns.{MayGoOn, OnAgain, outlook_of, IsBeforeLook, RunsAs, TurnsInto, MayLookNext, KeepsGoing};
 ghost use Rattle.feed_cell.specs.Views.{RunsFree};
 

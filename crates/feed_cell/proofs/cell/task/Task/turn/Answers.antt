@@ -3,7 +3,7 @@ use Rattle.std.proofs.Common.{◌≡◌, length, subst, sym}
 use Rattle.feed_core.specs.World.Table.{MayEnd}
 use Rattle.feed_core.specs.declared.turn.outlook.Outlook.TheVariants.{Ended}
 use Rattle.feed_cell.specs.Parties.{TaskState, known_by_task}
-use Rattle.feed_cell.specs.Steps.{CellSeat}
+use Rattle.feed_cell.specs.Seats.{CellSeat}
 use Rattle.feed_cell.specs.TaskTurns.{MayGoOn, StopsAs}
 use Rattle.feed_cell.proofs.TurnSignals.{few_seen, few_items, completed_by, errored_by}
 use Rattle.feed_cell.proofs.cell.task.Task.turn.Goals as goal

@@ -1,7 +1,7 @@
 use Rattle.std.proofs.Common.{sym, ap, subst}
 use Rattle.feed_cell.proofs.HandOver.{some_of, none_of}
 use Rattle.feed_cell.proofs.TaskLooks.{serves_finish, serves_give, serves_none, has_taken, carries_on}
-use Rattle.feed_cell.specs.Plays.{SeatOf}
+use Rattle.feed_cell.specs.Seats.{SeatOf}
 use Rattle.feed_cell.specs.TaskSteps.{Carries, TakesNext}
 use Rattle.feed_cell.specs.TaskLooks.{Serves}
 use Rattle.feed_cell.proofs.cell.task.looks.serve.Goals as goal

@@ -1,6 +1,6 @@
 -- As many items were given as looks were made.
 use Rattle.std.proofs.Common.{◌≡◌}
-use Rattle.feed_cell.specs.Steps.{IsSameSeat}
+use Rattle.feed_cell.specs.Seats.{IsSameSeat}
 use Rattle.feed_cell.specs.TaskTurns.{IsBeforeLook}
 use Rattle.feed_cell.specs.Views.{RunsFree}
 use Rattle.feed_cell.proofs.cell.task.turns.run.Given as goal

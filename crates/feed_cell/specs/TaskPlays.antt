@@ -1,0 +1,108 @@
+-- What each step of the task tells it: its seat afterwards, by its seat before and the number found.
+use Rattle.std.specs.Prelude.{◌≡◌, ◌≢◌, ℕ, ◌+◌, ◌%◌, ◌<◌, ◌≤◌, Bool, true, false, List, [], ◌∷◌, ◌++◌, length, Option, Some, None, bit_and}
+use Rattle.atomic_table.specs.Table.{rest}
+use Rattle.feed_core.specs.Prelude.{How, Item, Signal, UNBOUNDED, total_after}
+use Rattle.feed_core.specs.declared.turn.outlook.Outlook.{Outlook}
+use Rattle.feed_core.specs.declared.turn.outlook.Outlook.TheVariants.{Again, Resting, Ended}
+use Rattle.feed_core.specs.World.Table.{seeing, measuring}
+use Rattle.feed_cell.specs.Types.{Causes, Runner, Nobody, Ready, Looked, Measured, Taken, Fresh}
+use Rattle.feed_cell.specs.declared.cell.Grant.{Grant}
+use Rattle.feed_cell.specs.declared.cell.Held.{Held}
+use Rattle.feed_cell.specs.declared.cell.Lodger.{Lodger}
+use Rattle.feed_cell.specs.declared.cell.View.{View}
+use Rattle.feed_cell.specs.Cell.{greeted}
+use Rattle.feed_cell.specs.Views.{IsRunner}
+use Rattle.feed_cell.specs.Control.{QUIET, Flags, Reads, causes_of, marked}
+use Rattle.feed_cell.specs.Seats.{SeatOf, own_out, answers_out, how_out}
+
+-- the first task takes its subscriber's slot out, where nobody is yet
+abbrev pub Enters : {B : Type 0} → SeatOf B → SeatOf B → Type 0
+Enters before after = after ≡ (record before.0 { away = true }, (before.0.capacity, Held.Empty) ∷ before.1)
+
+-- the task after a look that found this word, with this from the answers of callbacks
+abbrev pub after_causes : View → ℕ → Flags → ℕ → Causes → List Item → View
+after_causes v found f own answers taken =
+    record v { runner = Looked (causes_of f answers); look = bit_and found QUIET; away = true; own = own; answers = answers; taken = taken }
+
+-- the task looks, with its subscriber
+pub record LooksOut {B : Type 0} (before : SeatOf B) (found : ℕ) (after : SeatOf B) : Type 0 where
+  pub flags : Flags
+  pub reads : Reads found flags
+  pub started : flags.run ≡ true
+  pub few : length before.0.taken ≤ UNBOUNDED
+  pub looked : after ≡ (after_causes before.0 found flags (own_out before.1) (answers_out before.1) before.0.taken, before.1)
+
+-- a task that was handed over looks for the first time, and takes its subscriber with it
+pub record LooksFirst {B : Type 0} (told : B → List Signal) (before : SeatOf B) (found : ℕ) (after : SeatOf B) : Type 0 where
+  pub flags : Flags
+  pub reads : Reads found flags
+  pub started : flags.run ≡ true
+  pub guest : Lodger B
+  pub taken : List Item
+  pub told_is : told guest.subscriber ≡ greeted taken
+  pub given : guest.given ≡ length taken
+  pub how : guest.how ≡ None
+  pub few : length taken ≤ UNBOUNDED
+  pub looked : after ≡ (after_causes before.0 found flags guest.own guest.answers taken, (before.0.capacity, Held.Guest guest) ∷ before.1)
+
+-- the task found this number of items put: where there is one that it did not take, the next slot is out with it
+pub record SeesPut {B : Type 0} (before : SeatOf B) (found : ℕ) (after : SeatOf B) : Type 0 where
+  pub put : length before.0.taken ≤ found
+  pub waits : length before.0.taken < found → (x : Item) × (after ≡ (record before.0 { runner = seeing found before.0.runner; item = x ∷ [] }, (length before.0.taken % before.0.capacity, Held.Item x) ∷ before.1))
+  pub empty : found ≡ length before.0.taken → after ≡ (record before.0 { runner = seeing found before.0.runner }, before.1)
+  pub sized : after.0.capacity ≡ before.0.capacity
+
+-- the task found this in asked; where no more is requested than was taken, the slot that was out is given back
+pub record Measures {B : Type 0} (before : SeatOf B) (found : ℕ) (after : SeatOf B) : Type 0 where
+  pub asked : ℕ
+  pub left : Bool
+  pub found_is : found ≡ marked left asked
+  pub bounded : asked ≤ UNBOUNDED
+  pub met : length before.0.taken ≤ total_after asked before.0.own
+  pub wanted : length before.0.taken < total_after asked before.0.own → after ≡ (record before.0 { runner = measuring (total_after asked before.0.own) before.0.runner }, before.1)
+  pub enough : length before.0.taken ≡ total_after asked before.0.own → after ≡ (record before.0 { runner = measuring (total_after asked before.0.own) before.0.runner; item = [] }, rest before.1)
+  pub sized : after.0.capacity ≡ before.0.capacity
+
+-- the task found this in asked, with no item out
+pub record MeasuresNone {B : Type 0} (before : SeatOf B) (found : ℕ) (after : SeatOf B) : Type 0 where
+  pub asked : ℕ
+  pub left : Bool
+  pub found_is : found ≡ marked left asked
+  pub bounded : asked ≤ UNBOUNDED
+  pub met : length before.0.taken ≤ total_after asked before.0.own
+  pub measured : after ≡ (record before.0 { runner = measuring (total_after asked before.0.own) before.0.runner }, before.1)
+
+-- by what a task takes an item that has measured: the causes of its look, and the total of its measure
+abbrev pub grants_by : Runner → List Grant
+grants_by (Measured causes tail asked) = record { causes = causes; asked = asked } ∷ []
+grants_by _ = []
+
+-- the item that was out is taken, and its slot given back
+abbrev pub IsTake : {B : Type 0} → SeatOf B → SeatOf B → Type 0
+IsTake before after = after ≡ (record before.0 { taken = before.0.taken ++ before.0.item; item = []; grants = before.0.grants ++ grants_by before.0.runner; runner = Taken }, rest before.1)
+
+-- the task rests where the word is the one after its look, and its subscriber is at home then; else something is new
+pub record IsRest {B : Type 0} (look : ℕ) (before : SeatOf B) (found : ℕ) (after : SeatOf B) : Type 0 where
+  pub rested : found ≡ look → after ≡ (record before.0 { runner = Nobody; runs = false; away = false; outlook = Resting }, rest before.1)
+  pub missed : found ≢ look → after ≡ (record before.0 { runner = Ready; misses = before.0.misses + 1 }, before.1)
+  pub sized : after.0.capacity ≡ before.0.capacity
+
+-- what became of the task, by how its subscriber has ended
+abbrev pub outlook_by : Option How → Outlook
+outlook_by None = Again
+outlook_by (Some how) = Ended how
+
+-- the subscription has ended, and its subscriber is at home
+abbrev pub IsEnd : {B : Type 0} → SeatOf B → SeatOf B → Type 0
+IsEnd before after = after ≡ (record before.0 { runs = false; away = false; outlook = outlook_by (how_out before.1) }, rest before.1)
+
+-- the first task has not taken its subscriber's slot out yet
+pub record IsUnlodged {B : Type 0} (me : SeatOf B) : Type 0 where
+  pub is : IsRunner me.0
+  pub stage : me.0.runner ≡ Fresh
+  pub home : me.0.away ≡ false
+  pub none_out : me.1 ≡ []
+
+-- the subscriber's slot is out with the first task, which has placed the subscriber there
+abbrev pub HasLodged : {B : Type 0} → Lodger B → SeatOf B → SeatOf B → Type 0
+HasLodged guest before after = after ≡ (record before.0 { away = true }, (before.0.capacity, Held.Guest guest) ∷ [])
