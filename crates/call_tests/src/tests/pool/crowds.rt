@@ -14,7 +14,7 @@ use std::thread;
 use std::thread::{JoinHandle, Threads};
 
 // The jobs that each of the threads hands in.
-const SHARE: usize = 250_000;
+const SHARE: usize = 62_500;
 
 const SUBMITTERS: usize = 4;
 
