@@ -18,9 +18,13 @@ use std::sync::{Arc, Wait};
 use std::test::Fail;
 use std::thread;
 use std::thread::{JoinHandle, Threads};
+use std::time::{Clock, Instant};
 
 // How often a thread looks for what another one does before it gives up.
 const MOST_LOOKS: u64 = 10_000_000;
+
+// How many seconds a test takes for what it would do for longer.
+const PATIENCE: u64 = 10;
 
 type Runs = Arc<Vec<AtomicU64>, Global>;
 
@@ -107,7 +111,15 @@ fn comes_to(count: &AtomicU64, number: u64) -> bool {
     false
 }
 
-// Whether each job ran so often.
+// Whether a test has taken enough time.
+fn is_late(rt: &impl Clock, start: &Instant) -> bool {
+    let Ok(time) = start.elapsed(rt) else {
+        return true;
+    };
+    time.as_secs() >= PATIENCE
+}
+
+// Whether each job ran this often.
 fn all_ran(runs: &Runs, number: u64) -> bool {
     for run in runs.iter() {
         if run.load(SeqCst) != number {

@@ -3,7 +3,7 @@ ghost use Rattle.std.specs.Prelude.{◌≡◌, ◌<◌, IfOk};
 ghost use Rattle.std.specs.Arc.{arc_value};
 ghost use Rattle.async_pool.specs.Pool.{pool_workers};
 
-use super::{Runs, all_ran, no_runs};
+use super::{Runs, is_late, no_runs};
 use async_pool::{Job, Pool, Wide};
 use std::alloc::{AllocError, Global};
 use std::sync::atomic::AtomicU64;
@@ -12,6 +12,7 @@ use std::sync::{Arc, Wait};
 use std::test::Fail;
 use std::thread;
 use std::thread::{JoinHandle, Threads};
+use std::time::{Clock, Instant};
 
 // The jobs that each of the threads hands in.
 const SHARE: usize = 62_500;
@@ -33,28 +34,28 @@ impl Job for Counted {
     }
 }
 
-// What all threads share: the pool, how often each job ran, and how many threads hand jobs in still.
+// What all threads share: the pool, how often each job ran, how many threads hand jobs in still, how many jobs they handed in, and when
+// they began.
 #[derive(Drop)]
 struct Crowd {
     pool: Pool<Counted>,
     runs: Runs,
     submitting: AtomicU64,
+    came: AtomicU64,
+    start: Instant,
 }
 
-fn new_crowd(alloc: Global, workers: usize) -> Result<Arc<Crowd, Global>, Fail>
+fn new_crowd(alloc: Global, workers: usize, start: Instant) -> Result<Arc<Crowd, Global>, Fail>
     ensures { IfOk result (λ crowd. pool_workers (arc_value crowd).pool ≡ workers) }
 {
-    let pool = Pool::new(alloc, workers)?;
-    let runs = no_runs(alloc, SUBMITTERS * SHARE)?;
-    let submitting = AtomicU64::new(SUBMITTERS as u64);
-    Ok(Arc::new(
-        alloc,
-        Crowd {
-            pool,
-            runs,
-            submitting,
-        },
-    )?)
+    let crowd = Crowd {
+        pool: Pool::new(alloc, workers)?,
+        runs: no_runs(alloc, SUBMITTERS * SHARE)?,
+        submitting: AtomicU64::new(SUBMITTERS as u64),
+        came: AtomicU64::new(0),
+        start,
+    };
+    Ok(Arc::new(alloc, crowd)?)
 }
 
 // Hands in a job, again while it comes back.
@@ -69,17 +70,23 @@ fn submit<R: Wait>(rt: &R, pool: &Pool<Counted>, number: usize) {
     }
 }
 
-// Hands in a share of the jobs, from this number on. The last one to do so shuts the pool.
-fn submit_share<R: Wait>(rt: &R, crowd: &Crowd, from: usize) {
+// Hands in a share of the jobs, from this number on, if there is time for all. The last one to do so shuts the pool.
+fn submit_share<R: Clock + Wait>(rt: &R, crowd: &Crowd, from: usize) {
+    let mut came: u64 = 0;
     for number in from..from.saturating_add(SHARE) {
+        if number % 1000 == 0 && is_late(rt, &crowd.start) {
+            break;
+        }
         submit(rt, &crowd.pool, number);
+        came = came.saturating_add(1);
     }
+    crowd.came.fetch_add(came, SeqCst);
     if crowd.submitting.fetch_sub(1, SeqCst) == 1 {
         crowd.pool.shut(rt);
     }
 }
 
-fn start_submitter<R: Threads + Wait + Send + Copy + 'static>(
+fn start_submitter<R: Clock + Threads + Wait + Send + Copy + 'static>(
     rt: R,
     crowd: &Arc<Crowd, Global>,
     from: usize,
@@ -108,13 +115,27 @@ fn start_runner<R: Threads + Wait + Send + Copy + 'static>(
     )?)
 }
 
-// Whether this many workers run once each job that several threads hand in.
-fn each_runs_once<R: Threads + Wait + Send + Copy + 'static>(
+// Whether as many jobs ran as came, and none of them twice.
+fn ran_once(runs: &Runs, came: u64) -> bool {
+    let mut ran: u64 = 0;
+    for run in runs.iter() {
+        let run = run.load(SeqCst);
+        if run > 1 {
+            return false;
+        }
+        ran = ran.saturating_add(run);
+    }
+    ran == came
+}
+
+// Whether this many workers run once each job that several threads hand in. All of them come, if there is time.
+fn each_runs_once<R: Clock + Threads + Wait + Send + Copy + 'static>(
     rt: R,
     alloc: Global,
     workers: usize,
+    start: Instant,
 ) -> Result<bool, Fail> {
-    let crowd = new_crowd(alloc, workers)?;
+    let crowd = new_crowd(alloc, workers, start)?;
     let mut threads = Vec::new(alloc);
     for worker in 0..workers {
         threads.push(start_runner(rt, &crowd, worker)?)?;
@@ -125,16 +146,17 @@ fn each_runs_once<R: Threads + Wait + Send + Copy + 'static>(
     for thread in threads {
         thread.join(&rt);
     }
-    Ok(all_ran(&crowd.runs, 1))
+    let came = crowd.came.load(SeqCst);
+    let all_came = came == (SUBMITTERS * SHARE) as u64 || is_late(&rt, &start);
+    Ok(all_came && ran_once(&crowd.runs, came))
 }
 
 #[test]
 fn a_million_jobs_run_once_each(rt: HostRuntime) -> Result<(), Fail> {
+    let start = Instant::now(&rt)?;
     for workers in [1, 2, 4, 8] {
-        assert!(rt;
-            each_runs_once(rt, rt.alloc(), workers)?,
-            "{workers} workers"
-        );
+        let is_right = each_runs_once(rt, rt.alloc(), workers, start)?;
+        assert!(rt; is_right, "{workers} workers");
     }
     Ok(())
 }

@@ -89,16 +89,14 @@ fn two_to_hold(alloc: Global) -> Result<Arc<Site<Numbered, AtSecond>, Global>, F
     new_site(alloc, 2, gate)
 }
 
-// Hands in a job of this number, and waits until this many workers are held.
-fn hand_to_one<R: Wait>(
+// Whether a job of this number can be handed in.
+fn is_in<R: Wait>(
     rt: &R,
-    site: &Site<Numbered, AtSecond>,
+    pool: &Pool<Numbered>,
     number: usize,
     runs: &Runs,
-    held: u64,
 ) -> Result<bool, AllocError> {
-    let is_in = site.pool.execute(rt, job_of(number, 1, runs)?).is_ok();
-    Ok(is_in && comes_to(&site.gate.held, held))
+    Ok(pool.execute(rt, job_of(number, 1, runs)?).is_ok())
 }
 
 // Whether the next job that is taken out has this number.
@@ -106,15 +104,17 @@ fn takes<R: Wait>(rt: &R, pool: &Pool<Numbered>, number: usize) -> bool {
     number_of(pool.run_one(rt)) == Some(number)
 }
 
-// Each worker is held with its job, which ran once, in its own queue. A third job waits in the inbox.
+// Each worker is held with its job, which ran once, in its own queue; the second finds its job in the inbox, before it would steal.
+// A third job waits in the inbox.
 #[test]
 fn run_one_looks_into_the_inbox_and_then_steals(rt: HostRuntime) -> Result<(), Fail> {
     let runs = no_runs(rt.alloc(), 3)?;
     let site = two_to_hold(rt.alloc())?;
+    assert!(rt; is_in(&rt, &site.pool, 0, &runs)?);
     let first = start_worker(rt, &site, 0)?;
-    assert!(rt; hand_to_one(&rt, &site, 0, &runs, 1)?);
+    assert!(rt; comes_to(&site.gate.held, 1) && is_in(&rt, &site.pool, 1, &runs)?);
     let second = start_worker(rt, &site, 1)?;
-    assert!(rt; hand_to_one(&rt, &site, 1, &runs, 2)? && hand_to_one(&rt, &site, 2, &runs, 2)?);
+    assert!(rt; comes_to(&site.gate.held, 2) && is_in(&rt, &site.pool, 2, &runs)?);
     assert!(rt; takes(&rt, &site.pool, 2) && takes(&rt, &site.pool, 0));
     assert!(rt; takes(&rt, &site.pool, 1) && site.pool.run_one(&rt).is_none());
     site.gate.open.store(true, SeqCst);
