@@ -15,7 +15,7 @@ use std::thread::{JoinHandle, Threads};
 use std::time::{Clock, Instant};
 
 // The jobs that each of the threads hands in.
-const SHARE: usize = 62_500;
+const SHARE: usize = 250_000;
 
 const SUBMITTERS: usize = 4;
 
