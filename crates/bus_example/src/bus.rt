@@ -1,11 +1,12 @@
 //! The bus: what is done with its publisher, from the first subscription to the close.
 ghost use Rattle.std.specs.Prelude.{◌≡◌, []};
+ghost use Rattle.publisher.specs.Blanks.{IsBlankOf};
 
 use flow_rules::{DropHandler, Item, Listener, Name, Refusal};
-use publisher::{HandedIn, Publisher, Session, Submitter, Subscription};
+use publisher::{HandedIn, Outcome, Publisher, PublisherOptions, Submitter, Subscription, finish};
 use std::alloc::{AllocError, Global};
 use std::sync::Wait;
-use std::sync::ledger::Ledger;
+use std::sync::ledger::{Blank, Ledger};
 use std::thread;
 use std::thread::Threads;
 
@@ -23,55 +24,96 @@ pub struct Bus<B> {
     pub slow: B,
 }
 
-impl<B: Listener + Send + 'static> Session<B> for Bus<B> {
-    ghost use Rattle.std.specs.Prelude.{◌≡◌, []};
-
-    ghost is_ready = { λ bus. (B.told bus.file ≡ []) × ((B.told bus.counter ≡ []) × (B.told bus.slow ≡ [])) };
-
-    type Answer = Result<(), Refusal>;
-
-    fn run<
-        L: Ledger + Send + Sync + 'static,
-        D: Ledger + Send + Sync + 'static,
-        R: Threads + Wait + Copy + Send + Sync + 'static,
-    >(
-        self,
-        rt: R,
-        alloc: Global,
-        publisher: &Publisher<L, D, B>,
-        handed_in: &mut HandedIn<L, D, B>,
-    ) -> Result<(), Refusal> {
-        // Subscribe, each under a name of its own.
-        let file = publisher.subscribe(&rt, alloc, name_of("file")?, self.file)?;
-        handed_in.subscriptions.push(file)?;
-        let counter = publisher.subscribe(&rt, alloc, name_of("counter")?, self.counter)?;
-        handed_in.subscriptions.push(counter)?;
-        let slow = publisher.subscribe(&rt, alloc, name_of("slow")?, self.slow)?;
-        // A submitter for each source. What it was told of the close, its note knows.
-        let mut note = publisher.note();
-        let mut sources = Vec::new(alloc);
-        for source in 0..3 {
-            let submitter = publisher.submitter(&rt, alloc, &mut note)?;
-            sources.push(Source { source, submitter })?;
-        }
-        // Publish from three threads, while a fourth requests for the slow subscriber; all are joined.
-        let (published, slow) = publish_all(&rt, alloc, sources, slow);
-        handed_in.subscriptions.push(slow)?;
-        for source in published? {
-            handed_in.submitters.push(source.submitter)?;
-        }
-        // Close: each subscriber completes after its last line. `with_publisher` finishes the publisher afterwards, in any case.
-        publisher.close(&rt, alloc, &mut note)?;
-        publisher.wait_drained(&rt);
-        Ok(())
+/// Makes a publisher, runs the bus on it, and ends the publisher in any case. The two ledgers name the publisher.
+pub fn run_bus<
+    L: Ledger + Send + Sync + 'static,
+    D: Ledger + Send + Sync + 'static,
+    B: Listener + Send + 'static,
+    R: Threads + Wait + Copy + Send + Sync + 'static,
+>(
+    rt: R,
+    alloc: Global,
+    publications: Blank,
+    drops: Blank,
+    options: PublisherOptions,
+    bus: Bus<B>,
+) -> Result<Outcome<B>, (Refusal, Option<Outcome<B>>)>
+    requires publications { IsBlankOf publications L.name L.parts }
+    requires drops { IsBlankOf drops D.name D.parts }
+    requires untold { (B.told bus.file ≡ []) × ((B.told bus.counter ≡ []) × (B.told bus.slow ≡ [])) }
+{
+    let made = Publisher::with_options(rt, alloc, publications, drops, options);
+    let publisher: Publisher<L, D, B> = match made {
+        Ok(publisher) => publisher,
+        Err(refusal) => return Err((refusal, None)),
+    };
+    let mut handed_in = HandedIn::none(alloc);
+    let published = publish_on(&rt, alloc, &publisher, bus, &mut handed_in);
+    let HandedIn {
+        submitters,
+        subscriptions,
+    } = handed_in;
+    match (
+        published,
+        finish(&rt, alloc, publisher, submitters, subscriptions),
+    ) {
+        (Ok(()), Ok(outcome)) => Ok(outcome),
+        (Ok(()), Err((refusal, outcome))) => Err((refusal, Some(outcome))),
+        (Err(refusal), Ok(outcome)) => Err((refusal, Some(outcome))),
+        (Err(refusal), Err((_, outcome))) => Err((refusal, Some(outcome))),
     }
+}
+
+/// Subscribes all, publishes the lines of three sources, and closes. What has to go back to the publisher is handed in.
+fn publish_on<
+    L: Ledger + Send + Sync + 'static,
+    D: Ledger + Send + Sync + 'static,
+    B: Listener + Send + 'static,
+    R: Threads + Wait + Sync,
+>(
+    rt: &R,
+    alloc: Global,
+    publisher: &Publisher<L, D, B>,
+    bus: Bus<B>,
+    handed_in: &mut HandedIn<L, D, B>,
+) -> Result<(), Refusal>
+    requires untold { (B.told bus.file ≡ []) × ((B.told bus.counter ≡ []) × (B.told bus.slow ≡ [])) }
+{
+    let Bus {
+        file,
+        counter,
+        slow,
+    } = bus;
+    // Subscribe, each under a name of its own.
+    let file = publisher.subscribe(rt, alloc, name_of("file")?, file)?;
+    handed_in.subscriptions.push(file)?;
+    let counter = publisher.subscribe(rt, alloc, name_of("counter")?, counter)?;
+    handed_in.subscriptions.push(counter)?;
+    let slow = publisher.subscribe(rt, alloc, name_of("slow")?, slow)?;
+    // A submitter for each source. What it was told of the close, its note knows.
+    let mut note = publisher.note();
+    let mut sources = Vec::new(alloc);
+    for source in 0..3 {
+        let submitter = publisher.submitter(rt, alloc, &mut note)?;
+        sources.push(Source { source, submitter })?;
+    }
+    // Publish from three threads, while a fourth requests for the slow subscriber; all are joined.
+    let (published, slow) = publish_all(rt, alloc, sources, slow);
+    handed_in.subscriptions.push(slow)?;
+    for source in published? {
+        handed_in.submitters.push(source.submitter)?;
+    }
+    // Close: each subscriber completes after its last line. The publisher is finished afterwards, in any case.
+    publisher.close(rt, alloc, &mut note)?;
+    publisher.wait_drained(rt);
+    Ok(())
 }
 
 fn name_of(name: &str) -> Result<Name, Refusal> {
     Name::parse(name).ok_or(Refusal::BadCommand)
 }
 
-/// Publishes the lines of each source from a thread of its own, while another one requests for the slow subscriber.
+/// Publishes all lines, while another thread requests for the slow subscriber.
 fn publish_all<
     L: Ledger + Send + Sync + 'static,
     D: Ledger + Send + Sync + 'static,
@@ -86,12 +128,26 @@ fn publish_all<
     Result<Vec<Source<L, D, B>>, AllocError>,
     Subscription<L, D, B>,
 ) {
-    let publish = |source: Source<L, D, B>| source.publish(rt, alloc);
     thread::join(
         rt,
-        || thread::map_vec(rt, sources, &publish),
+        || publish_each(rt, alloc, sources),
         || request_all(rt, slow),
     )
+}
+
+/// Publishes the lines of each source from a thread of its own.
+fn publish_each<
+    L: Ledger + Send + Sync + 'static,
+    D: Ledger + Send + Sync + 'static,
+    B: Listener + Send + 'static,
+    R: Threads + Wait + Sync,
+>(
+    rt: &R,
+    alloc: Global,
+    sources: Vec<Source<L, D, B>>,
+) -> Result<Vec<Source<L, D, B>>, AllocError> {
+    let publish = |source: Source<L, D, B>| source.publish(rt, alloc);
+    thread::map_vec(rt, sources, &publish)
 }
 
 /// Requests all lines for a slow subscriber, a portion at a time, and gives its subscription back.

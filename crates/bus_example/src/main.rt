@@ -1,6 +1,6 @@
 //! An event bus: three threads publish log lines to a file, to a count by severity, and to a subscriber that is slow.
 //!
-//! A publisher's life is: it is made (`with_publisher`); each subscriber subscribes, and what it shall be told is requested; each source of
+//! A publisher's life is: it is made; each subscriber subscribes, and what it shall be told is requested; each source of
 //! lines gets a submitter; threads publish, and are joined; the publisher is closed; and it is finished, which gives the subscribers back.
 #![tactic(auto)]
 
@@ -9,14 +9,16 @@ mod guide;
 mod watches;
 
 use anyhow::bail;
-use bus::Bus;
+use bus::{Bus, run_bus};
 use flow_rules::{Listener, Watching};
-use publisher::{PublisherOptions, with_publisher};
+use publisher::{PARTS, PublisherOptions};
 use std::fs;
 use std::io::BufWriter;
+use std::marker::Brand;
 use std::sync::Arc;
 use std::sync::atomic::AtomicU64;
 use std::sync::atomic::Ordering::SeqCst;
+use std::sync::ledger::Blank;
 use watches::{BySeverity, Severities, Slow, ToFile};
 
 /// Listeners of different types stand on one bus as boxes.
@@ -45,9 +47,16 @@ fn main(rt: HostRuntime) -> anyhow::Result<()> {
         workers: 2,
         capacity: 64,
     };
-    let ended = with_publisher(rt, alloc, options, bus)?;
-    ended.answer?;
-    let outcome = match ended.finished {
+    let (publications, drops) = (Blank::new(PARTS), Blank::new(PARTS));
+    let finished = run_bus::<Brand, Brand, Subscriber, _>(
+        rt,
+        alloc,
+        publications,
+        drops,
+        options,
+        bus,
+    );
+    let outcome = match finished {
         Ok(outcome) => outcome,
         // 5: memory was refused. 8: the named subscription or submitter was not handed in. 9: the named subscriptions wait for demand, so
         // request more for them, or cancel them, before the end.

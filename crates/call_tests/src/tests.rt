@@ -1,6 +1,7 @@
 //! Tests of the public calls, one subject a file: what no clause can say.
 mod callbacks;
 mod cells;
+mod closing;
 mod count;
 mod desks;
 mod endings;
@@ -13,7 +14,7 @@ mod play;
 mod pool;
 mod publishers;
 mod refusals;
-mod sessions;
+mod standing;
 mod subscribers;
 mod texts;
 mod watching;

@@ -23,12 +23,12 @@
 #![tactic(auto)]
 
 mod caller;
+mod handed_in;
 mod leaving;
 mod note;
 mod options;
 mod outcome;
 mod publisher;
-mod session;
 mod shared;
 mod state;
 mod submitter;
@@ -40,11 +40,11 @@ pub use feed_core::Lane;
 pub use flow_rules::{
     DropHandler, Ending, Fault, How, LARGEST_CAPACITY, Listener, Name, NoMemory, Refusal, Text,
 };
+pub use handed_in::HandedIn;
 pub use note::Note;
 pub use options::PublisherOptions;
 pub use outcome::{NamedLane, Outcome};
 pub use publisher::Publisher;
-pub use session::{Ended, HandedIn, Session, with_publisher};
 pub use state::PARTS;
 pub use submitter::Submitter;
 pub use subscription::Subscription;

@@ -9,6 +9,7 @@ ghost use Rattle.publisher.specs.Handles.{RefusesSubscribing};
 
 use crate::caller::Caller;
 use crate::note::Note;
+use crate::options::PublisherOptions;
 use crate::shared::{ConsumerTask, Shared, Worker};
 use crate::state::{State, Subscribed};
 use crate::submitter::Submitter;
@@ -84,6 +85,24 @@ impl<
             }
         }
         Ok(publisher)
+    }
+
+    /// Does what [`new`](Publisher::new) does, with both numbers by their names. It is refused in the same way.
+    pub fn with_options<R: Threads + Wait + Copy + Send + 'static>(
+        rt: R,
+        alloc: Global,
+        publications: Blank,
+        drops: Blank,
+        options: PublisherOptions,
+    ) -> Result<Publisher<L, D, B>, Refusal>
+        requires publications { IsBlankOf publications L.name L.parts }
+        requires drops { IsBlankOf drops D.name D.parts }
+        ensures bad_workers { (result ≡ Err Refusal.BadWorkers) ↔ (¬ IsWorkerCount options.workers) }
+        ensures bad_capacity { IsWorkerCount options.workers → (result ≡ Err Refusal.BadCapacity) ↔ (options.capacity ≡ 0) }
+        ensures refusals { IfErr result (λ refusal. (refusal ≡ Refusal.BadWorkers) ⊎ ((refusal ≡ Refusal.BadCapacity) ⊎ (refusal ≡ Refusal.NoMemory))) }
+    {
+        let PublisherOptions { workers, capacity } = options;
+        Publisher::new(rt, alloc, publications, drops, workers, capacity)
     }
 
     /// A publisher whose workers were not started.

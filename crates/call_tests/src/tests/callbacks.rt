@@ -3,7 +3,7 @@ mod acting;
 mod handling;
 mod meeting;
 mod mixing;
-mod stand;
+pub mod stand;
 mod waiting;
 
 use acting::Acting;
