@@ -46,7 +46,7 @@ impl<L: Ledger + Send, D: Ledger + Send, B: Listener + Send> Model for Publisher
 
     ghost Value = { PublisherView };
 
-    ghost view = { λ p. record { closing = cell_name (arc_value p.shared).closing; workers = pool_workers (arc_value p.pool) } };
+    ghost view = { λ p. record { closing = cell_name (arc_value (arc_value p.shared).closing); workers = pool_workers (arc_value p.pool) } };
 }
 
 impl<
@@ -125,7 +125,7 @@ impl<
                     state: Mutex::new(state),
                     changed: Condvar::new(),
                     awaiting: AtomicU64::new(0),
-                    closing: OnceBox::new(alloc),
+                    closing: Arc::new(alloc, OnceBox::new(alloc))?,
                 },
             )?,
             pool: Arc::new(alloc, pool)?,
@@ -259,9 +259,9 @@ impl<L: Ledger + Send, D: Ledger + Send, B: Listener + Send> Publisher<L, D, B> 
         ensures refusals { IfErr result (λ refusal. (refusal ≡ Refusal.NoMemory) ⊎ (refusal ≡ Refusal.TooMany)) }
     {
         let caller = Caller::new(alloc, &self.shared, &self.pool)?;
-        let shared = Arc::try_clone(&self.shared)?;
+        let closing = Arc::try_clone(&self.shared.closing)?;
         let own = self.shared.state.lock(rt).next_source()?;
-        Ok(Submitter::new(alloc, caller, shared, own, note.again()))
+        Ok(Submitter::new(alloc, caller, closing, own, note.again()))
     }
 
     /// Closes the publisher (`SubmissionPublisher.close`): its subscribers get what was published before, and then complete. Only the first close

@@ -23,7 +23,7 @@ pub struct Shared<L: Ledger, D: Ledger, B: Listener> {
     /// How many threads look for room before they sleep, or sleep.
     pub awaiting: AtomicU64,
     /// How the publisher is closed, once it is. It is set while the lock is held, and read without it.
-    pub closing: OnceBox<Ending>,
+    pub closing: Arc<OnceBox<Ending>>,
 }
 
 impl<L: Ledger, D: Ledger, B: Listener> Shared<L, D, B> {

@@ -9,11 +9,11 @@ ghost use Rattle.publisher.specs.Publishing.{drop_of};
 
 use crate::caller::Caller;
 use crate::note::Note;
-use crate::shared::Shared;
 use crate::state::Own;
 use crossbeam_utils::Backoff;
 use feed_cell::Task;
-use flow_rules::{DropHandler, Listener, NoMemory, Refusal, Text};
+use flow_rules::{DropHandler, Ending, Listener, NoMemory, Refusal, Text};
+use once_cell::race::OnceBox;
 use publisher_hub::{Unpublished, Work};
 use std::alloc::Global;
 use std::fmt;
@@ -25,8 +25,8 @@ use std::sync::{Arc, Wait};
 #[derive(Drop)]
 pub struct Submitter<L: Ledger + Send, D: Ledger + Send, B: Listener + Send> {
     caller: Caller<L, D, B>,
-    /// Where the closing stands of which its note is.
-    shared: Arc<Shared<L, D, B>>,
+    /// Where its note looks.
+    closing: Arc<OnceBox<Ending>>,
     /// Its number, and its shares of the ledgers.
     own: Own<L, D>,
     note: Note,
@@ -48,7 +48,7 @@ impl<L: Ledger + Send, D: Ledger + Send, B: Listener + Send> Model for Submitter
 
     ghost Value = { SubmitterState };
 
-    ghost invariant = { λ s. s.note.cell ≡ cell_name (arc_value s.shared).closing };
+    ghost invariant = { λ s. s.note.cell ≡ cell_name (arc_value s.closing) };
 
     ghost view = { λ s. record { source = s.own.source; closing = s.note.cell; known = s.note.known; published = s.own.publications.amount; dropping = s.own.drops.amount } };
 }
@@ -58,16 +58,16 @@ impl<L: Ledger + Send, D: Ledger + Send, B: Listener + Send> Submitter<L, D, B> 
     pub(crate) fn new(
         alloc: Global,
         caller: Caller<L, D, B>,
-        shared: Arc<Shared<L, D, B>>,
+        closing: Arc<OnceBox<Ending>>,
         own: Own<L, D>,
         note: Note,
     ) -> Submitter<L, D, B>
-        requires { note.cell ≡ cell_name (arc_value shared).closing }
+        requires { note.cell ≡ cell_name (arc_value closing) }
         ensures { result ≡ record { source = own.source; closing = note.cell; known = note.known; published = own.publications.amount; dropping = own.drops.amount } }
     {
         Submitter {
             caller,
-            shared,
+            closing,
             own,
             note,
             due: Vec::new(alloc),
@@ -175,7 +175,7 @@ impl<L: Ledger + Send, D: Ledger + Send, B: Listener + Send> Submitter<L, D, B> 
         ensures err { IfErr result (λ refusal. self.new ≡ told_by refusal self.old) }
         ensures refusals { IfErr result (λ refusal. RefusesPublication refusal self.new.known) }
     {
-        if let Some(ending) = self.note.known(&self.shared.closing) {
+        if let Some(ending) = self.note.known(&self.closing) {
             return Err(Refusal::Closed(ending));
         }
         if text.len() > Text::LONGEST {
@@ -219,7 +219,7 @@ impl<L: Ledger + Send, D: Ledger + Send, B: Listener + Send> Submitter<L, D, B> 
         ensures refusals { RefusesPublication result self.new.known }
     {
         match refusal {
-            Refusal::Closed(ending) => match self.note.hear(alloc, &self.shared.closing, ending) {
+            Refusal::Closed(ending) => match self.note.hear(alloc, &self.closing, ending) {
                 Ok(ending) => Refusal::Closed(ending),
                 Err(NoMemory) => Refusal::NoMemory,
             },
@@ -238,7 +238,7 @@ impl<L: Ledger + Send, D: Ledger + Send, B: Listener + Send> Submitter<L, D, B> 
             own,
             note,
             caller: _,
-            shared: _,
+            closing: _,
             due: _,
         } = self;
         (own, note.knows())
