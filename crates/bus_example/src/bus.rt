@@ -90,11 +90,10 @@ fn publish_on<
     let counter = publisher.subscribe(rt, alloc, name_of("counter")?, counter)?;
     handed_in.subscriptions.push(counter)?;
     let slow = publisher.subscribe(rt, alloc, name_of("slow")?, slow)?;
-    // A submitter for each source. What it was told of the close, its note knows.
-    let mut note = publisher.note();
+    // A submitter for each source. A new note knows of no close, and so the submitter doesn't either, until it is told.
     let mut sources = Vec::new(alloc);
     for source in 0..3 {
-        let submitter = publisher.submitter(rt, alloc, &mut note)?;
+        let submitter = publisher.submitter(rt, alloc, &mut publisher.note())?;
         sources.push(Source { source, submitter })?;
     }
     // Publish from three threads, while a fourth requests for the slow subscriber; all are joined.
@@ -104,7 +103,7 @@ fn publish_on<
         handed_in.submitters.push(source.submitter)?;
     }
     // Close: each subscriber completes after its last line. The publisher is finished afterwards, in any case.
-    publisher.close(rt, alloc, &mut note)?;
+    publisher.close(rt, alloc, &mut publisher.note())?;
     publisher.wait_drained(rt);
     Ok(())
 }

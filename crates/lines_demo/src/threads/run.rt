@@ -203,15 +203,14 @@ fn publish_and_close<
     publisher: &Publisher<L, D, Shown<S>>,
     input: &Input<'_>,
 ) -> Result<Vec<Submitter<L, D, Shown<S>>>, Refusal> {
-    let mut note = publisher.note();
     let mut submitters = Vec::new(alloc);
     for _ in input.sources() {
-        let submitter = publisher.submitter(rt, alloc, &mut note)?;
+        let submitter = publisher.submitter(rt, alloc, &mut publisher.note())?;
         if submitters.push(submitter).is_err() {
             return Err(Refusal::NoMemory);
         }
     }
     let submitters = send_lines(rt, alloc, input, submitters)?;
-    publisher.close(rt, alloc, &mut note)?;
+    publisher.close(rt, alloc, &mut publisher.note())?;
     Ok(submitters)
 }
