@@ -11,6 +11,16 @@
 //! so that nobody is woken where nobody sleeps. Whom to wake, and that a loop may end, is said behind the lock, by
 //! values that can't be dropped. Each job that was handed in was taken once, or is held still: the list behind the
 //! lock keeps that as numbers. All room is made by [`Pool::new`], so no other call takes memory.
+//!
+//! ```
+//! let pool = Pool::new(alloc, 1)?;
+//! if let Err(job) = pool.execute(&rt, job) {
+//!     // It comes back, the same: there is no room, or the pool was shut.
+//! }
+//! pool.shut(&rt);                                   // from now on each job comes back
+//! pool.worker_loop(&rt, 0, &Wide, &mut context);    // runs the jobs that are there, and ends
+//! let left = pool.stop(&rt);                        // no job is left
+//! ```
 #![tactic(auto)]
 
 mod crew;

@@ -12,6 +12,15 @@
 //! `spend` spends a ticket as `try_complete` does, and gives a [`Spent`]. The laws hold of these: two of one count were
 //! not both the last ([`last_once`]), beside the last there is no ticket ([`none_left`]) and no opening
 //! ([`none_open`]), and of an opening and all its tickets one was the last ([`one_of_all_is_last`]).
+//!
+//! ```
+//! let mut opening = Count::new(alloc)?;
+//! let one = opening.add()?;
+//! let other = opening.add()?;
+//! let first = one.try_complete();          // false: two are left
+//! let second = opening.try_complete();     // false: one is left
+//! let last = other.try_complete();         // true
+//! ```
 #![tactic(auto)]
 
 mod count;

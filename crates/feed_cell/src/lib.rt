@@ -86,6 +86,17 @@
 //!
 //! The rule of the table (`cell.rt`) says all of this between any two steps, whatever the parties do at the same time: what the
 //! words, the slots and the parties show is a subscription that some list of possible events leads to (`feed_core`, `World`).
+//!
+//! ```
+//! let (mut producer, mut handle, task) = Cell::new(alloc, 4, Collector::asking(alloc, 1))?;
+//! let put = producer.put(item);                    // accepted, with lag 1; its first turn is owed already
+//! let turn = task.turn(&mut seen);                 // told onSubscribe and the item, and rests
+//! handle.ready()?;
+//! let woken = handle.request(1);                   // a task, which has to be run: the subscription was at rest
+//! producer.ready()?;
+//! let closed = producer.end(Ending::Normal);       // none: the task was started already
+//! let lag = producer.standing().held;              // 0
+//! ```
 #![tactic(auto)]
 
 mod cell;

@@ -20,6 +20,16 @@
 //! to its own publisher unless others make room; and a drop handler runs while the lock is held, so it may not call its publisher.
 //!
 //! A caller works in a function over two ledgers, which name the publisher: a submitter or a subscription of another one does not fit.
+//!
+//! ```
+//! let mut counter = publisher.subscribe(rt, alloc, name, Tally::new())?;
+//! counter.request(rt, 9)?;
+//! let mut note = publisher.note();
+//! let mut submitter = publisher.submitter(rt, alloc, &mut note)?;
+//! submitter.submit(rt, alloc, b"hello")?;
+//! publisher.close(rt, alloc, &mut note)?;
+//! counter.wait_end(rt);                            // the counter was told the item, and onComplete
+//! ```
 #![tactic(auto)]
 
 mod caller;

@@ -1,5 +1,16 @@
 //! Many subscriptions behind one publisher, as plain state: who is subscribed, which serial number comes next, and what became of each
 //! publication at each subscription.
+//!
+//! ```
+//! let mut hub = Hub::new(alloc, 4)?;
+//! let mut due = Vec::new(alloc);                        // the tasks that calls start, for the caller to run
+//! hub.may_subscribe(name, &mut due)?;
+//! let entry = hub.admit(name, desk, None, &mut due)?;   // 0
+//! let source = hub.next_source()?;                      // 0
+//! let lag = hub.publish(source, text, &mut due)?;       // 1
+//! let opening = hub.end(Ending::Normal, &mut due)?;     // none was set
+//! let second = hub.next_serial();                       // 1
+//! ```
 #![tactic(auto)]
 
 mod entry;

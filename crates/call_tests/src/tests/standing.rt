@@ -109,10 +109,11 @@ fn wait_for_ends<
     stand.subscribe(&rt, "b", Tally::new())?;
     stand.request(&rt, 0, 1)?;
     stand.submitter.submit(&rt, alloc, b"x")?;
-    let (Some(mut other), Some(one)) = (stand.subscriptions.pop(), stand.subscriptions.pop()) else {
+    let (Some(mut other), Some(mut one)) = (stand.subscriptions.pop(), stand.subscriptions.pop())
+    else {
         return Err(Fail::new("there are no two subscriptions"));
     };
-    wait_and_close(&rt, alloc, &stand.publisher, &one, &mut other)?;
+    wait_and_close(&rt, alloc, &stand.publisher, &mut one, &mut other)?;
     let have_ended = one.has_ended(&rt) && other.has_ended(&rt);
     stand.subscriptions.push(one)?;
     stand.subscriptions.push(other)?;
@@ -128,15 +129,22 @@ fn wait_and_close<
     rt: &R,
     alloc: Global,
     publisher: &Publisher<L, D, Tally>,
-    one: &Subscription<L, D, Tally>,
+    one: &mut Subscription<L, D, Tally>,
     other: &mut Subscription<L, D, Tally>,
 ) -> Result<(), Refusal> {
     let ((), closed) = thread::join(
         rt,
-        || one.wait_end(rt),
+        || wait_end(rt, one),
         || drain_and_close(rt, alloc, publisher, other),
     );
     closed
+}
+
+fn wait_end<L: Ledger + Send + Sync + 'static, D: Ledger + Send + Sync + 'static, R: Wait>(
+    rt: &R,
+    subscription: &mut Subscription<L, D, Tally>,
+) {
+    subscription.wait_end(rt);
 }
 
 // One thread waits until all have ended, and another one closes.
