@@ -1,7 +1,7 @@
 //! The examples of the crates' comments.
 use feed_core::{Desk, Outlook, Seen};
 use flow_rules::{
-    Answer, Collector, Feed, Item, Listener, NoMemory, Put, Subscriber, Tally, Text, audit,
+    Answer, Collector, Feed, Item, NoMemory, Put, Refusal, Subscriber, Tally, Text, audit, capacity,
 };
 use std::alloc::Global;
 use std::test::Fail;
@@ -23,12 +23,17 @@ fn is_told_a_whole_life(alloc: Global) -> Result<bool, NoMemory> {
 }
 
 /// The example of `feed_core`.
-fn is_given_once_requested(alloc: Global, item: Item) -> Result<bool, NoMemory> {
+fn is_given_once_requested(alloc: Global, item: Item) -> Result<bool, Refusal> {
     let mut seen = Seen::new(alloc)?;
-    let mut desk = Desk::new(alloc, 4, Tally::new())?;
+    let Ok(mut desk) = Desk::new(alloc, capacity(4)?, Tally::new()) else {
+        return Err(Refusal::NoMemory);
+    };
     let put = desk.put(item);
     let greeted = desk.turn(&mut seen);
     let woken = desk.request(1);
+    if !desk.owes() {
+        return Ok(false);
+    }
     let served = desk.turn(&mut seen);
     let is_put = put
         == Put::Accepted {
