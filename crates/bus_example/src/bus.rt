@@ -4,11 +4,14 @@ ghost use Rattle.publisher.specs.Blanks.{IsBlankOf};
 
 use flow_rules::{DropHandler, Item, Listener, Name, Refusal};
 use publisher::{HandedIn, Outcome, Publisher, PublisherOptions, Submitter, Subscription, finish};
-use std::alloc::{AllocError, Global};
+use std::alloc::Global;
 use std::sync::Wait;
 use std::sync::ledger::{Blank, Ledger};
 use std::thread;
 use std::thread::Threads;
+
+/// How many threads publish lines.
+const SOURCES: usize = 3;
 
 /// The lines of each thread.
 const LINES: u64 = 100;
@@ -91,17 +94,13 @@ fn publish_on<
     handed_in.subscriptions.push(counter)?;
     let slow = publisher.subscribe(rt, alloc, name_of("slow")?, slow)?;
     // A submitter for each source. A new note knows of no close, and so the submitter doesn't either, until it is told.
-    let mut sources = Vec::new(alloc);
-    for source in 0..3 {
+    for _ in 0..SOURCES {
         let submitter = publisher.submitter(rt, alloc, &mut publisher.note())?;
-        sources.push(Source { source, submitter })?;
+        handed_in.submitters.push(submitter)?;
     }
     // Publish from three threads, while a fourth requests for the slow subscriber; all are joined.
-    let (published, slow) = publish_all(rt, alloc, sources, slow);
+    let slow = publish_all(rt, alloc, &mut handed_in.submitters, slow);
     handed_in.subscriptions.push(slow)?;
-    for source in published? {
-        handed_in.submitters.push(source.submitter)?;
-    }
     // Close: each subscriber completes after its last line. The publisher is finished afterwards, in any case.
     publisher.close(rt, alloc, &mut publisher.note())?;
     publisher.wait_drained(rt);
@@ -121,17 +120,15 @@ fn publish_all<
 >(
     rt: &R,
     alloc: Global,
-    sources: Vec<Source<L, D, B>>,
+    submitters: &mut [Submitter<L, D, B>],
     slow: Subscription<L, D, B>,
-) -> (
-    Result<Vec<Source<L, D, B>>, AllocError>,
-    Subscription<L, D, B>,
-) {
-    thread::join(
+) -> Subscription<L, D, B> {
+    let ((), slow) = thread::join(
         rt,
-        || publish_each(rt, alloc, sources),
+        || publish_each(rt, alloc, submitters),
         || request_all(rt, slow),
-    )
+    );
+    slow
 }
 
 /// Publishes the lines of each source from a thread of its own.
@@ -143,10 +140,12 @@ fn publish_each<
 >(
     rt: &R,
     alloc: Global,
-    sources: Vec<Source<L, D, B>>,
-) -> Result<Vec<Source<L, D, B>>, AllocError> {
-    let publish = |source: Source<L, D, B>| source.publish(rt, alloc);
-    thread::map_vec(rt, sources, &publish)
+    submitters: &mut [Submitter<L, D, B>],
+) {
+    let publish = |source: usize, submitter: &mut Submitter<L, D, B>| {
+        publish_lines(rt, alloc, source, submitter)
+    };
+    thread::for_each_mut(rt, submitters, SOURCES, &publish);
 }
 
 /// Requests all lines for a slow subscriber, a portion at a time, and gives its subscription back.
@@ -162,36 +161,29 @@ fn request_all<L: Ledger + Send, D: Ledger + Send, B: Listener + Send, R: Wait>(
     slow
 }
 
-/// A source of lines, with its submitter.
-#[derive(Drop)]
-struct Source<L: Ledger + Send, D: Ledger + Send, B: Listener + Send> {
-    source: u32,
-    submitter: Submitter<L, D, B>,
-}
-
-impl<L: Ledger + Send, D: Ledger + Send, B: Listener + Send> Source<L, D, B> {
-    /// Publishes its lines: the first source by offers, which drop a line where there is no room, and the others by `submit`, which waits.
-    fn publish<R: Wait>(mut self, rt: &R, alloc: Global) -> Source<L, D, B> {
-        let mut drops = Drops(0);
-        for number in 0..LINES {
-            let line: &[u8] = if number % 10 == 0 {
-                b"error: it broke"
-            } else {
-                b"info: it works"
-            };
-            let refused = match self.source {
-                0 => self
-                    .submitter
-                    .offer_with(rt, alloc, line, &mut drops)
-                    .is_err(),
-                _ => self.submitter.submit(rt, alloc, line).is_err(),
-            };
-            // Refused for want of memory; and after a close, which comes later here.
-            if refused {
-                break;
-            }
+/// Publishes the lines of a source: the first by offers, which drop a line where there is no room, and the others by `submit`, which
+/// waits.
+fn publish_lines<L: Ledger + Send, D: Ledger + Send, B: Listener + Send, R: Wait>(
+    rt: &R,
+    alloc: Global,
+    source: usize,
+    submitter: &mut Submitter<L, D, B>,
+) {
+    let mut drops = Drops(0);
+    for number in 0..LINES {
+        let line: &[u8] = if number % 10 == 0 {
+            b"error: it broke"
+        } else {
+            b"info: it works"
+        };
+        let refused = match source {
+            0 => submitter.offer_with(rt, alloc, line, &mut drops).is_err(),
+            _ => submitter.submit(rt, alloc, line).is_err(),
+        };
+        // Refused for want of memory; and after a close, which comes later here.
+        if refused {
+            break;
         }
-        self
     }
 }
 

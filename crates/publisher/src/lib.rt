@@ -3,14 +3,18 @@
 //!
 //! # Who does what
 //!
-//! A [`Publisher`] has a pool of worker threads. Each [`Submitter`] publishes from a thread of its own, and each [`Subscription`] requests
-//! and cancels from any. A worker tells subscribers what is owed, one turn of one subscription at a time. [`finish`] ends the workers and
-//! gives what is left of each subscription; its contract says what every subscriber was told, whatever the threads did.
+//! A [`Publisher`] has a pool of worker threads. A [`Submitter`] publishes from the thread that has it, in that thread's order, and a
+//! [`Subscription`] requests and cancels from the one that has it. A worker tells subscribers what is owed, one turn of one subscription at
+//! a time. [`finish`] ends the workers and gives what is left of each subscription; its contract says what every subscriber was told, whatever
+//! the threads did.
 //!
 //! | What | Who | Waits |
 //! |---|---|---|
 //! | a publication, a subscribing, a close | whoever calls it | for the publisher's lock, behind which stand the list of subscriptions and the numbers of the publications; and `submit`, as long as a buffer is full |
 //! | a request, a cancel | whoever has the subscription | only if that starts a task, which is handed to the pool |
+//! | a look: [`is_closed`](Publisher::is_closed), [`closed_with`](Publisher::closed_with), [`requested`](Subscription::requested) | whoever has it | never |
+//! | a look: [`lag`](Subscription::lag), [`has_ended`](Subscription::has_ended), the numbers of subscribers | whoever has it | for the publisher's lock |
+//! | [`wait_end`](Subscription::wait_end), [`wait_drained`](Publisher::wait_drained), [`finish`] | whoever has it | until the subscription has ended; until all have that were there at the close; until each worker has ended |
 //! | a turn, with its callbacks | a worker; a blocked submitter; or whoever started the task, if the pool takes none | for no lock. After it, if the subscription has ended or somebody waits for room, for the publisher's lock |
 //!
 //! Each subscription has a buffer that its publisher and its task share without a lock (`feed_cell`). So callbacks run outside every lock: one

@@ -26,7 +26,7 @@ pub struct NamedLane<B> {
     pub entry: u32,
     /// The serial number of the next publication when it was subscribed.
     pub since: u64,
-    /// How many publications found its buffer full.
+    /// How many items it was not given, since its buffer was full, also at a second try if there was one.
     pub dropped: u64,
     /// Whether it was subscribed after the close, so that it isn't counted in `drained`. Nothing was published since then.
     pub late: bool,

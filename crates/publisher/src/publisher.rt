@@ -264,8 +264,9 @@ impl<L: Ledger + Send, D: Ledger + Send, B: Listener + Send> Publisher<L, D, B> 
         Ok(Submitter::new(alloc, caller, closing, own, note.again()))
     }
 
-    /// Closes the publisher (`SubmissionPublisher.close`): its subscribers get what was published before, and then complete. Only the first close
-    /// does anything; the note knows then which that was. A close by a note that knows of one already takes no lock and no memory.
+    /// Closes the publisher (`SubmissionPublisher.close`): each subscriber gets what its buffer holds, as far as it requests that, and completes
+    /// after the last item. Only the first close does anything; the note knows then which that was. A close by a note that knows of one already
+    /// takes no lock and no memory.
     ///
     /// Refused 5 if a growth is refused; nothing has changed then.
     pub fn close<R: Wait>(&self, rt: &R, alloc: Global, note: &mut Note) -> Result<(), Refusal>
@@ -280,7 +281,8 @@ impl<L: Ledger + Send, D: Ledger + Send, B: Listener + Send> Publisher<L, D, B> 
         self.end(rt, alloc, note, Ending::Normal)
     }
 
-    /// The same with an error (`SubmissionPublisher.closeExceptionally`), which overtakes what was published before.
+    /// Closes the publisher with an error (`SubmissionPublisher.closeExceptionally`): each subscriber is told it at the next look of its
+    /// task, ahead of the items that its buffer holds still. In all else it does what [`close`](Publisher::close) does.
     pub fn close_exceptionally<R: Wait>(
         &self,
         rt: &R,

@@ -100,8 +100,8 @@ impl<L: Ledger + Send, D: Ledger + Send, B: Listener + Send> Subscription<L, D, 
         self.handle.requested()
     }
 
-    /// Tells whether the subscription has ended: the subscriber was told `onComplete` or `onError`, it was cancelled, or a callback failed or
-    /// was refused memory.
+    /// Tells whether the subscription has ended: the subscriber was told `onComplete` or `onError`, a turn has obeyed a cancel, or a callback
+    /// failed or was refused memory.
     pub fn has_ended<R: Wait>(&self, rt: &R) -> bool {
         self.caller
             .worker

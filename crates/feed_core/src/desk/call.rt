@@ -79,8 +79,8 @@ impl<B: Listener> Desk<B> {
         signal(&mut self.started)
     }
 
-    /// Ends the subscription at its next look, which tells nothing (`Flow.Subscription.cancel`; Reactive Streams 1.0, rules 3.5 to
-    /// 3.7). A second time changes nothing.
+    /// Ends the subscription at its next look, and from there on nothing is told (`Flow.Subscription.cancel`; Reactive Streams 1.0,
+    /// rules 3.5 to 3.7). `onSubscribe` may still come before that look. A second time changes nothing.
     #[must_use]
     pub fn cancel(&mut self) -> Option<()>
         ensures cancelled { self.new ≡ desk_after_cancel self.old }

@@ -19,22 +19,16 @@ struct Sender<L: Ledger + Send, D: Ledger + Send, B: Listener + Send> {
 
 impl<L: Ledger + Send, D: Ledger + Send, B: Listener + Send> Sender<L, D, B> {
     /// Publishes the lines of its source in order, up to one that is refused.
-    fn send<R: Wait>(
-        mut self,
-        rt: &R,
-        alloc: Global,
-        publications: &[Publication<'_>],
-    ) -> Sender<L, D, B> {
+    fn send<R: Wait>(&mut self, rt: &R, alloc: Global, publications: &[Publication<'_>]) {
         for publication in publications {
             if publication.source == self.source {
                 let text = publication.text.as_bytes();
                 if self.submitter.submit(rt, alloc, text).is_err() {
                     self.is_refused = true;
-                    return self;
+                    return;
                 }
             }
         }
-        self
     }
 }
 
@@ -51,10 +45,12 @@ pub fn send_lines<
     input: &Input<'_>,
     submitters: Vec<Submitter<L, D, B>>,
 ) -> Result<Vec<Submitter<L, D, B>>, NoMemory> {
-    let senders = make_senders(alloc, input.sources(), submitters)?;
+    let mut senders = make_senders(alloc, input.sources(), submitters)?;
     let publications = input.publications();
-    let send = |sender: Sender<L, D, B>| sender.send(rt, alloc, publications);
-    take_back(alloc, thread::map_vec(rt, senders, &send)?)
+    let send = |_: usize, sender: &mut Sender<L, D, B>| sender.send(rt, alloc, publications);
+    let threads = senders.len().max(1);
+    thread::for_each_mut(rt, &mut senders, threads, &send);
+    take_back(alloc, senders)
 }
 
 /// The submitters with their sources.
