@@ -9,7 +9,8 @@ stands once more in the section of that crate:
 
 | Promise | Crate | Function | Clause | Shown by |
 
-A section `## NAME` for a crate has tables with these five columns, and a row has one clause:
+A section `## NAME` for a crate has tables with these columns, and a row has one clause; a table of calls that require nothing has no
+column Premise:
 
 | Promise | Function | Clause | Premise | Shown by |
 
@@ -17,13 +18,13 @@ A section `## NAME` for a crate has tables with these five columns, and a row ha
   several, parted by `, `, each has the clause. A method of an impl has the clauses of its trait, if it has none of its own.
 - Clause: a name in backticks; or the words its only one, of a function with one `ensures` that has no name; or the word
   ghost and a name in backticks, of a ghost member of the impl, or of a ghost field of the struct.
-- Premise: the word none, where the function has no `requires`; or text, in which a name in backticks before a colon is
+- Premise: the word none, or no such column, if the function has no `requires`; or text, in which a name in backticks before a colon is
   that of a `requires` of the function.
 - Shown by: names in backticks, parted by `, ` or `; `. An edit is a file of wrong-bodies/ of the section's crate,
   without `.edit`. After the word test (or tests, up to the next `;`) stands the name of a test function of any crate, or a
   path from the top of the repository. A cell that begins with `no edit:` gives a reason, and may name tests after a `;`.
   An edit of the row's own function has to say that it is refused at the row's clause, or at a goal before it; that it is
-  refused there, tests/wrong_bodies sees.
+  refused there, tools/wrong_bodies/try.py sees.
 
 The other way round, each edit is named in a row of its crate's section, or in a README.md beside the crate's edits; and each clause of
 a call that a library hands on by its lib.rt stands in a row.
@@ -36,11 +37,16 @@ import sys
 
 sys.dont_write_bytecode = True
 HERE = os.path.dirname(os.path.realpath(__file__))
-sys.path += [f"{HERE}/../lib", f"{HERE}/../wrong_bodies"]
+sys.path.append(f"{HERE}/../../tools/wrong_bodies")
 from edits import Edit
 from functions import functions_of, owner_of, without_texts
 
 FIRST = "Thirty promises"
+# The heads of the tables of a crate, and those of the first.
+HEADS = (
+    [["Promise", "Function", "Clause", "Premise", "Shown by"], ["Promise", "Function", "Clause", "Shown by"]],
+    [["Promise", "Crate", "Function", "Clause", "Shown by"]],
+)
 TESTED = re.compile(r"#\[test\]\s*(?:#\[[^\]]*\]\s*)*fn (\w+)")
 
 
@@ -133,7 +139,7 @@ class Promises:
         self.tests = {name for it in self.crates.values() for name in it.tests}
         self.named = {it: set() for it in self.crates}
         self.stated, self.first = {}, []
-        self.where, self.crate, self.name = "", None, ""
+        self.where, self.crate, self.name, self.columns = "", None, "", []
 
     def fault(self, text):
         self.faults.append(f"{self.where}: {text}")
@@ -146,15 +152,26 @@ class Promises:
                 self.crate = self.crates.get(self.name)
                 if self.crate:
                     self.stated.setdefault(self.name, set())
-            elif (self.crate or self.name == FIRST) and re.match(r"\|(?!\s*(Promise\s*\||-))", line):
-                self.rows += 1
-                cells = [it.strip() for it in line.strip().strip("|").split(" | ")]
-                if len(cells) != 5:
-                    self.fault(f"the row has {len(cells)} cells, and not 5")
-                elif self.name == FIRST:
-                    self.first_row(*cells[1:])
-                else:
-                    self.row(*cells[1:])
+            elif (self.crate or self.name == FIRST) and re.match(r"\|(?!\s*-)", line):
+                self.line([it.strip() for it in line.strip().strip("|").split(" | ")])
+
+    def line(self, cells):
+        """The head of a table, or a row of it."""
+        if cells[0] == "Promise":
+            self.columns = cells
+            if cells not in HEADS[self.name == FIRST]:
+                self.fault(f"no table has these columns: {', '.join(cells)}")
+            return
+        self.rows += 1
+        if len(cells) != len(self.columns):
+            self.fault(f"the row has {len(cells)} cells, and not {len(self.columns)}")
+        elif self.name == FIRST:
+            self.first_row(*cells[1:])
+        elif "Premise" in self.columns:
+            self.row(*cells[1:])
+        else:
+            function, clause, shown = cells[1:]
+            self.row(function, clause, "none", shown)
 
     def first_row(self, crate, function, clause, shown):
         """A row of those to read first. It is compared with the others at the end."""

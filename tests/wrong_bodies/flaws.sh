@@ -4,7 +4,7 @@
 # It needs the toolchain's command `rt`, and takes a dozen checks of a crate of six functions and a few of one above it, two or three
 # minutes.
 set -eu
-here=$(cd "$(dirname "$0")" && pwd)
+try=$(cd "$(dirname "$0")/../.." && pwd)/tools/wrong_bodies/try.py
 work=$(mktemp -d)
 trap 'rm -rf "$work"' EXIT
 crate=$work/crates/tiny
@@ -104,7 +104,7 @@ edit() {
 # try: runs try.py on the tiny crate. The status has to be 1 where anything fails, and 0 else.
 try() {
     status=0
-    "$here/try.py" --root "$work" "$@" >"$work/said" 2>&1 || status=$?
+    "$try" --root "$work" "$@" >"$work/said" 2>&1 || status=$?
 }
 
 # said TEXT: it wrote a line that begins so.
@@ -144,7 +144,7 @@ edit no_line 'old: a.min(MOST)' 'now: a'
 edit half_a_pair 'old: a.min(MOST)'
 printf '%s\n' 'file: src/lib.rt' 'old: a.min(MOST)' 'new: a' >"$crate/wrong-bodies/no_clause.edit"
 touch "$crate/wrong-bodies/another_end.txt"
-sum=$("$here/try.py" --root "$work" --sum)
+sum=$("$try" --root "$work" --sum)
 try --proved "$sum"
 [ "$status" -eq 1 ]
 said 'tiny/a_bug: refused: note: src/lib.rt:'
@@ -198,7 +198,7 @@ pub fn least_of_two(a: u8, b: u8) -> u8
 }
 END
 printf '%s\n' 'file: src/lib.rt' 'old: least(a, b)' 'new: least(a, a)' 'clause: its only one' >"$above/wrong-bodies/a_bug.edit"
-sum=$("$here/try.py" --root "$work" --sum above)
+sum=$("$try" --root "$work" --sum above)
 try --proved "$sum" above
 [ "$status" -eq 0 ]
 said 'tiny: proved as it is'
@@ -216,6 +216,24 @@ try above
 [ "$status" -eq 0 ]
 said 'tiny: proved as it is'
 said 'above: proved as it is'
+
+# Beside `rt ci`, by what that has printed so far: a crate waits until its libraries are proved, or until the run has ended.
+find "$crate/wrong-bodies" -type f ! -name a_bug.edit -delete
+echo 'rt: tiny proved' >"$work/ci"
+"$try" --root "$work" --follow "$work/ci" >"$work/said" 2>&1 &
+trying=$!
+for _ in $(seq 60); do
+    grep -q '^tiny: ' "$work/said" || sleep 1
+done
+said 'tiny: 1 of 1 refused'
+if grep -q '^above' "$work/said"; then
+    echo 'a crate was tried before its libraries were proved'
+    exit 1
+fi
+echo 'rt ci has ended' >>"$work/ci"
+wait "$trying"
+said 'above: 1 of 1 refused'
+said '2 passed, 0 failed'
 
 sed -i 's/result ≡ min a b/result ≤ b/' "$crate/src/lib.rt"
 rm "$crate/proofs/least_of_three/Answers.antt"

@@ -1,9 +1,9 @@
 //! The first ticket of a count, which makes all others.
-ghost use Rattle.std.specs.Prelude.{◌≡◌, ◌+◌, ◌≤◌, ◌⊎◌, ℕ, ◌↔◌, [], IfOk, OnOk, IfErr, OnErr, Err, true};
+ghost use Rattle.std.specs.Prelude.{◌≡◌, ◌+◌, ◌≤◌, ◌⊎◌, ◌↔◌, [], IfOk, OnOk, IfErr, OnErr, Err};
 ghost use Rattle.std.specs.Arc.{arc_value};
 ghost use Rattle.flow_rules.specs.declared.refusal.Refusal.TheVariants as Refusal;
 ghost use Rattle.close_count.specs.declared.rule.TheConstants.{MOST_TICKETS};
-ghost use Rattle.close_count.specs.Tickets.{opening_view, CompletesAt};
+ghost use Rattle.close_count.specs.Tickets.{opening_view};
 
 use crate::rule::{Add, Counter, HandOut, MOST_TICKETS, UNSPENT, View};
 use crate::spent::Spent;
@@ -37,7 +37,7 @@ impl fmt::Debug for Opening {
 impl Opening {
     ghost use Rattle.close_count.specs.Opening.{count_of_opening, tickets_made};
     ghost use Rattle.close_count.specs.Ticket.{count_of_ticket};
-    ghost use Rattle.close_count.specs.Spent.{count_of_spent, total_of_spent, was_last};
+    ghost use Rattle.close_count.specs.Spent.{count_of_spent, total_of_spent};
 
     /// One more ticket (`CountedCompleter.addToPendingCount(1)`).
     ///
@@ -66,16 +66,14 @@ impl Opening {
     pub fn spend(self) -> Spent
         ensures count { count_of_spent result ≡ count_of_opening self }
         ensures total { total_of_spent result ≡ tickets_made self + 1 }
-        ensures step { (n : ℕ) × CompletesAt n × ((was_last result ≡ true) ↔ (n ≡ 1)) }
     {
         Spent::of_seat(self.counter, self.seat)
     }
 
-    /// Spends the opening, and answers whether it was the last ticket (`CountedCompleter.tryComplete`).
+    /// Spends the opening, and answers whether it was the last ticket (`CountedCompleter.tryComplete`). What is proved of the answer is said of
+    /// what [`spend`](Opening::spend) gives, as of [`Ticket::try_complete`](crate::Ticket::try_complete).
     #[must_use]
-    pub fn try_complete(self) -> bool
-        ensures { (n : ℕ) × CompletesAt n × ((result ≡ true) ↔ (n ≡ 1)) }
-    {
+    pub fn try_complete(self) -> bool {
         self.spend().is_last()
     }
 }

@@ -1,7 +1,7 @@
 //! What is left of a ticket, or of the opening, once it was spent.
-ghost use Rattle.std.specs.Prelude.{◌≡◌, ◌+◌, ◌≤◌, ℕ, ◌↔◌, [], true};
+ghost use Rattle.std.specs.Prelude.{◌≡◌, ◌+◌, ◌≤◌, []};
 ghost use Rattle.std.specs.Arc.{arc_value};
-ghost use Rattle.close_count.specs.Tickets.{one_if, HasAllRoom, CompletesAt};
+ghost use Rattle.close_count.specs.Tickets.{one_if, HasAllRoom};
 
 use crate::rule::{Complete, Counter, UNSPENT, View};
 use atomic_table::Seat;
@@ -41,7 +41,6 @@ impl Spent {
         requires maker { 1 ≤ seat.me.0.made → HasAllRoom seat.me.0 }
         ensures count { count_of_spent result ≡ seat.table_id }
         ensures total { total_of_spent result ≡ seat.me.0.made }
-        ensures step { (n : ℕ) × CompletesAt n × ((was_last result ≡ true) ↔ (n ≡ 1)) }
     {
         let found = counter.shared.fetch_sub::<Complete>(&mut seat, UNSPENT, 1);
         Spent {

@@ -1,7 +1,7 @@
 //! One ticket of a count, which any thread may spend.
-ghost use Rattle.std.specs.Prelude.{◌≡◌, ℕ, ◌↔◌, [], true};
+ghost use Rattle.std.specs.Prelude.{◌≡◌, []};
 ghost use Rattle.std.specs.Arc.{arc_value};
-ghost use Rattle.close_count.specs.Tickets.{ticket_view, CompletesAt};
+ghost use Rattle.close_count.specs.Tickets.{ticket_view};
 
 use crate::rule::{Counter, View};
 use crate::spent::Spent;
@@ -29,21 +29,21 @@ impl fmt::Debug for Ticket {
 
 impl Ticket {
     ghost use Rattle.close_count.specs.Ticket.{count_of_ticket};
-    ghost use Rattle.close_count.specs.Spent.{count_of_spent, was_last};
+    ghost use Rattle.close_count.specs.Spent.{count_of_spent};
 
     /// Spends the ticket. What comes back tells whether it was the last one.
     pub fn spend(self) -> Spent
         ensures count { count_of_spent result ≡ count_of_ticket self }
-        ensures step { (n : ℕ) × CompletesAt n × ((was_last result ≡ true) ↔ (n ≡ 1)) }
     {
         Spent::of_seat(self.counter, self.seat)
     }
 
     /// Spends the ticket, and answers whether it was the last one (`CountedCompleter.tryComplete`).
+    ///
+    /// A clause of this answer alone would hold of any answer. What is proved is said of the [`Spent`] that [`spend`](Ticket::spend) gives, by
+    /// [`one_of_all_is_last`](crate::one_of_all_is_last).
     #[must_use]
-    pub fn try_complete(self) -> bool
-        ensures { (n : ℕ) × CompletesAt n × ((result ≡ true) ↔ (n ≡ 1)) }
-    {
+    pub fn try_complete(self) -> bool {
         self.spend().is_last()
     }
 }

@@ -17,12 +17,16 @@ It works on a copy in a temporary folder. The crates are proved there first as t
 --proved SUM that is left out where the copy has this sum: its sources were proved, and what is built of them in out/rlib is
 taken as it is. Each check starts from what was kept of the crate as it is, if anything was; what has another text there is
 proved anew.
+
+With --follow LOG it runs beside `rt ci`, which prints to LOG: a crate is tried whole, as soon as that says that its libraries are
+proved, or has ended, and over what it has built, if the sources are those of the start.
 The last line is `N passed, M failed`. The status is 1 where anything failed, or where there was no edit to try.
 """
 
 import argparse
 import hashlib
 import os
+import re
 import shutil
 import subprocess
 import sys
@@ -31,13 +35,14 @@ import time
 from concurrent.futures import ThreadPoolExecutor
 
 sys.dont_write_bytecode = True
-sys.path.append(f"{os.path.dirname(os.path.realpath(__file__))}/../lib")
 from edits import Edit, as_tried, batches, controls_of, named_by, together
 from left_out import without_bodies, without_offers
 from prover import check_words
 from verdicts import Check
 
 SOURCES = ("src", "specs", "proofs")
+# What `rt ci` prints, or whoever runs it, once it has ended.
+END_OF_CI = re.compile(r"^([0-9]+ passed, [0-9]+ failed|rt ci has ended)$", re.M)
 # What a check reads of a crate below, and of the crate itself.
 OF_LIBRARY = (*SOURCES, "out/rlib")
 OF_CRATE = (*SOURCES, "out/incremental")
@@ -241,11 +246,34 @@ def try_crates(crates, root, jobs, proved):
     return True
 
 
+def may_be_tried(crates, root, log):
+    """Whether `rt ci`, by what it printed, has proved and built those of the crates that are libraries, or has ended."""
+    libraries = [it.name for it in crates if os.path.exists(f"{root}/crates/{it.name}/src/lib.rt")]
+    proved = re.findall(r"^rt: (\w+) proved$", log, re.M)
+    return bool(END_OF_CI.search(log)) or all(it in proved for it in libraries)
+
+
+def follow(log, root, groups, jobs):
+    """Tries these groups of crates, each a crate with edits and those below it, while `rt ci` runs, this many at a time. False if a crate
+    is not proved as it is."""
+    waiting, runs = [(crates, sum_of(root, crates)) for crates in groups], []
+    with ThreadPoolExecutor(jobs) as pool:
+        while waiting:
+            with open(log, encoding="utf-8", errors="replace") as it:
+                text = it.read()
+            for entry in [it for it in waiting if may_be_tried(it[0], root, text)]:
+                waiting.remove(entry)
+                runs.append(pool.submit(try_crates, entry[0], root, 1, entry[1]))
+            time.sleep(1)
+        return all([it.result() for it in runs])
+
+
 def main():
     parser = argparse.ArgumentParser(description=__doc__, formatter_class=argparse.RawDescriptionHelpFormatter)
     parser.add_argument("--jobs", type=int, default=min(2, len(os.sched_getaffinity(0))), help="how many crates are tried at a time")
     parser.add_argument("--proved", metavar="SUM", help="the sum of sources that were proved as they are")
     parser.add_argument("--sum", action="store_true", help="print the sum of the sources, and try nothing")
+    parser.add_argument("--follow", metavar="LOG", help="run beside `rt ci`, which prints to this file")
     parser.add_argument("--root", default=f"{os.path.dirname(os.path.realpath(__file__))}/../..", help="another repository")
     parser.add_argument("wanted", nargs="*", metavar="NAME | NAME/EDIT", help="a crate, or one edit of it (all)")
     given = parser.parse_args()
@@ -254,12 +282,13 @@ def main():
     if given.sum:
         print(sum_of(root, crates))
         return 0
-    edits = [(it, edit) for it in crates for edit in it.edits]
+    groups = [crates_of(root, [it.name]) for it in crates if it.edits] if given.follow else [crates]
+    edits = [(it, edit) for group in groups for it in group for edit in it.edits]
     names = {name for it, edit in edits for name in (it.name, f"{it.name}/{edit.name}")}
     failed = [f"no edit {it}" for it in given.wanted if it not in names]
     if not edits:
         failed.append("no edit was tried")
-    elif not try_crates(crates, root, given.jobs, given.proved):
+    elif not (follow(given.follow, root, groups, given.jobs) if given.follow else try_crates(crates, root, given.jobs, given.proved)):
         failed.append("a crate is not proved as it is")
     else:
         failed += [f"{it.name}/{edit.name}" for it, edit in edits if not edit.is_refused]
