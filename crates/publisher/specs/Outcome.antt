@@ -127,12 +127,39 @@ pub record IsRestGiven {B : Type 0} (subscriptions : List SubscriptionState) (ou
   pub given : (number : ℕ) → IsHandedIn subscriptions number → HasLane number outcome.lanes.items ⊎ IsHeld number outcome.held.items
   pub held : (number : ℕ) → IsHeld number outcome.held.items → IsHandedIn subscriptions number × (HasLane number outcome.lanes.items → ⊥)
 
--- the answers of `finish`, in the order of its refusals
+-- if it is refused so, this holds of what is given
+abbrev pub IfRefused : {B : Type 0} → Refusal → Result (Outcome B) (Refusal × Outcome B) → (Outcome B → Type 0) → Type 0
+IfRefused {B} refusal result Holds = (outcome : Outcome B) → result ≡ Err (refusal, outcome) → Holds outcome
+
+-- on 5 no lane is left
+abbrev pub HasNoLane : {B : Type 0} → Outcome B → Type 0
+HasNoLane outcome = (outcome.lanes.items ≡ []) × (outcome.held.items ≡ [])
+
+-- on 8 the one of this name is missing, and the rest is given
+abbrev pub LacksOne : {B : Type 0} → List SubmitterState → List SubscriptionState → List ℕ → Outcome B → Type 0
+LacksOne submitters subscriptions name outcome = IsMissing name submitters subscriptions outcome × IsRestGiven subscriptions outcome
+
+-- on 9 all is there, and these have not ended or run
+abbrev pub LeavesUndone : {B : Type 0} → List SubmitterState → List SubscriptionState → List (List ℕ) → Outcome B → Type 0
+LeavesUndone submitters subscriptions names outcome = IsWhole submitters subscriptions outcome × NamesUndone names outcome.lanes.items
+
+-- on Ok all is there, and done
+abbrev pub LeavesAllDone : {B : Type 0} → List SubmitterState → List SubscriptionState → Outcome B → Type 0
+LeavesAllDone submitters subscriptions outcome = IsWhole submitters subscriptions outcome × AreDone submitters outcome
+
+-- what `finish` may be refused with
+abbrev pub IsRefusalOfFinish : Refusal → Type 0
+IsRefusalOfFinish Refusal.NoMemory = ⊤
+IsRefusalOfFinish (Refusal.StillHeld name) = ⊤
+IsRefusalOfFinish (Refusal.Unsettled names) = ⊤
+IsRefusalOfFinish _ = ⊥
+
+-- the answers of `finish` together, in the order of its refusals
 abbrev pub Finishes : {B : Type 0} → List SubmitterState → List SubscriptionState → Result (Outcome B) (Refusal × Outcome B) → Type 0
-Finishes submitters subscriptions (Ok outcome) = IsWhole submitters subscriptions outcome × AreDone submitters outcome
-Finishes submitters subscriptions (Err (Refusal.NoMemory, outcome)) = (outcome.lanes.items ≡ []) × (outcome.held.items ≡ [])
-Finishes submitters subscriptions (Err (Refusal.StillHeld name, outcome)) = IsMissing name submitters subscriptions outcome × IsRestGiven subscriptions outcome
-Finishes submitters subscriptions (Err (Refusal.Unsettled names, outcome)) = IsWhole submitters subscriptions outcome × NamesUndone names.items outcome.lanes.items
+Finishes submitters subscriptions (Ok outcome) = LeavesAllDone submitters subscriptions outcome
+Finishes submitters subscriptions (Err (Refusal.NoMemory, outcome)) = HasNoLane outcome
+Finishes submitters subscriptions (Err (Refusal.StillHeld name, outcome)) = LacksOne submitters subscriptions name outcome
+Finishes submitters subscriptions (Err (Refusal.Unsettled names, outcome)) = LeavesUndone submitters subscriptions names.items outcome
 Finishes submitters subscriptions (Err (_, outcome)) = ⊥
 
 -- it is refused by this name

@@ -1,7 +1,8 @@
 //! The end of a publisher.
-ghost use Rattle.std.specs.Prelude.{◌≡◌};
+ghost use Rattle.std.specs.Prelude.{◌≡◌, IfErr, IfOk};
+ghost use Rattle.flow_rules.specs.declared.refusal.Refusal.TheVariants as Refusal;
 ghost use Rattle.publisher.specs.declared.state.TheConstants.{PARTS};
-ghost use Rattle.publisher.specs.Outcome.{AreHandedIn, Finishes, IsOutcome, outcome_of};
+ghost use Rattle.publisher.specs.Outcome.{AreHandedIn, HasNoLane, IfRefused, IsOutcome, IsRefusalOfFinish, LacksOne, LeavesAllDone, LeavesUndone, outcome_of};
 
 use crate::outcome::Outcome;
 use crate::publisher::Publisher;
@@ -30,9 +31,15 @@ pub fn finish<L: Ledger + Send, D: Ledger + Send, B: Listener + Send, R: Wait>(
     // What each subscriber was told, whatever the threads did and whatever the answer.
     ensures outcome { IsOutcome B.told (outcome_of result) }
 
-    // Of which subscriptions, and when it is refused.
+    // Of which subscriptions.
     ensures handed { AreHandedIn subscriptions.items (outcome_of result).lanes.items }
-    ensures finishes { Finishes submitters.items subscriptions.items result }
+
+    // What each answer says of what is left.
+    ensures ok { IfOk result (LeavesAllDone submitters.items subscriptions.items) }
+    ensures no_memory { IfRefused Refusal.NoMemory result HasNoLane }
+    ensures held { (name : _) → IfRefused (Refusal.StillHeld name) result (LacksOne submitters.items subscriptions.items name) }
+    ensures unsettled { (names : _) → IfRefused (Refusal.Unsettled names) result (LeavesUndone submitters.items subscriptions.items names.items) }
+    ensures refusals { IfErr result (λ refused. IsRefusalOfFinish refused.0) }
 {
     publisher.stop(rt);
     let books = publisher

@@ -1,3 +1,4 @@
+use Rattle.publisher.proofs.Answering.{says_of, says_ok, says_refusals}
 use Rattle.publisher.proofs.Concluding.{finishes_is, handed_is, nothing_is, outcome_is}
 use Rattle.publisher.proofs.the_end.finish.Goals as goal
 
@@ -7,8 +8,20 @@ returns-in-Ok-clause-outcome g c = let out = c.in-Ok.ensures.ok in outcome_is g.
 pub returns-in-Ok-clause-handed : goal.returns-in-Ok-clause-handed
 returns-in-Ok-clause-handed g c = let out = c.in-Ok.ensures.ok in handed_is g.B.Listener.told c.args.submitters.items c.args.subscriptions.items c.in-Ok.books _ c.conclude.result out.ends out.audited c.conclude.ensures
 
-pub returns-in-Ok-clause-finishes : goal.returns-in-Ok-clause-finishes
-returns-in-Ok-clause-finishes g c = let out = c.in-Ok.ensures.ok in finishes_is g.B.Listener.told c.args.submitters.items c.args.subscriptions.items c.in-Ok.books _ c.conclude.result out.ends out.audited c.conclude.ensures out.known out.closed
+pub returns-in-Ok-clause-ok : goal.returns-in-Ok-clause-ok
+returns-in-Ok-clause-ok g c = let out = c.in-Ok.ensures.ok in says_ok c.args.submitters.items c.args.subscriptions.items c.conclude.result (finishes_is g.B.Listener.told c.args.submitters.items c.args.subscriptions.items c.in-Ok.books _ c.conclude.result out.ends out.audited c.conclude.ensures out.known out.closed)
+
+pub returns-in-Ok-clause-no_memory : goal.returns-in-Ok-clause-no_memory
+returns-in-Ok-clause-no_memory g c = let out = c.in-Ok.ensures.ok in says_of c.args.submitters.items c.args.subscriptions.items c.conclude.result (finishes_is g.B.Listener.told c.args.submitters.items c.args.subscriptions.items c.in-Ok.books _ c.conclude.result out.ends out.audited c.conclude.ensures out.known out.closed) _
+
+pub returns-in-Ok-clause-held : goal.returns-in-Ok-clause-held
+returns-in-Ok-clause-held g c name = let out = c.in-Ok.ensures.ok in says_of c.args.submitters.items c.args.subscriptions.items c.conclude.result (finishes_is g.B.Listener.told c.args.submitters.items c.args.subscriptions.items c.in-Ok.books _ c.conclude.result out.ends out.audited c.conclude.ensures out.known out.closed) _
+
+pub returns-in-Ok-clause-unsettled : goal.returns-in-Ok-clause-unsettled
+returns-in-Ok-clause-unsettled g c names = let out = c.in-Ok.ensures.ok in says_of c.args.submitters.items c.args.subscriptions.items c.conclude.result (finishes_is g.B.Listener.told c.args.submitters.items c.args.subscriptions.items c.in-Ok.books _ c.conclude.result out.ends out.audited c.conclude.ensures out.known out.closed) _
+
+pub returns-in-Ok-clause-refusals : goal.returns-in-Ok-clause-refusals
+returns-in-Ok-clause-refusals g c = let out = c.in-Ok.ensures.ok in says_refusals c.args.submitters.items c.args.subscriptions.items c.conclude.result (finishes_is g.B.Listener.told c.args.submitters.items c.args.subscriptions.items c.in-Ok.books _ c.conclude.result out.ends out.audited c.conclude.ensures out.known out.closed)
 
 pub returns-clause-outcome : goal.returns-clause-outcome
 returns-clause-outcome g c = nothing_is g.B.Listener.told c.in-Err.outcome c.in-Err.ensures.err
