@@ -17,7 +17,7 @@ const LOW: u64 = (1 << 30) - 1;
 pub struct Board {
     /// How many items the subscribers of each slot were told.
     pub told: Vec<AtomicU64>,
-    /// At each place, that publication with the greatest serial number which somebody was told.
+    /// The publications that somebody was told: at each place, of those that belong there, the one with the greatest serial number.
     places: Vec<AtomicU64>,
     /// How many owners have subscribed.
     pub ready: AtomicU64,
@@ -27,7 +27,7 @@ pub struct Board {
     pub closed: AtomicU64,
     /// How many deliveries are to be made.
     pub goal: u64,
-    /// How many of them a subscriber that comes and goes takes, at most.
+    /// The most items after which a subscriber that comes and goes is cancelled.
     pub span: u64,
 }
 
