@@ -7,7 +7,7 @@ room() {
     mkdir -p "$3/crates"
     cp "$2/HANDLES" "$3/"
     cp -r "bench/programs/$1" "$3/crates/"
-    grep "^$1:" bench/programs/crates.txt >"$3/crates.txt"
+    grep "^$1:" bench/programs/libraries.txt >"$3/crates.txt"
     for crate in $(cd "$2" && for name in $(sed 's/.*://' "$3/crates.txt"); do
         [ ! -d "crates/$name" ] || below "$name"
     done | sort -u); do
