@@ -1,10 +1,11 @@
 #!/bin/sh
-# Measures the time for each item that one thread puts into a subscription of feed_cell and another one's turns give to its subscriber,
-# all items requested before, at several capacities. Beside it stand peers: the same steps on bare words in C (bench/cell_bare.c), side
-# by side as in the cell, and apart, each word in a cache line of its own; and the kit's crossbeam_queue::ArrayQueue, through which the
-# items go with no subscriber, no demand and no task. It prints the time of each, and the ratios. A task that a put starts goes to the
-# other thread through a queue of one place, in C too. Both threads try again at once, and the order is checked. The runs alternate.
-# The program is built in a temporary folder. Usage: bench/cell.sh [ITEMS [RUNS [CAPACITY..]]]; each figure is the median of RUNS
+# Measures the time for each item that one thread puts into a subscription of feed_cell and that turns in another thread give to its
+# subscriber, at several capacities (bench/programs/cell_bench). All items are requested before. Beside it stand peers: the same steps on bare
+# words in C (bench/cell_bare.c), with the words side by side as in the cell, and apart, each in a cache line of its own; and the kit's
+# crossbeam_queue::ArrayQueue, through which the items go with no subscriber, no demand and no task. It prints the time of each, and the
+# ratios. A task that a put starts goes to the other thread through a queue of one place, in C too. Both threads try again at once, and the
+# order is checked. The runs alternate.
+# The program is proved and built in a temporary folder. Usage: bench/cell.sh [ITEMS [RUNS [CAPACITY..]]]; each figure is the median of RUNS
 # runs of ITEMS items (1,000,000 and 5; 1, 4, 256 and 65,536). It needs a C compiler, and two processors that are free.
 set -eu
 cd "$(dirname "$0")/.."
@@ -30,7 +31,7 @@ once() {
     esac
 }
 
-# median FILE: the nanoseconds an item of the run in the middle.
+# median FILE: the nanoseconds for each item, of the run in the middle.
 median() {
     sort -n "$1" | sed -n "$(((runs + 1) / 2))p" | awk -v items="$items" '{ printf "%.1f", $1 / items }'
 }

@@ -1,12 +1,12 @@
 #!/bin/sh
-# Measures how many deliveries a second a publisher makes, an item told to one subscriber being a delivery, and how often one of its threads
-# goes to sleep meanwhile (its voluntary context switches): 1 and 4 submitters, each a thread, to 1 and 4 subscribers that count what they
-# are told and ask for all of it; capacities of 4, 16 and 256; texts of 16 and 256 bytes, whose bytes are made before; 1 and 4 workers.
-# A run is from the start of the submitters' threads to the end of `finish`, and counts only if each subscriber was told every item.
-# Then with 1, 2 and 4 workers how long two subscribers that sleep for 10 ms an item take for 64 items each, which wait when the items are
-# requested, and the longest call of `number_of_subscribers` meanwhile.
-# With OTHER_CHECKOUT, another clone of this repository, the same program runs over that one's publisher, too, in turns with this one's.
-# A row has the figures of both, and their ratios, this one's to the other's.
+# Measures how many deliveries a second a publisher makes, and how often one of its threads goes to sleep meanwhile (its voluntary context
+# switches). A delivery is an item that one subscriber is told. There are 1 and 4 submitters, each a thread, and 1 and 4 subscribers that
+# count what they are told and request all of it; capacities of 4, 16 and 256; texts of 16 and 256 bytes, whose bytes are made before; 1 and 4
+# workers. A run is from the start of the submitters' threads to the end of `finish`, and counts only if each subscriber was told every item.
+# Then it measures with 1, 2 and 4 workers how long two subscribers that sleep for 10 ms over each item take for 64 items each, which wait
+# when the items are requested, and the longest call of `number_of_subscribers` meanwhile.
+# With OTHER_CHECKOUT, another clone of this repository, the same program (bench/programs/deliveries_bench) runs over the publisher of that
+# clone, too, in turns with this one's. A row has the figures of both, and their ratios, this one's to the other's.
 # Usage: bench/deliveries.sh [OTHER_CHECKOUT [RUNS [ITEMS]]]; '' for no other checkout. Each figure is the median of RUNS runs of ITEMS items
 # (5 and 400,000). The programs are proved and built in a temporary folder, each in some eight minutes of a processor over what its checkout
 # has proved already (what is in crates/*/out), and else in half an hour more. KEEP names a file in which the program over this checkout is
@@ -51,12 +51,12 @@ measure() {
     done
 }
 
-# median FILE COLUMN
+# median FILE COLUMN: the number in the middle of this column of $work/FILE.
 median() {
     cut -d ' ' -f "$2" "$work/$1" | sort -n | sed -n "$(((runs + 1) / 2))p"
 }
 
-# fast WORKERS SUBMITTERS SUBSCRIBERS CAPACITY BYTES: a row.
+# fast WORKERS SUBMITTERS SUBSCRIBERS CAPACITY BYTES: a row of subscribers that count.
 fast() {
     measure fast "$@" "$items"
     for name in $names; do
@@ -71,7 +71,7 @@ fast() {
     }'
 }
 
-# slow WORKERS: a row.
+# slow WORKERS: a row of subscribers that sleep.
 slow() {
     measure slow "$1"
     for name in $names; do
@@ -92,6 +92,7 @@ if [ -n "$other" ]; then
     names='this other'
     build_or_copy "$other" other
 fi
+# if_other TEXT: the text, if there is another checkout.
 if_other() {
     [ -z "$other" ] || printf ' %s' "$1"
 }

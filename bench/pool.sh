@@ -1,8 +1,9 @@
 #!/bin/sh
 # Measures how many short jobs a second a pool of async_pool runs, with 1, 2, 4 and 8 workers and with 1 and 4 callers of `execute`: jobs that
-# run once, and jobs that run ten times each, which go back to the pool in between. Beside it stand the same runs over a channel of Rust's std
-# with as many threads (pool_channel.rs), and with OTHER_CHECKOUT, another clone of this repository, the same program over that one's pool,
-# all in turns. A row has the runs a second of each, and the ratio of this pool's to each other's; and, of this pool, to one worker's.
+# run once, and jobs that run ten times each, which go back to the pool in between (bench/programs/pool_bench). Beside it stand the same runs
+# over a channel of Rust's std with as many threads (pool_channel.rs), and with OTHER_CHECKOUT, another clone of this repository, the same
+# program over the pool of that clone, all in turns. A row has the runs a second of each, and the ratio of this pool's to each other's; and, of
+# this pool, to one worker's.
 # Usage: bench/pool.sh [OTHER_CHECKOUT [RUNS [JOBS]]]; '' for no other checkout. Each figure is the median of RUNS runs of JOBS runs of a job
 # (5 and 1,000,000). The programs are proved and built in a temporary folder, each in about a minute of a processor over what its checkout has
 # proved already, and else in some three more. It needs rustc.
@@ -16,7 +17,7 @@ work=$(mktemp -d)
 trap 'rm -rf "$work"' EXIT
 . bench/programs/build.sh
 
-# median NAME: of the runs of this program.
+# median NAME: the nanoseconds of the run in the middle, of this program's.
 median() {
     # A run that failed printed nothing.
     if [ "$(wc -l <"$work/$1.times")" -ne "$runs" ]; then
@@ -36,7 +37,8 @@ row() {
         done
         run=$((run + 1))
     done
-    spent=$(for name in $names; do median "$name" || exit 1; done | xargs)
+    for name in $names; do median "$name"; done >"$work/medians"
+    spent=$(xargs <"$work/medians")
     [ "$3" != 1 ] || one=${spent%% *}
     echo "$spent" | awk -v again="$1" -v callers="$2" -v workers="$3" -v one="$one" -v jobs="$jobs" '{
         printf "%5d %7d %7d %11.0f %6.2f", again + 1, callers, workers, jobs * 1e9 / $1, one / $1

@@ -1,10 +1,11 @@
 #!/bin/sh
 # Measures how long the native program takes to play scripts of 1, 4 and 16 MiB, made of offers, requests and runs, and
 # how much memory it has at its peak, both for each byte of the script, and prints each as a ratio to the script of 1 MiB.
-# Each is played twice: on a subscriber that keeps all that it is told, and with --forget on one that keeps nothing.
-# Then the kinds of script that cost most a byte, at 1 MiB each: a run a line, lines of two bytes, offers with CR LF.
-# Last the time for each delivery, an item that one subscriber is told: with 1, 8 and 64 subscribers, and with 8 of them after 1,000
-# others that have come and gone, beside that with 1; all with --forget.
+# Each script is played twice: on a subscriber that keeps all that it is told, and with --forget on one that keeps nothing.
+# Then it measures the kinds of script that cost most for each byte, at 1 MiB each: lines that are all `run`, lines of two bytes, and
+# offers with CR LF.
+# Last it measures the time for each delivery, which is an item that one subscriber is told: with 1, 8 and 64 subscribers, and with 8 of
+# them after 1,000 others that have come and gone, beside that with 1; all with --forget.
 # It sets no bounds. The script is read whole, so memory grows with it even where the subscriber keeps nothing.
 # It needs the program, which `rt ci` and `./play --build` leave in crates/lines_demo/out, and GNU time or Python 3.
 # Usage: bench/script.sh [RUNS]; each figure is the median of RUNS runs (5).
@@ -14,7 +15,7 @@ cd "$(dirname "$0")/.."
 begin lines_demo
 runs=${1:-5}
 
-# make MIB: a script of at most so many bytes. 64 texts of 24 bytes are offered, requested and told, again and again.
+# make MIB: a script of at most this many MiB. 64 texts of 24 bytes are offered, requested and told, again and again.
 make() {
     awk -v most="$(($1 * 1048576))" 'BEGIN {
         line = "sub a 0\nrun\n"
@@ -40,7 +41,7 @@ lines() {
     }'
 }
 
-# peak FILE: the KiB at the peak of one run. As Python measures it, that is at least what Python has itself, some 14,000 KiB.
+# peak FILE: the KiB at the peak of one run. As Python measures it (peak.py), that is at least what Python has itself, some 14,000 KiB.
 # Each run has the flag $flag, if there is one.
 flag=
 if [ -x /usr/bin/time ] && /usr/bin/time -f %M true >/dev/null 2>&1; then
@@ -50,12 +51,7 @@ if [ -x /usr/bin/time ] && /usr/bin/time -f %M true >/dev/null 2>&1; then
     }
 else
     peak() {
-        python3 - "$1" "$work/out" "$program" script ${flag:+"$flag"} <<'PROGRAM'
-import resource, subprocess, sys
-with open(sys.argv[1], "rb") as script, open(sys.argv[2], "wb") as out:
-    subprocess.run(sys.argv[3:], stdin=script, stdout=out, check=True)
-print(resource.getrusage(resource.RUSAGE_CHILDREN).ru_maxrss)
-PROGRAM
+        python3 bench/peak.py "$1" "$work/out" "$program" script ${flag:+"$flag"}
     }
 fi
 
@@ -107,7 +103,7 @@ figures short
 lines 'offer x\r\n' >"$work/script"
 figures crlf
 
-# deliveries COUNT GONE: so many subscribers, after so many others that have ended, are told the same number of items in all.
+# deliveries COUNT GONE: a script for COUNT subscribers, after GONE others that have ended. In all they are told the same number of items.
 deliveries() {
     awk -v count="$1" -v gone="$2" 'BEGIN {
         for (i = 0; i < gone; i++) printf "sub gone 0\nsub gone 0\nrun\n"

@@ -1,6 +1,6 @@
 #!/usr/bin/env bash
-# Compiles each program of bench/programs over the crates of this checkout, runs it once with little to do, and sees that its sources are
-# formatted. It needs the toolchain's command `rt`, and takes a minute or two.
+# Compiles each program of bench/programs over the crates of this checkout, runs it with little to do, and sees that its sources are
+# formatted. Nothing of them is proved. It needs the toolchain's command `rt`, and takes some four minutes of a processor.
 set -eu
 cd "$(dirname "$0")/../.."
 work=$(mktemp -d)

@@ -1,5 +1,5 @@
-// Prints the nanoseconds in which a pool runs short jobs: `pool_bench WORKERS CALLERS JOBS AGAIN`, the jobs of all callers. Each is run
-// again AGAIN times.
+//! Prints the nanoseconds in which a pool runs short jobs: `pool_bench WORKERS CALLERS JOBS AGAIN`, with the jobs of all callers. Each job runs
+//! once, and then again AGAIN times.
 #![tactic(auto)]
 
 ghost use Rattle.std.specs.Prelude.{◌≡◌, ◌<◌};
@@ -13,7 +13,7 @@ use std::thread::Threads;
 use std::time::Instant;
 use std::{env, io, thread};
 
-// A job that is run again this many times.
+/// A job that is run again this many times.
 #[derive(Drop)]
 struct Short(u64);
 
@@ -26,7 +26,7 @@ impl Job for Short {
     }
 }
 
-// Hands in this many jobs, each again while it comes back. The last caller shuts the pool.
+/// Hands in this many jobs, each again as long as it comes back. The last caller shuts the pool.
 fn call<R: Wait>(rt: &R, pool: &Pool<Short>, jobs: u64, again: u64, callers: &AtomicU64) {
     for _ in 0..jobs {
         for _ in rt.forever() {
@@ -41,6 +41,7 @@ fn call<R: Wait>(rt: &R, pool: &Pool<Short>, jobs: u64, again: u64, callers: &At
     }
 }
 
+/// Runs jobs as this worker until the pool is shut, and adds how many ran.
 fn work<R: Wait>(rt: &R, pool: &Pool<Short>, worker: usize, all: &AtomicU64)
     requires { worker < pool_workers pool.now }
 {
@@ -49,16 +50,17 @@ fn work<R: Wait>(rt: &R, pool: &Pool<Short>, worker: usize, all: &AtomicU64)
     all.fetch_add(ran, SeqCst);
 }
 
-// What a run is made of.
+/// What a run is made of.
 #[derive(Clone, Copy)]
 struct Plan {
     workers: usize,
     callers: u64,
+    /// The jobs of each caller.
     jobs: u64,
     again: u64,
 }
 
-// Runs the jobs of all callers. How often one ran, or None if a thread could not be started.
+/// Runs the jobs of all callers. Answers how often one ran, or `None` if a thread could not be started.
 fn run_all<R: Threads + Wait + Sync>(rt: &R, pool: &Pool<Short>, plan: Plan) -> Option<u64>
     requires { plan.workers ≡ pool_workers pool.now }
 {
@@ -104,6 +106,7 @@ fn run_all<R: Threads + Wait + Sync>(rt: &R, pool: &Pool<Short>, plan: Plan) -> 
     if all { Some(ran.load(SeqCst)) } else { None }
 }
 
+/// Reads a word of the command line. A missing word, or one that is no number, is 0.
 fn number(text: Option<String>) -> u64 {
     text.and_then(|text| text.as_str().parse::<u64>().ok())
         .unwrap_or(0)

@@ -1,0 +1,81 @@
+//! What both runs share: the submitters, what each publishes, and the end of the publisher. A run counts only if every subscriber was told
+//! every item.
+ghost use Rattle.std.specs.Prelude.{◌≡◌};
+ghost use Rattle.publisher.specs.declared.state.TheConstants.{PARTS};
+
+use flow_rules::{How, Listener};
+use publisher::{Outcome, Publisher, Submitter, Subscription, finish};
+use std::alloc::Global;
+use std::sync::Wait;
+use std::sync::ledger::Ledger;
+
+/// The names of subscribers, as many as there may be.
+pub const NAMES: [&str; 8] = ["a", "b", "c", "d", "e", "f", "g", "h"];
+
+/// Makes this many submitters.
+pub fn make_submitters<
+    L: Ledger + Send + Sync + 'static,
+    D: Ledger + Send + Sync + 'static,
+    B: Listener + Send + 'static,
+    R: Wait,
+>(
+    rt: &R,
+    alloc: Global,
+    publisher: &Publisher<L, D, B>,
+    count: usize,
+) -> Option<Vec<Submitter<L, D, B>>> {
+    let mut submitters = Vec::new(alloc);
+    for _ in 0..count {
+        let submitter = publisher.submitter(rt, alloc, &mut publisher.note()).ok()?;
+        submitters.push(submitter).ok()?;
+    }
+    Some(submitters)
+}
+
+/// Publishes this many items, up to one that is refused.
+pub fn send_all<L: Ledger + Send, D: Ledger + Send, B: Listener + Send, R: Wait>(
+    rt: &R,
+    alloc: Global,
+    submitter: &mut Submitter<L, D, B>,
+    text: &[u8],
+    items: usize,
+) {
+    for _ in 0..items {
+        if submitter.submit(rt, alloc, text).is_err() {
+            return;
+        }
+    }
+}
+
+/// Closes and ends the publisher. Tells whether each subscriber was told this many items, which were all.
+pub fn end_all<
+    L: Ledger + Send + Sync + 'static,
+    D: Ledger + Send + Sync + 'static,
+    B: Listener + Send + 'static,
+    R: Wait,
+>(
+    rt: &R,
+    alloc: Global,
+    publisher: Publisher<L, D, B>,
+    submitters: Vec<Submitter<L, D, B>>,
+    subscriptions: Vec<Subscription<L, D, B>>,
+    items: u64,
+) -> bool
+    requires { (L.parts ≡ PARTS) × (D.parts ≡ PARTS) }
+{
+    let subscribers = subscriptions.len();
+    let is_closed = publisher.close(rt, alloc, &mut publisher.note()).is_ok();
+    match finish(rt, alloc, publisher, submitters, subscriptions) {
+        Ok(outcome) => is_closed && is_whole(&outcome, subscribers, items),
+        Err(_) => false,
+    }
+}
+
+/// Tells whether each of this many subscribers was told this many items, and completed.
+fn is_whole<B>(outcome: &Outcome<B>, subscribers: usize, items: u64) -> bool {
+    let mut all = outcome.drained && outcome.published == items;
+    for left in outcome.lanes.iter() {
+        all &= matches!(left.lane.ending, Some(How::Completed)) && left.lane.given == items;
+    }
+    all && outcome.lanes.len() == subscribers
+}

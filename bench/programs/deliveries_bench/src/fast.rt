@@ -1,0 +1,122 @@
+//! A run to subscribers that count. It takes from the start of the submitters' threads to the end of `finish`.
+ghost use Rattle.std.specs.Prelude.{◌≡◌, ◌<◌};
+ghost use Rattle.publisher.specs.Blanks.{IsBlankOf};
+ghost use Rattle.publisher.specs.declared.state.TheConstants.{PARTS};
+
+use super::ends::{NAMES, end_all, make_submitters, send_all};
+use flow_rules::{Name, Tally};
+use publisher::{Publisher, Submitter, Subscription};
+use std::alloc::Global;
+use std::sync::Wait;
+use std::sync::ledger::{Blank, Ledger};
+use std::thread;
+use std::thread::Threads;
+use std::time::{Clock, Instant};
+
+/// What a run is made of.
+#[derive(Drop)]
+pub struct Plan {
+    pub workers: usize,
+    pub submitters: usize,
+    pub subscribers: usize,
+    pub capacity: usize,
+    /// The bytes of a text.
+    pub bytes: usize,
+    /// The items of all submitters, a multiple of their number.
+    pub items: usize,
+}
+
+/// Measures the nanoseconds of a run.
+pub fn measure_fast<
+    L: Ledger + Send + Sync + 'static,
+    D: Ledger + Send + Sync + 'static,
+    R: Threads + Wait + Clock + Copy + Send + Sync + 'static,
+>(rt: R, alloc: Global, plan: &Plan, publications: Blank, drops: Blank) -> Option<u128>
+    requires publications { IsBlankOf publications L.name L.parts }
+    requires drops { IsBlankOf drops D.name D.parts }
+    requires submitters { 0 < plan.now.submitters }
+{
+    let text = vec![in alloc; b'x'; plan.bytes].ok()?;
+    let each = plan.items / plan.submitters;
+    let publisher: Publisher<L, D, Tally> = Publisher::new(
+        rt,
+        alloc,
+        publications,
+        drops,
+        plan.workers,
+        plan.capacity,
+    ).ok()?;
+    let subscriptions = subscribe_tallies(&rt, alloc, &publisher, plan.subscribers)?;
+    let submitters = make_submitters(&rt, alloc, &publisher, plan.submitters)?;
+    time_fast(
+        &rt,
+        alloc,
+        text.as_slice(),
+        plan.items,
+        each,
+        publisher,
+        submitters,
+        subscriptions,
+    )
+}
+
+/// Subscribes this many subscribers that count, and requests all items for each.
+fn subscribe_tallies<L: Ledger + Send + Sync + 'static, D: Ledger + Send + Sync + 'static, R: Wait>(
+    rt: &R,
+    alloc: Global,
+    publisher: &Publisher<L, D, Tally>,
+    subscribers: usize,
+) -> Option<Vec<Subscription<L, D, Tally>>> {
+    let mut subscriptions = Vec::new(alloc);
+    for name in NAMES.iter().take(subscribers) {
+        let name = Name::new(name.as_bytes())?;
+        let mut subscription = publisher.subscribe(rt, alloc, name, Tally::new()).ok()?;
+        subscription.request(rt, i64::MAX).ok()?;
+        subscriptions.push(subscription).ok()?;
+    }
+    Some(subscriptions)
+}
+
+/// Measures the nanoseconds in which the submitters publish `each` items, and all subscribers are told them.
+fn time_fast<
+    L: Ledger + Send + Sync + 'static,
+    D: Ledger + Send + Sync + 'static,
+    R: Threads + Wait + Clock + Copy + Send + Sync + 'static,
+>(
+    rt: &R,
+    alloc: Global,
+    text: &[u8],
+    items: usize,
+    each: usize,
+    publisher: Publisher<L, D, Tally>,
+    mut submitters: Vec<Submitter<L, D, Tally>>,
+    subscriptions: Vec<Subscription<L, D, Tally>>,
+) -> Option<u128>
+    requires { (L.parts ≡ PARTS) × (D.parts ≡ PARTS) }
+{
+    let start = Instant::now(rt).ok()?;
+    send_each(rt, alloc, text, each, &mut submitters);
+    let all = end_all(
+        rt,
+        alloc,
+        publisher,
+        submitters,
+        subscriptions,
+        items as u64,
+    );
+    let spent = start.elapsed(rt).ok()?;
+    all.then(|| spent.as_nanos())
+}
+
+/// Publishes this many items with each submitter, from a thread of its own.
+fn send_each<
+    L: Ledger + Send + Sync + 'static,
+    D: Ledger + Send + Sync + 'static,
+    R: Threads + Wait + Sync,
+>(rt: &R, alloc: Global, text: &[u8], each: usize, submitters: &mut [Submitter<L, D, Tally>]) {
+    let send = |_: usize, submitter: &mut Submitter<L, D, Tally>| {
+        send_all(rt, alloc, submitter, text, each)
+    };
+    let threads = submitters.len().max(1);
+    thread::for_each_mut(rt, submitters, threads, &send);
+}
