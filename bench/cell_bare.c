@@ -1,5 +1,5 @@
 /* The steps of a subscription of feed_cell on bare words: one thread puts items, and another one's turns give them to a subscriber.
-   Words, slots, orders and the queue of one place for started tasks are those of programs/cell_bench.
+   Words, slots, orders and the queue of one place for started tasks are those of crates/cell_bench.
    Usage: bare CAPACITY ITEMS BYTES_OF_A_SLOT; it prints the nanoseconds of a run whose items all came in order. */
 #include <pthread.h>
 #include <stdatomic.h>

@@ -5,7 +5,7 @@
 # workers. A run is from the start of the submitters' threads to the end of `finish`, and counts only if each subscriber was told every item.
 # Then it measures with 1, 2 and 4 workers how long two subscribers that sleep for 10 ms over each item take for 64 items each, which wait
 # when the items are requested, and the longest call of `number_of_subscribers` meanwhile.
-# With OTHER_CHECKOUT, another clone of this repository, the same program (bench/programs/deliveries_bench) runs over the publisher of that
+# With OTHER_CHECKOUT, another clone of this repository, the same program (crates/deliveries_bench) runs over the publisher of that
 # clone, too, in turns with this one's. A row has the figures of both, and their ratios, this one's to the other's.
 # Usage: bench/deliveries.sh [OTHER_CHECKOUT [RUNS [ITEMS]]]; '' for no other checkout. Each figure is the median of RUNS runs of ITEMS items
 # (5 and 400,000). The programs are proved and built in a temporary folder, each in some eight minutes of a processor over what its checkout
@@ -21,7 +21,7 @@ runs=${2:-5}
 items=${3:-400000}
 work=$(mktemp -d)
 trap 'rm -rf "$work"' EXIT
-. bench/programs/build.sh
+. bench/build.sh
 
 # build_or_copy CHECKOUT NAME: the program over the publisher of this checkout, or one that was built before, as $work/NAME.
 build_or_copy() {

@@ -1,6 +1,6 @@
 #!/bin/sh
 # Measures how many short jobs a second a pool of async_pool runs, with 1, 2, 4 and 8 workers and with 1 and 4 callers of `execute`: jobs that
-# run once, and jobs that run ten times each, which go back to the pool in between (bench/programs/pool_bench). Beside it stand the same runs
+# run once, and jobs that run ten times each, which go back to the pool in between (crates/pool_bench). Beside it stand the same runs
 # over a channel of Rust's std with as many threads (pool_channel.rs), and with OTHER_CHECKOUT, another clone of this repository, the same
 # program over the pool of that clone, all in turns. A row has the runs a second of each, and the ratio of this pool's to each other's; and, of
 # this pool, to one worker's.
@@ -15,7 +15,7 @@ runs=${2:-5}
 jobs=${3:-1000000}
 work=$(mktemp -d)
 trap 'rm -rf "$work"' EXIT
-. bench/programs/build.sh
+. bench/build.sh
 
 # median NAME: the nanoseconds of the run in the middle, of this program's.
 median() {

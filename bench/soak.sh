@@ -1,5 +1,5 @@
 #!/bin/sh
-# Publishes from 8 threads to 8 subscribers at a time until this many deliveries were made, and checks each of them (bench/programs/soak). A
+# Publishes from 8 threads to 8 subscribers at a time until this many deliveries were made, and checks each of them (crates/soak). A
 # delivery is an item that one subscriber is told. Six sources submit, two offer. Eight more threads own the subscriptions, one slot each. The
 # first subscriber requests everything; the second requests one item more in each callback; the owners of the next three request 1,000 or 64
 # items whenever these were told, or 1 to 4,096 while some are left. The last three come and go: one cancels in its callback; one is
@@ -19,7 +19,7 @@ capacity=${3:-16}
 limit=${4:-3600}
 work=$(mktemp -d)
 trap 'rm -rf "$work"' EXIT
-. bench/programs/build.sh
+. bench/build.sh
 
 program=${PROGRAM-}
 if [ -z "$program" ]; then

@@ -1,5 +1,5 @@
 //! Prints the nanoseconds in which one thread hands items to another, through a subscription of feed_cell or through a queue of the kit:
-//! `cell_bench cell|queue CAPACITY ITEMS`. Without a capacity it prints the bytes of a slot of a subscription's table.
+//! `cell_bench cell|queue CAPACITY ITEMS`; and by `cell_bench size` the bytes of a slot of a subscription's table.
 #![tactic(auto)]
 
 mod cell_run;
@@ -25,6 +25,23 @@ enum Slot {
     _Guest(Box<InOrder>),
 }
 
+/// What is to be printed.
+enum Kind {
+    Size,
+    Cell,
+    Queue,
+}
+
+/// Reads the first word of the command line.
+fn kind_of(word: Option<String>) -> Option<Kind> {
+    match word?.as_str() {
+        "size" => Some(Kind::Size),
+        "cell" => Some(Kind::Cell),
+        "queue" => Some(Kind::Queue),
+        _ => None,
+    }
+}
+
 /// Reads a word of the command line. A missing word, or one that is no number, is 0.
 fn number(text: Option<String>) -> usize {
     text.and_then(|text| text.as_str().parse::<usize>().ok())
@@ -33,11 +50,20 @@ fn number(text: Option<String>) -> usize {
 
 fn main(rt: HostRuntime) -> io::Result<()> {
     let mut words = env::args(&rt)?.skip(1);
-    let is_cell = words.next().is_some_and(|word| word.as_str() == "cell");
+    let Some(kind) = kind_of(words.next()) else {
+        return Ok(());
+    };
     let asked = number(words.next());
     let count = number(words.next());
+    let is_cell = match kind {
+        Kind::Size => {
+            println!(rt; "{}", mem::size_of::<Slot>())?;
+            return Ok(());
+        }
+        Kind::Cell => true,
+        Kind::Queue => false,
+    };
     let Ok(places) = capacity(asked) else {
-        println!(rt; "{}", mem::size_of::<Slot>())?;
         return Ok(());
     };
     if count == 0 || count > MOST_ITEMS {
