@@ -1,12 +1,12 @@
 -- What `finish` answers, clause by clause.
-use Rattle.std.proofs.Common.{◌≡◌, Result, Ok, Err, List, subst, tt}
+use Rattle.std.proofs.Common.{◌≡◌, Result, Ok, Err, List, subst}
 use Rattle.std.specs.Prelude.{IfErr, IfOk}
 use Rattle.flow_rules.specs.declared.refusal.Refusal.{Refusal}
 use Rattle.publisher.specs.Handles.{SubmitterState, SubscriptionState}
 use Rattle.publisher.specs.Outcome.{Finishes, IfRefused, IsRefusalOfFinish, LeavesAllDone}
 use Rattle.publisher.specs.declared.outcome.Outcome.{Outcome}
 
-module _ {B : Type 0} (submitters : List SubmitterState) (subscriptions : List SubscriptionState) (result : Result (Outcome B) (Refusal × Outcome B)) (finishes : Finishes submitters subscriptions result)
+module _ {B : Type 0} (submitters : List SubmitterState) (subscriptions : List SubscriptionState) (result : Result (Outcome B) (Refusal × Outcome B)) (finishes : Finishes submitters subscriptions result) where
   pub says_ok : IfOk result (LeavesAllDone submitters subscriptions)
   says_ok = by result finishes where
     by : (r : Result (Outcome B) (Refusal × Outcome B)) → Finishes submitters subscriptions r → IfOk r (LeavesAllDone submitters subscriptions)

@@ -1,4 +1,5 @@
 pub mod Admitted
+pub mod Answering
 pub mod AskedStates
 pub mod Compared
 pub mod Concluding
