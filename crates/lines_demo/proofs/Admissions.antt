@@ -13,7 +13,7 @@ use Rattle.publisher_hub.specs.Subscribing.{Admits, ClosesNew, first_entry}
 use Rattle.publisher_hub.specs.declared.entry.Entry.{Entry}
 use Rattle.publisher_hub.specs.declared.hub.Hub.{Hub}
 use Rattle.publisher_hub.specs.declared.work.Work.{Work}
-use Rattle.publisher_hub.proofs.Grown.{get_grown}
+use Rattle.publisher_hub.proofs.AnswerLists.Updates.{get_grown}
 use Rattle.lines_demo.specs.Prelude.{DeskState, Ending, Refusal, owes, desk_after_demand, desk_after_request, desk_without_looks}
 use Rattle.lines_demo.specs.Script.Session.{AreScriptEntries, IsScriptEntry, IsScriptHub, state_of, subscription_of}
 use Rattle.lines_demo.specs.Script.State.{SessionState}

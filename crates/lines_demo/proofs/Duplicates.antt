@@ -16,9 +16,9 @@ use Rattle.publisher_hub.specs.Subscribing.{IsSeen, TellsOne, Told}
 use Rattle.publisher_hub.specs.declared.entry.Entry.{Entry}
 use Rattle.publisher_hub.specs.declared.hub.Hub.{Hub}
 use Rattle.publisher_hub.specs.declared.work.Work.{Work}
-use Rattle.publisher_hub.proofs.Grown.{get_elsewhere, get_there}
-use Rattle.publisher_hub.proofs.LiveRounds.{get_mapped}
-use Rattle.publisher_hub.proofs.PartialRounds.{same_some}
+use Rattle.publisher_hub.proofs.AnswerLists.Updates.{get_elsewhere, get_there}
+use Rattle.publisher_hub.proofs.PartialRounds.Next.{get_mapped}
+use Rattle.publisher_hub.proofs.PartialRounds.Progress.{same_some}
 use Rattle.lines_demo.specs.Prelude.{DeskState, owes}
 use Rattle.lines_demo.specs.Word.{is_word}
 use Rattle.lines_demo.specs.Script.Kept.{IsReached}

@@ -10,14 +10,14 @@ use Rattle.feed_core.specs.LaneCalls.{IsCapacity}
 use Rattle.publisher_hub.specs.Hub.{HubState, hub_of}
 use Rattle.publisher_hub.specs.Lists.{EachBy, greatest}
 use Rattle.publisher_hub.specs.Looking.{IsLookedAt, Prepares}
-use Rattle.publisher_hub.specs.Offering.{IsNextItem, Offers, dropped, lags, lags_again, started, started_again}
+use Rattle.publisher_hub.specs.Offering.{IsNextItem, ReachesAll, dropped, lags, lags_again, started, started_again}
 use Rattle.publisher_hub.specs.Publishing as Publishing
 use Rattle.publisher_hub.specs.Publishing.{IsRefused, OffersItem, RefusesOffer, WhyNotOffered}
 use Rattle.publisher_hub.specs.Sound.{IsSound}
 use Rattle.publisher_hub.specs.declared.entry.Entry.{Entry}
 use Rattle.publisher_hub.specs.declared.hub.Hub.{Hub}
 use Rattle.publisher_hub.specs.declared.work.Work.{Work}
-use Rattle.publisher_hub.proofs.Published.{known_of}
+use Rattle.publisher_hub.proofs.Publications.WholePublication.{known_of}
 use Rattle.lines_demo.specs.Prelude.{Item, Refusal, DeskState}
 use Rattle.lines_demo.specs.Script.Publishing.{drop_count, drops_or_lag, greatest_lag, next_item, offer_answer, publication_refusal, state_after_publication, subscription_after_offer}
 use Rattle.lines_demo.specs.Script.Session.{AreScriptEntries, IsScriptHub, desk_in, numbers_of, state_of, subscription_of}
@@ -131,7 +131,7 @@ unclosed_entries old is unclosed k x at =
     ∙ (known_of {T = Unit} end_of DoesCall (hub_of end_of old) old.entries.items is.sound refl unclosed k x at (end_of entry.desk) (ap (λ feed. option_map end_of feed) entry.there)).0
 
 pub hub_published : (text : List ℕ) (old new : Hub DeskState) (item : Item) (due : List (Work Unit)) → IsScriptHub old → IsSound (hub_of end_of new) → item.source ≡ SOURCE → item.text ≡ text
-    → Offers item (hub_of end_of old) (hub_of end_of new) → map subscription_of new.entries.items ≡ map (subscription_after_offer item) (map subscription_of old.entries.items) → AreScriptEntries new.entries.items
+    → ReachesAll item (hub_of end_of old) (hub_of end_of new) → map subscription_of new.entries.items ≡ map (subscription_after_offer item) (map subscription_of old.entries.items) → AreScriptEntries new.entries.items
     → numbers_of due ≡ newly_woken (map subscription_of old.entries.items) (map subscription_of new.entries.items) → HubPublished text old new due
 hub_published text old new item due is sound from words offers same entries woken_now = record {
   script = record {

@@ -20,7 +20,7 @@ use Rattle.publisher_hub.specs.declared.entry.Entry.{Entry}
 use Rattle.publisher_hub.specs.declared.hub.Hub.{Hub}
 use Rattle.publisher_hub.specs.declared.hub.publishing.Unpublished.TheVariants.{NoRoom, Refused}
 use Rattle.publisher_hub.specs.declared.work.Work.{Work}
-use Rattle.publisher_hub.proofs.Published.{below_most, known_of}
+use Rattle.publisher_hub.proofs.Publications.WholePublication.{below_most, known_of}
 use Rattle.lines_demo.specs.Prelude.{Item, Ending, How, Refusal, DeskState, is_gone, lag_of}
 use Rattle.lines_demo.specs.Script.Publishing.{drop_count, greatest_lag, is_full, lag_with, next_item, publication_refusal, refusal_or_wait, submit_refusal, subscription_after_offer}
 use Rattle.lines_demo.specs.Script.Session.{IsScriptEntry, IsScriptHub, desk_in, numbers_of, state_of, subscription_of}

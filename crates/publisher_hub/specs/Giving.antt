@@ -7,7 +7,7 @@ use Rattle.flow_rules.specs.declared.feed.put.Put.TheVariants.{Full}
 use Rattle.flow_rules.specs.declared.item.Item.{Item}
 use Rattle.publisher_hub.specs.Lists.{greatest}
 use Rattle.publisher_hub.specs.Offering.{Second, dropped, dropped_by, lag_again_by, lag_by, lags, lags_again, missed, missed_by, started, started_again, started_again_by, started_by}
-use Rattle.publisher_hub.specs.declared.giving.Giving.{Giving}
+use Rattle.publisher_hub.specs.declared.rounds.gathering.Giving.{Giving}
 use Rattle.publisher_hub.specs.declared.work.Work.{Work}
 
 -- each of these is a share of the item

@@ -51,8 +51,8 @@ pub record HasDropped (x : Item) (old new : EntryState) : Type 0 where
   pub now : new ≡ record old { feed = Some after; dropped = old.dropped + 1 }
 
 -- what becomes of a subscription where an item is published to all that have room for it
-abbrev pub IsOffered : Item → EntryState → EntryState → Type 0
-IsOffered x old new = StaysRetired old new ⊎ (HasGrown x old new ⊎ (HasEnded x old new ⊎ HasDropped x old new))
+abbrev pub IsReached : Item → EntryState → EntryState → Type 0
+IsReached x old new = StaysRetired old new ⊎ (HasGrown x old new ⊎ (HasEnded x old new ⊎ HasDropped x old new))
 
 -- the item that a source publishes next
 pub record IsNextItem (progress : Progress) (x : Item) : Type 0 where
@@ -70,10 +70,10 @@ progress_after x dropping progress = record progress {
 }
 
 -- an item was published to all subscriptions, and dropped where there was no room
-pub record Offers (x : Item) (old new : HubState) : Type 0 where
+pub record ReachesAll (x : Item) (old new : HubState) : Type 0 where
   pub next : IsNextItem old.progress x
   pub rest : new ≡ record old { progress = progress_after x new.progress.dropping old.progress; entries = new.entries }
-  pub entries : Each (IsOffered x) old.entries new.entries
+  pub entries : Each (IsReached x) old.entries new.entries
   pub drops : (old.progress.dropping ≤ new.progress.dropping) × (new.progress.dropping ≤ old.progress.dropping + 1)
   pub dropped : (k : ℕ) (entry : EntryState) → slice_get new.entries k ≡ Some entry → entry.dropped ≤ new.progress.dropping
 

@@ -12,9 +12,9 @@ use Rattle.publisher_hub.specs.Giving.{AreShares, GathersAgain, HasRoom}
 use Rattle.publisher_hub.specs.Hub.{Progress, hub_of}
 use Rattle.publisher_hub.specs.Lists.{Each, EachBy, greatest}
 use Rattle.publisher_hub.specs.Looking.{IsLookedAt, MayPrepare, Prepares, full}
-use Rattle.publisher_hub.specs.Offering.{AreAsked, Gives, GivesAgain, Offers, Second, dropped, lags, lags_again, missed, stands, started, started_again}
+use Rattle.publisher_hub.specs.Offering.{AreAsked, Gives, GivesAgain, ReachesAll, Second, dropped, lags, lags_again, missed, stands, started, started_again}
 use Rattle.publisher_hub.specs.declared.entry.Entry.{Entry}
-use Rattle.publisher_hub.specs.declared.giving.Giving.{Giving}
+use Rattle.publisher_hub.specs.declared.rounds.gathering.Giving.{Giving}
 use Rattle.publisher_hub.specs.declared.hub.Hub.{Hub}
 use Rattle.publisher_hub.specs.declared.hub.publishing.Unpublished.{Unpublished}
 use Rattle.publisher_hub.specs.declared.hub.publishing.Unpublished.TheVariants.{NoRoom, Refused}
@@ -57,7 +57,7 @@ module _ {F T : Type 0} (meaning : F → End) (does : F → Call T → F → Typ
     pub looked : EachBy (Prepares meaning does old.next) glances old.entries.items middle
     pub room : full old.capacity glances ≡ []
     pub given : EachBy (Gives meaning does item) puts middle new.entries.items
-    pub offers : Offers item (hub_of meaning old) (hub_of meaning new)
+    pub offers : ReachesAll item (hub_of meaning old) (hub_of meaning new)
     pub no_drop : missed puts ≡ []
     pub no_dropping : new.dropping ≡ old.dropping
     pub due : due_new ≡ due_old ++ started puts
@@ -86,7 +86,7 @@ module _ {F T : Type 0} (meaning : F → End) (does : F → Call T → F → Typ
     pub again : EachBy (GivesAgain meaning does item) seconds middle new.entries.items
     pub asked : AreAsked (missed puts) seconds
     pub declined : declines ≡ true → seconds ≡ map stands puts
-    pub offers : Offers item (hub_of meaning old) (hub_of meaning new)
+    pub offers : ReachesAll item (hub_of meaning old) (hub_of meaning new)
     pub counted : new.dropping ≡ dropping_after (length (dropped seconds)) old.dropping
     pub due : due_new ≡ due_old ++ started puts ++ started_again seconds
     pub answers : answer ≡ offer_answer (length (dropped seconds)) (greatest (lags puts ++ lags_again seconds))

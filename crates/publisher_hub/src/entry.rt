@@ -1,17 +1,21 @@
-//! One subscription of a Hub.
-ghost use Rattle.std.specs.Prelude.{◌≡◌, ◌-◌, ◌<◌, ◌≤◌, length, IfOk, IsSome, OnErr, Some, false};
+//! One subscription of a Hub, with each step that a call or a pass makes of it.
+ghost use Rattle.std.specs.Prelude.{◌≡◌, ◌-◌, ◌<◌, ◌≤◌, length, if◌then◌else◌, IfOk, IsSome, OnErr, Option, Some, false, true};
+ghost use Rattle.std.specs.Borrow.{sem};
 ghost use Rattle.flow_rules.specs.Feed.{End};
+ghost use Rattle.flow_rules.specs.declared.feed.standing.Standing.{Standing};
 ghost use Rattle.flow_rules.specs.declared.item.TheConstants.{PUBLICATIONS};
+ghost use Rattle.publisher_hub.specs.Closing.{Closes};
 ghost use Rattle.publisher_hub.specs.Entry.{entry_of};
 ghost use Rattle.publisher_hub.specs.Looking.{FailsToPrepare, Glances, IsReadied, Prepares};
 ghost use Rattle.publisher_hub.specs.Offering.{Gives, GivesAgain};
+ghost use Rattle.publisher_hub.specs.Readiness.{IsReady};
 ghost use Rattle.publisher_hub.specs.Steps.{CanTake, IsHere};
-
-mod closing;
-mod telling;
+ghost use Rattle.publisher_hub.specs.Subscribing.{Told};
+ghost use Rattle.publisher_hub.specs.Taking.{TakesOut};
+ghost use Rattle.publisher_hub.specs.Tickets.{AsksForTicket};
 
 use close_count::Ticket;
-use flow_rules::{Feed, Item, Name, NoMemory, Put, Standing};
+use flow_rules::{Ending, Feed, Item, Name, NoMemory, Put, Standing};
 
 /// One subscription of a Hub, from its subscribing on. It stays when it has ended.
 #[derive(Drop)]
@@ -32,7 +36,19 @@ pub(crate) struct Entry<F> {
     pub ticket: Option<Ticket>,
 }
 
+/// What a close did at one subscription.
+#[must_use]
+#[derive(Drop)]
+pub(crate) enum AtClose<T> {
+    /// The subscription was retired before, and is left alone.
+    Retired,
+    /// Its producer's end was closed, which answered this task.
+    Ended(Option<T>),
+}
+
 impl<F: Feed> Entry<F> {
+    ghost use Rattle.publisher_hub.specs.Lending.{lends_feed};
+
     /// Looks at a subscription that isn't retired, and retires it where it has ended.
     pub fn look(&mut self, next: u64) -> Option<Standing>
         requires here { IsHere (entry_of F.meaning self.old) }
@@ -45,8 +61,7 @@ impl<F: Feed> Entry<F> {
             Some(feed) => {
                 let standing = feed.standing();
                 if standing.ended {
-                    self.retired = true;
-                    self.until = next;
+                    self.retire(next);
                 }
                 Some(standing)
             }
@@ -99,10 +114,7 @@ impl<F: Feed> Entry<F> {
                 match &answer {
                     Put::Accepted { .. } => {}
                     Put::Full(_) => self.dropped += 1,
-                    Put::Gone(_) => {
-                        self.retired = true;
-                        self.until = serial;
-                    }
+                    Put::Gone(_) => self.retire(serial),
                 }
                 Some(answer)
             }
@@ -123,5 +135,79 @@ impl<F: Feed> Entry<F> {
     {
         self.dropped -= 1;
         self.give(item)
+    }
+
+    /// Closes a subscription that isn't retired.
+    pub fn end(&mut self, ending: Ending) -> AtClose<F::Task>
+        requires take { CanTake (entry_of F.meaning self.old) }
+        ensures { Closes F.meaning F.does ending result self.old self.new }
+    {
+        if self.retired {
+            return AtClose::Retired;
+        }
+        match &mut self.feed {
+            Some(feed) => AtClose::Ended(feed.end(ending)),
+            None => unreachable!(),
+        }
+    }
+
+    /// Tells a subscription that isn't retired of a second subscribing.
+    #[must_use]
+    pub fn duplicate(&mut self) -> Option<F::Task>
+        requires live { self.old.retired ≡ false }
+        requires ready { IsReady (entry_of F.meaning self.old) }
+        ensures { Told F.meaning F.does result self.old self.new }
+    {
+        match &mut self.feed {
+            Some(feed) => feed.duplicate(),
+            None => unreachable!(),
+        }
+    }
+
+    /// Looks at a subscription whose producer's end is there. Where that shows its end, it is retired and its ticket taken out.
+    pub fn ended(&mut self, next: u64) -> Option<Ticket>
+        ensures { (glance : Option Standing) × AsksForTicket F.meaning F.does next glance result self.old self.new }
+    {
+        let Some(feed) = &mut self.feed else {
+            return None;
+        };
+        let standing = feed.standing();
+        if !standing.ended {
+            return None;
+        }
+        self.retire(next);
+        self.ticket.take()
+    }
+
+    /// Takes its producer's end out, and with that its ticket, and retires it.
+    pub fn take_feed(&mut self, next: u64) -> Option<F>
+        ensures { TakesOut next result self.old self.new }
+    {
+        let feed = self.feed.take()?;
+        self.retire(next);
+        self.ticket = None;
+        Some(feed)
+    }
+
+    /// Lends the producer's end.
+    pub fn feed_mut(&mut self) -> &mut F
+        requires { IsSome self.old.feed }
+        ensures* writes_back { sem 𝓛 (lends_feed F.row self.entry result) }
+        ensures value { self.old.feed ≡ Some result.now }
+    {
+        match &mut self.feed {
+            Some(feed) => feed,
+            None => unreachable!(),
+        }
+    }
+
+    /// Retires a subscription; one that was retired before stays so since then.
+    fn retire(&mut self, next: u64)
+        ensures { self.new ≡ record self.old { retired = true; until = if self.old.retired then self.old.until else next } }
+    {
+        if !self.retired {
+            self.retired = true;
+            self.until = next;
+        }
     }
 }

@@ -23,7 +23,7 @@ ghost use Rattle.publisher_hub.specs.Hub.{hub_of, hub_at_start};
 ghost use Rattle.publisher_hub.specs.Sound.{IsSound};
 
 use crate::entry::Entry;
-use crate::giving::Giving;
+use crate::rounds::Giving;
 use close_count::Opening;
 use flow_rules::{Ending, Feed, NoMemory, PUBLICATIONS, Refusal, capacity};
 pub use publishing::Unpublished;

@@ -14,7 +14,6 @@
 #![tactic(auto)]
 
 mod entry;
-mod giving;
 mod hub;
 mod laws;
 mod rounds;

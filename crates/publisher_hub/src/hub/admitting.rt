@@ -7,8 +7,8 @@ ghost use Rattle.publisher_hub.specs.Sound.{IsSound};
 ghost use Rattle.publisher_hub.specs.Subscribing.{Admits, CanAdmit, ClosesNew, HasPlace, Refuses, first_entry};
 
 use crate::entry::Entry;
-use crate::giving::push_started;
 use crate::hub::Hub;
+use crate::rounds::push_started;
 use crate::work::Work;
 use close_count::Ticket;
 use flow_rules::{Ending, Feed, Name, Refusal};

@@ -4,7 +4,6 @@ ghost use Rattle.std.specs.Borrow.{sem};
 ghost use Rattle.std.specs.Option.{option_copied, option_copied_mut};
 ghost use Rattle.publisher_hub.specs.Hub.{hub_of};
 
-use crate::entry::Entry;
 use crate::hub::Hub;
 use flow_rules::{Feed, Name};
 
@@ -88,21 +87,5 @@ impl<F: Feed> Hub<F> {
         ensures value { feed_at self.old entry ≡ Some result.now }
     {
         self.entries[entry as usize].feed_mut()
-    }
-}
-
-impl<F: Feed> Entry<F> {
-    ghost use Rattle.publisher_hub.specs.Lending.{lends_feed};
-
-    /// The producer's end.
-    fn feed_mut(&mut self) -> &mut F
-        requires { IsSome self.old.feed }
-        ensures* writes_back { sem 𝓛 (lends_feed F.row self.entry result) }
-        ensures value { self.old.feed ≡ Some result.now }
-    {
-        match &mut self.feed {
-            Some(feed) => feed,
-            None => unreachable!(),
-        }
     }
 }

@@ -5,9 +5,9 @@ ghost use Rattle.publisher_hub.specs.Readiness.{AreReady};
 ghost use Rattle.publisher_hub.specs.Sound.{IsSound};
 ghost use Rattle.publisher_hub.specs.Subscribing.{CanAdmit, HasNoPlace, HasPlace, IsLiveAt, IsSeen, Refuses, TellsAt};
 
-use crate::giving::push_started;
 use crate::hub::Hub;
 use crate::hub::named::find_named;
+use crate::rounds::push_started;
 use crate::work::Work;
 use flow_rules::{Feed, Name, NoMemory, Refusal};
 

@@ -1,9 +1,8 @@
 //! The producer's end of a subscription, taken out for good.
 ghost use Rattle.publisher_hub.specs.Hub.{hub_of};
 ghost use Rattle.publisher_hub.specs.Sound.{IsSound};
-ghost use Rattle.publisher_hub.specs.Taking.{TakesOut, TakesOutAt};
+ghost use Rattle.publisher_hub.specs.Taking.{TakesOutAt};
 
-use crate::entry::Entry;
 use crate::hub::Hub;
 use flow_rules::Feed;
 
@@ -22,17 +21,5 @@ impl<F: Feed> Hub<F> {
             Some(entry) => entry.take_feed(next),
             None => None,
         }
-    }
-}
-
-impl<F: Feed> Entry<F> {
-    /// Takes its producer's end out, and with that its ticket, and retires it.
-    fn take_feed(&mut self, next: u64) -> Option<F>
-        ensures { TakesOut next result self.old self.new }
-    {
-        let feed = self.feed.take()?;
-        self.retire(next);
-        self.ticket = None;
-        Some(feed)
     }
 }

@@ -9,7 +9,7 @@ ghost use Rattle.publisher_hub.specs.Sound.{AreLive};
 ghost use Rattle.publisher_hub.specs.Steps.{CanAllGive, CanGive};
 
 use crate::entry::Entry;
-use crate::giving::Giving;
+use crate::rounds::Giving;
 use crate::work::Work;
 use flow_rules::{Feed, Item};
 

@@ -11,7 +11,7 @@ ghost use Rattle.publisher_hub.specs.Sound.{AreNumbers};
 ghost use Rattle.publisher_hub.specs.Steps.{CanEachTryAgain, CanTryAgain};
 
 use crate::entry::Entry;
-use crate::giving::Giving;
+use crate::rounds::Giving;
 use crate::work::Work;
 use flow_rules::{DropHandler, Feed, Item, Put};
 

@@ -3,7 +3,7 @@ use Rattle.std.proofs.Common.{◌≡◌, ◌++◌, ◌∷◌, [], ◌<◌, Optio
 use Rattle.flow_rules.specs.declared.ending.Ending.{Ending}
 use Rattle.publisher_hub.specs.Offering.{work_of}
 use Rattle.publisher_hub.specs.Subscribing.{ClosesNew, first_entry}
-use Rattle.publisher_hub.proofs.Subscriptions.{rest_seen, seen_ending, seen_next}
+use Rattle.publisher_hub.proofs.Subscribed.Admission.{rest_seen, seen_ending, seen_next}
 use Rattle.publisher_hub.proofs.hub.Hub.admit.Goals as goal
 
 pub returns-clause-ok : goal.returns-clause-ok

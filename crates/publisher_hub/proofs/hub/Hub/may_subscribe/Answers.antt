@@ -4,7 +4,7 @@ use Rattle.std.specs.Prelude.{slice_get}
 use Rattle.publisher_hub.specs.Hub.{hub_of}
 use Rattle.publisher_hub.specs.Subscribing.{IsNamed, IsNotNamed, IsSeen, IsUnnamed, TellsAt}
 use Rattle.publisher_hub.specs.declared.entry.Entry.{Entry}
-use Rattle.publisher_hub.proofs.Subscriptions.{can_admit, found_none, live_at, on_ok, refused_place, seen_with_place, still_place, unnamed_of}
+use Rattle.publisher_hub.proofs.Subscribed.Admission.{can_admit, found_none, live_at, on_ok, refused_place, seen_with_place, still_place, unnamed_of}
 use Rattle.publisher_hub.proofs.hub.Hub.may_subscribe.Goals as goal
 
 pub tell_duplicate-requires-clause-live : goal.tell_duplicate-requires-clause-live

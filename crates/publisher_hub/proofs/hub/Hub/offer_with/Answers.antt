@@ -4,12 +4,12 @@ use Rattle.std.specs.Prelude.{slice_get}
 use Rattle.publisher_hub.specs.Hub.{hub_of}
 use Rattle.publisher_hub.specs.Offering.{missed}
 use Rattle.publisher_hub.specs.Sound.{AreNumbers}
-use Rattle.publisher_hub.specs.declared.giving.Giving.{Giving}
-use Rattle.publisher_hub.proofs.Missed.{missed_numbers}
-use Rattle.publisher_hub.proofs.Publications.{can_all_give}
-use Rattle.publisher_hub.proofs.Published.{below_most, known_of}
-use Rattle.publisher_hub.proofs.SecondOffers.{can_each_try_again}
-use Rattle.publisher_hub.proofs.WholeOffers.{answer_fits, few_missed, offers_item}
+use Rattle.publisher_hub.specs.declared.rounds.gathering.Giving.{Giving}
+use Rattle.publisher_hub.proofs.Publications.FullBuffers.{missed_numbers}
+use Rattle.publisher_hub.proofs.Publications.AllSubscriptions.{can_all_give}
+use Rattle.publisher_hub.proofs.Publications.WholePublication.{below_most, known_of}
+use Rattle.publisher_hub.proofs.Publications.SecondTries.{can_each_try_again}
+use Rattle.publisher_hub.proofs.Publications.WholeOffer.{answer_fits, few_missed, offers_item}
 use Rattle.publisher_hub.proofs.hub.Hub.offer_with.Goals as goal
 
 pub give-requires-clause-can : goal.give-requires-clause-can

@@ -2,9 +2,9 @@
 use Rattle.std.proofs.Common.{◌≡◌, ◌∙◌, Result, Ok, Err, OnErr, OnOk, true, false, is_err, refl, rules, subst, sym, inl}
 use Rattle.publisher_hub.specs.Hub.{hub_of}
 use Rattle.publisher_hub.specs.Publishing.{CanPublish}
-use Rattle.publisher_hub.proofs.Kept.{each_untouched}
-use Rattle.publisher_hub.proofs.PartialRounds.{same_some}
-use Rattle.publisher_hub.proofs.Readying.{on_err}
+use Rattle.publisher_hub.proofs.Subscribed.AfterLooks.{each_untouched}
+use Rattle.publisher_hub.proofs.PartialRounds.Progress.{same_some}
+use Rattle.publisher_hub.proofs.Subscribed.Readiness.{on_err}
 use Rattle.publisher_hub.proofs.hub.Hub.prepare.Goals as goal
 
 -- what is no error says nothing of one, and what is one nothing else

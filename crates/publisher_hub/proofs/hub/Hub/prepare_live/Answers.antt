@@ -2,9 +2,9 @@
 use Rattle.std.proofs.Common.{refl, ◌∙◌}
 use Rattle.std.proofs.lemmas.List.{with_items_is}
 use Rattle.publisher_hub.specs.Hub.{hub_of}
-use Rattle.publisher_hub.proofs.Kept.{round_kept}
-use Rattle.publisher_hub.proofs.Looks.{sound_looked_at}
-use Rattle.publisher_hub.proofs.Readying.{all_here, on_ok_ready}
+use Rattle.publisher_hub.proofs.Subscribed.AfterLooks.{round_kept}
+use Rattle.publisher_hub.proofs.Soundness.Looking.{sound_looked_at}
+use Rattle.publisher_hub.proofs.Subscribed.Readiness.{all_here, on_ok_ready}
 use Rattle.publisher_hub.proofs.hub.Hub.prepare_live.Goals as goal
 
 pub prepare_all-requires-clause-live : goal.prepare_all-requires-clause-live

@@ -3,9 +3,9 @@ use Rattle.std.proofs.Common.{rules, ◌∙◌, ap, refl}
 use Rattle.publisher_hub.specs.Hub.{hub_of}
 use Rattle.publisher_hub.specs.Publishing.{Publishes}
 use Rattle.publisher_hub.specs.Sound.{IsSound}
-use Rattle.publisher_hub.specs.declared.giving.Giving.{Giving}
-use Rattle.publisher_hub.proofs.Publications.{can_all_give}
-use Rattle.publisher_hub.proofs.Published.{below_most, publishes}
+use Rattle.publisher_hub.specs.declared.rounds.gathering.Giving.{Giving}
+use Rattle.publisher_hub.proofs.Publications.AllSubscriptions.{can_all_give}
+use Rattle.publisher_hub.proofs.Publications.WholePublication.{below_most, publishes}
 use Rattle.publisher_hub.proofs.hub.Hub.publish.Goals as goal
 
 pub give-requires-clause-can : goal.give-requires-clause-can

@@ -1,9 +1,9 @@
 -- Where no place for a task is made, nothing was looked at.
 use Rattle.std.proofs.Common.{refl, sym, ◌∙◌, inl}
 use Rattle.publisher_hub.specs.Hub.{hub_of}
-use Rattle.publisher_hub.proofs.PartialRounds.{same_some}
-use Rattle.publisher_hub.proofs.Readying.{not_looked_at, on_err}
-use Rattle.publisher_hub.proofs.Subscriptions.{seen_left}
+use Rattle.publisher_hub.proofs.PartialRounds.Progress.{same_some}
+use Rattle.publisher_hub.proofs.Subscribed.Readiness.{not_looked_at, on_err}
+use Rattle.publisher_hub.proofs.Subscribed.Admission.{seen_left}
 use Rattle.publisher_hub.proofs.hub.Hub.see_all.Goals as goal
 
 pub returns-in_err-reserve_due-clause-err : goal.returns-in_err-reserve_due-clause-err

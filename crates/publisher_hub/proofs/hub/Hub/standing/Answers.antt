@@ -5,9 +5,9 @@ use Rattle.std.specs.Prelude.{slice_get}
 use Rattle.std.specs.Vec.{with_item}
 use Rattle.publisher_hub.specs.Entry.{entry_of}
 use Rattle.publisher_hub.specs.Hub.{hub_of}
-use Rattle.publisher_hub.proofs.LiveRounds.{get_mapped}
-use Rattle.publisher_hub.proofs.LooksAtOne.{looks_nowhere, looks_there, sound_look}
-use Rattle.publisher_hub.proofs.Readying.{all_here}
+use Rattle.publisher_hub.proofs.PartialRounds.Next.{get_mapped}
+use Rattle.publisher_hub.proofs.Soundness.LookingAtOne.{looks_nowhere, looks_there, sound_look}
+use Rattle.publisher_hub.proofs.Subscribed.Readiness.{all_here}
 use Rattle.publisher_hub.proofs.hub.Hub.standing.Goals as goal
 
 pub look-requires : goal.look-requires

@@ -2,7 +2,7 @@
 use Rattle.std.proofs.Common.{◌≡◌, ◌∙◌, true, Option, None, Some, is_none, map, refl}
 use Rattle.std.proofs.lemmas.List.{with_items_is}
 use Rattle.publisher_hub.specs.Offering.{stands}
-use Rattle.publisher_hub.proofs.Missed.{passes_declined}
+use Rattle.publisher_hub.proofs.Publications.FullBuffers.{passes_declined}
 use Rattle.publisher_hub.proofs.hub.Hub.try_again.Goals as goal
 
 -- what is there is not missing

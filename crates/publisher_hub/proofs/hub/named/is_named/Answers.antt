@@ -3,7 +3,7 @@ use Rattle.std.proofs.Common.{◌≡◌, Bool, true, false, ◌<◌, ◌≤◌, 
 use Rattle.std.specs.Cmp.Lexicographic.{other_text, same_text}
 use Rattle.std.proofs.lemmas.Option.{slice_get_read, slice_get_within}
 use Rattle.publisher_hub.specs.declared.entry.Entry.{Entry}
-use Rattle.publisher_hub.proofs.PartialRounds.{same_some}
+use Rattle.publisher_hub.proofs.PartialRounds.Progress.{same_some}
 use Rattle.publisher_hub.proofs.hub.named.is_named.Goals as goal
 
 pub returns-in-Some-clause-yes : goal.returns-in-Some-clause-yes

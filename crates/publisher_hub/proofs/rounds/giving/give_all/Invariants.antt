@@ -1,6 +1,6 @@
 use Rattle.std.proofs.Common.{◌-◌, length}
 use Rattle.publisher_hub.specs.Giving.{HasRoom}
-use Rattle.publisher_hub.proofs.GivingRounds.{IsGiving}
+use Rattle.publisher_hub.proofs.PartialRounds.Giving.{IsGiving}
 use Rattle.publisher_hub.proofs.rounds.giving.give_all.Given as goal
 
 abbrev pub invariant-loop-number : goal.invariant-loop-number

@@ -3,7 +3,7 @@ use Rattle.std.proofs.Common.{◌≡◌, ◌+◌, ◌∙◌, ap, arith, length, 
 use Rattle.flow_rules.specs.declared.item.Item.{Item}
 use Rattle.publisher_hub.specs.Giving.{back_by}
 use Rattle.publisher_hub.specs.Offering.{Gives, missed_by, started_by}
-use Rattle.publisher_hub.proofs.Shares.{shares_back, takes_a_place}
+use Rattle.publisher_hub.proofs.PartialRounds.Shares.{shares_back, takes_a_place}
 use Rattle.publisher_hub.proofs.rounds.giving.give_one.Goals as goal
 
 pub returns-clause-given : goal.returns-clause-given

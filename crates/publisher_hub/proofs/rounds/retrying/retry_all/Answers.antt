@@ -2,8 +2,8 @@
 use Rattle.std.proofs.Common.{rules, ◌≡◌, ◌+◌, ◌-◌, ◌<◌, None, refl, ap, subst, ◌∙◌, length, arith}
 use Rattle.publisher_hub.specs.Entry.{entry_of}
 use Rattle.publisher_hub.specs.Giving.{HasRoomAgain}
-use Rattle.publisher_hub.proofs.LiveRounds.{get_mapped, number_read, stood_at_number, within_now}
-use Rattle.publisher_hub.proofs.RetryRounds.{IsAsked, all_asked, are_asked, retrying_next, retrying_none}
+use Rattle.publisher_hub.proofs.PartialRounds.Next.{get_mapped, number_read, stood_at_number, within_now}
+use Rattle.publisher_hub.proofs.PartialRounds.Retrying.{IsAsked, all_asked, are_asked, retrying_next, retrying_none}
 use Rattle.publisher_hub.proofs.rounds.retrying.retry_all.Goals as goal
 
 pub loop-place-init : goal.loop-place-init

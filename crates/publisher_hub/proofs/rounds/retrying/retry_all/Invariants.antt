@@ -1,6 +1,6 @@
 use Rattle.std.proofs.Common.{◌≡◌, ◌-◌, ◌≤◌, vec_len}
 use Rattle.publisher_hub.specs.Giving.{HasRoomAgain}
-use Rattle.publisher_hub.proofs.RetryRounds.{IsRetrying}
+use Rattle.publisher_hub.proofs.PartialRounds.Retrying.{IsRetrying}
 use Rattle.publisher_hub.proofs.rounds.retrying.retry_all.Given as goal
 
 abbrev pub invariant-loop-place : goal.invariant-loop-place
