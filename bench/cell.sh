@@ -32,7 +32,7 @@ use crossbeam_queue::ArrayQueue;
 use feed_cell::{Cell, Producer, Task, Turn};
 use feed_core::Seen;
 use flow_rules::{
-    Answer, Ending, Fault, Feed, Item, Listener, NoMemory, PUBLICATIONS, Put, Signal, Text, Told,
+    Answer, Ending, Fault, Feed, Item, Listener, MOST_PUBLICATIONS, NoMemory, Put, Signal, Text, Told,
     capacity,
 };
 use std::alloc::Global;
@@ -126,7 +126,7 @@ impl Putting {
     }
 
     fn put(&mut self, item: Item) -> Put<Task<InOrder>> {
-        if self.producer.ready().is_err() || self.tried >= PUBLICATIONS {
+        if self.producer.ready().is_err() || self.tried >= MOST_PUBLICATIONS {
             return Put::Full(item);
         }
         self.tried += 1;

@@ -4,7 +4,7 @@ use Rattle.std.specs.Prelude.{slice_get, slice_set}
 use Rattle.std.proofs.lemmas.Bool.Decides.{nat_tests}
 use Rattle.std.proofs.lemmas.List.{append-nil}
 use Rattle.flow_rules.specs.declared.feed.standing.Standing.{Standing}
-use Rattle.flow_rules.specs.declared.item.TheConstants.{PUBLICATIONS}
+use Rattle.flow_rules.specs.declared.item.TheConstants.{MOST_PUBLICATIONS}
 use Rattle.feed_core.specs.Feed.{DoesCall, end_of}
 use Rattle.feed_core.specs.LaneCalls.{IsCapacity}
 use Rattle.publisher_hub.specs.Hub.{HubState, hub_of}
@@ -51,9 +51,9 @@ set_stands (first ∷ numbers) (suc place) value there at = set_stands numbers p
 -- ---- why nothing is published
 
 -- where the publisher takes items, so does the script
-pub nothing_against : (old : Hub DeskState) (stock : ℕ) (woken : List ℕ) (has_begun : Bool) → old.ending ≡ None → old.next < PUBLICATIONS → publication_refusal (state_of old stock woken has_begun) ≡ None
+pub nothing_against : (old : Hub DeskState) (stock : ℕ) (woken : List ℕ) (has_begun : Bool) → old.ending ≡ None → old.next < MOST_PUBLICATIONS → publication_refusal (state_of old stock woken has_begun) ≡ None
 nothing_against old stock woken has_begun unclosed few =
-    let test : nat_le PUBLICATIONS old.next ≡ false = grind (arith, nat_tests) in
+    let test : nat_le MOST_PUBLICATIONS old.next ≡ false = grind (arith, nat_tests) in
     rw (unclosed, test) refl
 
 -- why the publisher takes none is why the script publishes none
@@ -62,7 +62,7 @@ pub refused_as : (old : Hub DeskState) (stock : ℕ) (woken : List ℕ) (has_beg
 refused_as old stock woken has_begun (Refusal.Closed ending) why = rw why refl
 refused_as old stock woken has_begun Refusal.Exhausted why =
     let last = why.1 in
-    let test : nat_le PUBLICATIONS old.next ≡ true = grind (arith, nat_tests) in
+    let test : nat_le MOST_PUBLICATIONS old.next ≡ true = grind (arith, nat_tests) in
     rw (why.0, test) refl
 refused_as old stock woken has_begun Refusal.BadCapacity why = absurd why
 refused_as old stock woken has_begun Refusal.Duplicate why = absurd why

@@ -5,7 +5,7 @@ use Rattle.flow_rules.specs.Feed.{End}
 use Rattle.flow_rules.specs.declared.ending.Ending.{Ending}
 use Rattle.publisher_hub.specs.Entry.{EntryState, entry_of}
 use Rattle.publisher_hub.specs.declared.hub.Hub.{Hub}
-use Rattle.publisher_hub.specs.declared.hub.TheConstants.{SOURCES}
+use Rattle.publisher_hub.specs.declared.hub.TheConstants.{MOST_SOURCES}
 
 -- how far the publications have come: the capacity of each buffer; the next serial number; how many items each source has published;
 -- how the publisher was closed, if it was; and how many offers found any buffer full
@@ -38,7 +38,7 @@ hub_of meaning hub = record {
 -- a Hub without subscriptions, with this capacity and this next serial number
 abbrev pub hub_at_start : ℕ → ℕ → HubState
 hub_at_start capacity serial = record {
-  progress = record { capacity = capacity; next = serial; counts = replicate SOURCES 0; ending = None; dropping = 0 };
+  progress = record { capacity = capacity; next = serial; counts = replicate MOST_SOURCES 0; ending = None; dropping = 0 };
   sources = 0;
   opening = None;
   entries = [];

@@ -6,7 +6,7 @@ use Rattle.flow_rules.specs.Feed.{End, held_count, is_gone}
 use Rattle.flow_rules.specs.declared.feed.put.Put.{Put}
 use Rattle.flow_rules.specs.declared.feed.put.Put.TheVariants.{Accepted, Full, Gone}
 use Rattle.flow_rules.specs.declared.item.Item.{Item}
-use Rattle.flow_rules.specs.declared.item.TheConstants.{PUBLICATIONS}
+use Rattle.flow_rules.specs.declared.item.TheConstants.{MOST_PUBLICATIONS}
 use Rattle.publisher_hub.specs.Entry.{EntryState}
 use Rattle.publisher_hub.specs.Hub.{HubState, Progress}
 use Rattle.publisher_hub.specs.Lists.{Each, gather}
@@ -59,7 +59,7 @@ pub record IsNextItem (progress : Progress) (x : Item) : Type 0 where
   pub serial : x.serial ≡ progress.next
   pub seq : slice_get progress.counts x.source ≡ Some x.seq
   pub unclosed : progress.ending ≡ None
-  pub few : progress.next < PUBLICATIONS
+  pub few : progress.next < MOST_PUBLICATIONS
 
 -- how far the publications have come after this item, which found so many more buffers full
 abbrev pub progress_after : Item → ℕ → Progress → Progress

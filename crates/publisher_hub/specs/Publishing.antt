@@ -6,7 +6,7 @@ use Rattle.flow_rules.specs.Feed.{End}
 use Rattle.flow_rules.specs.declared.feed.put.Put.{Put}
 use Rattle.flow_rules.specs.declared.feed.standing.Standing.{Standing}
 use Rattle.flow_rules.specs.declared.item.Item.{Item}
-use Rattle.flow_rules.specs.declared.item.TheConstants.{PUBLICATIONS}
+use Rattle.flow_rules.specs.declared.item.TheConstants.{MOST_PUBLICATIONS}
 use Rattle.flow_rules.specs.declared.refusal.Refusal.{Refusal}
 use Rattle.publisher_hub.specs.Giving.{AreShares, GathersAgain, HasRoom}
 use Rattle.publisher_hub.specs.Hub.{Progress, hub_of}
@@ -22,9 +22,9 @@ use Rattle.publisher_hub.specs.declared.work.Work.{Work}
 
 -- why no item is taken any more: the ending, or that as many were published as may be
 abbrev pub IsRefused : Progress → Option Refusal → Type 0
-IsRefused progress None = (progress.ending ≡ None) × (progress.next ≡ PUBLICATIONS → ⊥)
+IsRefused progress None = (progress.ending ≡ None) × (progress.next ≡ MOST_PUBLICATIONS → ⊥)
 IsRefused progress (Some (Refusal.Closed ending)) = progress.ending ≡ Some ending
-IsRefused progress (Some Refusal.Exhausted) = (progress.ending ≡ None) × (progress.next ≡ PUBLICATIONS)
+IsRefused progress (Some Refusal.Exhausted) = (progress.ending ≡ None) × (progress.next ≡ MOST_PUBLICATIONS)
 IsRefused progress (Some _) = ⊥
 
 -- how many offers found a buffer full, after one more where so many drops stand

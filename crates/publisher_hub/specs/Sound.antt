@@ -2,10 +2,10 @@
 use Rattle.std.specs.Prelude.{◌≡◌, ℕ, ◌+◌, ◌<◌, ◌≤◌, true, false, None, Some, IsSome, List, length, slice_get}
 use Rattle.flow_rules.specs.Feed.{End, is_gone}
 use Rattle.flow_rules.specs.declared.item.Item.{Item}
-use Rattle.flow_rules.specs.declared.item.TheConstants.{PUBLICATIONS}
+use Rattle.flow_rules.specs.declared.item.TheConstants.{MOST_PUBLICATIONS}
 use Rattle.publisher_hub.specs.Entry.{EntryState, until_of}
 use Rattle.publisher_hub.specs.Hub.{HubState, Progress}
-use Rattle.publisher_hub.specs.declared.hub.TheConstants.{SOURCES}
+use Rattle.publisher_hub.specs.declared.hub.TheConstants.{MOST_SOURCES}
 pub use Rattle.publisher_hub.specs.declared.hub.subscribing.TheConstants.{MOST_ENTRIES, MOST_LIVE}
 
 -- of two items, one after the other, the serial number rises, and so does the number among the items of one source
@@ -22,7 +22,7 @@ pub record IsPublished (progress : Progress) (entry : EntryState) (x : Item) : T
   pub since : entry.since ≤ x.serial
   pub until : x.serial < until_of progress.next entry
   pub seq : (count : ℕ) → slice_get progress.counts x.source ≡ Some count → x.seq < count
-  pub source : x.source < SOURCES
+  pub source : x.source < MOST_SOURCES
 
 -- what a subscription accepted and dropped is what was published while it took part
 pub record IsCounted (progress : Progress) (entry : EntryState) (e : End) : Type 0 where
@@ -72,8 +72,8 @@ pub record IsSound (hub : HubState) : Type 0 where
   pub live : AreLive hub.live hub.entries
   pub few_live : length hub.live ≤ MOST_LIVE
   pub few_entries : length hub.entries ≤ MOST_ENTRIES
-  pub few_items : hub.progress.next ≤ PUBLICATIONS
+  pub few_items : hub.progress.next ≤ MOST_PUBLICATIONS
   pub few_drops : hub.progress.dropping ≤ hub.progress.next
-  pub sources : hub.sources ≤ SOURCES
-  pub all_sources : length hub.progress.counts ≡ SOURCES
+  pub sources : hub.sources ≤ MOST_SOURCES
+  pub all_sources : length hub.progress.counts ≡ MOST_SOURCES
   pub few_counts : (source count : ℕ) → slice_get hub.progress.counts source ≡ Some count → count ≤ hub.progress.next

@@ -1,7 +1,7 @@
 -- What has to hold of one subscription before a step of a round.
 use Rattle.std.specs.Prelude.{◌≡◌, ℕ, ◌<◌, ◌≤◌, false, Some, IsSome, List, length, slice_get}
 use Rattle.flow_rules.specs.Feed.{End, MayStart}
-use Rattle.flow_rules.specs.declared.item.TheConstants.{PUBLICATIONS}
+use Rattle.flow_rules.specs.declared.item.TheConstants.{MOST_PUBLICATIONS}
 use Rattle.publisher_hub.specs.Entry.{EntryState}
 
 -- where a subscription isn't retired, its producer's end is there
@@ -19,8 +19,8 @@ AreHere entries = (k : ℕ) (entry : EntryState) → slice_get entries k ≡ Som
 -- it may be offered an item, and the numbers that grow have room
 pub record CanGive (entry : EntryState) : Type 0 where
   pub take : CanTake entry
-  pub few : (end : End) → entry.feed ≡ Some end → length end.accepted < PUBLICATIONS
-  pub few_drops : entry.dropped < PUBLICATIONS
+  pub few : (end : End) → entry.feed ≡ Some end → length end.accepted < MOST_PUBLICATIONS
+  pub few_drops : entry.dropped < MOST_PUBLICATIONS
 
 abbrev pub CanAllGive : List EntryState → Type 0
 CanAllGive entries = (k : ℕ) (entry : EntryState) → slice_get entries k ≡ Some entry → CanGive entry
@@ -29,9 +29,9 @@ CanAllGive entries = (k : ℕ) (entry : EntryState) → slice_get entries k ≡ 
 pub record CanTryAgain (entry : EntryState) : Type 0 where
   pub live : entry.retired ≡ false
   pub take : CanTake entry
-  pub few : (end : End) → entry.feed ≡ Some end → length end.accepted < PUBLICATIONS
+  pub few : (end : End) → entry.feed ≡ Some end → length end.accepted < MOST_PUBLICATIONS
   pub dropped : 0 < entry.dropped
-  pub few_drops : entry.dropped ≤ PUBLICATIONS
+  pub few_drops : entry.dropped ≤ MOST_PUBLICATIONS
 
 -- so each of these
 abbrev pub CanEachTryAgain : List ℕ → List EntryState → Type 0

@@ -3,7 +3,7 @@ ghost use Rattle.std.specs.Prelude.{◌≡◌, ◌-◌, ◌<◌, ◌≤◌, leng
 ghost use Rattle.std.specs.Borrow.{sem};
 ghost use Rattle.flow_rules.specs.Feed.{End};
 ghost use Rattle.flow_rules.specs.declared.feed.standing.Standing.{Standing};
-ghost use Rattle.flow_rules.specs.declared.item.TheConstants.{PUBLICATIONS};
+ghost use Rattle.flow_rules.specs.declared.item.TheConstants.{MOST_PUBLICATIONS};
 ghost use Rattle.publisher_hub.specs.Closing.{Closes};
 ghost use Rattle.publisher_hub.specs.Entry.{entry_of};
 ghost use Rattle.publisher_hub.specs.Looking.{FailsToPrepare, Glances, IsReadied, Prepares};
@@ -100,8 +100,8 @@ impl<F: Feed> Entry<F> {
     #[must_use]
     pub fn give(&mut self, item: Item) -> Option<Put<F::Task>>
         requires take { CanTake (entry_of F.meaning self.old) }
-        requires few { (end : End) → (entry_of F.meaning self.old).feed ≡ Some end → length end.accepted < PUBLICATIONS }
-        requires few_drops { self.old.dropped < PUBLICATIONS }
+        requires few { (end : End) → (entry_of F.meaning self.old).feed ≡ Some end → length end.accepted < MOST_PUBLICATIONS }
+        requires few_drops { self.old.dropped < MOST_PUBLICATIONS }
         ensures { Gives F.meaning F.does item result self.old self.new }
     {
         if self.retired {
@@ -126,10 +126,10 @@ impl<F: Feed> Entry<F> {
     #[must_use]
     pub fn give_again(&mut self, item: Item) -> Option<Put<F::Task>>
         requires take { CanTake (entry_of F.meaning self.old) }
-        requires few { (end : End) → (entry_of F.meaning self.old).feed ≡ Some end → length end.accepted < PUBLICATIONS }
+        requires few { (end : End) → (entry_of F.meaning self.old).feed ≡ Some end → length end.accepted < MOST_PUBLICATIONS }
         requires live { self.old.retired ≡ false }
         requires dropped { 0 < self.old.dropped }
-        requires few_drops { self.old.dropped ≤ PUBLICATIONS }
+        requires few_drops { self.old.dropped ≤ MOST_PUBLICATIONS }
         ensures some { IsSome result }
         ensures again { GivesAgain F.meaning F.does item (Some result) self.old self.new }
     {

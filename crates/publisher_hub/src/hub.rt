@@ -25,13 +25,13 @@ ghost use Rattle.publisher_hub.specs.Sound.{IsSound};
 use crate::entry::Entry;
 use crate::rounds::Giving;
 use close_count::Opening;
-use flow_rules::{Ending, Feed, NoMemory, PUBLICATIONS, Refusal, capacity};
+use flow_rules::{Ending, Feed, MOST_PUBLICATIONS, NoMemory, Refusal, capacity};
 pub use publishing::Unpublished;
 use std::alloc::Global;
 pub use subscribing::{MOST_ENTRIES, MOST_LIVE};
 
 /// How many sources a Hub has at most (submitters, where threads publish).
-pub const SOURCES: usize = 256;
+pub const MOST_SOURCES: usize = 256;
 
 /// The subscriptions of one publisher, and the numbers of its publications (`SubmissionPublisher`, Java SE 17).
 ///
@@ -41,7 +41,7 @@ pub const SOURCES: usize = 256;
 pub struct Hub<F> {
     /// The capacity of each buffer.
     pub(crate) capacity: usize,
-    /// The next serial number, at most [`PUBLICATIONS`](flow_rules::PUBLICATIONS).
+    /// The next serial number, at most [`MOST_PUBLICATIONS`](flow_rules::MOST_PUBLICATIONS).
     pub(crate) next: u64,
     /// How many items of each source were published.
     pub(crate) counts: Vec<u64>,
@@ -76,7 +76,7 @@ impl<F: Feed> Hub<F> {
 
     /// The same, with its next serial number.
     pub fn starting_at(alloc: Global, asked: usize, serial: u64) -> Result<Hub<F>, Refusal>
-        requires { serial ≤ PUBLICATIONS }
+        requires { serial ≤ MOST_PUBLICATIONS }
         ensures ok { IfOk result (λ hub. hub_of F.meaning hub ≡ hub_at_start (capacity_of asked) serial) }
         ensures sound { IfOk result (λ hub. IsSound (hub_of F.meaning hub)) }
         ensures zero { asked ≡ 0 → result ≡ Err Refusal.BadCapacity }
@@ -108,7 +108,7 @@ impl<F: Feed> Hub<F> {
     pub fn next_serial(&self) -> u64
         requires { IsSound (hub_of F.meaning self.now) }
         ensures value { result ≡ (hub_of F.meaning self.now).progress.next }
-        ensures bounded { result ≤ PUBLICATIONS }
+        ensures bounded { result ≤ MOST_PUBLICATIONS }
     {
         self.next
     }
@@ -123,7 +123,7 @@ impl<F: Feed> Hub<F> {
 
 /// Of no source an item was published.
 fn no_counts(alloc: Global) -> Result<Vec<u64>, NoMemory>
-    ensures { IfOk result (λ counts. counts.items ≡ replicate SOURCES 0) }
+    ensures { IfOk result (λ counts. counts.items ≡ replicate MOST_SOURCES 0) }
 {
-    Ok(Vec::from_slice(alloc, &[0; SOURCES])?)
+    Ok(Vec::from_slice(alloc, &[0; MOST_SOURCES])?)
 }

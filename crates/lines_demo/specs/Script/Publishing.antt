@@ -2,7 +2,7 @@
 use Rattle.std.specs.Prelude.{ℕ, zero, suc, ◌+◌, ◌==◌, max, ℤ, pos, negsuc, Bool, true, false, ◌&&◌, not, if◌then◌else◌, nat_le, nat_lt, Option, Some, None, List, length, map, fold, count_by}
 use Rattle.std.specs.List.{list_any}
 use Rattle.feed_core.specs.LaneCalls.{accepts, lane_with_item}
-use Rattle.lines_demo.specs.Prelude.{PUBLICATIONS, Item, Ending, Refusal, LONGEST_TEXT, desk_after_put, is_gone, lag_of}
+use Rattle.lines_demo.specs.Prelude.{MOST_PUBLICATIONS, Item, Ending, Refusal, LONGEST_TEXT, desk_after_put, is_gone, lag_of}
 use Rattle.lines_demo.specs.Script.State.{SubscriptionState, SessionState, CommandResult, refused_result, result_unless_no_memory}
 use Rattle.lines_demo.specs.Script.Waking.{with_subscriptions}
 use Rattle.lines_demo.specs.declared.script.reply.Reply.{Reply}
@@ -55,7 +55,7 @@ abbrev pub publication_refusal : SessionState → Option Refusal
 publication_refusal state = by state.closing where
   by : Option Ending → Option Refusal
   by (Some ending) = Some (Refusal.Closed ending)
-  by None = if nat_le PUBLICATIONS state.serial then Some Refusal.Exhausted else None
+  by None = if nat_le MOST_PUBLICATIONS state.serial then Some Refusal.Exhausted else None
 
 -- a refusal, or that the call would wait
 abbrev pub refusal_or_wait : Option Refusal → Bool → Option Refusal

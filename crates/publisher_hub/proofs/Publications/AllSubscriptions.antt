@@ -10,7 +10,7 @@ use Rattle.flow_rules.specs.declared.feed.put.Put.{Put}
 use Rattle.flow_rules.specs.declared.feed.put.Put.TheVariants.{Accepted, Full, Gone}
 use Rattle.flow_rules.specs.declared.feed.standing.Standing.{Standing}
 use Rattle.flow_rules.specs.declared.item.Item.{Item}
-use Rattle.flow_rules.specs.declared.item.TheConstants.{PUBLICATIONS}
+use Rattle.flow_rules.specs.declared.item.TheConstants.{MOST_PUBLICATIONS}
 use Rattle.flow_rules.specs.declared.refusal.NoMemory.{NoMemory}
 use Rattle.publisher_hub.specs.Entry.{EntryState, entry_of}
 use Rattle.publisher_hub.specs.Hub.{HubState}
@@ -39,7 +39,7 @@ below standing capacity k goes_on room = by (nat_lt standing.held capacity) refl
 
 module _ {F T : Type 0} (meaning : F → End) (does : F → Call T → F → Type 0) where
   -- once all were prepared, each may be offered an item
-  pub can_all_give : (hub : HubState) (next : ℕ) (glances : List (Option Standing)) (xs ys : List (Entry F)) → IsSound hub → hub.entries ≡ map (entry_of meaning) ys → hub.progress.next < PUBLICATIONS
+  pub can_all_give : (hub : HubState) (next : ℕ) (glances : List (Option Standing)) (xs ys : List (Entry F)) → IsSound hub → hub.entries ≡ map (entry_of meaning) ys → hub.progress.next < MOST_PUBLICATIONS
       → EachBy (Prepares meaning does next) glances xs ys → CanAllGive (map (entry_of meaning) ys)
   can_all_give hub next glances xs ys sound entries few prepared k entry at =
       let is = sound.entries k entry (subst (λ all. slice_get all k ≡ Some entry) (sym entries) at) in

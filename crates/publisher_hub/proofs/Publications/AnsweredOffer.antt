@@ -9,7 +9,7 @@ use Rattle.flow_rules.specs.declared.feed.put.Put.{Put}
 use Rattle.flow_rules.specs.declared.feed.put.Put.TheVariants.{Accepted, Full, Gone}
 use Rattle.flow_rules.specs.declared.feed.standing.Standing.{Standing}
 use Rattle.flow_rules.specs.declared.item.Item.{Item}
-use Rattle.flow_rules.specs.declared.item.TheConstants.{PUBLICATIONS}
+use Rattle.flow_rules.specs.declared.item.TheConstants.{MOST_PUBLICATIONS}
 use Rattle.publisher_hub.specs.Entry.{EntryState, entry_of}
 use Rattle.publisher_hub.specs.Lists.{Each, EachBy}
 use Rattle.publisher_hub.specs.Looking.{Prepares}
@@ -47,8 +47,8 @@ module _ {F T : Type 0} (meaning : F → End) (does : F → Call T → F → Typ
   few_dropped seconds = gather_few dropped_by seconds 0 one_drop
 
   -- a lag is at most the number of publications
-  lag_small : (x : Item) (answer : Put T) (place : ℕ) (old new : Entry F) → ((e : End) → (entry_of meaning old).feed ≡ Some e → length e.accepted < PUBLICATIONS) → Offered meaning does x answer old new
-      → ((e : End) → (entry_of meaning old).feed ≡ Some e → e.closing ≡ None) → fold max 0 (lag_by place (Some answer)) ≤ PUBLICATIONS
+  lag_small : (x : Item) (answer : Put T) (place : ℕ) (old new : Entry F) → ((e : End) → (entry_of meaning old).feed ≡ Some e → length e.accepted < MOST_PUBLICATIONS) → Offered meaning does x answer old new
+      → ((e : End) → (entry_of meaning old).feed ≡ Some e → e.closing ≡ None) → fold max 0 (lag_by place (Some answer)) ≤ MOST_PUBLICATIONS
   lag_small x (Full back) place old new few offered unclosed = omega arith
   lag_small x (Gone back) place old new few offered unclosed = omega arith
   lag_small x (Accepted lag start) place old new few offered unclosed =
@@ -149,19 +149,19 @@ module _ {F T : Type 0} (meaning : F → End) (does : F → Call T → F → Typ
     pub lags_small : CanAllGive (map (entry_of meaning) ready) → CanEachTryAgain (missed puts) (map (entry_of meaning) middle)
         → ((k : ℕ) (entry : Entry F) → slice_get ready k ≡ Some entry → (e : End) → (entry_of meaning entry).feed ≡ Some e → e.closing ≡ None)
         → ((k : ℕ) (entry : Entry F) → slice_get middle k ≡ Some entry → (e : End) → (entry_of meaning entry).feed ≡ Some e → e.closing ≡ None)
-        → (fold max 0 (lags puts) ≤ PUBLICATIONS) × (fold max 0 (lags_again seconds) ≤ PUBLICATIONS)
+        → (fold max 0 (lags puts) ≤ MOST_PUBLICATIONS) × (fold max 0 (lags_again seconds) ≤ MOST_PUBLICATIONS)
     lags_small can can_again unclosed unclosed_again = (
-      greatest_below lag_by puts 0 PUBLICATIONS (λ k put said. first k put said (there ready k (let within = slice_get_within puts k put said in let answered = given.answered in omega arith))
+      greatest_below lag_by puts 0 MOST_PUBLICATIONS (λ k put said. first k put said (there ready k (let within = slice_get_within puts k put said in let answered = given.answered in omega arith))
           (there middle k (let within = slice_get_within puts k put said in let answered = given.answered in let long = given.as_long in omega arith))),
-      greatest_below lag_again_by seconds 0 PUBLICATIONS (λ k second said. later k second said (there middle k (let within = slice_get_within seconds k second said in let answered = again.answered in omega arith))
+      greatest_below lag_again_by seconds 0 MOST_PUBLICATIONS (λ k second said. later k second said (there middle k (let within = slice_get_within seconds k second said in let answered = again.answered in omega arith))
           (there ys k (let within = slice_get_within seconds k second said in let answered = again.answered in let long = again.as_long in omega arith))),
     ) where
-      first : (k : ℕ) (put : Option (Put T)) → slice_get puts k ≡ Some put → (a : Entry F) × (slice_get ready k ≡ Some a) → (b : Entry F) × (slice_get middle k ≡ Some b) → fold max 0 (lag_by (0 + k) put) ≤ PUBLICATIONS
+      first : (k : ℕ) (put : Option (Put T)) → slice_get puts k ≡ Some put → (a : Entry F) × (slice_get ready k ≡ Some a) → (b : Entry F) × (slice_get middle k ≡ Some b) → fold max 0 (lag_by (0 + k) put) ≤ MOST_PUBLICATIONS
       first k None said old new = omega arith
       first k (Some answer) said old new =
           lag_small x answer (0 + k) old.0 new.0 (can k (entry_of meaning old.0) (get_mapped (entry_of meaning) ready k old.0 old.1)).few (given.each k (Some answer) old.0 new.0 said old.1 new.1) (unclosed k old.0 old.1)
 
-      later : (k : ℕ) (second : Second T) → slice_get seconds k ≡ Some second → (a : Entry F) × (slice_get middle k ≡ Some a) → (b : Entry F) × (slice_get ys k ≡ Some b) → fold max 0 (lag_again_by (0 + k) second) ≤ PUBLICATIONS
+      later : (k : ℕ) (second : Second T) → slice_get seconds k ≡ Some second → (a : Entry F) × (slice_get middle k ≡ Some a) → (b : Entry F) × (slice_get ys k ≡ Some b) → fold max 0 (lag_again_by (0 + k) second) ≤ MOST_PUBLICATIONS
       later k None said old new = omega arith
       later k (Some None) said old new = omega arith
       later k (Some (Some answer)) said old new =

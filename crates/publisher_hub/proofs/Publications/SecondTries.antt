@@ -7,7 +7,7 @@ use Rattle.flow_rules.specs.declared.feed.put.Put.{Put}
 use Rattle.flow_rules.specs.declared.feed.put.Put.TheVariants.{Accepted, Full, Gone}
 use Rattle.flow_rules.specs.declared.feed.standing.Standing.{Standing}
 use Rattle.flow_rules.specs.declared.item.Item.{Item}
-use Rattle.flow_rules.specs.declared.item.TheConstants.{PUBLICATIONS}
+use Rattle.flow_rules.specs.declared.item.TheConstants.{MOST_PUBLICATIONS}
 use Rattle.publisher_hub.specs.Entry.{EntryState, entry_of}
 use Rattle.publisher_hub.specs.Lists.{EachBy}
 use Rattle.publisher_hub.specs.Looking.{Prepares}
@@ -34,13 +34,13 @@ module _ {F T : Type 0} (meaning : F → End) (does : F → Call T → F → Typ
       let take = can.take offered.live in
       let may : MayStart (meaning offered.before) = subst (λ (end : End). MayStart end) (same_some (sym take.1.0 ∙ was)) take.1.1 in
       let now : (entry_of meaning new).feed ≡ Some (meaning offered.after) = ap (λ (entry : Entry F). option_map meaning entry.feed) offered.now in
-      let few : length (meaning offered.before).accepted < PUBLICATIONS = can.few (meaning offered.before) was in
+      let few : length (meaning offered.before).accepted < MOST_PUBLICATIONS = can.few (meaning offered.before) was in
       let more : new.dropped ≡ ready.dropped + 1 = ap (λ (entry : Entry F). entry.dropped) offered.now in
       let few_drops = can.few_drops in
       record {
         live = ap (λ (entry : Entry F). entry.retired) offered.now ∙ offered.live;
         take = λ _. (meaning offered.after, (now, ap (λ b. b || is_some (meaning offered.after).closing) is_ready ∙ ap (λ closing. (meaning offered.before).ready || is_some closing) is_closing ∙ may));
-        few = λ end at. subst (λ (e : End). length e.accepted < PUBLICATIONS) (same_some (sym now ∙ at)) (subst (λ items. length items < PUBLICATIONS) (sym accepted) few);
+        few = λ end at. subst (λ (e : End). length e.accepted < MOST_PUBLICATIONS) (same_some (sym now ∙ at)) (subst (λ items. length items < MOST_PUBLICATIONS) (sym accepted) few);
         dropped = omega arith;
         few_drops = omega arith;
       }

@@ -10,7 +10,7 @@ use Rattle.flow_rules.specs.declared.feed.put.Put.{Put}
 use Rattle.flow_rules.specs.declared.feed.put.Put.TheVariants.{Accepted, Full, Gone}
 use Rattle.flow_rules.specs.declared.feed.standing.Standing.{Standing}
 use Rattle.flow_rules.specs.declared.item.Item.{Item}
-use Rattle.flow_rules.specs.declared.item.TheConstants.{PUBLICATIONS}
+use Rattle.flow_rules.specs.declared.item.TheConstants.{MOST_PUBLICATIONS}
 use Rattle.publisher_hub.specs.Entry.{EntryState, entry_of}
 use Rattle.publisher_hub.specs.Giving.{Gathers}
 use Rattle.publisher_hub.specs.Hub.{HubState, Progress, hub_of}
@@ -22,7 +22,7 @@ use Rattle.publisher_hub.specs.Sound.{IsSound, MOST_ENTRIES}
 use Rattle.publisher_hub.specs.declared.entry.Entry.{Entry}
 use Rattle.publisher_hub.specs.declared.rounds.gathering.Giving.{Giving}
 use Rattle.publisher_hub.specs.declared.hub.Hub.{Hub}
-use Rattle.publisher_hub.specs.declared.hub.TheConstants.{SOURCES}
+use Rattle.publisher_hub.specs.declared.hub.TheConstants.{MOST_SOURCES}
 use Rattle.publisher_hub.specs.declared.work.Work.{Work}
 use Rattle.publisher_hub.proofs.PartialRounds.Next.{get_before_map, get_mapped}
 use Rattle.publisher_hub.proofs.AnswerLists.Gathering.{greatest_from}
@@ -38,7 +38,7 @@ use Rattle.publisher_hub.proofs.Publications.WholePublication.{below_most, count
 module _ {F T : Type 0} (meaning : F → End) (does : F → Call T → F → Type 0) where
   pub offers_item : (old seen given tried counted new : Hub F) (x : Item) (source : ℕ) (text : List ℕ) (declines : Bool) (due_old due_seen due_given due_new : Vec (Work T) Global)
       (glances : List (Option Standing)) (puts : List (Option (Put T))) (seconds : List (Second T))
-      → IsSound (hub_of meaning old) → source < SOURCES → x.source ≡ source → x.text ≡ text → x.serial ≡ old.next → slice_get old.counts.items source ≡ Some x.seq
+      → IsSound (hub_of meaning old) → source < MOST_SOURCES → x.source ≡ source → x.text ≡ text → x.serial ≡ old.next → slice_get old.counts.items source ≡ Some x.seq
       → IsLookedAt (hub_of meaning old) (hub_of meaning seen) → EachBy (Prepares meaning does old.next) glances old.entries.items seen.entries.items
       → due_seen.items ≡ due_old.items → IsRefused (hub_of meaning seen).progress None
       → EachBy (Gives meaning does x) puts seen.entries.items given.entries.items → Gathers x puts given.giving due_seen due_given
@@ -92,7 +92,7 @@ module _ {F T : Type 0} (meaning : F → End) (does : F → Call T → F → Typ
       let drops_new : new.giving.drops ≡ length (dropped seconds) = drops_same ∙ ap (λ (h : Hub F). h.giving.drops) counted_is ∙ drops in
       let lag_new : new.giving.lag ≡ greatest (lags puts ++ lags_again seconds) =
       lag_same ∙ ap (λ (h : Hub F). h.giving.lag) counted_is ∙ passes.gathers.lag ∙ ap (λ n. fold max n (lags_again seconds)) gathers.lag ∙ sym (fold-append max 0 (lags puts) (lags_again seconds)) in (
-        sound_offered (hub_of meaning old) (hub_of meaning new) x (subst (λ s. s < SOURCES) (sym from) within) sound offers,
+        sound_offered (hub_of meaning old) (hub_of meaning new) x (subst (λ s. s < MOST_SOURCES) (sym from) within) sound offers,
         record {
           item = x;
           from = from;
@@ -116,7 +116,7 @@ module _ {F T : Type 0} (meaning : F → End) (does : F → Call T → F → Typ
 
   -- as many miss an item as there are subscriptions, at most
   pub few_missed : (giving : Giving) (puts : List (Option (Put T))) (entries : List (Entry F)) → giving.missed.items ≡ missed puts → length puts ≡ length entries → length (map (entry_of meaning) entries) ≤ MOST_ENTRIES
-      → vec_len giving.missed < PUBLICATIONS
+      → vec_len giving.missed < MOST_PUBLICATIONS
   few_missed giving puts entries are long few =
       let many : vec_len giving.missed ≡ length giving.missed.items = search rules in
       let same : length giving.missed.items ≡ length (missed puts) = ap length are in
@@ -150,7 +150,7 @@ module _ {F T : Type 0} (meaning : F → End) (does : F → Call T → F → Typ
       → EachBy (Gives meaning does x) puts seen.entries.items given.entries.items → Gathers x puts given.giving due_seen due_given
       → PassesAgain meaning does x declines puts seconds given.entries.items tried.entries.items given.giving tried.giving due_given due_new
       → counted ≡ record tried { dropping = dropping_after tried.giving.drops tried.dropping } → new.giving.lag ≡ counted.giving.lag → new.giving.drops ≡ counted.giving.drops
-      → (new.giving.lag ≤ PUBLICATIONS) × (new.giving.drops ≤ PUBLICATIONS)
+      → (new.giving.lag ≤ MOST_PUBLICATIONS) × (new.giving.drops ≤ MOST_PUBLICATIONS)
   answer_fits seen given tried counted new x declines due_seen due_given due_new next xs glances puts seconds sound prepared open_still gave gathers passes counted_is lag_same drops_same =
       let can = can_all_give meaning does (hub_of meaning seen) next glances xs seen.entries.items sound refl (below_most seen.next sound.few_items open_still.1) prepared in
       let known = known_of meaning does (hub_of meaning seen) seen.entries.items sound refl open_still.0 in
@@ -167,4 +167,4 @@ module _ {F T : Type 0} (meaning : F → End) (does : F → Call T → F → Typ
       let long = gave.as_long in
       let few = sound.few_entries in
       let mapped : length (map (entry_of meaning) seen.entries.items) ≡ length seen.entries.items = length-map seen.entries.items (entry_of meaning) in
-      (subst (λ n. n ≤ PUBLICATIONS) (sym lag_new) (greatest_from (fold max 0 (lags puts)) PUBLICATIONS (lags_again seconds) small.0 small.1), omega arith)
+      (subst (λ n. n ≤ MOST_PUBLICATIONS) (sym lag_new) (greatest_from (fold max 0 (lags puts)) MOST_PUBLICATIONS (lags_again seconds) small.0 small.1), omega arith)

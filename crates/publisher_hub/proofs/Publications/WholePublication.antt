@@ -8,7 +8,7 @@ use Rattle.flow_rules.specs.Feed.{End}
 use Rattle.flow_rules.specs.declared.feed.put.Put.{Put}
 use Rattle.flow_rules.specs.declared.feed.standing.Standing.{Standing}
 use Rattle.flow_rules.specs.declared.item.Item.{Item}
-use Rattle.flow_rules.specs.declared.item.TheConstants.{PUBLICATIONS}
+use Rattle.flow_rules.specs.declared.item.TheConstants.{MOST_PUBLICATIONS}
 use Rattle.publisher_hub.specs.Entry.{EntryState, entry_of}
 use Rattle.publisher_hub.specs.Giving.{Gathers}
 use Rattle.publisher_hub.specs.Hub.{HubState, Progress, hub_of}
@@ -19,7 +19,7 @@ use Rattle.publisher_hub.specs.Publishing.{IsRefused, Publishes}
 use Rattle.publisher_hub.specs.Sound.{IsSound}
 use Rattle.publisher_hub.specs.declared.entry.Entry.{Entry}
 use Rattle.publisher_hub.specs.declared.hub.Hub.{Hub}
-use Rattle.publisher_hub.specs.declared.hub.TheConstants.{SOURCES}
+use Rattle.publisher_hub.specs.declared.hub.TheConstants.{MOST_SOURCES}
 use Rattle.publisher_hub.specs.declared.work.Work.{Work}
 use Rattle.publisher_hub.proofs.PartialRounds.Next.{get_before_map, get_mapped}
 use Rattle.publisher_hub.proofs.Soundness.Publishing.{sound_offered}
@@ -38,9 +38,9 @@ counted_after x dropping a b d e looked given counted =
     ∙ ap (λ all. record a { progress = progress_after x e.progress.dropping a.progress; entries = all }) (sym entries_are)
 
 -- a number that is at most the most, and is not the most, is below it
-pub below_most : (n : ℕ) → n ≤ PUBLICATIONS → (n ≡ PUBLICATIONS → ⊥) → n < PUBLICATIONS
-below_most n few other = by (cases_lt n PUBLICATIONS) where
-  by : (n < PUBLICATIONS) ⊎ (PUBLICATIONS ≤ n) → n < PUBLICATIONS
+pub below_most : (n : ℕ) → n ≤ MOST_PUBLICATIONS → (n ≡ MOST_PUBLICATIONS → ⊥) → n < MOST_PUBLICATIONS
+below_most n few other = by (cases_lt n MOST_PUBLICATIONS) where
+  by : (n < MOST_PUBLICATIONS) ⊎ (MOST_PUBLICATIONS ≤ n) → n < MOST_PUBLICATIONS
   by (inl below) = below
   by (inr above) = absurd (other (omega arith))
 
@@ -78,7 +78,7 @@ module _ {F T : Type 0} (meaning : F → End) (does : F → Call T → F → Typ
 
   -- from what each step of a publication says, what the whole did
   pub publishes : (old seen given new : Hub F) (x : Item) (source : ℕ) (text : List ℕ) (due_old due_seen due_new : Vec (Work T) Global) (glances : List (Option Standing)) (puts : List (Option (Put T)))
-      → IsSound (hub_of meaning old) → source < SOURCES → x.source ≡ source → x.text ≡ text → x.serial ≡ old.next → slice_get old.counts.items source ≡ Some x.seq
+      → IsSound (hub_of meaning old) → source < MOST_SOURCES → x.source ≡ source → x.text ≡ text → x.serial ≡ old.next → slice_get old.counts.items source ≡ Some x.seq
       → IsLookedAt (hub_of meaning old) (hub_of meaning seen) → EachBy (Prepares meaning does old.next) glances old.entries.items seen.entries.items → full old.capacity glances ≡ []
       → due_seen.items ≡ due_old.items → IsRefused (hub_of meaning seen).progress None
       → EachBy (Gives meaning does x) puts seen.entries.items given.entries.items → Gathers x puts given.giving due_seen due_new
@@ -102,7 +102,7 @@ module _ {F T : Type 0} (meaning : F → End) (does : F → Call T → F → Typ
       let dropping_new : new.dropping ≡ given.dropping = ap (λ (s : HubState). s.progress.dropping) rest_new in
       let given_new : EachBy (Gives meaning does x) puts seen.entries.items new.entries.items = subst (λ (v : Vec (Entry F) Global). EachBy (Gives meaning does x) puts seen.entries.items v.items) (sym entries_same) gave in
       let both = published_to_all old new seen.entries.items x glances puts sound next prepared given_new room rest (dropping_new ∙ same_dropping) in (
-        sound_offered (hub_of meaning old) (hub_of meaning new) x (subst (λ s. s < SOURCES) (sym from) within) sound both.1,
+        sound_offered (hub_of meaning old) (hub_of meaning new) x (subst (λ s. s < MOST_SOURCES) (sym from) within) sound both.1,
         record {
           item = x;
           from = from;

@@ -11,7 +11,7 @@ use Rattle.publisher_hub.specs.Hub.{HubState, Progress}
 use Rattle.publisher_hub.specs.Lists.{Each}
 use Rattle.publisher_hub.specs.Looking.{Follows}
 use Rattle.publisher_hub.specs.Offering.{HasGrown, IsNextItem, IsReached, ReachesAll, progress_after}
-use Rattle.publisher_hub.specs.declared.hub.TheConstants.{SOURCES}
+use Rattle.publisher_hub.specs.declared.hub.TheConstants.{MOST_SOURCES}
 use Rattle.publisher_hub.specs.Sound.{AreAgreed, AreLive, IsAccepted, IsBefore, IsCounted, IsEntry, IsOrdered, IsPublished, IsSound, MOST_ENTRIES}
 use Rattle.publisher_hub.proofs.AnswerLists.Updates.{get_grown, get_set, get_set_there}
 use Rattle.publisher_hub.proofs.Soundness.Looking.{same_end, until_next}
@@ -78,7 +78,7 @@ module _ (p : Progress) (x : Item) (dropping : ℕ) (next : IsNextItem p x) wher
     by (inr new_y) (inr new_z) = let there = new_y.0 in let there' = new_z.0 in absurd (omega arith)
 
   -- a subscription that accepted the item is counted with it
-  counted_grown : x.source < SOURCES → (old new : EntryState) (e : End) → (g : HasGrown x old new)
+  counted_grown : x.source < MOST_SOURCES → (old new : EntryState) (e : End) → (g : HasGrown x old new)
       → IsCounted p old g.before → IsCounted q (record old { feed = Some g.after }) g.after
   counted_grown source old new e g is =
       let live = until_next p.next old g.live in
@@ -128,7 +128,7 @@ module _ (p : Progress) (x : Item) (dropping : ℕ) (next : IsNextItem p x) wher
       }
 
   -- a subscription of a sound Hub stays one where an item is offered to it
-  entry_offered : x.source < SOURCES → (old new : EntryState) → IsReached x old new → new.dropped ≤ dropping → IsEntry p old → IsEntry q new
+  entry_offered : x.source < MOST_SOURCES → (old new : EntryState) → IsReached x old new → new.dropped ≤ dropping → IsEntry p old → IsEntry q new
   entry_offered source old new (inl stays) few is = subst (λ (entry : EntryState). IsEntry q entry) (sym stays.same) (record {
     here = is.here;
     counted = λ e was. counted_retired old e stays.retired (is.counted e was);
@@ -246,7 +246,7 @@ live_offered old ys x dropping next each are = record {
 }
 
 -- a sound Hub stays sound where an item is published
-pub sound_offered : (old new : HubState) (x : Item) → x.source < SOURCES → IsSound old → ReachesAll x old new → IsSound new
+pub sound_offered : (old new : HubState) (x : Item) → x.source < MOST_SOURCES → IsSound old → ReachesAll x old new → IsSound new
 sound_offered old new x source sound offers =
     let p = old.progress in
     let dropping = new.progress.dropping in

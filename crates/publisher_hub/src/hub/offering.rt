@@ -1,7 +1,7 @@
 //! Offering an item to all live subscriptions, and dropping it where there is no room.
 ghost use Rattle.std.specs.Prelude.{◌≡◌, ◌<◌, ◌≤◌, ℕ, [], List, Option, IfOk, IfErr, OnErr, is_none, length, map, vec_len};
 ghost use Rattle.flow_rules.specs.declared.feed.put.Put.{Put};
-ghost use Rattle.flow_rules.specs.declared.item.TheConstants.{PUBLICATIONS};
+ghost use Rattle.flow_rules.specs.declared.item.TheConstants.{MOST_PUBLICATIONS};
 ghost use Rattle.publisher_hub.specs.Entry.{entry_of};
 ghost use Rattle.publisher_hub.specs.Giving.{AreShares, HasRoomAgain};
 ghost use Rattle.publisher_hub.specs.Hub.{hub_of};
@@ -9,7 +9,7 @@ ghost use Rattle.publisher_hub.specs.Offering.{Second, missed};
 ghost use Rattle.publisher_hub.specs.Publishing.{OffersItem, PassesAgain, RefusesOffer, dropping_after, offer_answer};
 ghost use Rattle.publisher_hub.specs.Sound.{AreNumbers, IsSound};
 ghost use Rattle.publisher_hub.specs.Steps.{CanEachTryAgain};
-ghost use Rattle.publisher_hub.specs.declared.hub.TheConstants.{SOURCES};
+ghost use Rattle.publisher_hub.specs.declared.hub.TheConstants.{MOST_SOURCES};
 
 use super::Hub;
 use crate::rounds::retry_all;
@@ -22,7 +22,7 @@ impl<F: Feed> Hub<F> {
     /// First every buffer is tried; then, for each that was full, in order of subscription, the handler is asked, and where it answers
     /// true the item is offered once more. The answer is the greatest lag, in items, or, where it was dropped, minus the number of
     /// drops. Refused 5 where a growth is refused, 2 where the Hub is closed, and 13 once
-    /// [`PUBLICATIONS`](flow_rules::PUBLICATIONS) were made; then no list and no count has changed.
+    /// [`MOST_PUBLICATIONS`](flow_rules::MOST_PUBLICATIONS) were made; then no list and no count has changed.
     pub fn offer(
         &mut self,
         source: u32,
@@ -31,7 +31,7 @@ impl<F: Feed> Hub<F> {
         due: &mut Vec<Work<F::Task>>,
     ) -> Result<i64, Refusal>
         requires sound { IsSound (hub_of F.meaning self.old) }
-        requires source { source < SOURCES }
+        requires source { source < MOST_SOURCES }
         ensures sound { IsSound (hub_of F.meaning self.new) }
         ensures ok { IfOk result (λ answer. OffersItem F.meaning F.does source text (is_none handler.entry) self.old self.new due.old.items due.new.items answer) }
         ensures err { IfErr result (λ refusal. RefusesOffer F.meaning F.does self.old self.new refusal) }
@@ -50,7 +50,7 @@ impl<F: Feed> Hub<F> {
         due: &mut Vec<Work<F::Task>>,
     ) -> Result<i64, Refusal>
         requires sound { IsSound (hub_of F.meaning self.old) }
-        requires source { source < SOURCES }
+        requires source { source < MOST_SOURCES }
         ensures sound { IsSound (hub_of F.meaning self.new) }
         ensures ok { IfOk result (λ answer. OffersItem F.meaning F.does source text (is_none handler.entry) self.old self.new due.old.items due.new.items answer) }
         ensures err { IfErr result (λ refusal. RefusesOffer F.meaning F.does self.old self.new refusal) }
@@ -82,7 +82,7 @@ impl<F: Feed> Hub<F> {
         requires can { CanEachTryAgain self.old.giving.missed.items (map (entry_of F.meaning) self.old.entries.items) }
         requires shares { AreShares item.now self.old.giving.shares.items }
         requires room { HasRoomAgain (vec_len self.old.giving.missed) self.old.giving due.old }
-        requires few { vec_len self.old.giving.missed < PUBLICATIONS }
+        requires few { vec_len self.old.giving.missed < MOST_PUBLICATIONS }
         ensures passes { (puts : List (Option (Put F.Task))) → self.old.giving.missed.items ≡ missed puts → length puts ≡ length self.old.entries.items
             → (seconds : List (Second F.Task)) × PassesAgain F.meaning F.does item.now (is_none handler.entry) puts seconds self.old.entries.items self.new.entries.items self.old.giving self.new.giving due.old due.new }
         ensures rest { hub_of F.meaning self.new ≡ record (hub_of F.meaning self.old) { entries = (hub_of F.meaning self.new).entries } }
@@ -101,7 +101,7 @@ impl<F: Feed> Hub<F> {
 
     /// Counts an offer that found a buffer full, if drops stand.
     fn count_drops(&mut self)
-        requires few { self.old.dropping < PUBLICATIONS }
+        requires few { self.old.dropping < MOST_PUBLICATIONS }
         ensures { self.new ≡ record self.old { dropping = dropping_after self.old.giving.drops self.old.dropping } }
     {
         if self.giving.drops > 0 {
@@ -111,8 +111,8 @@ impl<F: Feed> Hub<F> {
 
     /// The answer to an offer.
     fn answer(&self) -> i64
-        requires lag { self.now.giving.lag ≤ PUBLICATIONS }
-        requires drops { self.now.giving.drops ≤ PUBLICATIONS }
+        requires lag { self.now.giving.lag ≤ MOST_PUBLICATIONS }
+        requires drops { self.now.giving.drops ≤ MOST_PUBLICATIONS }
         ensures { result ≡ offer_answer self.now.giving.drops self.now.giving.lag }
     {
         if self.giving.drops > 0 {

@@ -2,7 +2,7 @@
 ghost use Rattle.std.specs.Prelude.{◌≡◌, ◌+◌, ◌<◌, ◌≤◌, ◌++◌, [], List, Option, Some, None, IfOk, IfErr, OnOk, OnErr, IfSome, IfNone, IsNone, Result, false, map, length, slice_get};
 ghost use Rattle.flow_rules.specs.declared.feed.put.Put.{Put};
 ghost use Rattle.flow_rules.specs.declared.feed.standing.Standing.{Standing};
-ghost use Rattle.flow_rules.specs.declared.item.TheConstants.{PUBLICATIONS};
+ghost use Rattle.flow_rules.specs.declared.item.TheConstants.{MOST_PUBLICATIONS};
 ghost use Rattle.publisher_hub.specs.Entry.{entry_of};
 ghost use Rattle.publisher_hub.specs.Giving.{AreShares, Gathers, HasRoom};
 ghost use Rattle.publisher_hub.specs.Hub.{hub_of};
@@ -14,10 +14,10 @@ ghost use Rattle.publisher_hub.specs.Sound.{IsSound};
 ghost use Rattle.publisher_hub.specs.Steps.{CanAllGive};
 ghost use Rattle.publisher_hub.specs.declared.hub.publishing.Unpublished.TheVariants.{NoRoom};
 
-use super::{Hub, SOURCES};
+use super::{Hub, MOST_SOURCES};
 use crate::rounds::give_all;
 use crate::work::Work;
-use flow_rules::{Feed, Item, NoMemory, PUBLICATIONS, Refusal, Text};
+use flow_rules::{Feed, Item, MOST_PUBLICATIONS, NoMemory, Refusal, Text};
 use std::error::Error;
 use std::fmt;
 
@@ -45,7 +45,7 @@ impl<F: Feed> Hub<F> {
     /// Gives a text to all live subscriptions at once, if all have room (`SubmissionPublisher.submit`, without waiting).
     ///
     /// The answer is the greatest lag, in items, or 0 where there are no subscriptions. Refused 5 where a growth is refused, 2 where the Hub
-    /// is closed, and 13 once [`PUBLICATIONS`](flow_rules::PUBLICATIONS) were made; else `NoRoom` where a buffer is full. Then no list and
+    /// is closed, and 13 once [`MOST_PUBLICATIONS`](flow_rules::MOST_PUBLICATIONS) were made; else `NoRoom` where a buffer is full. Then no list and
     /// no count has changed.
     pub fn publish(
         &mut self,
@@ -54,7 +54,7 @@ impl<F: Feed> Hub<F> {
         due: &mut Vec<Work<F::Task>>,
     ) -> Result<u64, Unpublished>
         requires sound { IsSound (hub_of F.meaning self.old) }
-        requires source { source < SOURCES }
+        requires source { source < MOST_SOURCES }
         ensures sound { IsSound (hub_of F.meaning self.new) }
         ensures ok { IfOk result (λ lag. Publishes F.meaning F.does source text self.old self.new due.old.items due.new.items lag) }
         ensures err { IfErr result (λ why. RefusesItem F.meaning F.does text self.old self.new why) }
@@ -93,7 +93,7 @@ impl<F: Feed> Hub<F> {
     /// The next item of a source.
     pub(super) fn next_item(&self, source: u32, text: Text) -> Item
         requires sound { IsSound (hub_of F.meaning self.now) }
-        requires source { source < SOURCES }
+        requires source { source < MOST_SOURCES }
         ensures source { result.source ≡ source }
         ensures text { result.text ≡ text }
         ensures serial { result.serial ≡ (hub_of F.meaning self.now).progress.next }
@@ -139,7 +139,7 @@ impl<F: Feed> Hub<F> {
         if let Some(ending) = self.ending {
             return Some(Refusal::Closed(ending));
         }
-        if self.next == PUBLICATIONS {
+        if self.next == MOST_PUBLICATIONS {
             return Some(Refusal::Exhausted);
         }
         None
@@ -165,10 +165,10 @@ impl<F: Feed> Hub<F> {
 
     /// Counts an item as published.
     pub(super) fn count(&mut self, item: &Item)
-        requires sound { length (hub_of F.meaning self.old).progress.counts ≡ SOURCES }
+        requires sound { length (hub_of F.meaning self.old).progress.counts ≡ MOST_SOURCES }
         requires next { IsNextItem (hub_of F.meaning self.old).progress item.now }
-        requires source { item.now.source < SOURCES }
-        requires few { item.now.seq < PUBLICATIONS }
+        requires source { item.now.source < MOST_SOURCES }
+        requires few { item.now.seq < MOST_PUBLICATIONS }
         ensures rest { hub_of F.meaning self.new ≡ record (hub_of F.meaning self.old) { progress = progress_after item.now (hub_of F.meaning self.old).progress.dropping (hub_of F.meaning self.old).progress } }
         ensures entries { self.new.entries ≡ self.old.entries }
         ensures giving { self.new.giving ≡ self.old.giving }

@@ -2,7 +2,7 @@
 ghost use Rattle.std.specs.Prelude.{◌≡◌, ◌+◌, ◌≤◌, ◌++◌, ◌<◌, List, [], length, max, fold, OnErr, OnOk, Option, Some, vec_len};
 ghost use Rattle.std.specs.Vec.{vec_capacity};
 ghost use Rattle.flow_rules.specs.declared.item.Item.{Item};
-ghost use Rattle.flow_rules.specs.declared.item.TheConstants.{PUBLICATIONS};
+ghost use Rattle.flow_rules.specs.declared.item.TheConstants.{MOST_PUBLICATIONS};
 ghost use Rattle.publisher_hub.specs.Giving.{AreShares, back_by};
 ghost use Rattle.publisher_hub.specs.Offering.{dropped_by, lag_by, missed_by, started_by, work_of};
 
@@ -139,7 +139,7 @@ impl Giving {
         due: &mut Vec<Work<T>>,
     )
         requires due { vec_len due.old < vec_capacity due.old }
-        requires drops { self.old.drops < PUBLICATIONS }
+        requires drops { self.old.drops < MOST_PUBLICATIONS }
         ensures due { due.new.items ≡ due.old.items ++ started_by number answer }
         ensures lag { self.new.lag ≡ fold max self.old.lag (lag_by number answer) }
         ensures drops { self.new.drops ≡ self.old.drops + length (dropped_by number (Some answer)) }

@@ -2,7 +2,7 @@
 ghost use Rattle.std.specs.Prelude.{◌≡◌, ◌+◌, ◌<◌, ◌≤◌, ℕ, List, Option, Some, [], length, map, vec_len, IsSome, slice_get};
 ghost use Rattle.std.specs.Vec.{vec_capacity};
 ghost use Rattle.flow_rules.specs.declared.feed.put.Put.{Put};
-ghost use Rattle.flow_rules.specs.declared.item.TheConstants.{PUBLICATIONS};
+ghost use Rattle.flow_rules.specs.declared.item.TheConstants.{MOST_PUBLICATIONS};
 ghost use Rattle.publisher_hub.specs.Entry.{entry_of};
 ghost use Rattle.publisher_hub.specs.Giving.{AddsAgain, AreShares, GathersAgain, HasRoomAgain};
 ghost use Rattle.publisher_hub.specs.Lists.{EachBy};
@@ -28,7 +28,7 @@ pub(crate) fn retry_all<F: Feed, H: DropHandler>(
     requires shares { AreShares item.now giving.old.shares.items }
     requires room { HasRoomAgain (vec_len giving.old.missed) giving.old due.old }
     requires drops { giving.old.drops ≡ 0 }
-    requires few { vec_len giving.old.missed < PUBLICATIONS }
+    requires few { vec_len giving.old.missed < MOST_PUBLICATIONS }
     ensures given { (seconds : List (Second F.Task)) × (EachBy (GivesAgain F.meaning F.does item.now) seconds entries.old entries.new × (AreAsked giving.old.missed.items seconds × GathersAgain item.now seconds giving.old giving.new due.old due.new)) }
 {
     for place in 0..giving.missed.len() {
@@ -57,7 +57,7 @@ fn retry_one<F: Feed, H: DropHandler>(
     requires can { CanTryAgain (entry_of F.meaning entry.old) }
     requires shares { AreShares item.now giving.old.shares.items }
     requires room { (many : ℕ) × HasRoomAgain (many + 1) giving.old due.old }
-    requires drops { giving.old.drops < PUBLICATIONS }
+    requires drops { giving.old.drops < MOST_PUBLICATIONS }
     ensures given { (answer : Option (Put F.Task)) × (GivesAgain F.meaning F.does item.now (Some answer) entry.old entry.new × AddsAgain item.now number (Some answer) giving.old giving.new due.old due.new) }
     ensures room { (many : ℕ) → HasRoomAgain (many + 1) giving.old due.old → HasRoomAgain many giving.new due.new }
     ensures drops { giving.new.drops ≤ giving.old.drops + 1 }
