@@ -35,7 +35,11 @@ progress_closed ending progress = record progress { ending = Some ending }
 -- a Hub without an ending was closed: each live subscription was, and the opening ticket is taken out
 pub record IsClosed (ending : Ending) (old new : HubState) : Type 0 where
   pub unclosed : old.progress.ending ≡ None
-  pub rest : new ≡ record old { progress = progress_closed ending old.progress; opening = None; entries = new.entries }
+  pub rest : new ≡ record old {
+    progress = progress_closed ending old.progress;
+    opening = None;
+    entries = new.entries;
+  }
   pub entries : Each (IsClosedBy ending) old.entries new.entries
 
 -- the same after looks
@@ -70,14 +74,16 @@ module _ {F T : Type 0} (meaning : F → End) (does : F → Call T → F → Typ
   Closes ending (AtClose.Ended start) old new = Closed ending start old new
 
   -- each live subscription was closed once, and the tasks that this started are due, in order of subscription
-  pub record ClosesLive (ending : Ending) (xs ys : List (Entry F)) (due_before due_after : List (Work T)) : Type 0 where
+  pub record ClosesLive (ending : Ending) (xs ys : List (Entry F))
+      (due_before due_after : List (Work T)) : Type 0 where
     pub answers : List (AtClose T)
     pub each : EachBy (Closes ending) answers xs ys
     pub due : due_after ≡ due_before ++ started_by_ends answers
 
   -- the first close of a Hub: all live subscriptions were looked at and made ready, which left the middle list; then each that goes on was
   -- closed; the ending is set and the opening ticket taken out, and nothing else changed
-  pub record ClosesAll (ending : Ending) (due_before due_after : List (Work T)) (old new : Hub F) : Type 0 where
+  pub record ClosesAll (ending : Ending) (due_before due_after : List (Work T)) (old new : Hub F)
+      : Type 0 where
     pub middle : List (Entry F)
     pub glances : List (Option Standing)
     pub prepared : EachBy (Prepares meaning does old.next) glances old.entries.items middle

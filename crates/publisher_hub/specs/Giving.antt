@@ -20,32 +20,37 @@ back_by (Some (Full back)) = back ∷ []
 back_by _ = []
 
 -- so many more places are there: for the tasks that start, now and in a second try, for the numbers of full buffers, and shares
-pub record HasRoom {T : Type 0} (many : ℕ) (giving : Giving) (due : Vec (Work T) Global) : Type 0 where
+pub record HasRoom {T : Type 0} (many : ℕ) (giving : Giving) (due : Vec (Work T) Global)
+    : Type 0 where
   pub due_places : vec_len due + (vec_len giving.missed + many) ≤ vec_capacity due
   pub missed_places : vec_len giving.missed + many ≤ vec_capacity giving.missed
   pub shares : vec_len giving.shares ≡ vec_len giving.missed + many
 
 -- what one answer adds to what a round gathers
-pub record Adds {T : Type 0} (item : Item) (number : ℕ) (answer : Option (Put T)) (old new : Giving) (due_old due_new : Vec (Work T) Global) : Type 0 where
+pub record Adds {T : Type 0} (item : Item) (number : ℕ) (answer : Option (Put T)) (old new : Giving)
+    (due_old due_new : Vec (Work T) Global) : Type 0 where
   pub due : due_new.items ≡ due_old.items ++ started_by number answer
   pub missed : new.missed.items ≡ old.missed.items ++ missed_by number answer
   pub lag : new.lag ≡ fold max old.lag (lag_by number answer)
   pub shares : AreShares item new.shares.items
 
 -- what a round has gathered that gave these answers
-pub record Gathers {T : Type 0} (item : Item) (puts : List (Option (Put T))) (new : Giving) (due_old due_new : Vec (Work T) Global) : Type 0 where
+pub record Gathers {T : Type 0} (item : Item) (puts : List (Option (Put T))) (new : Giving)
+    (due_old due_new : Vec (Work T) Global) : Type 0 where
   pub due : due_new.items ≡ due_old.items ++ started puts
   pub missed : new.missed.items ≡ missed puts
   pub lag : new.lag ≡ greatest (lags puts)
   pub shares : AreShares item new.shares.items
 
 -- so many second offers have room: for the tasks that start, and shares
-pub record HasRoomAgain {T : Type 0} (many : ℕ) (giving : Giving) (due : Vec (Work T) Global) : Type 0 where
+pub record HasRoomAgain {T : Type 0} (many : ℕ) (giving : Giving) (due : Vec (Work T) Global)
+    : Type 0 where
   pub due_places : vec_len due + many ≤ vec_capacity due
   pub enough_shares : many ≤ vec_len giving.shares
 
 -- what one second offer, or none, adds to what a round gathers
-pub record AddsAgain {T : Type 0} (item : Item) (number : ℕ) (second : Second T) (old new : Giving) (due_old due_new : Vec (Work T) Global) : Type 0 where
+pub record AddsAgain {T : Type 0} (item : Item) (number : ℕ) (second : Second T) (old new : Giving)
+    (due_old due_new : Vec (Work T) Global) : Type 0 where
   pub due : due_new.items ≡ due_old.items ++ started_again_by number second
   pub lag : new.lag ≡ fold max old.lag (lag_again_by number second)
   pub drops : new.drops ≡ old.drops + length (dropped_by number second)
@@ -53,7 +58,8 @@ pub record AddsAgain {T : Type 0} (item : Item) (number : ℕ) (second : Second 
   pub shares : AreShares item new.shares.items
 
 -- what the second pass has gathered
-pub record GathersAgain {T : Type 0} (item : Item) (seconds : List (Second T)) (old new : Giving) (due_old due_new : Vec (Work T) Global) : Type 0 where
+pub record GathersAgain {T : Type 0} (item : Item) (seconds : List (Second T)) (old new : Giving)
+    (due_old due_new : Vec (Work T) Global) : Type 0 where
   pub due : due_new.items ≡ due_old.items ++ started_again seconds
   pub lag : new.lag ≡ fold max old.lag (lags_again seconds)
   pub drops : new.drops ≡ length (dropped seconds)

@@ -5,7 +5,7 @@ use Rattle.flow_rules.specs.Feed.{End, Looked, held_count, is_gone}
 use Rattle.flow_rules.specs.declared.feed.standing.Standing.{Standing}
 use Rattle.flow_rules.specs.declared.refusal.NoMemory.{NoMemory}
 use Rattle.publisher_hub.specs.Entry.{EntryState}
-use Rattle.publisher_hub.specs.Hub.{HubState, hub_of}
+use Rattle.publisher_hub.specs.Hub.{HubState, OnlyEntriesChange, hub_of}
 use Rattle.publisher_hub.specs.Lists.{Each, EachBy, gather}
 use Rattle.publisher_hub.specs.declared.entry.Entry.{Entry}
 use Rattle.publisher_hub.specs.declared.hub.Hub.{Hub}
@@ -47,13 +47,14 @@ IsKept next old new = StaysRetired old new ⊎ (StaysLive old new ⊎ IsRetiredA
 
 -- nothing of a Hub changed but by looks
 pub record IsLookedAt (old new : HubState) : Type 0 where
-  pub rest : new ≡ record old { entries = new.entries }
+  pub rest : OnlyEntriesChange old new
   pub entries : Each (IsKept old.progress.next) old.entries new.entries
 
 -- the number of a subscription that goes on, where a look showed that its buffer is full
 abbrev pub full_by : ℕ → ℕ → Option Standing → List ℕ
 full_by capacity number None = []
-full_by capacity number (Some standing) = if standing.ended || nat_lt standing.held capacity then [] else number ∷ []
+full_by capacity number (Some standing) =
+    if standing.ended || nat_lt standing.held capacity then [] else number ∷ []
 
 -- the numbers of the subscriptions that looks showed to be full, in order
 abbrev pub full : ℕ → List (Option Standing) → List ℕ
@@ -86,7 +87,8 @@ module _ {F T : Type 0} (meaning : F → End) (does : F → Call T → F → Typ
     pub live : old.retired ≡ false
     pub was : old.feed ≡ Some before
     pub stands : Stands standing before after
-    pub ended : standing.ended ≡ true → new ≡ record old { feed = Some after; retired = true; until = next }
+    pub ended : standing.ended ≡ true
+        → new ≡ record old { feed = Some after; retired = true; until = next }
     pub stays : standing.ended ≡ false → new ≡ record old { feed = Some after }
 
   -- what a look showed of a subscription: nothing where that was retired before
@@ -107,7 +109,8 @@ module _ {F T : Type 0} (meaning : F → End) (does : F → Call T → F → Typ
     pub middle : Entry F
     pub sees : Sees next standing old middle
     pub ended : standing.ended ≡ true → new ≡ middle
-    pub stays : standing.ended ≡ false → (answer : Result Unit NoMemory) × (IsOk answer × IsReadied answer middle new)
+    pub stays : standing.ended ≡ false
+        → (answer : Result Unit NoMemory) × (IsOk answer × IsReadied answer middle new)
 
   -- the same of any subscription
   abbrev pub Prepares : ℕ → Option Standing → Entry F → Entry F → Type 0
@@ -126,7 +129,23 @@ module _ {F T : Type 0} (meaning : F → End) (does : F → Call T → F → Typ
 
   -- a subscription was looked at or not, and made ready or not
   abbrev pub MayPrepare : ℕ → Entry F → Entry F → Type 0
-  MayPrepare next old new = (new ≡ old) ⊎ (((glance : Option Standing) × Prepares next glance old new) ⊎ FailsToPrepare next old new)
+  MayPrepare next old new = (new ≡ old)
+      ⊎ (((glance : Option Standing) × Prepares next glance old new) ⊎ FailsToPrepare next old new)
+
+  -- each live subscription of a Hub was looked at, and made ready if it goes on, with these standings
+  abbrev pub PreparesAll : List (Option Standing) → Hub F → Hub F → Type 0
+  PreparesAll glances old new =
+      EachBy (Prepares old.next) glances old.entries.items new.entries.items
+
+  -- so they were, and this tells whether none that goes on was full
+  abbrev pub FindsRoom : Hub F → Hub F → Bool → Type 0
+  FindsRoom old new room =
+      (glances : List (Option Standing))
+      × (PreparesAll glances old new × IsRoom room old.capacity glances)
+
+  -- some of them were, before memory was refused
+  abbrev pub PreparesInPart : Hub F → Hub F → Type 0
+  PreparesInPart old new = Each (MayPrepare old.next) old.entries.items new.entries.items
 
 -- the number of a subscription that goes on, by a look
 abbrev pub living_by : ℕ → Option Standing → List ℕ
@@ -148,5 +167,5 @@ waiting glances = gather waiting_by 0 glances
 module _ {F T : Type 0} (meaning : F → End) (does : F → Call T → F → Type 0) where
   -- all live subscriptions of a Hub were looked at, those that had ended were retired, and nothing else changed
   pub record LooksAtAll (glances : List (Option Standing)) (old new : Hub F) : Type 0 where
-    pub rest : hub_of meaning new ≡ record (hub_of meaning old) { entries = (hub_of meaning new).entries }
+    pub rest : OnlyEntriesChange (hub_of meaning old) (hub_of meaning new)
     pub entries : EachBy (Glances meaning does old.next) glances old.entries.items new.entries.items

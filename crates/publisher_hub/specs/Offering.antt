@@ -52,7 +52,8 @@ pub record HasDropped (x : Item) (old new : EntryState) : Type 0 where
 
 -- what becomes of a subscription where an item is published to all that have room for it
 abbrev pub IsReached : Item → EntryState → EntryState → Type 0
-IsReached x old new = StaysRetired old new ⊎ (HasGrown x old new ⊎ (HasEnded x old new ⊎ HasDropped x old new))
+IsReached x old new =
+    StaysRetired old new ⊎ (HasGrown x old new ⊎ (HasEnded x old new ⊎ HasDropped x old new))
 
 -- the item that a source publishes next
 pub record IsNextItem (progress : Progress) (x : Item) : Type 0 where
@@ -72,10 +73,15 @@ progress_after x dropping progress = record progress {
 -- an item was published to all subscriptions, and dropped where there was no room
 pub record ReachesAll (x : Item) (old new : HubState) : Type 0 where
   pub next : IsNextItem old.progress x
-  pub rest : new ≡ record old { progress = progress_after x new.progress.dropping old.progress; entries = new.entries }
+  pub rest : new ≡ record old {
+    progress = progress_after x new.progress.dropping old.progress;
+    entries = new.entries;
+  }
   pub entries : Each (IsReached x) old.entries new.entries
-  pub drops : (old.progress.dropping ≤ new.progress.dropping) × (new.progress.dropping ≤ old.progress.dropping + 1)
-  pub dropped : (k : ℕ) (entry : EntryState) → slice_get new.entries k ≡ Some entry → entry.dropped ≤ new.progress.dropping
+  pub drops : (old.progress.dropping ≤ new.progress.dropping)
+      × (new.progress.dropping ≤ old.progress.dropping + 1)
+  pub dropped : (k : ℕ) (entry : EntryState) → slice_get new.entries k ≡ Some entry
+      → entry.dropped ≤ new.progress.dropping
 
 -- a started task, with the number of its subscription
 abbrev pub work_of : {T : Type 0} → ℕ → Option T → List (Work T)
@@ -142,15 +148,19 @@ stands put = None
 
 -- the second pass did something at these numbers, and nowhere else
 pub record AreAsked {T : Type 0} (numbers : List ℕ) (seconds : List (Second T)) : Type 0 where
-  pub asked : (i k : ℕ) (second : Second T) → slice_get numbers i ≡ Some k → slice_get seconds k ≡ Some second → IsSome second
-  pub others : (k : ℕ) (second : Second T) → slice_get seconds k ≡ Some second → IsSome second → (i : ℕ) × (slice_get numbers i ≡ Some k)
+  pub asked : (i k : ℕ) (second : Second T) → slice_get numbers i ≡ Some k
+      → slice_get seconds k ≡ Some second → IsSome second
+  pub others : (k : ℕ) (second : Second T) → slice_get seconds k ≡ Some second → IsSome second
+      → (i : ℕ) × (slice_get numbers i ≡ Some k)
 
 -- a subscription after an item was offered to its end, by what that answered: a full buffer is counted as a drop, and one that takes
 -- no more items is retired before the item
 abbrev pub entry_after_put : {F T : Type 0} → Item → Put T → F → Entry F → Entry F
 entry_after_put x (Accepted lag start) after old = record old { feed = Some after }
-entry_after_put x (Full back) after old = record old { feed = Some after; dropped = old.dropped + 1 }
-entry_after_put x (Gone back) after old = record old { feed = Some after; retired = true; until = x.serial }
+entry_after_put x (Full back) after old =
+    record old { feed = Some after; dropped = old.dropped + 1 }
+entry_after_put x (Gone back) after old =
+    record old { feed = Some after; retired = true; until = x.serial }
 
 module _ {F T : Type 0} (meaning : F → End) (does : F → Call T → F → Type 0) where
   -- a live subscription was offered an item, and its end answered so
@@ -170,5 +180,6 @@ module _ {F T : Type 0} (meaning : F → End) (does : F → Call T → F → Typ
 
   -- what the second pass did to a subscription: a second try takes the drop back first
   abbrev pub GivesAgain : Item → Second T → Entry F → Entry F → Type 0
-  GivesAgain x (Some (Some answer)) old new = Offered x answer (record old { dropped = old.dropped - 1 }) new
+  GivesAgain x (Some (Some answer)) old new =
+      Offered x answer (record old { dropped = old.dropped - 1 }) new
   GivesAgain x _ old new = new ≡ old

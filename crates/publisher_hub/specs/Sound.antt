@@ -15,7 +15,8 @@ pub record IsBefore (x y : Item) : Type 0 where
 
 -- the items of a list rise
 abbrev pub IsOrdered : List Item → Type 0
-IsOrdered items = (i j : ℕ) (x y : Item) → slice_get items i ≡ Some x → slice_get items j ≡ Some y → i < j → IsBefore x y
+IsOrdered items = (i j : ℕ) (x y : Item)
+    → slice_get items i ≡ Some x → slice_get items j ≡ Some y → i < j → IsBefore x y
 
 -- an item that a subscription accepted: it was published since the subscribing, while that took part
 pub record IsPublished (progress : Progress) (entry : EntryState) (x : Item) : Type 0 where
@@ -53,21 +54,25 @@ pub record IsAccepted (entries : List EntryState) (x : Item) : Type 0 where
 
 -- items with one serial number are one item, whoever accepted them
 abbrev pub AreAgreed : List EntryState → Type 0
-AreAgreed entries = (x y : Item) → IsAccepted entries x → IsAccepted entries y → x.serial ≡ y.serial → x ≡ y
+AreAgreed entries = (x y : Item)
+    → IsAccepted entries x → IsAccepted entries y → x.serial ≡ y.serial → x ≡ y
 
 -- numbers of so many subscriptions, rising
 pub record AreNumbers (numbers : List ℕ) (many : ℕ) : Type 0 where
-  pub rising : (i j n m : ℕ) → slice_get numbers i ≡ Some n → slice_get numbers j ≡ Some m → i < j → n < m
+  pub rising : (i j n m : ℕ)
+      → slice_get numbers i ≡ Some n → slice_get numbers j ≡ Some m → i < j → n < m
   pub within : (i n : ℕ) → slice_get numbers i ≡ Some n → n < many
 
 -- the numbers of all subscriptions that aren't retired, and perhaps of others
 pub record AreLive (live : List ℕ) (entries : List EntryState) : Type 0 where
   pub numbers : AreNumbers live (length entries)
-  pub covers : (k : ℕ) (entry : EntryState) → slice_get entries k ≡ Some entry → entry.retired ≡ false → (i : ℕ) × (slice_get live i ≡ Some k)
+  pub covers : (k : ℕ) (entry : EntryState) → slice_get entries k ≡ Some entry
+      → entry.retired ≡ false → (i : ℕ) × (slice_get live i ≡ Some k)
 
 -- a Hub is sound
 pub record IsSound (hub : HubState) : Type 0 where
-  pub entries : (k : ℕ) (entry : EntryState) → slice_get hub.entries k ≡ Some entry → IsEntry hub.progress entry
+  pub entries : (k : ℕ) (entry : EntryState) → slice_get hub.entries k ≡ Some entry
+      → IsEntry hub.progress entry
   pub agreed : AreAgreed hub.entries
   pub live : AreLive hub.live hub.entries
   pub few_live : length hub.live ≤ MOST_LIVE
@@ -76,4 +81,5 @@ pub record IsSound (hub : HubState) : Type 0 where
   pub few_drops : hub.progress.dropping ≤ hub.progress.next
   pub sources : hub.sources ≤ MOST_SOURCES
   pub all_sources : length hub.progress.counts ≡ MOST_SOURCES
-  pub few_counts : (source count : ℕ) → slice_get hub.progress.counts source ≡ Some count → count ≤ hub.progress.next
+  pub few_counts : (source count : ℕ) → slice_get hub.progress.counts source ≡ Some count
+      → count ≤ hub.progress.next

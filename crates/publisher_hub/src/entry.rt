@@ -1,7 +1,6 @@
 //! One subscription of a Hub, with each step that a call or a pass makes of it.
-ghost use Rattle.std.specs.Prelude.{◌≡◌, ◌-◌, ◌<◌, ◌≤◌, length, if◌then◌else◌, IfOk, IsSome, OnErr, Option, Some, false, true};
+ghost use Rattle.std.specs.Prelude.{◌≡◌, ◌-◌, ◌<◌, ◌≤◌, if◌then◌else◌, IfOk, IsSome, OnErr, Option, Some, false, true};
 ghost use Rattle.std.specs.Borrow.{sem};
-ghost use Rattle.flow_rules.specs.Feed.{End};
 ghost use Rattle.flow_rules.specs.declared.feed.standing.Standing.{Standing};
 ghost use Rattle.flow_rules.specs.declared.item.TheConstants.{MOST_PUBLICATIONS};
 ghost use Rattle.publisher_hub.specs.Closing.{Closes};
@@ -9,7 +8,7 @@ ghost use Rattle.publisher_hub.specs.Entry.{entry_of};
 ghost use Rattle.publisher_hub.specs.Looking.{FailsToPrepare, Glances, IsReadied, Prepares};
 ghost use Rattle.publisher_hub.specs.Offering.{Gives, GivesAgain};
 ghost use Rattle.publisher_hub.specs.Readiness.{IsReady};
-ghost use Rattle.publisher_hub.specs.Steps.{CanTake, IsHere};
+ghost use Rattle.publisher_hub.specs.Steps.{CanTake, HasAcceptedFew, IsHere};
 ghost use Rattle.publisher_hub.specs.Subscribing.{Told};
 ghost use Rattle.publisher_hub.specs.Taking.{TakesOut};
 ghost use Rattle.publisher_hub.specs.Tickets.{AsksForTicket};
@@ -26,7 +25,8 @@ pub(crate) struct Entry<F> {
     pub since: u64,
     /// The next serial number when it was retired.
     pub until: u64,
-    /// How many publications found its buffer full.
+    /// How many publications were dropped because its buffer was full. A second try takes its drop back first, and counts it again if
+    /// the buffer is full still.
     pub dropped: u64,
     /// Whether it takes part in no publication any more.
     pub retired: bool,
@@ -72,8 +72,9 @@ impl<F: Feed> Entry<F> {
     /// Looks at a subscription that isn't retired, retires it where it has ended, and else makes it ready for one task.
     pub fn prepare(&mut self, next: u64) -> Result<Option<Standing>, NoMemory>
         requires here { IsHere (entry_of F.meaning self.old) }
-        ensures ok { IfOk result (λ glance. Prepares F.meaning F.does next glance self.old self.new) }
-        ensures err { OnErr result (FailsToPrepare F.meaning F.does next self.old self.new) }
+        ensures ok { IfOk result (λ glance.
+            Prepares F.meaning F.does next glance self.old self.new) }
+        ensures refused { OnErr result (FailsToPrepare F.meaning F.does next self.old self.new) }
     {
         let Some(standing) = self.look(next) else {
             return Ok(None);
@@ -100,7 +101,7 @@ impl<F: Feed> Entry<F> {
     #[must_use]
     pub fn give(&mut self, item: Item) -> Option<Put<F::Task>>
         requires take { CanTake (entry_of F.meaning self.old) }
-        requires few { (end : End) → (entry_of F.meaning self.old).feed ≡ Some end → length end.accepted < MOST_PUBLICATIONS }
+        requires few { HasAcceptedFew (entry_of F.meaning self.old) }
         requires few_drops { self.old.dropped < MOST_PUBLICATIONS }
         ensures { Gives F.meaning F.does item result self.old self.new }
     {
@@ -126,7 +127,7 @@ impl<F: Feed> Entry<F> {
     #[must_use]
     pub fn give_again(&mut self, item: Item) -> Option<Put<F::Task>>
         requires take { CanTake (entry_of F.meaning self.old) }
-        requires few { (end : End) → (entry_of F.meaning self.old).feed ≡ Some end → length end.accepted < MOST_PUBLICATIONS }
+        requires few { HasAcceptedFew (entry_of F.meaning self.old) }
         requires live { self.old.retired ≡ false }
         requires dropped { 0 < self.old.dropped }
         requires few_drops { self.old.dropped ≤ MOST_PUBLICATIONS }
@@ -166,7 +167,8 @@ impl<F: Feed> Entry<F> {
 
     /// Looks at a subscription whose producer's end is there. Where that shows its end, it is retired and its ticket taken out.
     pub fn ended(&mut self, next: u64) -> Option<Ticket>
-        ensures { (glance : Option Standing) × AsksForTicket F.meaning F.does next glance result self.old self.new }
+        ensures { (glance : Option Standing)
+            × AsksForTicket F.meaning F.does next glance result self.old self.new }
     {
         let Some(feed) = &mut self.feed else {
             return None;
@@ -203,7 +205,10 @@ impl<F: Feed> Entry<F> {
 
     /// Retires a subscription; one that was retired before stays so since then.
     fn retire(&mut self, next: u64)
-        ensures { self.new ≡ record self.old { retired = true; until = if self.old.retired then self.old.until else next } }
+        ensures { self.new ≡ record self.old {
+          retired = true;
+          until = if self.old.retired then self.old.until else next;
+        } }
     {
         if !self.retired {
             self.retired = true;

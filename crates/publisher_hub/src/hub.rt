@@ -1,4 +1,6 @@
-//! The Hub.
+//! What a Hub stores, how it is made and what it shows of itself: the subscriptions of one publisher, each held by its producer's end, and
+//! the numbers of its publications. It runs no subscriber, waits for nobody and takes no lock: whoever calls it sees to that one call comes
+//! after the other, and that the tasks that calls start are run.
 mod admitting;
 mod closing;
 mod ended;
@@ -35,8 +37,10 @@ pub const MOST_SOURCES: usize = 256;
 
 /// The subscriptions of one publisher, and the numbers of its publications (`SubmissionPublisher`, Java SE 17).
 ///
-/// Between any two calls it is sound: what each subscription accepted has rising serial numbers, two that accepted one serial number
-/// accepted one item, and what each accepted and dropped is what was published since it was subscribed.
+/// A new Hub is sound, and each call leaves a sound Hub sound: what each subscription accepted has rising serial numbers; two that
+/// accepted an item of one serial number accepted the same item; and what each accepted and dropped is, in number, what was published
+/// while it took part, from its subscribing until it was retired. An end that [`Hub::feed_mut`] lends has to be left as
+/// [`lent_feeds_keep_hubs_sound`](crate::lent_feeds_keep_hubs_sound) says.
 #[derive(Drop)]
 pub struct Hub<F> {
     /// The capacity of each buffer.
@@ -49,7 +53,7 @@ pub struct Hub<F> {
     pub(crate) sources: u32,
     /// How it was closed, if it was.
     pub(crate) ending: Option<Ending>,
-    /// How many offers found any buffer full.
+    /// How many offers were dropped at any subscription, after their second tries.
     pub(crate) dropping: u64,
     /// The opening ticket, until it is closed.
     pub(crate) opening: Option<Opening>,
@@ -66,10 +70,12 @@ impl<F: Feed> Hub<F> {
     ///
     /// Refused 1 where the capacity is 0, and 5 where a growth is refused.
     pub fn new(alloc: Global, asked: usize) -> Result<Hub<F>, Refusal>
-        ensures ok { IfOk result (λ hub. hub_of F.meaning hub ≡ hub_at_start (capacity_of asked) 0) }
+        ensures ok { IfOk result (λ hub.
+            hub_of F.meaning hub ≡ hub_at_start (capacity_of asked) 0) }
         ensures sound { IfOk result (λ hub. IsSound (hub_of F.meaning hub)) }
-        ensures zero { asked ≡ 0 → result ≡ Err Refusal.BadCapacity }
-        ensures other { IfErr result (λ refusal. (refusal ≡ Refusal.BadCapacity → asked ≡ 0) × ((refusal ≡ Refusal.BadCapacity) ⊎ (refusal ≡ Refusal.NoMemory))) }
+        ensures bad_capacity { (result ≡ Err Refusal.BadCapacity) ↔ (asked ≡ 0) }
+        ensures refusals { IfErr result (λ refusal.
+            (refusal ≡ Refusal.BadCapacity) ⊎ (refusal ≡ Refusal.NoMemory)) }
     {
         Hub::starting_at(alloc, asked, 0)
     }
@@ -77,10 +83,12 @@ impl<F: Feed> Hub<F> {
     /// The same, with its next serial number.
     pub fn starting_at(alloc: Global, asked: usize, serial: u64) -> Result<Hub<F>, Refusal>
         requires { serial ≤ MOST_PUBLICATIONS }
-        ensures ok { IfOk result (λ hub. hub_of F.meaning hub ≡ hub_at_start (capacity_of asked) serial) }
+        ensures ok { IfOk result (λ hub.
+            hub_of F.meaning hub ≡ hub_at_start (capacity_of asked) serial) }
         ensures sound { IfOk result (λ hub. IsSound (hub_of F.meaning hub)) }
-        ensures zero { asked ≡ 0 → result ≡ Err Refusal.BadCapacity }
-        ensures other { IfErr result (λ refusal. (refusal ≡ Refusal.BadCapacity → asked ≡ 0) × ((refusal ≡ Refusal.BadCapacity) ⊎ (refusal ≡ Refusal.NoMemory))) }
+        ensures bad_capacity { (result ≡ Err Refusal.BadCapacity) ↔ (asked ≡ 0) }
+        ensures refusals { IfErr result (λ refusal.
+            (refusal ≡ Refusal.BadCapacity) ⊎ (refusal ≡ Refusal.NoMemory)) }
     {
         let capacity = capacity(asked)?;
         Ok(Hub {

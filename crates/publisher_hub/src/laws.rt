@@ -12,7 +12,10 @@ use flow_rules::Feed;
 /// or a turn. So it is where that subscription is retired, too.
 pub fn lent_feeds_keep_hubs_sound<F: Feed>(hub: &Hub<F>)
     requires { IsSound (hub_of F.meaning hub.now) }
-    ensures { (number : ℕ) (before after : F) → feed_at hub.now number ≡ Some before → MayBecome (F.meaning before) (F.meaning after) → IsSound (hub_of F.meaning (with_feed hub.now number (slice_get hub.now.entries.items number) after)) }
+    ensures { (number : ℕ) (before after : F) → feed_at hub.now number ≡ Some before
+        → MayBecome (F.meaning before) (F.meaning after)
+        → IsSound (hub_of F.meaning
+        (with_feed hub.now number (slice_get hub.now.entries.items number) after)) }
 {
     let _ = hub;
 }

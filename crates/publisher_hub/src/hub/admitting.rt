@@ -28,9 +28,11 @@ impl<F: Feed> Hub<F> {
     ) -> Result<u32, Refusal>
         requires sound { IsSound (hub_of F.meaning self.old) }
         requires fresh { IsFresh self.old.capacity (F.meaning feed) }
-        ensures ok { IfOk result (λ number. Admits F.meaning F.does name feed ticket number due.old.items due.new.items self.old self.new) }
-        ensures err { IfErr result (λ refusal. Refuses F.meaning F.does name refusal due.old.items due.new.items self.old self.new) }
-        ensures stays { CanAdmit F.meaning name self.old due.old → IsOk result }
+        ensures ok { IfOk result (λ number. Admits F.meaning F.does name feed ticket number
+            due.old.items due.new.items self.old self.new) }
+        ensures refusals { IfErr result (λ refusal.
+            Refuses F.meaning F.does name refusal due.old.items due.new.items self.old self.new) }
+        ensures not_refused { CanAdmit F.meaning name self.old due.old → IsOk result }
         ensures sound { IsSound (hub_of F.meaning self.new) }
     {
         self.may_subscribe(name, due)?;
@@ -47,9 +49,14 @@ impl<F: Feed> Hub<F> {
         requires empty { (F.meaning feed).accepted ≡ [] }
         requires capacity { (F.meaning feed).capacity ≡ self.old.capacity }
         requires unclosed { self.old.ending ≡ None → (F.meaning feed).closing ≡ None }
-        ensures entries { self.new.entries.items ≡ self.old.entries.items ++ first_entry name self.old.next feed ticket ∷ [] }
-        ensures live { self.new.live.items ≡ self.old.live.items ++ length self.old.entries.items ∷ [] }
-        ensures rest { self.new ≡ record self.old { entries = self.new.entries; live = self.new.live } }
+        ensures entries { self.new.entries.items ≡ self.old.entries.items
+            ++ first_entry name self.old.next feed ticket ∷ [] }
+        ensures live { self.new.live.items ≡ self.old.live.items
+            ++ length self.old.entries.items ∷ [] }
+        ensures rest { self.new ≡ record self.old {
+          entries = self.new.entries;
+          live = self.new.live;
+        } }
         ensures sound { IsSound (hub_of F.meaning self.new) }
     {
         let number = self.entries.len() as u32;
@@ -75,7 +82,8 @@ fn close_new<F: Feed>(
 ) -> F
     requires ready { (F.meaning feed).ready ≡ true }
     requires room { vec_len due.old < vec_capacity due.old }
-    ensures { (start : Option F.Task) × (ClosesNew F.meaning F.does ending feed start result × (due.new.items ≡ due.old.items ++ work_of number start)) }
+    ensures { (start : Option F.Task) × (ClosesNew F.meaning F.does ending feed start result
+        × (due.new.items ≡ due.old.items ++ work_of number start)) }
 {
     match ending {
         Some(ending) => {

@@ -11,10 +11,11 @@ impl<F: Feed> Hub<F> {
     ghost use Rattle.publisher_hub.specs.Entry.{EntryState};
     ghost use Rattle.publisher_hub.specs.Lending.{feed_at, lends_feed_at, lends_feed_if};
 
-    /// How many publications found the buffer of the subscription of this number full, and `None` where no subscription has this
-    /// number.
+    /// How many publications were dropped at the subscription of this number because its buffer was full, after the second tries.
+    /// `None` if no subscription has this number.
     pub fn dropped(&self, entry: u32) -> Option<u64>
-        ensures { result ≡ option_map (λ (entry : EntryState). entry.dropped) (slice_get (hub_of F.meaning self.now).entries entry) }
+        ensures { result ≡ option_map (λ (entry : EntryState). entry.dropped)
+            (slice_get (hub_of F.meaning self.now).entries entry) }
     {
         match self.entries.get(entry as usize) {
             Some(it) => Some(it.dropped),
@@ -24,7 +25,8 @@ impl<F: Feed> Hub<F> {
 
     /// The next serial number when the subscription of this number was made, and `None` where no subscription has this number.
     pub fn since(&self, entry: u32) -> Option<u64>
-        ensures { result ≡ option_map (λ (entry : EntryState). entry.since) (slice_get (hub_of F.meaning self.now).entries entry) }
+        ensures { result ≡ option_map (λ (entry : EntryState). entry.since)
+            (slice_get (hub_of F.meaning self.now).entries entry) }
     {
         match self.entries.get(entry as usize) {
             Some(it) => Some(it.since),
@@ -34,7 +36,8 @@ impl<F: Feed> Hub<F> {
 
     /// The name that the subscriber of this number subscribed with, and `None` where no subscription has this number.
     pub fn name_of(&self, entry: u32) -> Option<Name>
-        ensures { result ≡ option_map (λ (entry : EntryState). entry.name) (slice_get (hub_of F.meaning self.now).entries entry) }
+        ensures { result ≡ option_map (λ (entry : EntryState). entry.name)
+            (slice_get (hub_of F.meaning self.now).entries entry) }
     {
         match self.entries.get(entry as usize) {
             Some(it) => Some(it.name),

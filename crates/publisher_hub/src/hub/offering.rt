@@ -33,8 +33,11 @@ impl<F: Feed> Hub<F> {
         requires sound { IsSound (hub_of F.meaning self.old) }
         requires source { source < MOST_SOURCES }
         ensures sound { IsSound (hub_of F.meaning self.new) }
-        ensures ok { IfOk result (λ answer. OffersItem F.meaning F.does source text (is_none handler.entry) self.old self.new due.old.items due.new.items answer) }
-        ensures err { IfErr result (λ refusal. RefusesOffer F.meaning F.does self.old self.new refusal) }
+        ensures ok { IfOk result (λ answer.
+            OffersItem F.meaning F.does source text (is_none handler.entry) self.old self.new
+            due.old.items due.new.items answer) }
+        ensures refusals { IfErr result (λ refusal.
+            RefusesOffer F.meaning F.does self.old self.new refusal) }
         ensures nothing_due { OnErr result (due.new.items ≡ due.old.items) }
         ensures no_share { self.new.giving.shares.items ≡ [] }
     {
@@ -52,8 +55,11 @@ impl<F: Feed> Hub<F> {
         requires sound { IsSound (hub_of F.meaning self.old) }
         requires source { source < MOST_SOURCES }
         ensures sound { IsSound (hub_of F.meaning self.new) }
-        ensures ok { IfOk result (λ answer. OffersItem F.meaning F.does source text (is_none handler.entry) self.old self.new due.old.items due.new.items answer) }
-        ensures err { IfErr result (λ refusal. RefusesOffer F.meaning F.does self.old self.new refusal) }
+        ensures ok { IfOk result (λ answer.
+            OffersItem F.meaning F.does source text (is_none handler.entry) self.old self.new
+            due.old.items due.new.items answer) }
+        ensures refusals { IfErr result (λ refusal.
+            RefusesOffer F.meaning F.does self.old self.new refusal) }
         ensures nothing_due { OnErr result (due.new.items ≡ due.old.items) }
         ensures no_share { self.new.giving.shares.items ≡ [] }
     {
@@ -79,13 +85,21 @@ impl<F: Feed> Hub<F> {
         due: &mut Vec<Work<F::Task>>,
     )
         requires numbers { AreNumbers self.old.giving.missed.items (length self.old.entries.items) }
-        requires can { CanEachTryAgain self.old.giving.missed.items (map (entry_of F.meaning) self.old.entries.items) }
+        requires can { CanEachTryAgain self.old.giving.missed.items
+            (map (entry_of F.meaning) self.old.entries.items) }
         requires shares { AreShares item.now self.old.giving.shares.items }
         requires room { HasRoomAgain (vec_len self.old.giving.missed) self.old.giving due.old }
         requires few { vec_len self.old.giving.missed < MOST_PUBLICATIONS }
-        ensures passes { (puts : List (Option (Put F.Task))) → self.old.giving.missed.items ≡ missed puts → length puts ≡ length self.old.entries.items
-            → (seconds : List (Second F.Task)) × PassesAgain F.meaning F.does item.now (is_none handler.entry) puts seconds self.old.entries.items self.new.entries.items self.old.giving self.new.giving due.old due.new }
-        ensures rest { hub_of F.meaning self.new ≡ record (hub_of F.meaning self.old) { entries = (hub_of F.meaning self.new).entries } }
+        ensures passes { (puts : List (Option (Put F.Task)))
+            → self.old.giving.missed.items ≡ missed puts
+            → length puts ≡ length self.old.entries.items
+            → (seconds : List (Second F.Task))
+            × PassesAgain F.meaning F.does item.now (is_none handler.entry) puts seconds
+            self.old.entries.items self.new.entries.items self.old.giving self.new.giving
+            due.old due.new }
+        ensures rest { hub_of F.meaning self.new ≡ record (hub_of F.meaning self.old) {
+          entries = (hub_of F.meaning self.new).entries;
+        } }
     {
         let Hub {
             entries,
@@ -102,7 +116,9 @@ impl<F: Feed> Hub<F> {
     /// Counts an offer that found a buffer full, if drops stand.
     fn count_drops(&mut self)
         requires few { self.old.dropping < MOST_PUBLICATIONS }
-        ensures { self.new ≡ record self.old { dropping = dropping_after self.old.giving.drops self.old.dropping } }
+        ensures { self.new ≡ record self.old {
+          dropping = dropping_after self.old.giving.drops self.old.dropping;
+        } }
     {
         if self.giving.drops > 0 {
             self.dropping += 1;

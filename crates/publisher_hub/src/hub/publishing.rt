@@ -1,13 +1,12 @@
 //! Giving an item to all live subscriptions.
 ghost use Rattle.std.specs.Prelude.{◌≡◌, ◌+◌, ◌<◌, ◌≤◌, ◌++◌, [], List, Option, Some, None, IfOk, IfErr, OnOk, OnErr, IfSome, IfNone, IsNone, Result, false, map, length, slice_get};
 ghost use Rattle.flow_rules.specs.declared.feed.put.Put.{Put};
-ghost use Rattle.flow_rules.specs.declared.feed.standing.Standing.{Standing};
 ghost use Rattle.flow_rules.specs.declared.item.TheConstants.{MOST_PUBLICATIONS};
 ghost use Rattle.publisher_hub.specs.Entry.{entry_of};
 ghost use Rattle.publisher_hub.specs.Giving.{AreShares, Gathers, HasRoom};
 ghost use Rattle.publisher_hub.specs.Hub.{hub_of};
-ghost use Rattle.publisher_hub.specs.Lists.{Each, EachBy};
-ghost use Rattle.publisher_hub.specs.Looking.{IsLookedAt, IsRoom, MayPrepare, Prepares};
+ghost use Rattle.publisher_hub.specs.Lists.{EachBy};
+ghost use Rattle.publisher_hub.specs.Looking.{FindsRoom, IsLookedAt, PreparesInPart};
 ghost use Rattle.publisher_hub.specs.Offering.{Gives, IsNextItem, progress_after};
 ghost use Rattle.publisher_hub.specs.Publishing.{CanPublish, IsRefused, Publishes, RefusesItem};
 ghost use Rattle.publisher_hub.specs.Sound.{IsSound};
@@ -44,9 +43,9 @@ impl Error for Unpublished {}
 impl<F: Feed> Hub<F> {
     /// Gives a text to all live subscriptions at once, if all have room (`SubmissionPublisher.submit`, without waiting).
     ///
-    /// The answer is the greatest lag, in items, or 0 where there are no subscriptions. Refused 5 where a growth is refused, 2 where the Hub
-    /// is closed, and 13 once [`MOST_PUBLICATIONS`](flow_rules::MOST_PUBLICATIONS) were made; else `NoRoom` where a buffer is full. Then no list and
-    /// no count has changed.
+    /// The answer is the greatest lag, in items, or 0 if there are no subscriptions. Refused 5 if a growth is refused, 2 if the Hub is
+    /// closed, and 13 once [`MOST_PUBLICATIONS`](flow_rules::MOST_PUBLICATIONS) were made; else `NoRoom` if a buffer is full. Then no list
+    /// and no count has changed.
     pub fn publish(
         &mut self,
         source: u32,
@@ -56,8 +55,10 @@ impl<F: Feed> Hub<F> {
         requires sound { IsSound (hub_of F.meaning self.old) }
         requires source { source < MOST_SOURCES }
         ensures sound { IsSound (hub_of F.meaning self.new) }
-        ensures ok { IfOk result (λ lag. Publishes F.meaning F.does source text self.old self.new due.old.items due.new.items lag) }
-        ensures err { IfErr result (λ why. RefusesItem F.meaning F.does text self.old self.new why) }
+        ensures ok { IfOk result (λ lag. Publishes F.meaning F.does source text self.old self.new
+            due.old.items due.new.items lag) }
+        ensures refusals { IfErr result (λ why.
+            RefusesItem F.meaning F.does text self.old self.new why) }
         ensures nothing_due { OnErr result (due.new.items ≡ due.old.items) }
         ensures no_share { self.new.giving.shares.items ≡ [] }
     {
@@ -97,7 +98,8 @@ impl<F: Feed> Hub<F> {
         ensures source { result.source ≡ source }
         ensures text { result.text ≡ text }
         ensures serial { result.serial ≡ (hub_of F.meaning self.now).progress.next }
-        ensures seq { slice_get (hub_of F.meaning self.now).progress.counts source ≡ Some result.seq }
+        ensures seq { slice_get (hub_of F.meaning self.now).progress.counts source
+            ≡ Some result.seq }
     {
         Item {
             source,
@@ -114,8 +116,8 @@ impl<F: Feed> Hub<F> {
         due: &mut Vec<Work<F::Task>>,
     ) -> Result<bool, NoMemory>
         requires sound { IsSound (hub_of F.meaning self.old) }
-        ensures ok { IfOk result (λ room. (glances : List (Option Standing)) × (EachBy (Prepares F.meaning F.does self.old.next) glances self.old.entries.items self.new.entries.items × IsRoom room self.old.capacity glances)) }
-        ensures err { OnErr result (Each (MayPrepare F.meaning F.does self.old.next) self.old.entries.items self.new.entries.items) }
+        ensures ok { IfOk result (FindsRoom F.meaning F.does self.old self.new) }
+        ensures exact { OnErr result (PreparesInPart F.meaning F.does self.old self.new) }
         ensures looked { IsLookedAt (hub_of F.meaning self.old) (hub_of F.meaning self.new) }
         ensures sound { IsSound (hub_of F.meaning self.new) }
         ensures due { due.new.items ≡ due.old.items }
@@ -150,8 +152,13 @@ impl<F: Feed> Hub<F> {
         requires sound { IsSound (hub_of F.meaning self.old) }
         requires can { CanAllGive (map (entry_of F.meaning) self.old.entries.items) }
         requires ready { CanPublish item.now self.old due.old }
-        ensures given { (puts : List (Option (Put F.Task))) × (EachBy (Gives F.meaning F.does item.now) puts self.old.entries.items self.new.entries.items × Gathers item.now puts self.new.giving due.old due.new) }
-        ensures rest { hub_of F.meaning self.new ≡ record (hub_of F.meaning self.old) { entries = (hub_of F.meaning self.new).entries } }
+        ensures given { (puts : List (Option (Put F.Task)))
+            × (EachBy (Gives F.meaning F.does item.now) puts self.old.entries.items
+            self.new.entries.items
+            × Gathers item.now puts self.new.giving due.old due.new) }
+        ensures rest { hub_of F.meaning self.new ≡ record (hub_of F.meaning self.old) {
+          entries = (hub_of F.meaning self.new).entries;
+        } }
         ensures room { HasRoom 0 self.new.giving due.new }
     {
         let Hub {
@@ -169,7 +176,10 @@ impl<F: Feed> Hub<F> {
         requires next { IsNextItem (hub_of F.meaning self.old).progress item.now }
         requires source { item.now.source < MOST_SOURCES }
         requires few { item.now.seq < MOST_PUBLICATIONS }
-        ensures rest { hub_of F.meaning self.new ≡ record (hub_of F.meaning self.old) { progress = progress_after item.now (hub_of F.meaning self.old).progress.dropping (hub_of F.meaning self.old).progress } }
+        ensures rest { hub_of F.meaning self.new ≡ record (hub_of F.meaning self.old) {
+          progress = progress_after item.now (hub_of F.meaning self.old).progress.dropping
+              (hub_of F.meaning self.old).progress;
+        } }
         ensures entries { self.new.entries ≡ self.old.entries }
         ensures giving { self.new.giving ≡ self.old.giving }
     {

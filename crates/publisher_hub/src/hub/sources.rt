@@ -15,11 +15,12 @@ impl<F: Feed> Hub<F> {
     pub fn next_source(&mut self) -> Result<u32, Refusal>
         requires sound { IsSound (hub_of F.meaning self.old) }
         ensures next { IfOk result (λ source. source ≡ (hub_of F.meaning self.old).sources) }
-        ensures counted { IfOk result (λ source. self.new ≡ record self.old { sources = source + 1 }) }
+        ensures counted { IfOk result (λ source.
+            self.new ≡ record self.old { sources = source + 1 }) }
         ensures below { IfOk result (λ source. source < MOST_SOURCES) }
         ensures refused { IsErr result ↔ ((hub_of F.meaning self.old).sources ≡ MOST_SOURCES) }
-        ensures many { IfErr result (λ refusal. refusal ≡ Refusal.TooMany) }
-        ensures err { OnErr result (self.new ≡ self.old) }
+        ensures refusals { IfErr result (λ refusal. refusal ≡ Refusal.TooMany) }
+        ensures unchanged { OnErr result (self.new ≡ self.old) }
         ensures sound { IsSound (hub_of F.meaning self.new) }
     {
         let source = self.sources;

@@ -26,11 +26,13 @@ impl<F: Feed> Hub<F> {
     pub fn add_ticket(&mut self) -> Result<Option<Ticket>, Refusal>
         requires sound { IsSound (hub_of F.meaning self.old) }
         ensures closed { IsSome self.old.ending → (result ≡ Ok None) × (self.new ≡ self.old) }
-        ensures ok { self.old.ending ≡ None → IfOk result (λ ticket. AddsTicket ticket self.old.opening self.new.opening) }
-        ensures err { IfErr result (λ refusal. RefusesTicket refusal self.old.opening) }
+        ensures ok { self.old.ending ≡ None → IfOk result (λ ticket.
+            AddsTicket ticket self.old.opening self.new.opening) }
+        ensures refusals { IfErr result (λ refusal. RefusesTicket refusal self.old.opening) }
         ensures unchanged { OnErr result (self.new ≡ self.old) }
         ensures rest { self.new ≡ record self.old { opening = self.new.opening } }
-        ensures keeps { (name : List ℕ) → (due : Vec (Work F.Task) Global) → CanAdmit F.meaning name self.old due → CanAdmit F.meaning name self.new due }
+        ensures keeps { (name : List ℕ) → (due : Vec (Work F.Task) Global)
+            → CanAdmit F.meaning name self.old due → CanAdmit F.meaning name self.new due }
         ensures sound { IsSound (hub_of F.meaning self.new) }
     {
         if self.ending.is_some() {
@@ -57,7 +59,8 @@ impl<F: Feed> Hub<F> {
     pub fn take_ticket(&mut self, entry: u32) -> Option<Ticket>
         requires sound { IsSound (hub_of F.meaning self.old) }
         ensures ticket { result ≡ ticket_at self.old entry }
-        ensures taken { self.new ≡ without_ticket self.old entry (slice_get self.old.entries.items entry) }
+        ensures taken { self.new
+            ≡ without_ticket self.old entry (slice_get self.old.entries.items entry) }
         ensures none { result ≡ None → hub_of F.meaning self.new ≡ hub_of F.meaning self.old }
         ensures sound { IsSound (hub_of F.meaning self.new) }
     {
@@ -71,7 +74,7 @@ impl<F: Feed> Hub<F> {
 /// One more ticket of the count of an opening ticket, where one is held.
 fn one_more(opening: &mut Option<Opening>) -> Result<Option<Ticket>, Refusal>
     ensures ok { IfOk result (λ ticket. AddsTicket ticket opening.old opening.new) }
-    ensures err { IfErr result (λ refusal. RefusesTicket refusal opening.old) }
+    ensures refusals { IfErr result (λ refusal. RefusesTicket refusal opening.old) }
     ensures unchanged { OnErr result (opening.new ≡ opening.old) }
 {
     match opening {

@@ -23,7 +23,9 @@ pub(crate) fn end_all<F: Feed>(
     requires live { AreLive live.now (map (entry_of F.meaning) entries.old) }
     requires take { CanAllTake (map (entry_of F.meaning) entries.old) }
     requires room { vec_len due.old + length live.now ≤ vec_capacity due.old }
-    ensures { (answers : List (AtClose F.Task)) × (EachBy (Closes F.meaning F.does ending) answers entries.old entries.new × (due.new.items ≡ due.old.items ++ started_by_ends answers)) }
+    ensures { (answers : List (AtClose F.Task))
+        × (EachBy (Closes F.meaning F.does ending) answers entries.old entries.new
+        × (due.new.items ≡ due.old.items ++ started_by_ends answers)) }
 {
     for number in live {
         let answer = entries[*number as usize].end(ending);

@@ -37,12 +37,12 @@ impl Giving {
     /// Makes so many shares of an item, and forgets what was gathered before.
     pub fn begin(&mut self, item: &Item, many: usize) -> Result<(), NoMemory>
         ensures shares { OnOk result (AreShares item.now self.new.shares.items) }
-        ensures many { OnOk result (vec_len self.new.shares ≡ many) }
+        ensures as_many { OnOk result (vec_len self.new.shares ≡ many) }
         ensures missed { OnOk result (self.new.missed.items ≡ []) }
         ensures room { OnOk result (many ≤ vec_capacity self.new.missed) }
         ensures lag { self.new.lag ≡ 0 }
         ensures drops { self.new.drops ≡ 0 }
-        ensures err { OnErr result (self.new.shares.items ≡ []) }
+        ensures no_share { OnErr result (self.new.shares.items ≡ []) }
     {
         self.forget();
         self.missed.reserve(many)?;
@@ -81,8 +81,9 @@ impl Giving {
     pub fn take_share(&mut self) -> Item
         requires some { 0 < vec_len self.old.shares }
         ensures share { (item : Item) → AreShares item self.old.shares.items → result ≡ item }
-        ensures rest { (item : Item) → AreShares item self.old.shares.items → AreShares item self.new.shares.items }
-        ensures many { vec_len self.new.shares + 1 ≡ vec_len self.old.shares }
+        ensures rest { (item : Item)
+            → AreShares item self.old.shares.items → AreShares item self.new.shares.items }
+        ensures as_many { vec_len self.new.shares + 1 ≡ vec_len self.old.shares }
         ensures capacity { vec_capacity self.new.shares ≡ vec_capacity self.old.shares }
         ensures missed { self.new.missed ≡ self.old.missed }
         ensures lag { self.new.lag ≡ self.old.lag }
@@ -163,7 +164,7 @@ fn share_out(shares: &mut Vec<Item>, item: &Item, many: usize) -> Result<(), NoM
     requires empty { shares.old.items ≡ [] }
     requires room { many ≤ vec_capacity shares.old }
     ensures shares { OnOk result (AreShares item.now shares.new.items) }
-    ensures many { OnOk result (vec_len shares.new ≡ many) }
+    ensures as_many { OnOk result (vec_len shares.new ≡ many) }
 {
     for _ in 0..many {
         shares.push_reserved(item.share()?);

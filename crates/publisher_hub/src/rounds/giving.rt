@@ -27,7 +27,9 @@ pub(crate) fn give_all<F: Feed>(
     requires room { HasRoom (length live.now) giving.old due.old }
     requires missed { giving.old.missed.items ≡ [] }
     requires lag { giving.old.lag ≡ 0 }
-    ensures given { (puts : List (Option (Put F.Task))) × (EachBy (Gives F.meaning F.does item.now) puts entries.old entries.new × Gathers item.now puts giving.new due.old due.new) }
+    ensures given { (puts : List (Option (Put F.Task)))
+        × (EachBy (Gives F.meaning F.does item.now) puts entries.old entries.new
+        × Gathers item.now puts giving.new due.old due.new) }
     ensures room { HasRoom 0 giving.new due.new }
 {
     for number in live {
@@ -46,8 +48,11 @@ fn give_one<F: Feed>(
     requires can { CanGive (entry_of F.meaning entry.old) }
     requires shares { AreShares item.now giving.old.shares.items }
     requires room { (many : ℕ) × HasRoom (many + 1) giving.old due.old }
-    ensures given { (answer : Option (Put F.Task)) × (Gives F.meaning F.does item.now answer entry.old entry.new × Adds item.now number answer giving.old giving.new due.old due.new) }
-    ensures room { (many : ℕ) → HasRoom (many + 1) giving.old due.old → HasRoom many giving.new due.new }
+    ensures given { (answer : Option (Put F.Task))
+        × (Gives F.meaning F.does item.now answer entry.old entry.new
+        × Adds item.now number answer giving.old giving.new due.old due.new) }
+    ensures room { (many : ℕ)
+        → HasRoom (many + 1) giving.old due.old → HasRoom many giving.new due.new }
 {
     let share = giving.take_share();
     let answer = entry.give(share);

@@ -29,7 +29,10 @@ pub(crate) fn retry_all<F: Feed, H: DropHandler>(
     requires room { HasRoomAgain (vec_len giving.old.missed) giving.old due.old }
     requires drops { giving.old.drops ≡ 0 }
     requires few { vec_len giving.old.missed < MOST_PUBLICATIONS }
-    ensures given { (seconds : List (Second F.Task)) × (EachBy (GivesAgain F.meaning F.does item.now) seconds entries.old entries.new × (AreAsked giving.old.missed.items seconds × GathersAgain item.now seconds giving.old giving.new due.old due.new)) }
+    ensures given { (seconds : List (Second F.Task))
+        × (EachBy (GivesAgain F.meaning F.does item.now) seconds entries.old entries.new
+        × (AreAsked giving.old.missed.items seconds
+        × GathersAgain item.now seconds giving.old giving.new due.old due.new)) }
 {
     for place in 0..giving.missed.len() {
         let number = giving.missed[place];
@@ -58,8 +61,11 @@ fn retry_one<F: Feed, H: DropHandler>(
     requires shares { AreShares item.now giving.old.shares.items }
     requires room { (many : ℕ) × HasRoomAgain (many + 1) giving.old due.old }
     requires drops { giving.old.drops < MOST_PUBLICATIONS }
-    ensures given { (answer : Option (Put F.Task)) × (GivesAgain F.meaning F.does item.now (Some answer) entry.old entry.new × AddsAgain item.now number (Some answer) giving.old giving.new due.old due.new) }
-    ensures room { (many : ℕ) → HasRoomAgain (many + 1) giving.old due.old → HasRoomAgain many giving.new due.new }
+    ensures given { (answer : Option (Put F.Task))
+        × (GivesAgain F.meaning F.does item.now (Some answer) entry.old entry.new
+        × AddsAgain item.now number (Some answer) giving.old giving.new due.old due.new) }
+    ensures room { (many : ℕ)
+        → HasRoomAgain (many + 1) giving.old due.old → HasRoomAgain many giving.new due.new }
     ensures drops { giving.new.drops ≤ giving.old.drops + 1 }
 {
     let answer = try_again(entry, item, handler, giving);

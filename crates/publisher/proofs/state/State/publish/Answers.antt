@@ -9,7 +9,7 @@ pub invariant_of-self : goal.invariant_of-self
 invariant_of-self g c =
     let old = hub_of producer_end c.self.inside.hub in
     let new = hub_of producer_end c.publish.new.self in
-    state_stays old new _ c.self.invariant c.publish.ensures.sound (stays_looked old new c.in_err-lag.ensures.err.unchanged)
+    state_stays old new _ c.self.invariant c.publish.ensures.sound (stays_looked old new c.in_err-lag.ensures.refusals.unchanged)
 
 pub invariant_of-self-2 : goal.invariant_of-self-2
 invariant_of-self-2 g c =

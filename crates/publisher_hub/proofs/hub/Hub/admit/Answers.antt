@@ -36,8 +36,8 @@ returns-clause-ok g c =
     }
 
 -- what is added is not refused
-pub returns-clause-err : goal.returns-clause-err
-returns-clause-err g c = tt
+pub returns-clause-refusals : goal.returns-clause-refusals
+returns-clause-refusals g c = tt
 
-pub returns-clause-stays : goal.returns-clause-stays
-returns-clause-stays g c can = refl
+pub returns-clause-not_refused : goal.returns-clause-not_refused
+returns-clause-not_refused g c can = refl

@@ -95,8 +95,8 @@ returns-in-Some-clause-sound g c = c.prepare.ensures.sound
 pub returns-clause-no_share : goal.returns-clause-no_share
 returns-clause-no_share g c = rw c.count.ensures.giving c.drop_shares-2.ensures.shares
 
-pub returns-clause-err : goal.returns-clause-err
-returns-clause-err g c = tt
+pub returns-clause-refusals : goal.returns-clause-refusals
+returns-clause-refusals g c = tt
 
 pub returns-clause-nothing_due : goal.returns-clause-nothing_due
 returns-clause-nothing_due g c = tt

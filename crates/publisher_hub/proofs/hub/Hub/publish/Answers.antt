@@ -35,8 +35,8 @@ returns-clause-sound g c = (whole g c).0
 pub returns-clause-ok : goal.returns-clause-ok
 returns-clause-ok g c = (whole g c).1
 
-pub returns-then-not-room-clause-err : goal.returns-then-not-room-clause-err
-returns-then-not-room-clause-err g c = rw c.no_room.ensures.text (record { unchanged = rw c.no_room.ensures.rest c.prepare.ensures.looked; why = search rules })
+pub returns-then-not-room-clause-refusals : goal.returns-then-not-room-clause-refusals
+returns-then-not-room-clause-refusals g c = rw c.no_room.ensures.text (record { unchanged = rw c.no_room.ensures.rest c.prepare.ensures.looked; why = search rules })
 
 pub returns-then-not-room-clause-sound : goal.returns-then-not-room-clause-sound
 returns-then-not-room-clause-sound g c = rw c.no_room.ensures.rest c.prepare.ensures.sound

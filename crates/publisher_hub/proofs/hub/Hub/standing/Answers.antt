@@ -1,7 +1,6 @@
 -- One subscription was looked at.
-use Rattle.std.proofs.Common.{rules, ◌≡◌, ◌<◌, ◌≤◌, length, Some, ap, sym, ◌∙◌}
+use Rattle.std.proofs.Common.{rules, ◌<◌, ◌≤◌, length, Some, ap, sym, ◌∙◌}
 use Rattle.std.proofs.lemmas.Option.{slice_get-get_or}
-use Rattle.std.specs.Prelude.{slice_get}
 use Rattle.std.specs.Vec.{with_item}
 use Rattle.publisher_hub.specs.Entry.{entry_of}
 use Rattle.publisher_hub.specs.Hub.{hub_of}

@@ -28,13 +28,13 @@ prepare-requires g c = record {
       c.loop-number.invariant.glances c.loop-number.entries c.loop-number.invariant.upto IsHere c.requires.here c.loop-number-test.true c.index-entries-number.result;
 }
 
-pub returns-in_err-glance-clause-err : goal.returns-in_err-glance-clause-err
-returns-in_err-glance-clause-err g c =
+pub returns-in_err-glance-clause-exact : goal.returns-in_err-glance-clause-exact
+returns-in_err-glance-clause-exact g c =
     let numbers = numbers_of g.F.Feed.meaning c.args.live.now c.args.entries.now c.requires.live in
     let stood = stood_next g.F.Feed.meaning c.args.live.now c.args.entries.now c.requires.live c.loop-number.number-index (Prepares g.F.Feed.meaning g.F.Feed.does c.args.next) None
     c.loop-number.invariant.glances c.loop-number.entries c.loop-number.invariant.upto c.loop-number-test.true c.index-entries-number.result in
     on_err c.from_residual.result _ (stopped g.F.Feed.meaning g.F.Feed.does c.args.next c.args.capacity c.args.live.now c.loop-number.number-index _ c.loop-number.room c.args.entries.now c.loop-number.entries
-    _ c.prepare.new.self numbers (number_at c.args.live.now c.loop-number.number-index c.loop-number-test.true) stood c.in_err-glance.ensures.err c.loop-number.invariant)
+    _ c.prepare.new.self numbers (number_at c.args.live.now c.loop-number.number-index c.loop-number-test.true) stood c.in_err-glance.ensures.refused c.loop-number.invariant)
 
 pub loop-number-preserved : goal.loop-number-preserved
 loop-number-preserved g c =
@@ -57,10 +57,10 @@ returns-clause-ok g c =
       ),
     )
 
-pub returns-in_err-glance-clause-stays : goal.returns-in_err-glance-clause-stays
-returns-in_err-glance-clause-stays g c ready =
+pub returns-in_err-glance-clause-not_refused : goal.returns-in_err-glance-clause-not_refused
+returns-in_err-glance-clause-not_refused g c ready =
     let numbers = numbers_of g.F.Feed.meaning c.args.live.now c.args.entries.now c.requires.live in
     let stood = stood_next g.F.Feed.meaning c.args.live.now c.args.entries.now c.requires.live c.loop-number.number-index (Prepares g.F.Feed.meaning g.F.Feed.does c.args.next) None
     c.loop-number.invariant.glances c.loop-number.entries c.loop-number.invariant.upto c.loop-number-test.true c.index-entries-number.result in
-    absurd (ready_is_prepared g.F.Feed.meaning g.F.Feed.does c.args.next _ c.prepare.new.self c.in_err-glance.ensures.err
+    absurd (ready_is_prepared g.F.Feed.meaning g.F.Feed.does c.args.next _ c.prepare.new.self c.in_err-glance.ensures.refused
     (ready _ _ (get_mapped (entry_of g.F.Feed.meaning) c.args.entries.now _ _ stood)))

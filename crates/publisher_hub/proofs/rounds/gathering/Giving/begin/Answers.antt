@@ -3,8 +3,8 @@ use Rattle.std.proofs.Common.{◌∙◌}
 use Rattle.publisher_hub.proofs.Subscribed.Readiness.{on_err}
 use Rattle.publisher_hub.proofs.rounds.gathering.Giving.begin.Goals as goal
 
-pub returns-in_err-reserve-clause-err : goal.returns-in_err-reserve-clause-err
-returns-in_err-reserve-clause-err c = on_err c.from_residual.result _ c.forget.ensures.shares
+pub returns-in_err-reserve-clause-no_share : goal.returns-in_err-reserve-clause-no_share
+returns-in_err-reserve-clause-no_share c = on_err c.from_residual.result _ c.forget.ensures.shares
 
 pub returns-in_err-reserve-clause-lag : goal.returns-in_err-reserve-clause-lag
 returns-in_err-reserve-clause-lag c = c.forget.ensures.lag
@@ -12,8 +12,8 @@ returns-in_err-reserve-clause-lag c = c.forget.ensures.lag
 pub returns-in_err-reserve-clause-drops : goal.returns-in_err-reserve-clause-drops
 returns-in_err-reserve-clause-drops c = c.forget.ensures.drops
 
-pub returns-then-is_err-clause-err : goal.returns-then-is_err-clause-err
-returns-then-is_err-clause-err c = on_err c.share_out-made.result _ c.drop_shares.ensures.shares
+pub returns-then-is_err-clause-no_share : goal.returns-then-is_err-clause-no_share
+returns-then-is_err-clause-no_share c = on_err c.share_out-made.result _ c.drop_shares.ensures.shares
 
 pub returns-then-is_err-clause-lag : goal.returns-then-is_err-clause-lag
 returns-then-is_err-clause-lag c = c.drop_shares.ensures.lag ∙ c.forget.ensures.lag
@@ -30,5 +30,5 @@ returns-else-is_err-clause-drops c = c.forget.ensures.drops
 pub returns-else-is_err-clause-shares : goal.returns-else-is_err-clause-shares
 returns-else-is_err-clause-shares c = c.share_out-made.ensures.shares
 
-pub returns-else-is_err-clause-many : goal.returns-else-is_err-clause-many
-returns-else-is_err-clause-many c = c.share_out-made.ensures.many
+pub returns-else-is_err-clause-as_many : goal.returns-else-is_err-clause-as_many
+returns-else-is_err-clause-as_many c = c.share_out-made.ensures.as_many
