@@ -7,7 +7,7 @@ use Rattle.feed_core.specs.Desk.{Rests, desk_after_signal}
 use Rattle.feed_core.specs.LaneCalls.{lane_with_closing}
 use Rattle.feed_core.specs.Feed.{DoesCall, end_of}
 use Rattle.publisher_hub.specs.Hub.{HubState, Progress, hub_of}
-use Rattle.publisher_hub.specs.Offering.{work_of}
+use Rattle.publisher_hub.specs.Gathering.{work_of}
 use Rattle.publisher_hub.specs.Sound.{IsSound}
 use Rattle.publisher_hub.specs.Subscribing.{Admits, ClosesNew, first_entry}
 use Rattle.publisher_hub.specs.declared.entry.Entry.{Entry}

@@ -10,7 +10,7 @@ use Rattle.feed_core.specs.Desk.{desk_after_duplicate}
 use Rattle.feed_core.specs.Feed.{DoesCall, end_of}
 use Rattle.feed_core.specs.LaneCalls.{lane_with_duplicate}
 use Rattle.publisher_hub.specs.Hub.{HubState, Progress, hub_of}
-use Rattle.publisher_hub.specs.Offering.{work_of}
+use Rattle.publisher_hub.specs.Gathering.{work_of}
 use Rattle.publisher_hub.specs.Sound.{IsSound}
 use Rattle.publisher_hub.specs.Subscribing.{IsSeen, TellsOne, Told}
 use Rattle.publisher_hub.specs.declared.entry.Entry.{Entry}

@@ -10,7 +10,8 @@ use Rattle.feed_core.specs.LaneCalls.{IsCapacity}
 use Rattle.publisher_hub.specs.Hub.{HubState, hub_of}
 use Rattle.publisher_hub.specs.Lists.{EachBy, greatest}
 use Rattle.publisher_hub.specs.Looking.{IsLookedAt, Prepares}
-use Rattle.publisher_hub.specs.Offering.{IsNextItem, ReachesAll, dropped, lags, lags_again, started, started_again}
+use Rattle.publisher_hub.specs.Gathering.{dropped, lags, lags_again, started, started_again}
+use Rattle.publisher_hub.specs.Offering.{IsNextItem, ReachesAll}
 use Rattle.publisher_hub.specs.Publishing as Publishing
 use Rattle.publisher_hub.specs.Publishing.{IsRefused, OffersItem, RefusesOffer, WhyNotOffered}
 use Rattle.publisher_hub.specs.Sound.{IsSound}
@@ -169,7 +170,7 @@ pub record HubOffered (text : List ℕ) (old new : Hub DeskState) (due : List (W
 pub hub_offered : (text : List ℕ) (declines : Bool) (old new : Hub DeskState) (due_old due : List (Work Unit)) (answer : ℤ) → IsScriptHub old → due_old ≡ [] → IsSound (hub_of end_of new)
     → OffersItem end_of DoesCall SOURCE text declines old new due_old due answer → HubOffered text old new due answer
 hub_offered text declines old new due_old due answer is no_due sound o = record {
-  published = hub_published text old new o.item due is sound o.from o.words o.offers
+  published = hub_published text old new o.item due is sound o.from o.words o.reaches
       (second.same ∙ first.same ∙ ap (map (subscription_after_offer o.item)) looked.same)
       second.entries
       (ap numbers_of due_is ∙ first.started ∙ ap (λ before. newly_woken before (map subscription_of o.middle)) looked.same ∙ ap (newly_woken (map subscription_of old.entries.items)) (sym second.same));
@@ -178,14 +179,14 @@ hub_offered text declines old new due_old due answer is no_due sound o = record 
       ∙ ap (λ n. drops_or_lag n (greatest (lags o.puts ++ lags_again o.seconds))) (ap length second.drops ∙ first.missed ∙ ap drop_count looked.same)
       ∙ ap (drops_or_lag (drop_count (map subscription_of old.entries.items))) (
       ap (λ more. greatest (lags o.puts ++ more)) second.lag ∙ ap greatest (append-nil (lags o.puts)) ∙ first.lag ∙ ap (greatest_lag o.item) looked.same
-      ∙ ap (λ i. greatest_lag i (map subscription_of old.entries.items)) (next_item_is old o.item text is o.offers.next o.from o.words)
+      ∙ ap (λ i. greatest_lag i (map subscription_of old.entries.items)) (next_item_is old o.item text is o.reaches.next o.from o.words)
       );
 } where
   looked : ListSeesSame old.entries.items o.ready
   looked = prepared_all_same old.next o.glances old.entries.items o.ready is.entries o.looked
 
   first : AllOffered o.item o.puts o.ready o.middle
-  first = all_offered o.item o.puts o.ready o.middle (may_all_be_offered old.next o.glances old.entries.items o.ready is.entries (unclosed_entries old is o.offers.next.unclosed) o.looked) o.given
+  first = all_offered o.item o.puts o.ready o.middle (may_all_be_offered old.next o.glances old.entries.items o.ready is.entries (unclosed_entries old is o.reaches.next.unclosed) o.looked) o.given
 
   second : AllStay o.puts o.seconds o.middle new.entries.items
   second = all_stay o.item o.puts o.seconds o.ready o.middle new.entries.items first.entries o.given o.again o.asked

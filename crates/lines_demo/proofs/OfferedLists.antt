@@ -10,7 +10,8 @@ use Rattle.flow_rules.specs.declared.feed.standing.Standing.{Standing}
 use Rattle.feed_core.specs.Feed.{DoesCall, end_of}
 use Rattle.publisher_hub.specs.Lists.{Each, EachBy, gather, greatest}
 use Rattle.publisher_hub.specs.Looking.{Prepares}
-use Rattle.publisher_hub.specs.Offering.{AreAsked, Gives, GivesAgain, Second, dropped, dropped_by, lag_again_by, lag_by, lags, lags_again, missed, missed_by, started, started_again, started_again_by, started_by}
+use Rattle.publisher_hub.specs.Gathering.{AreAsked, Second, dropped, dropped_by, lag_again_by, lag_by, lags, lags_again, missed, missed_by, started, started_again, started_again_by, started_by}
+use Rattle.publisher_hub.specs.Offering.{Gives, GivesAgain}
 use Rattle.publisher_hub.specs.declared.entry.Entry.{Entry}
 use Rattle.publisher_hub.proofs.AnswerLists.Gathering.{gather_nothing}
 use Rattle.publisher_hub.proofs.Publications.FullBuffers.{missed_at, missed_is}

@@ -14,7 +14,7 @@ use Rattle.publisher_hub.specs.Hub.{HubState, Progress, hub_of}
 use Rattle.publisher_hub.specs.Lists.{Each}
 use Rattle.publisher_hub.specs.Looking.{Glances, IsKept, IsLookedAt, LooksAtAll}
 use Rattle.publisher_hub.specs.Sound.{IsSound}
-use Rattle.publisher_hub.specs.Standing.{LooksAtOne}
+use Rattle.publisher_hub.specs.Looking.{LooksAtOne}
 use Rattle.publisher_hub.specs.Subscribing.{IsSeen, IsSeenInPart, Refuses, FindsNoPlace, TellsAt, TellsOne}
 use Rattle.publisher_hub.specs.declared.hub.Hub.{Hub}
 use Rattle.publisher_hub.specs.declared.work.Work.{Work}

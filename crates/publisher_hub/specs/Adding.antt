@@ -33,7 +33,7 @@ pub record IsFresh (capacity : ℕ) (e : End) : Type 0 where
   pub unasked : e.state ≡ false
   pub is_ready : e.ready ≡ true
 
--- a new subscription of a Hub that has come so far
+-- a new subscription of a Hub whose publications have come this far
 abbrev pub new_entry : Progress → List ℕ → End → Option Ticket → EntryState
 new_entry progress name e ticket = record {
   name = name;

@@ -9,7 +9,7 @@ use Rattle.publisher_hub.specs.Entry.{EntryState}
 use Rattle.publisher_hub.specs.Hub.{HubState, Progress, hub_of}
 use Rattle.publisher_hub.specs.Lists.{Each, EachBy, gather}
 use Rattle.publisher_hub.specs.Looking.{IsLookedAt, Prepares, StaysRetired}
-use Rattle.publisher_hub.specs.Offering.{work_of}
+use Rattle.publisher_hub.specs.Gathering.{work_of}
 use Rattle.publisher_hub.specs.declared.entry.AtClose.{AtClose}
 use Rattle.publisher_hub.specs.declared.entry.Entry.{Entry}
 use Rattle.publisher_hub.specs.declared.hub.Hub.{Hub}
@@ -42,7 +42,7 @@ pub record IsClosed (ending : Ending) (old new : HubState) : Type 0 where
   }
   pub entries : Each (IsClosedBy ending) old.entries new.entries
 
--- the same after looks
+-- a Hub without an ending was looked at, and then closed
 pub record IsClosedLooking (ending : Ending) (old new : HubState) : Type 0 where
   pub middle : HubState
   pub looked : IsLookedAt old middle
@@ -68,7 +68,7 @@ module _ {F T : Type 0} (meaning : F → End) (does : F → Call T → F → Typ
     pub exact : does before (Call.Ends ending start) after
     pub now : new ≡ record old { feed = Some after }
 
-  -- the same of any subscription: a retired one answers nothing
+  -- what a close did at any subscription: a retired one is left alone
   abbrev pub Closes : Ending → AtClose T → Entry F → Entry F → Type 0
   Closes ending AtClose.Retired old new = (old.retired ≡ true) × (new ≡ old)
   Closes ending (AtClose.Ended start) old new = Closed ending start old new

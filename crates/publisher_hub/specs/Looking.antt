@@ -1,5 +1,5 @@
 -- What looks do to the subscriptions of a Hub.
-use Rattle.std.specs.Prelude.{◌≡◌, ◌⊎◌, ℕ, ◌<◌, ◌≤◌, Bool, true, false, ◌||◌, nat_lt, if◌then◌else◌, Option, None, Some, Result, List, [], ◌∷◌, length, OnOk, OnErr, IsOk, IsErr}
+use Rattle.std.specs.Prelude.{◌≡◌, ◌⊎◌, ℕ, ◌<◌, ◌≤◌, Bool, true, false, ◌||◌, nat_lt, if◌then◌else◌, Option, None, Some, Result, List, [], ◌∷◌, length, slice_get, slice_set, OnOk, OnErr, IsOk, IsErr}
 use Rattle.flow_rules.specs.Call.{Call}
 use Rattle.flow_rules.specs.Feed.{End, Looked, held_count, is_gone}
 use Rattle.flow_rules.specs.declared.feed.standing.Standing.{Standing}
@@ -50,7 +50,7 @@ pub record IsLookedAt (old new : HubState) : Type 0 where
   pub rest : OnlyEntriesChange old new
   pub entries : Each (IsKept old.progress.next) old.entries new.entries
 
--- the number of a subscription that goes on, where a look showed that its buffer is full
+-- the number of a subscription that goes on, if a look showed that its buffer is full
 abbrev pub full_by : ℕ → ℕ → Option Standing → List ℕ
 full_by capacity number None = []
 full_by capacity number (Some standing) =
@@ -80,7 +80,7 @@ module _ {F T : Type 0} (meaning : F → End) (does : F → Call T → F → Typ
     pub stays : (meaning f).ready ≡ true → IsOk answer
     pub exact : does f (Call.Readies answer) g
 
-  -- a live subscription was looked at, which retires it at this serial number where that shows its end
+  -- a live subscription was looked at, which retires it at this serial number if that shows its end
   pub record Sees (next : ℕ) (standing : Standing) (old new : Entry F) : Type 0 where
     pub before : F
     pub after : F
@@ -91,7 +91,7 @@ module _ {F T : Type 0} (meaning : F → End) (does : F → Call T → F → Typ
         → new ≡ record old { feed = Some after; retired = true; until = next }
     pub stays : standing.ended ≡ false → new ≡ record old { feed = Some after }
 
-  -- what a look showed of a subscription: nothing where that was retired before
+  -- what a look showed of a subscription: nothing, if that was retired before
   abbrev pub Glances : ℕ → Option Standing → Entry F → Entry F → Type 0
   Glances next None old new = (old.retired ≡ true) × (new ≡ old)
   Glances next (Some standing) old new = Sees next standing old new
@@ -104,7 +104,7 @@ module _ {F T : Type 0} (meaning : F → End) (does : F → Call T → F → Typ
     pub readies : Readies answer before after
     pub now : new ≡ record old { feed = Some after }
 
-  -- a live subscription was looked at, and made ready where it goes on
+  -- a live subscription was looked at, and made ready if it goes on
   pub record SeesReady (next : ℕ) (standing : Standing) (old new : Entry F) : Type 0 where
     pub middle : Entry F
     pub sees : Sees next standing old middle
@@ -112,7 +112,7 @@ module _ {F T : Type 0} (meaning : F → End) (does : F → Call T → F → Typ
     pub stays : standing.ended ≡ false
         → (answer : Result Unit NoMemory) × (IsOk answer × IsReadied answer middle new)
 
-  -- the same of any subscription
+  -- any subscription was looked at and made ready, unless it is retired
   abbrev pub Prepares : ℕ → Option Standing → Entry F → Entry F → Type 0
   Prepares next None old new = (old.retired ≡ true) × (new ≡ old)
   Prepares next (Some standing) old new = SeesReady next standing old new
@@ -137,13 +137,13 @@ module _ {F T : Type 0} (meaning : F → End) (does : F → Call T → F → Typ
   PreparesAll glances old new =
       EachBy (Prepares old.next) glances old.entries.items new.entries.items
 
-  -- so they were, and this tells whether none that goes on was full
+  -- each live subscription was looked at and made ready, and this tells whether none that goes on was full
   abbrev pub FindsRoom : Hub F → Hub F → Bool → Type 0
   FindsRoom old new room =
       (glances : List (Option Standing))
       × (PreparesAll glances old new × IsRoom room old.capacity glances)
 
-  -- some of them were, before memory was refused
+  -- some live subscriptions of a Hub were looked at and made ready, before memory was refused
   abbrev pub PreparesInPart : Hub F → Hub F → Type 0
   PreparesInPart old new = Each (MayPrepare old.next) old.entries.items new.entries.items
 
@@ -169,3 +169,13 @@ module _ {F T : Type 0} (meaning : F → End) (does : F → Call T → F → Typ
   pub record LooksAtAll (glances : List (Option Standing)) (old new : Hub F) : Type 0 where
     pub rest : OnlyEntriesChange (hub_of meaning old) (hub_of meaning new)
     pub entries : EachBy (Glances meaning does old.next) glances old.entries.items new.entries.items
+
+  -- the subscription of this number was looked at, which retires it if that shows its end; one that was retired before, or was never made,
+  -- shows nothing; and nothing else changed
+  pub record LooksAtOne (number : ℕ) (glance : Option Standing) (old new : Hub F) : Type 0 where
+    pub rest : OnlyEntriesChange (hub_of meaning old) (hub_of meaning new)
+    pub none : slice_get old.entries.items number ≡ None
+        → (glance ≡ None) × (new.entries.items ≡ old.entries.items)
+    pub there : (before : Entry F) → slice_get old.entries.items number ≡ Some before
+        → (after : Entry F) × (Glances meaning does old.next glance before after
+        × (new.entries.items ≡ slice_set old.entries.items number after))

@@ -57,7 +57,7 @@ abbrev pub AreAgreed : List EntryState → Type 0
 AreAgreed entries = (x y : Item)
     → IsAccepted entries x → IsAccepted entries y → x.serial ≡ y.serial → x ≡ y
 
--- numbers of so many subscriptions, rising
+-- these are numbers of this many subscriptions, rising
 pub record AreNumbers (numbers : List ℕ) (many : ℕ) : Type 0 where
   pub rising : (i j n m : ℕ)
       → slice_get numbers i ≡ Some n → slice_get numbers j ≡ Some m → i < j → n < m

@@ -14,7 +14,7 @@ use Rattle.publisher_hub.specs.Entry.{EntryState}
 use Rattle.publisher_hub.specs.Hub.{OnlyEntriesChange, OnlySubscriptionsChange, hub_of}
 use Rattle.publisher_hub.specs.Lists.{Each}
 use Rattle.publisher_hub.specs.Looking.{IsKept, PreparesAll, PreparesInPart}
-use Rattle.publisher_hub.specs.Offering.{work_of}
+use Rattle.publisher_hub.specs.Gathering.{work_of}
 use Rattle.publisher_hub.specs.Readiness.{AreReady}
 use Rattle.publisher_hub.specs.Sound.{MOST_ENTRIES, MOST_LIVE}
 use Rattle.publisher_hub.specs.declared.entry.Entry.{Entry}
@@ -147,7 +147,7 @@ module _ {F T : Type 0} (meaning : F → End) (does : F → Call T → F → Typ
   Refuses name refusal due_before due_after old new =
       FindsNoPlace name refusal old new × (due_after ≡ due_before)
 
-  -- the producer's end of a new subscription is closed at once where its Hub was
+  -- the producer's end of a new subscription is closed at once if its Hub was
   abbrev pub ClosesNew : Option Ending → F → Option T → F → Type 0
   ClosesNew None feed start after = (start ≡ None) × (after ≡ feed)
   ClosesNew (Some ending) feed start after =

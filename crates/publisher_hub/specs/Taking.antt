@@ -1,4 +1,4 @@
--- What becomes of a Hub where the producer's end of a subscription is taken out.
+-- What becomes of a Hub when the producer's end of a subscription is taken out.
 use Rattle.std.specs.Prelude.{◌≡◌, ℕ, true, if◌then◌else◌, Option, None, Some, slice_get, slice_set}
 use Rattle.flow_rules.specs.Feed.{End}
 use Rattle.publisher_hub.specs.Hub.{OnlyEntriesChange, hub_of}
@@ -20,7 +20,7 @@ TakesOut next None old new = (old.feed ≡ None) × (new ≡ old)
 TakesOut next (Some feed) old new = (old.feed ≡ Some feed) × (new ≡ entry_without_feed next old)
 
 module _ {F : Type 0} (meaning : F → End) where
-  -- so it was of the subscription of this number in a Hub, if there is one, and nothing else changed
+  -- the producer's end of the subscription of this number in a Hub was taken out, if there is one, and nothing else changed
   pub record TakesOutAt (number : ℕ) (feed : Option F) (old new : Hub F) : Type 0 where
     pub rest : OnlyEntriesChange (hub_of meaning old) (hub_of meaning new)
     pub none : slice_get old.entries.items number ≡ None

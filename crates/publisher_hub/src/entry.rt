@@ -49,7 +49,7 @@ pub(crate) enum AtClose<T> {
 impl<F: Feed> Entry<F> {
     ghost use Rattle.publisher_hub.specs.Lending.{lends_feed};
 
-    /// Looks at a subscription that isn't retired, and retires it where it has ended.
+    /// Looks at a subscription that isn't retired, and retires it if it has ended.
     pub fn look(&mut self, next: u64) -> Option<Standing>
         requires here { IsHere (entry_of F.meaning self.old) }
         ensures { Glances F.meaning F.does next result self.old self.new }
@@ -69,7 +69,7 @@ impl<F: Feed> Entry<F> {
         }
     }
 
-    /// Looks at a subscription that isn't retired, retires it where it has ended, and else makes it ready for one task.
+    /// Looks at a subscription that isn't retired, retires it if it has ended, and else makes it ready for one task.
     pub fn prepare(&mut self, next: u64) -> Result<Option<Standing>, NoMemory>
         requires here { IsHere (entry_of F.meaning self.old) }
         ensures ok { IfOk result (λ glance.
@@ -96,8 +96,8 @@ impl<F: Feed> Entry<F> {
         }
     }
 
-    /// Offers an item to a subscription that isn't retired. Where it takes no more items it is retired; where its buffer is full,
-    /// the drop is counted.
+    /// Offers an item to a subscription that isn't retired. If it takes no more items, it is retired; if its buffer is full, the drop
+    /// is counted.
     #[must_use]
     pub fn give(&mut self, item: Item) -> Option<Put<F::Task>>
         requires take { CanTake (entry_of F.meaning self.old) }
@@ -165,7 +165,7 @@ impl<F: Feed> Entry<F> {
         }
     }
 
-    /// Looks at a subscription whose producer's end is there. Where that shows its end, it is retired and its ticket taken out.
+    /// Looks at a subscription, if its producer's end is there. If that shows that it has ended, it is retired and its ticket taken out.
     pub fn ended(&mut self, next: u64) -> Option<Ticket>
         ensures { (glance : Option Standing)
             × AsksForTicket F.meaning F.does next glance result self.old self.new }

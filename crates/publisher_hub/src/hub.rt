@@ -25,14 +25,14 @@ ghost use Rattle.publisher_hub.specs.Hub.{hub_of, hub_at_start};
 ghost use Rattle.publisher_hub.specs.Sound.{IsSound};
 
 use crate::entry::Entry;
-use crate::rounds::Giving;
+use crate::rounds::Gathering;
 use close_count::Opening;
 use flow_rules::{Ending, Feed, MOST_PUBLICATIONS, NoMemory, Refusal, capacity};
 pub use publishing::Unpublished;
 use std::alloc::Global;
 pub use subscribing::{MOST_ENTRIES, MOST_LIVE};
 
-/// How many sources a Hub has at most (submitters, where threads publish).
+/// How many sources a Hub has at most: submitters, if threads publish.
 pub const MOST_SOURCES: usize = 256;
 
 /// The subscriptions of one publisher, and the numbers of its publications (`SubmissionPublisher`, Java SE 17).
@@ -62,13 +62,13 @@ pub struct Hub<F> {
     /// The numbers of those that may be live, rising.
     pub(crate) live: Vec<u32>,
     /// What a publication gathers. Its room is kept for the next one, and no share.
-    pub(crate) giving: Giving,
+    pub(crate) gathering: Gathering,
 }
 
 impl<F: Feed> Hub<F> {
-    /// A Hub without subscriptions, whose buffers have the capacity that is enforced where this one is asked for.
+    /// Makes a Hub without subscriptions, whose buffers have the capacity that is enforced if this one is asked for.
     ///
-    /// Refused 1 where the capacity is 0, and 5 where a growth is refused.
+    /// Refused 1 if the capacity is 0, and 5 if a growth is refused.
     pub fn new(alloc: Global, asked: usize) -> Result<Hub<F>, Refusal>
         ensures ok { IfOk result (λ hub.
             hub_of F.meaning hub ≡ hub_at_start (capacity_of asked) 0) }
@@ -80,7 +80,7 @@ impl<F: Feed> Hub<F> {
         Hub::starting_at(alloc, asked, 0)
     }
 
-    /// The same, with its next serial number.
+    /// Makes a Hub as [`new`](Hub::new) does, whose next serial number is this one.
     pub fn starting_at(alloc: Global, asked: usize, serial: u64) -> Result<Hub<F>, Refusal>
         requires { serial ≤ MOST_PUBLICATIONS }
         ensures ok { IfOk result (λ hub.
@@ -101,7 +101,7 @@ impl<F: Feed> Hub<F> {
             opening: None,
             entries: Vec::new(alloc),
             live: Vec::new(alloc),
-            giving: Giving::new(alloc),
+            gathering: Gathering::new(alloc),
         })
     }
 
@@ -129,7 +129,7 @@ impl<F: Feed> Hub<F> {
     }
 }
 
-/// Of no source an item was published.
+/// The counts of a new Hub: no source has published an item.
 fn no_counts(alloc: Global) -> Result<Vec<u64>, NoMemory>
     ensures { IfOk result (λ counts. counts.items ≡ replicate MOST_SOURCES 0) }
 {

@@ -8,7 +8,7 @@ mod preparing;
 mod retrying;
 
 pub(crate) use closing::end_all;
-pub(crate) use gathering::{Giving, push_started};
+pub(crate) use gathering::{Gathering, push_started};
 pub(crate) use giving::give_all;
 pub(crate) use looking::{Overview, look_all};
 pub(crate) use naming::{has_name, names_of};

@@ -2,7 +2,7 @@
 ghost use Rattle.std.specs.Prelude.{◌≡◌, ◌↔◌, Option, IsErr, IsOk, IsSome, None, true};
 ghost use Rattle.feed_cell.specs.Offering.{DoesCall};
 ghost use Rattle.flow_rules.specs.declared.feed.standing.Standing.{Standing};
-ghost use Rattle.publisher_hub.specs.Standing.{LooksAtOne};
+ghost use Rattle.publisher_hub.specs.Looking.{LooksAtOne};
 ghost use Rattle.publisher.specs.Standing.{has_ended_by, lag_by};
 ghost use Rattle.publisher.specs.State.{producer_end};
 

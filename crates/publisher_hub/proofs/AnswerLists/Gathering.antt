@@ -30,6 +30,19 @@ gathers_nothing each (first ∷ answers) place (suc i) answer none at =
     let both = both_empty (each place first) (gather each (suc place) answers) none in
     subst (λ p. each p answer ≡ []) (omega arith) (gathers_nothing each answers (suc place) i answer both.1 at)
 
+-- two lists gather the same if their elements do at each place
+pub gather_same : {A B C : Type 0} (f : ℕ → A → List C) (g : ℕ → B → List C) (xs : List A) (ys : List B) (place : ℕ) → length xs ≡ length ys
+    → ((i : ℕ) (x : A) (y : B) → slice_get xs i ≡ Some x → slice_get ys i ≡ Some y → f (place + i) x ≡ g (place + i) y) → gather f place xs ≡ gather g place ys
+unfolding gather
+gather_same f g [] [] place long same = refl
+gather_same f g [] (y ∷ ys) place long same = cc
+gather_same f g (x ∷ xs) [] place long same = cc
+gather_same f g (x ∷ xs) (y ∷ ys) place long same =
+    let first : f place x ≡ g place y = subst (λ p. f p x ≡ g p y) (omega arith) (same 0 x y refl refl) in
+    let shorter : length xs ≡ length ys = omega arith in
+    ap (λ cs. cs ++ gather f (suc place) xs) first
+    ∙ ap (λ cs. g place y ++ cs) (gather_same f g xs ys (suc place) shorter (λ i a b at at'. subst (λ p. f p a ≡ g p b) (omega arith) (same (suc i) a b at at')))
+
 -- where each answer gathers at most one, no more are gathered than there are answers
 pub gather_few : {B C : Type 0} (each : ℕ → B → List C) (answers : List B) (place : ℕ) → ((p : ℕ) (answer : B) → length (each p answer) ≤ 1) → length (gather each place answers) ≤ length answers
 unfolding gather

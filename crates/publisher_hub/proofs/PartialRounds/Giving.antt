@@ -8,24 +8,24 @@ use Rattle.flow_rules.specs.Call.{Call}
 use Rattle.flow_rules.specs.Feed.{End}
 use Rattle.flow_rules.specs.declared.feed.put.Put.{Put}
 use Rattle.flow_rules.specs.declared.item.Item.{Item}
-use Rattle.publisher_hub.specs.Giving.{Adds, AreShares, Gathers, HasRoom}
-use Rattle.publisher_hub.specs.Offering.{Gives, lag_by, lags, missed_by, started, started_by}
+use Rattle.publisher_hub.specs.Gathering.{Adds, AreShares, Gathers, HasRoom, lag_by, lags, missed_by, started, started_by}
+use Rattle.publisher_hub.specs.Offering.{Gives}
 use Rattle.publisher_hub.specs.Sound.{AreNumbers}
 use Rattle.publisher_hub.specs.declared.entry.Entry.{Entry}
-use Rattle.publisher_hub.specs.declared.rounds.gathering.Giving.{Giving}
+use Rattle.publisher_hub.specs.declared.rounds.gathering.Gathering.{Gathering}
 use Rattle.publisher_hub.specs.declared.work.Work.{Work}
 use Rattle.publisher_hub.proofs.PartialRounds.Progress.{Upto, gather_next, gather_none, upto_next, upto_none}
 
 module _ {F T : Type 0} (meaning : F → End) (does : F → Call T → F → Type 0) (item : Item) (live : List ℕ) where
-  pub record IsGiving (n : ℕ) (xs ys : List (Entry F)) (giving : Giving) (due_old due_new : Vec (Work T) Global) : Type 0 where
+  pub record IsGiving (n : ℕ) (xs ys : List (Entry F)) (gathering : Gathering) (due_old due_new : Vec (Work T) Global) : Type 0 where
     pub puts : List (Option (Put T))
     pub upto : Upto (Gives meaning does item) None live n puts xs ys
-    pub gathers : Gathers item puts giving due_old due_new
+    pub gathers : Gathers item puts gathering due_old due_new
 
   -- at first nothing was offered
-  pub giving_none : (xs : List (Entry F)) (giving : Giving) (due : Vec (Work T) Global) → giving.missed.items ≡ [] → giving.lag ≡ 0
-      → AreShares item giving.shares.items → IsGiving 0 xs xs giving due due
-  giving_none xs giving due no_missed no_lag shares = record {
+  pub giving_none : (xs : List (Entry F)) (gathering : Gathering) (due : Vec (Work T) Global) → gathering.missed.items ≡ [] → gathering.lag ≡ 0
+      → AreShares item gathering.shares.items → IsGiving 0 xs xs gathering due due
+  giving_none xs gathering due no_missed no_lag shares = record {
     puts = replicate (length xs) None;
     upto = upto_none (Gives meaning does item) None live xs;
     gathers = record {
@@ -37,7 +37,7 @@ module _ {F T : Type 0} (meaning : F → End) (does : F → Call T → F → Typ
   }
 
   -- one more was offered the item
-  pub giving_next : (n k : ℕ) (xs ys : List (Entry F)) (answer : Option (Put T)) (x y : Entry F) (before after : Giving) (due_old due_before due_after : Vec (Work T) Global)
+  pub giving_next : (n k : ℕ) (xs ys : List (Entry F)) (answer : Option (Put T)) (x y : Entry F) (before after : Gathering) (due_old due_before due_after : Vec (Work T) Global)
       → AreNumbers live (length xs) → slice_get live n ≡ Some k → slice_get xs k ≡ Some x → Gives meaning does item answer x y → Adds item k answer before after due_before due_after
       → IsGiving n xs ys before due_old due_before → IsGiving (n + 1) xs (set ys k y) after due_old due_after
   giving_next n k xs ys answer x y before after due_old due_before due_after numbers number at gives adds so_far =
@@ -58,5 +58,5 @@ module _ {F T : Type 0} (meaning : F → End) (does : F → Call T → F → Typ
       }
 
 -- the room that is left after one more
-pub room_next : {T : Type 0} (many n : ℕ) (giving : Giving) (due : Vec (Work T) Global) → n < many → HasRoom (many - n) giving due → HasRoom (many - (n + 1) + 1) giving due
-room_next many n giving due within room = subst (λ left. HasRoom left giving due) (omega arith) room
+pub room_next : {T : Type 0} (many n : ℕ) (gathering : Gathering) (due : Vec (Work T) Global) → n < many → HasRoom (many - n) gathering due → HasRoom (many - (n + 1) + 1) gathering due
+room_next many n gathering due within room = subst (λ left. HasRoom left gathering due) (omega arith) room

@@ -9,12 +9,12 @@ use Rattle.flow_rules.specs.Call.{Call}
 use Rattle.flow_rules.specs.Feed.{End}
 use Rattle.flow_rules.specs.declared.feed.put.Put.{Put}
 use Rattle.flow_rules.specs.declared.item.Item.{Item}
-use Rattle.publisher_hub.specs.Giving.{AddsAgain, AreShares, GathersAgain}
+use Rattle.publisher_hub.specs.Gathering.{AddsAgain, AreAsked, AreShares, GathersAgain, Second, dropped, dropped_by, lag_again_by, lags_again, started_again, started_again_by}
 use Rattle.publisher_hub.specs.Lists.{EachBy}
-use Rattle.publisher_hub.specs.Offering.{AreAsked, GivesAgain, Second, dropped, dropped_by, lag_again_by, lags_again, started_again, started_again_by}
+use Rattle.publisher_hub.specs.Offering.{GivesAgain}
 use Rattle.publisher_hub.specs.Sound.{AreNumbers}
 use Rattle.publisher_hub.specs.declared.entry.Entry.{Entry}
-use Rattle.publisher_hub.specs.declared.rounds.gathering.Giving.{Giving}
+use Rattle.publisher_hub.specs.declared.rounds.gathering.Gathering.{Gathering}
 use Rattle.publisher_hub.specs.declared.work.Work.{Work}
 use Rattle.publisher_hub.proofs.AnswerLists.Places.{there}
 use Rattle.publisher_hub.proofs.PartialRounds.Progress.{IsAmong, Upto, found_or_not, gather_next, gather_none, upto_each, upto_next, upto_none}
@@ -28,19 +28,19 @@ module _ {F T : Type 0} (meaning : F → End) (does : F → Call T → F → Typ
   abbrev pub IsAsked : Second T → Entry F → Entry F → Type 0
   IsAsked second old new = IsSome second × GivesAgain meaning does item second old new
 
-  pub record IsRetrying (n : ℕ) (xs ys : List (Entry F)) (old new : Giving) (due_old due_new : Vec (Work T) Global) : Type 0 where
+  pub record IsRetrying (n : ℕ) (xs ys : List (Entry F)) (old new : Gathering) (due_old due_new : Vec (Work T) Global) : Type 0 where
     pub seconds : List (Second T)
     pub upto : Upto IsAsked None numbers n seconds xs ys
     pub gathers : GathersAgain item seconds old new due_old due_new
 
   -- at first nobody was asked
-  pub retrying_none : (xs : List (Entry F)) (giving : Giving) (due : Vec (Work T) Global) → giving.drops ≡ 0 → AreShares item giving.shares.items → IsRetrying 0 xs xs giving giving due due
-  retrying_none xs giving due no_drops shares = record {
+  pub retrying_none : (xs : List (Entry F)) (gathering : Gathering) (due : Vec (Work T) Global) → gathering.drops ≡ 0 → AreShares item gathering.shares.items → IsRetrying 0 xs xs gathering gathering due due
+  retrying_none xs gathering due no_drops shares = record {
     seconds = replicate (length xs) None;
     upto = upto_none IsAsked None numbers xs;
     gathers = record {
       due = sym (append-nil due.items) ∙ ap (λ works. due.items ++ works) (sym (gather_none {B = Second T} {C = Work T} started_again_by None (length xs) (λ p. refl)));
-      lag = ap (λ ns. fold max giving.lag ns) (sym (gather_none {B = Second T} {C = ℕ} lag_again_by None (length xs) (λ p. refl)));
+      lag = ap (λ ns. fold max gathering.lag ns) (sym (gather_none {B = Second T} {C = ℕ} lag_again_by None (length xs) (λ p. refl)));
       drops = no_drops ∙ ap length (sym (gather_none {B = Second T} {C = ℕ} dropped_by None (length xs) (λ p. refl)));
       missed = refl;
       shares = shares;
@@ -48,7 +48,7 @@ module _ {F T : Type 0} (meaning : F → End) (does : F → Call T → F → Typ
   }
 
   -- one more was asked about
-  pub retrying_next : (n k : ℕ) (xs ys : List (Entry F)) (answer : Option (Put T)) (x y : Entry F) (old before after : Giving) (due_old due_before due_after : Vec (Work T) Global)
+  pub retrying_next : (n k : ℕ) (xs ys : List (Entry F)) (answer : Option (Put T)) (x y : Entry F) (old before after : Gathering) (due_old due_before due_after : Vec (Work T) Global)
       → AreNumbers numbers (length xs) → slice_get numbers n ≡ Some k → slice_get xs k ≡ Some x → GivesAgain meaning does item (Some answer) x y → AddsAgain item k (Some answer) before after due_before due_after
       → IsRetrying n xs ys old before due_old due_before → IsRetrying (n + 1) xs (set ys k y) old after due_old due_after
   retrying_next n k xs ys answer x y old before after due_old due_before due_after are number at gives adds so_far =

@@ -6,8 +6,8 @@ use Rattle.flow_rules.specs.Feed.{End}
 use Rattle.flow_rules.specs.declared.feed.put.Put.{Put}
 use Rattle.flow_rules.specs.declared.feed.put.Put.TheVariants.{Accepted, Full, Gone}
 use Rattle.flow_rules.specs.declared.item.Item.{Item}
-use Rattle.publisher_hub.specs.Giving.{AreShares, back_by}
-use Rattle.publisher_hub.specs.Offering.{Gives, missed_by, started_by}
+use Rattle.publisher_hub.specs.Gathering.{AreShares, back_by, missed_by, started_by}
+use Rattle.publisher_hub.specs.Offering.{Gives}
 use Rattle.publisher_hub.specs.declared.entry.Entry.{Entry}
 use Rattle.publisher_hub.proofs.AnswerLists.Updates.{get_grown}
 

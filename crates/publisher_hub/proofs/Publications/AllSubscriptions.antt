@@ -16,7 +16,8 @@ use Rattle.publisher_hub.specs.Entry.{EntryState, entry_of}
 use Rattle.publisher_hub.specs.Hub.{HubState}
 use Rattle.publisher_hub.specs.Lists.{Each, EachBy}
 use Rattle.publisher_hub.specs.Looking.{Follows, IsReadied, Prepares, Readies, full, full_by}
-use Rattle.publisher_hub.specs.Offering.{Gives, IsReached, missed, missed_by}
+use Rattle.publisher_hub.specs.Gathering.{missed, missed_by}
+use Rattle.publisher_hub.specs.Offering.{Gives, IsReached}
 use Rattle.publisher_hub.specs.Sound.{IsSound}
 use Rattle.publisher_hub.specs.Steps.{CanAllGive}
 use Rattle.publisher_hub.specs.declared.entry.Entry.{Entry}

@@ -13,7 +13,8 @@ use Rattle.flow_rules.specs.declared.item.TheConstants.{MOST_PUBLICATIONS}
 use Rattle.publisher_hub.specs.Entry.{EntryState, entry_of}
 use Rattle.publisher_hub.specs.Lists.{Each, EachBy}
 use Rattle.publisher_hub.specs.Looking.{Prepares}
-use Rattle.publisher_hub.specs.Offering.{AreAsked, Gives, GivesAgain, IsReached, Offered, Second, dropped, dropped_by, lag_again_by, lag_by, lags, lags_again, missed}
+use Rattle.publisher_hub.specs.Gathering.{AreAsked, Second, dropped, dropped_by, lag_again_by, lag_by, lags, lags_again, missed}
+use Rattle.publisher_hub.specs.Offering.{Gives, GivesAgain, IsReached, Offered}
 use Rattle.publisher_hub.specs.Publishing.{dropping_after}
 use Rattle.publisher_hub.specs.Steps.{CanAllGive, CanEachTryAgain}
 use Rattle.publisher_hub.specs.declared.entry.Entry.{Entry}

@@ -9,13 +9,13 @@ use Rattle.flow_rules.specs.declared.feed.put.Put.TheVariants.{Accepted, Full, G
 use Rattle.flow_rules.specs.Call.{Call}
 use Rattle.flow_rules.specs.Feed.{End}
 use Rattle.flow_rules.specs.declared.item.Item.{Item}
-use Rattle.publisher_hub.specs.Giving.{AreShares}
+use Rattle.publisher_hub.specs.Gathering.{AreAsked, AreShares, Second, dropped, dropped_by, lag_again_by, lags_again, missed, missed_by, stands, started_again, started_again_by}
 use Rattle.publisher_hub.specs.Lists.{EachBy, gather}
-use Rattle.publisher_hub.specs.Offering.{AreAsked, GivesAgain, Second, dropped, dropped_by, lag_again_by, lags_again, missed, missed_by, stands, started_again, started_again_by}
+use Rattle.publisher_hub.specs.Offering.{GivesAgain}
 use Rattle.publisher_hub.specs.Publishing.{PassesAgain}
 use Rattle.publisher_hub.specs.Sound.{AreNumbers}
 use Rattle.publisher_hub.specs.declared.entry.Entry.{Entry}
-use Rattle.publisher_hub.specs.declared.rounds.gathering.Giving.{Giving}
+use Rattle.publisher_hub.specs.declared.rounds.gathering.Gathering.{Gathering}
 use Rattle.publisher_hub.specs.declared.work.Work.{Work}
 use Rattle.publisher_hub.proofs.PartialRounds.Next.{get_before_map, get_mapped}
 use Rattle.publisher_hub.proofs.PartialRounds.Progress.{same_some}
@@ -164,7 +164,7 @@ declined {F} {T} meaning does item puts xs long = record {
   by : (k : ℕ) (second : Second T) (x y : Entry F) → (old : Option (Put T)) × ((slice_get puts k ≡ Some old) × (stands old ≡ second)) → x ≡ y → GivesAgain meaning does item second x y
   by k second x y old same = subst (λ (entry : Entry F). GivesAgain meaning does item second x entry) same (subst (λ (s : Second T). GivesAgain meaning does item s x x) old.1.1 (quiet old.0 x))
 
-pub passes_declined : {F T : Type 0} (meaning : F → End) (does : F → Call T → F → Type 0) (item : Item) (declines : Bool) (puts : List (Option (Put T))) (xs : List (Entry F)) (old new : Giving) (due : Vec (Work T) Global)
+pub passes_declined : {F T : Type 0} (meaning : F → End) (does : F → Call T → F → Type 0) (item : Item) (declines : Bool) (puts : List (Option (Put T))) (xs : List (Entry F)) (old new : Gathering) (due : Vec (Work T) Global)
     → length puts ≡ length xs → new.drops ≡ vec_len old.missed → old.missed.items ≡ missed puts → new.lag ≡ old.lag → new.missed ≡ old.missed → new.shares ≡ old.shares → AreShares item old.shares.items
     → PassesAgain meaning does item declines puts (map stands puts) xs xs old new due due
 passes_declined meaning does item declines puts xs old new due long drops are lag same_missed same_shares shares =

@@ -11,7 +11,8 @@ use Rattle.flow_rules.specs.declared.item.TheConstants.{MOST_PUBLICATIONS}
 use Rattle.publisher_hub.specs.Entry.{EntryState, entry_of}
 use Rattle.publisher_hub.specs.Lists.{EachBy}
 use Rattle.publisher_hub.specs.Looking.{Prepares}
-use Rattle.publisher_hub.specs.Offering.{Gives, GivesAgain, IsReached, Offered, Second, dropped_by, missed}
+use Rattle.publisher_hub.specs.Gathering.{Second, dropped_by, missed}
+use Rattle.publisher_hub.specs.Offering.{Gives, GivesAgain, IsReached, Offered}
 use Rattle.publisher_hub.specs.Steps.{CanAllGive, CanEachTryAgain, CanGive, CanTryAgain}
 use Rattle.publisher_hub.specs.declared.entry.Entry.{Entry}
 use Rattle.publisher_hub.proofs.PartialRounds.Next.{get_before_map, get_mapped}

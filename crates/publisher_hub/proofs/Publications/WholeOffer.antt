@@ -12,15 +12,15 @@ use Rattle.flow_rules.specs.declared.feed.standing.Standing.{Standing}
 use Rattle.flow_rules.specs.declared.item.Item.{Item}
 use Rattle.flow_rules.specs.declared.item.TheConstants.{MOST_PUBLICATIONS}
 use Rattle.publisher_hub.specs.Entry.{EntryState, entry_of}
-use Rattle.publisher_hub.specs.Giving.{Gathers}
+use Rattle.publisher_hub.specs.Gathering.{Gathers, Second, dropped, lags, lags_again, missed, started, started_again}
 use Rattle.publisher_hub.specs.Hub.{HubState, Progress, hub_of}
 use Rattle.publisher_hub.specs.Lists.{EachBy, greatest}
 use Rattle.publisher_hub.specs.Looking.{IsLookedAt, Prepares}
-use Rattle.publisher_hub.specs.Offering.{Gives, GivesAgain, IsNextItem, ReachesAll, Second, dropped, entry_after_put, lags, lags_again, missed, progress_after, started, started_again}
+use Rattle.publisher_hub.specs.Offering.{Gives, GivesAgain, IsNextItem, ReachesAll, entry_after_put, progress_after}
 use Rattle.publisher_hub.specs.Publishing.{IsRefused, OffersItem, PassesAgain, dropping_after, offer_answer}
 use Rattle.publisher_hub.specs.Sound.{IsSound, MOST_ENTRIES}
 use Rattle.publisher_hub.specs.declared.entry.Entry.{Entry}
-use Rattle.publisher_hub.specs.declared.rounds.gathering.Giving.{Giving}
+use Rattle.publisher_hub.specs.declared.rounds.gathering.Gathering.{Gathering}
 use Rattle.publisher_hub.specs.declared.hub.Hub.{Hub}
 use Rattle.publisher_hub.specs.declared.hub.TheConstants.{MOST_SOURCES}
 use Rattle.publisher_hub.specs.declared.work.Work.{Work}
@@ -41,14 +41,14 @@ module _ {F T : Type 0} (meaning : F → End) (does : F → Call T → F → Typ
       → IsSound (hub_of meaning old) → source < MOST_SOURCES → x.source ≡ source → x.text ≡ text → x.serial ≡ old.next → slice_get old.counts.items source ≡ Some x.seq
       → IsLookedAt (hub_of meaning old) (hub_of meaning seen) → EachBy (Prepares meaning does old.next) glances old.entries.items seen.entries.items
       → due_seen.items ≡ due_old.items → IsRefused (hub_of meaning seen).progress None
-      → EachBy (Gives meaning does x) puts seen.entries.items given.entries.items → Gathers x puts given.giving due_seen due_given
+      → EachBy (Gives meaning does x) puts seen.entries.items given.entries.items → Gathers x puts given.gathering due_seen due_given
       → hub_of meaning given ≡ record (hub_of meaning seen) { entries = (hub_of meaning given).entries }
-      → PassesAgain meaning does x declines puts seconds given.entries.items tried.entries.items given.giving tried.giving due_given due_new
+      → PassesAgain meaning does x declines puts seconds given.entries.items tried.entries.items given.gathering tried.gathering due_given due_new
       → hub_of meaning tried ≡ record (hub_of meaning given) { entries = (hub_of meaning tried).entries }
-      → counted ≡ record tried { dropping = dropping_after tried.giving.drops tried.dropping }
+      → counted ≡ record tried { dropping = dropping_after tried.gathering.drops tried.dropping }
       → hub_of meaning new ≡ record (hub_of meaning counted) { progress = progress_after x (hub_of meaning counted).progress.dropping (hub_of meaning counted).progress }
-      → new.entries ≡ counted.entries → new.giving.lag ≡ counted.giving.lag → new.giving.drops ≡ counted.giving.drops
-      → IsSound (hub_of meaning new) × OffersItem meaning does source text declines old new due_old.items due_new.items (offer_answer new.giving.drops new.giving.lag)
+      → new.entries ≡ counted.entries → new.gathering.lag ≡ counted.gathering.lag → new.gathering.drops ≡ counted.gathering.drops
+      → IsSound (hub_of meaning new) × OffersItem meaning does source text declines old new due_old.items due_new.items (offer_answer new.gathering.drops new.gathering.lag)
   offers_item old seen given tried counted new x source text declines due_old due_seen due_given due_new glances puts seconds sound within from words serial seq looked prepared due_same open_still
       gave gathers rest_given passes rest_tried counted_is rest_new entries_same lag_same drops_same =
       let progress_seen : (hub_of meaning seen).progress ≡ (hub_of meaning old).progress = ap (λ (s : HubState). s.progress) looked.rest in
@@ -68,7 +68,7 @@ module _ {F T : Type 0} (meaning : F → End) (does : F → Call T → F → Typ
       let whole : hub_of meaning new ≡ record (hub_of meaning tried) { progress = progress_after x counted.dropping (hub_of meaning tried).progress } =
       rest_new ∙ ap (λ (h : Hub F). record (hub_of meaning h) { progress = progress_after x counted.dropping (hub_of meaning h).progress }) counted_is in
       let rest = counted_after x counted.dropping (hub_of meaning old) (hub_of meaning seen) (hub_of meaning tried) (hub_of meaning new) looked.rest passed whole in
-      let drops : tried.giving.drops ≡ length (dropped seconds) = passes.gathers.drops in
+      let drops : tried.gathering.drops ≡ length (dropped seconds) = passes.gathers.drops in
       let dropping_new : new.dropping ≡ dropping_after (length (dropped seconds)) old.dropping =
       ap (λ (s : HubState). s.progress.dropping) whole ∙ ap (λ (h : Hub F). h.dropping) counted_is
       ∙ ap (λ n. dropping_after n tried.dropping) drops ∙ ap (λ n. dropping_after (length (dropped seconds)) n) tried_dropping in
@@ -89,9 +89,9 @@ module _ {F T : Type 0} (meaning : F → End) (does : F → Call T → F → Typ
             (λ j was at_j. (sound.entries j (entry_of meaning was) (get_mapped (entry_of meaning) old.entries.items j was at_j)).drops) serial k raw.0 raw.1.0 in
             subst (λ (state : EntryState). state.dropped ≤ new.dropping) raw.1.1 (subst (λ n. raw.0.dropped ≤ n) (sym dropping_new) few);
       } in
-      let drops_new : new.giving.drops ≡ length (dropped seconds) = drops_same ∙ ap (λ (h : Hub F). h.giving.drops) counted_is ∙ drops in
-      let lag_new : new.giving.lag ≡ greatest (lags puts ++ lags_again seconds) =
-      lag_same ∙ ap (λ (h : Hub F). h.giving.lag) counted_is ∙ passes.gathers.lag ∙ ap (λ n. fold max n (lags_again seconds)) gathers.lag ∙ sym (fold-append max 0 (lags puts) (lags_again seconds)) in (
+      let drops_new : new.gathering.drops ≡ length (dropped seconds) = drops_same ∙ ap (λ (h : Hub F). h.gathering.drops) counted_is ∙ drops in
+      let lag_new : new.gathering.lag ≡ greatest (lags puts ++ lags_again seconds) =
+      lag_same ∙ ap (λ (h : Hub F). h.gathering.lag) counted_is ∙ passes.gathers.lag ∙ ap (λ n. fold max n (lags_again seconds)) gathers.lag ∙ sym (fold-append max 0 (lags puts) (lags_again seconds)) in (
         sound_offered (hub_of meaning old) (hub_of meaning new) x (subst (λ s. s < MOST_SOURCES) (sym from) within) sound offers,
         record {
           item = x;
@@ -107,19 +107,19 @@ module _ {F T : Type 0} (meaning : F → End) (does : F → Call T → F → Typ
           again = again;
           asked = passes.asked;
           declined = passes.declined;
-          offers = offers;
+          reaches = offers;
           counted = dropping_new;
           due = passes.gathers.due ∙ ap (λ works. works ++ started_again seconds) gathers.due ∙ ap (λ works. works ++ started puts ++ started_again seconds) due_same;
-          answers = ap (λ n. offer_answer n new.giving.lag) drops_new ∙ ap (λ n. offer_answer (length (dropped seconds)) n) lag_new;
+          answers = ap (λ n. offer_answer n new.gathering.lag) drops_new ∙ ap (λ n. offer_answer (length (dropped seconds)) n) lag_new;
         },
       )
 
   -- as many miss an item as there are subscriptions, at most
-  pub few_missed : (giving : Giving) (puts : List (Option (Put T))) (entries : List (Entry F)) → giving.missed.items ≡ missed puts → length puts ≡ length entries → length (map (entry_of meaning) entries) ≤ MOST_ENTRIES
-      → vec_len giving.missed < MOST_PUBLICATIONS
-  few_missed giving puts entries are long few =
-      let many : vec_len giving.missed ≡ length giving.missed.items = search rules in
-      let same : length giving.missed.items ≡ length (missed puts) = ap length are in
+  pub few_missed : (gathering : Gathering) (puts : List (Option (Put T))) (entries : List (Entry F)) → gathering.missed.items ≡ missed puts → length puts ≡ length entries → length (map (entry_of meaning) entries) ≤ MOST_ENTRIES
+      → vec_len gathering.missed < MOST_PUBLICATIONS
+  few_missed gathering puts entries are long few =
+      let many : vec_len gathering.missed ≡ length gathering.missed.items = search rules in
+      let same : length gathering.missed.items ≡ length (missed puts) = ap length are in
       let at_most = missed_few 0 puts in
       let mapped : length (map (entry_of meaning) entries) ≡ length entries = length-map entries (entry_of meaning) in
       omega arith
@@ -147,10 +147,10 @@ module _ {F T : Type 0} (meaning : F → End) (does : F → Call T → F → Typ
   pub answer_fits : (seen given tried counted new : Hub F) (x : Item) (declines : Bool) (due_seen due_given due_new : Vec (Work T) Global) (next : ℕ) (xs : List (Entry F))
       (glances : List (Option Standing)) (puts : List (Option (Put T))) (seconds : List (Second T))
       → IsSound (hub_of meaning seen) → EachBy (Prepares meaning does next) glances xs seen.entries.items → IsRefused (hub_of meaning seen).progress None
-      → EachBy (Gives meaning does x) puts seen.entries.items given.entries.items → Gathers x puts given.giving due_seen due_given
-      → PassesAgain meaning does x declines puts seconds given.entries.items tried.entries.items given.giving tried.giving due_given due_new
-      → counted ≡ record tried { dropping = dropping_after tried.giving.drops tried.dropping } → new.giving.lag ≡ counted.giving.lag → new.giving.drops ≡ counted.giving.drops
-      → (new.giving.lag ≤ MOST_PUBLICATIONS) × (new.giving.drops ≤ MOST_PUBLICATIONS)
+      → EachBy (Gives meaning does x) puts seen.entries.items given.entries.items → Gathers x puts given.gathering due_seen due_given
+      → PassesAgain meaning does x declines puts seconds given.entries.items tried.entries.items given.gathering tried.gathering due_given due_new
+      → counted ≡ record tried { dropping = dropping_after tried.gathering.drops tried.dropping } → new.gathering.lag ≡ counted.gathering.lag → new.gathering.drops ≡ counted.gathering.drops
+      → (new.gathering.lag ≤ MOST_PUBLICATIONS) × (new.gathering.drops ≤ MOST_PUBLICATIONS)
   answer_fits seen given tried counted new x declines due_seen due_given due_new next xs glances puts seconds sound prepared open_still gave gathers passes counted_is lag_same drops_same =
       let can = can_all_give meaning does (hub_of meaning seen) next glances xs seen.entries.items sound refl (below_most seen.next sound.few_items open_still.1) prepared in
       let known = known_of meaning does (hub_of meaning seen) seen.entries.items sound refl open_still.0 in
@@ -159,9 +159,9 @@ module _ {F T : Type 0} (meaning : F → End) (does : F → Call T → F → Typ
       (can_each_try_again meaning does x puts seen.entries.items given.entries.items can gave unclosed) unclosed
       (λ k entry at. let stood = stood_by (Gives meaning does x) puts seen.entries.items given.entries.items k entry gave at in
       gives_closing x stood.answer stood.entry entry (unclosed k stood.entry stood.at) stood.became) in
-      let lag_new : new.giving.lag ≡ fold max (fold max 0 (lags puts)) (lags_again seconds) =
-      lag_same ∙ ap (λ (h : Hub F). h.giving.lag) counted_is ∙ passes.gathers.lag ∙ ap (λ n. fold max n (lags_again seconds)) gathers.lag in
-      let drops_new : new.giving.drops ≡ length (dropped seconds) = drops_same ∙ ap (λ (h : Hub F). h.giving.drops) counted_is ∙ passes.gathers.drops in
+      let lag_new : new.gathering.lag ≡ fold max (fold max 0 (lags puts)) (lags_again seconds) =
+      lag_same ∙ ap (λ (h : Hub F). h.gathering.lag) counted_is ∙ passes.gathers.lag ∙ ap (λ n. fold max n (lags_again seconds)) gathers.lag in
+      let drops_new : new.gathering.drops ≡ length (dropped seconds) = drops_same ∙ ap (λ (h : Hub F). h.gathering.drops) counted_is ∙ passes.gathers.drops in
       let at_most = few_dropped meaning does seconds in
       let answered = passes.again.answered in
       let long = gave.as_long in

@@ -10,11 +10,11 @@ use Rattle.flow_rules.specs.declared.feed.standing.Standing.{Standing}
 use Rattle.flow_rules.specs.declared.item.Item.{Item}
 use Rattle.flow_rules.specs.declared.item.TheConstants.{MOST_PUBLICATIONS}
 use Rattle.publisher_hub.specs.Entry.{EntryState, entry_of}
-use Rattle.publisher_hub.specs.Giving.{Gathers}
+use Rattle.publisher_hub.specs.Gathering.{Gathers, missed, started}
 use Rattle.publisher_hub.specs.Hub.{HubState, Progress, hub_of}
 use Rattle.publisher_hub.specs.Lists.{EachBy}
 use Rattle.publisher_hub.specs.Looking.{IsLookedAt, Prepares, full}
-use Rattle.publisher_hub.specs.Offering.{Gives, IsNextItem, ReachesAll, missed, progress_after, started}
+use Rattle.publisher_hub.specs.Offering.{Gives, IsNextItem, ReachesAll, progress_after}
 use Rattle.publisher_hub.specs.Publishing.{IsRefused, Publishes}
 use Rattle.publisher_hub.specs.Sound.{IsSound}
 use Rattle.publisher_hub.specs.declared.entry.Entry.{Entry}
@@ -81,11 +81,11 @@ module _ {F T : Type 0} (meaning : F → End) (does : F → Call T → F → Typ
       → IsSound (hub_of meaning old) → source < MOST_SOURCES → x.source ≡ source → x.text ≡ text → x.serial ≡ old.next → slice_get old.counts.items source ≡ Some x.seq
       → IsLookedAt (hub_of meaning old) (hub_of meaning seen) → EachBy (Prepares meaning does old.next) glances old.entries.items seen.entries.items → full old.capacity glances ≡ []
       → due_seen.items ≡ due_old.items → IsRefused (hub_of meaning seen).progress None
-      → EachBy (Gives meaning does x) puts seen.entries.items given.entries.items → Gathers x puts given.giving due_seen due_new
+      → EachBy (Gives meaning does x) puts seen.entries.items given.entries.items → Gathers x puts given.gathering due_seen due_new
       → hub_of meaning given ≡ record (hub_of meaning seen) { entries = (hub_of meaning given).entries }
       → hub_of meaning new ≡ record (hub_of meaning given) { progress = progress_after x (hub_of meaning given).progress.dropping (hub_of meaning given).progress }
-      → new.entries ≡ given.entries → new.giving.lag ≡ given.giving.lag
-      → IsSound (hub_of meaning new) × Publishes meaning does source text old new due_old.items due_new.items new.giving.lag
+      → new.entries ≡ given.entries → new.gathering.lag ≡ given.gathering.lag
+      → IsSound (hub_of meaning new) × Publishes meaning does source text old new due_old.items due_new.items new.gathering.lag
   publishes old seen given new x source text due_old due_seen due_new glances puts sound within from words serial seq looked prepared room due_same open_still gave gathers rest_given rest_new entries_same lag_same =
       let progress_seen : (hub_of meaning seen).progress ≡ (hub_of meaning old).progress = ap (λ (s : HubState). s.progress) looked.rest in
       let progress_given : (hub_of meaning given).progress ≡ (hub_of meaning old).progress = ap (λ (s : HubState). s.progress) rest_given ∙ progress_seen in
@@ -113,7 +113,7 @@ module _ {F T : Type 0} (meaning : F → End) (does : F → Call T → F → Typ
           looked = prepared;
           room = room;
           given = given_new;
-          offers = both.1;
+          reaches = both.1;
           no_drop = both.0;
           no_dropping = dropping_new ∙ same_dropping;
           due = gathers.due ∙ ap (λ works. works ++ started puts) due_same;

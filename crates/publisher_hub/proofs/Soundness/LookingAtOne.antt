@@ -12,7 +12,7 @@ use Rattle.publisher_hub.specs.Hub.{hub_of}
 use Rattle.publisher_hub.specs.Lists.{Each}
 use Rattle.publisher_hub.specs.Looking.{Glances, IsKept, IsLookedAt}
 use Rattle.publisher_hub.specs.Sound.{IsSound}
-use Rattle.publisher_hub.specs.Standing.{LooksAtOne}
+use Rattle.publisher_hub.specs.Looking.{LooksAtOne}
 use Rattle.publisher_hub.specs.Steps.{AreHere}
 use Rattle.publisher_hub.specs.declared.entry.Entry.{Entry}
 use Rattle.publisher_hub.specs.declared.hub.Hub.{Hub}

@@ -2,7 +2,7 @@
 ghost use Rattle.std.specs.Prelude.{◌≡◌, ◌<◌, ◌++◌, ◌∷◌, [], IfErr, IfOk, IsOk, None, Option, length, true, vec_capacity, vec_len};
 ghost use Rattle.publisher_hub.specs.Adding.{IsFresh};
 ghost use Rattle.publisher_hub.specs.Hub.{hub_of};
-ghost use Rattle.publisher_hub.specs.Offering.{work_of};
+ghost use Rattle.publisher_hub.specs.Gathering.{work_of};
 ghost use Rattle.publisher_hub.specs.Sound.{IsSound};
 ghost use Rattle.publisher_hub.specs.Subscribing.{Admits, CanAdmit, ClosesNew, HasPlace, Refuses, first_entry};
 
@@ -15,10 +15,10 @@ use flow_rules::{Ending, Feed, Name, Refusal};
 
 impl<F: Feed> Hub<F> {
     /// Adds a subscription (`SubmissionPublisher.subscribe`, Java SE 17), whose buffer has the Hub's capacity and was not used. The answer
-    /// is its number, from 0 in the order in which they are made. It takes part in each publication from now on. Where the Hub is closed,
+    /// is its number, from 0 in the order in which they are made. It takes part in each publication from now on. If the Hub is closed,
     /// the subscription is closed at once, in the same way.
     ///
-    /// It is refused where, and as, [`may_subscribe`](Hub::may_subscribe) is. Then the producer's end and the ticket are dropped.
+    /// It is refused when, and as, [`may_subscribe`](Hub::may_subscribe) is. Then the producer's end and the ticket are dropped.
     pub fn admit(
         &mut self,
         name: Name,
@@ -73,7 +73,7 @@ impl<F: Feed> Hub<F> {
     }
 }
 
-/// The producer's end of a new subscription, which is closed where its Hub is. The task that this starts is due.
+/// The producer's end of a new subscription, which is closed if its Hub is. The task that this starts is due.
 fn close_new<F: Feed>(
     ending: Option<Ending>,
     mut feed: F,

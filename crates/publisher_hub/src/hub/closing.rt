@@ -16,12 +16,12 @@ use flow_rules::{Ending, Feed, NoMemory, Refusal};
 
 impl<F: Feed> Hub<F> {
     /// Closes the publisher (`SubmissionPublisher.close` and `closeExceptionally`, Java SE 17): each live subscription is closed, and
-    /// the opening ticket comes out, where there is one. After a normal close what was accepted is told before the
-    /// ending; an error overtakes it.
+    /// the opening ticket comes out, if there is one. After a normal close, what was accepted is told before the ending; an error
+    /// overtakes it.
     ///
     /// Only the first call does anything: a later one answers `None` and changes nothing.
     ///
-    /// `NoMemory` where a place of `due` or what a started task needs is refused. Then nothing has changed but by looks.
+    /// `NoMemory` if a place of `due` or what a started task needs is refused. Then nothing has changed but by looks.
     pub fn end(
         &mut self,
         ending: Ending,
@@ -48,7 +48,7 @@ impl<F: Feed> Hub<F> {
         self.close(ending, due)
     }
 
-    /// Closes an open Hub: each of its live subscriptions, and then itself. The answer is the opening ticket, where there is one.
+    /// Closes an open Hub: each of its live subscriptions, and then itself. The answer is the opening ticket, if there is one.
     fn close(
         &mut self,
         ending: Ending,
@@ -74,7 +74,7 @@ impl<F: Feed> Hub<F> {
         Ok(self.set_ending(ending))
     }
 
-    /// Sets the ending. The answer is the opening ticket, where there is one, and the Hub holds none then.
+    /// Sets the ending. The answer is the opening ticket, if there is one, and the Hub holds none then.
     fn set_ending(&mut self, ending: Ending) -> Option<Opening>
         ensures opening { result ≡ self.old.opening }
         ensures rest { self.new ≡ record self.old { ending = Some ending; opening = None } }
@@ -97,7 +97,7 @@ impl<F: Feed> Hub<F> {
     }
 }
 
-/// Makes room for so many tasks.
+/// Makes room for this many tasks.
 pub(crate) fn reserve_due<T>(due: &mut Vec<Work<T>>, many: usize) -> Result<(), NoMemory>
     ensures items { due.new.items ≡ due.old.items }
     ensures room { OnOk result (vec_len due.new + many ≤ vec_capacity due.new) }

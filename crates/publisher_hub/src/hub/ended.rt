@@ -8,11 +8,11 @@ use close_count::Ticket;
 use flow_rules::Feed;
 
 impl<F: Feed> Hub<F> {
-    /// Looks at the subscription of this number, also where it is retired. Where that shows its end, it is retired, and its ticket,
-    /// if that is there still, is taken out; who gets it has to spend it.
+    /// Looks at the subscription of this number, also if it is retired. If that shows that it has ended, it is retired, and its ticket, if
+    /// that is there still, is taken out; whoever gets it has to spend it.
     ///
-    /// `None` where it goes on, where its ticket was taken out before or never was there, where its producer's end was taken out,
-    /// and where no subscription has the number; nothing has changed then but by the look.
+    /// `None` if it goes on, if its ticket was taken out before or never was there, if its producer's end was taken out, or if no
+    /// subscription has the number; nothing has changed then but by the look.
     #[must_use]
     pub fn ended(&mut self, entry: u32) -> Option<Ticket>
         requires sound { IsSound (hub_of F.meaning self.old) }

@@ -23,7 +23,7 @@ impl<F: Feed> Hub<F> {
         }
     }
 
-    /// The next serial number when the subscription of this number was made, and `None` where no subscription has this number.
+    /// The next serial number when the subscription of this number was made, and `None` if no subscription has this number.
     pub fn since(&self, entry: u32) -> Option<u64>
         ensures { result ≡ option_map (λ (entry : EntryState). entry.since)
             (slice_get (hub_of F.meaning self.now).entries entry) }
@@ -34,7 +34,7 @@ impl<F: Feed> Hub<F> {
         }
     }
 
-    /// The name that the subscriber of this number subscribed with, and `None` where no subscription has this number.
+    /// The name that the subscriber of this number subscribed with, and `None` if no subscription has this number.
     pub fn name_of(&self, entry: u32) -> Option<Name>
         ensures { result ≡ option_map (λ (entry : EntryState). entry.name)
             (slice_get (hub_of F.meaning self.now).entries entry) }
@@ -56,11 +56,11 @@ impl<F: Feed> Hub<F> {
         }
     }
 
-    /// The producer's end of the subscription of this number, and `None` where no subscription has this number or the end was
-    /// taken out.
+    /// Lends the producer's end of the subscription of this number, and `None` if no subscription has this number or the end was taken
+    /// out.
     ///
-    /// Nothing else of the Hub changes. It stays sound where the end is left with its capacity, what it accepted and how it was
-    /// closed, and where neither an item that was taken nor its end is taken back
+    /// Nothing else of the Hub changes. The Hub stays sound if the end is left with its capacity, what it accepted and how it was closed,
+    /// and if neither an item that was taken nor its end is taken back
     /// ([`lent_feeds_keep_hubs_sound`](crate::lent_feeds_keep_hubs_sound)).
     pub fn feed_mut(&mut self, entry: u32) -> Option<&mut F>
         ensures* writes_back { sem 𝓛 (lends_feed_if F.row self.entry entry result) }

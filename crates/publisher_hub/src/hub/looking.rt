@@ -16,7 +16,7 @@ use std::alloc::Global;
 /// Each of these calls looks at every live subscription, and retires those that have ended. They change nothing else.
 impl<F: Feed> Hub<F> {
     /// Whether no live subscription's buffer is full, so that a publication would not have to wait
-    /// (`SubmissionPublisher.submit` blocks where one is).
+    /// (`SubmissionPublisher.submit` blocks if one is).
     pub fn has_room(&mut self) -> bool
         requires sound { IsSound (hub_of F.meaning self.old) }
         ensures looks { (glances : List (Option Standing))
@@ -38,7 +38,7 @@ impl<F: Feed> Hub<F> {
         self.look_at_all().living
     }
 
-    /// How many items wait for that live subscription for which most do, and 0 where there is none
+    /// The longest backlog of any live subscription, in items, and 0 if there is none
     /// (`SubmissionPublisher.estimateMaximumLag`).
     pub fn max_lag(&mut self) -> u64
         requires sound { IsSound (hub_of F.meaning self.old) }
@@ -64,7 +64,7 @@ impl<F: Feed> Hub<F> {
 
     /// The names of the live subscriptions, in order of subscription (`SubmissionPublisher.getSubscribers`).
     ///
-    /// `NoMemory` where a growth is refused; the subscriptions were looked at nevertheless.
+    /// `NoMemory` if a growth is refused; the subscriptions were looked at nevertheless.
     pub fn names(&mut self, alloc: Global) -> Result<Vec<Name>, NoMemory>
         requires sound { IsSound (hub_of F.meaning self.old) }
         ensures looks { (glances : List (Option Standing))

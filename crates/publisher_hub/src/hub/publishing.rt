@@ -3,15 +3,16 @@ ghost use Rattle.std.specs.Prelude.{◌≡◌, ◌+◌, ◌<◌, ◌≤◌, ◌+
 ghost use Rattle.flow_rules.specs.declared.feed.put.Put.{Put};
 ghost use Rattle.flow_rules.specs.declared.item.TheConstants.{MOST_PUBLICATIONS};
 ghost use Rattle.publisher_hub.specs.Entry.{entry_of};
-ghost use Rattle.publisher_hub.specs.Giving.{AreShares, Gathers, HasRoom};
+ghost use Rattle.publisher_hub.specs.Gathering.{AreShares, Gathers, HasRoom};
 ghost use Rattle.publisher_hub.specs.Hub.{hub_of};
-ghost use Rattle.publisher_hub.specs.Lists.{EachBy};
+ghost use Rattle.publisher_hub.specs.Lists.{EachBy, greatest};
 ghost use Rattle.publisher_hub.specs.Looking.{FindsRoom, IsLookedAt, PreparesInPart};
-ghost use Rattle.publisher_hub.specs.Offering.{Gives, IsNextItem, progress_after};
+ghost use Rattle.publisher_hub.specs.Offering.{CountsOne, Gives, IsNextItem, ReachesAllFrom, backlogs, progress_after};
 ghost use Rattle.publisher_hub.specs.Publishing.{CanPublish, IsRefused, Publishes, RefusesItem};
 ghost use Rattle.publisher_hub.specs.Sound.{IsSound};
 ghost use Rattle.publisher_hub.specs.Steps.{CanAllGive};
 ghost use Rattle.publisher_hub.specs.declared.hub.publishing.Unpublished.TheVariants.{NoRoom};
+ghost use Rattle.publisher_hub.specs.declared.work.Work.{Work};
 
 use super::{Hub, MOST_SOURCES};
 use crate::rounds::give_all;
@@ -57,10 +58,18 @@ impl<F: Feed> Hub<F> {
         ensures sound { IsSound (hub_of F.meaning self.new) }
         ensures ok { IfOk result (λ lag. Publishes F.meaning F.does source text self.old self.new
             due.old.items due.new.items lag) }
+        ensures reached { OnOk result (ReachesAllFrom source text
+            (hub_of F.meaning self.old) (hub_of F.meaning self.new)) }
+        ensures counted { OnOk result (CountsOne source
+            (hub_of F.meaning self.old).progress (hub_of F.meaning self.new).progress) }
+        ensures lag { IfOk result (λ lag.
+            lag ≡ greatest (backlogs (hub_of F.meaning self.new).entries)) }
+        ensures due { OnOk result ((works : List (Work F.Task))
+            × (due.new.items ≡ due.old.items ++ works)) }
         ensures refusals { IfErr result (λ why.
             RefusesItem F.meaning F.does text self.old self.new why) }
         ensures nothing_due { OnErr result (due.new.items ≡ due.old.items) }
-        ensures no_share { self.new.giving.shares.items ≡ [] }
+        ensures no_share { self.new.gathering.shares.items ≡ [] }
     {
         let item = self.next_item(source, text);
         let room = match self.prepare(&item, due) {
@@ -68,26 +77,26 @@ impl<F: Feed> Hub<F> {
             Err(NoMemory) => return Err(Unpublished::Refused(Refusal::NoMemory)),
         };
         if let Some(refusal) = self.refusal() {
-            self.giving.drop_shares();
+            self.gathering.drop_shares();
             return Err(Unpublished::Refused(refusal));
         }
         if !room {
             return Err(self.no_room(item));
         }
         self.give(&item, due);
-        self.giving.drop_shares();
+        self.gathering.drop_shares();
         self.count(&item);
-        Ok(self.giving.lag)
+        Ok(self.gathering.lag)
     }
 
     /// Gives an item up for which a live subscription has no room.
     fn no_room(&mut self, item: Item) -> Unpublished
         ensures text { result ≡ NoRoom item.text }
-        ensures no_share { self.new.giving.shares.items ≡ [] }
-        ensures rest { self.new ≡ record self.old { giving = self.new.giving } }
+        ensures no_share { self.new.gathering.shares.items ≡ [] }
+        ensures rest { self.new ≡ record self.old { gathering = self.new.gathering } }
     {
         let text = item.text;
-        self.giving.drop_shares();
+        self.gathering.drop_shares();
         Unpublished::NoRoom(text)
     }
 
@@ -122,14 +131,14 @@ impl<F: Feed> Hub<F> {
         ensures sound { IsSound (hub_of F.meaning self.new) }
         ensures due { due.new.items ≡ due.old.items }
         ensures ready { OnOk result (CanPublish item.now self.new due.new) }
-        ensures no_share { OnErr result (self.new.giving.shares.items ≡ []) }
+        ensures no_share { OnErr result (self.new.gathering.shares.items ≡ []) }
     {
-        self.giving.forget();
+        self.gathering.forget();
         due.reserve(self.live.len())?;
-        self.giving.begin(item, self.live.len())?;
+        self.gathering.begin(item, self.live.len())?;
         let prepared = self.prepare_live();
         if prepared.is_err() {
-            self.giving.drop_shares();
+            self.gathering.drop_shares();
         }
         prepared
     }
@@ -155,19 +164,19 @@ impl<F: Feed> Hub<F> {
         ensures given { (puts : List (Option (Put F.Task)))
             × (EachBy (Gives F.meaning F.does item.now) puts self.old.entries.items
             self.new.entries.items
-            × Gathers item.now puts self.new.giving due.old due.new) }
+            × Gathers item.now puts self.new.gathering due.old due.new) }
         ensures rest { hub_of F.meaning self.new ≡ record (hub_of F.meaning self.old) {
           entries = (hub_of F.meaning self.new).entries;
         } }
-        ensures room { HasRoom 0 self.new.giving due.new }
+        ensures room { HasRoom 0 self.new.gathering due.new }
     {
         let Hub {
             entries,
             live,
-            giving,
+            gathering,
             ..
         } = self;
-        give_all(entries, live, item, giving, due);
+        give_all(entries, live, item, gathering, due);
     }
 
     /// Counts an item as published.
@@ -181,7 +190,7 @@ impl<F: Feed> Hub<F> {
               (hub_of F.meaning self.old).progress;
         } }
         ensures entries { self.new.entries ≡ self.old.entries }
-        ensures giving { self.new.giving ≡ self.old.giving }
+        ensures gathering { self.new.gathering ≡ self.old.gathering }
     {
         self.next += 1;
         self.counts[item.source as usize] = item.seq + 1;

@@ -22,9 +22,9 @@ impl<F: Feed> Hub<F> {
     /// [`admit`](Hub::admit) of this name with the same `due` isn't refused, as long as no call but [`add_ticket`](Hub::add_ticket) comes
     /// between.
     ///
-    /// In this order: `NoMemory` where a place of `due`, or what a started task needs, is refused; `Duplicate` where a live subscription
-    /// has the name, whose subscriber is told of it; `TooMany` where [`MOST_LIVE`] are live; `Exhausted` where [`MOST_ENTRIES`] were ever
-    /// made; and `NoMemory` where the place of one more is refused. Nothing else changes, but by looks.
+    /// In this order: `NoMemory` if a place of `due`, or what a started task needs, is refused; `Duplicate` if a live subscription has the
+    /// name, whose subscriber is told of it; `TooMany` if [`MOST_LIVE`] are live; `Exhausted` if [`MOST_ENTRIES`] were ever made; and
+    /// `NoMemory` if the place of one more is refused. Nothing else changes, but by looks.
     pub fn may_subscribe(&mut self, name: Name, due: &mut Vec<Work<F::Task>>) -> Result<(), Refusal>
         requires sound { IsSound (hub_of F.meaning self.old) }
         ensures can { OnOk result (CanAdmit F.meaning name self.new due.new) }

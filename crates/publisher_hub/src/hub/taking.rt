@@ -8,9 +8,9 @@ use flow_rules::Feed;
 
 impl<F: Feed> Hub<F> {
     /// Takes the producer's end of the subscription of this number out. The subscription is retired, if it isn't, and its ticket is
-    /// dropped, if it is there: such a ticket is never spent. Its name, what it dropped and since when it took part stay.
+    /// dropped, if it is there: that ticket is never spent. Its name, what it dropped and since when it took part stay.
     ///
-    /// `None`, with nothing changed, where the end was taken out before, and where no subscription has the number.
+    /// `None`, with nothing changed, if the end was taken out before, or if no subscription has the number.
     pub fn take_feed(&mut self, entry: u32) -> Option<F>
         requires sound { IsSound (hub_of F.meaning self.old) }
         ensures takes { TakesOutAt F.meaning entry result self.old self.new }

@@ -18,10 +18,10 @@ use close_count::{Opening, Ticket};
 use flow_rules::{Feed, Refusal};
 
 impl<F: Feed> Hub<F> {
-    /// One more ticket of the count that finds the last subscription, for a subscription that is to be added. `None` where the Hub is
+    /// Makes one more ticket of the count that finds the last subscription, for a subscription that is to be added. `None` if the Hub is
     /// closed, and then nothing changes.
     ///
-    /// `Exhausted` where no opening ticket is held, or where [`MOST_TICKETS`](close_count::MOST_TICKETS) were made; and `NoMemory` where one
+    /// `Exhausted` if no opening ticket is held, or if [`MOST_TICKETS`](close_count::MOST_TICKETS) were made; and `NoMemory` if one
     /// more owner of the count is refused. Then nothing has changed.
     pub fn add_ticket(&mut self) -> Result<Option<Ticket>, Refusal>
         requires sound { IsSound (hub_of F.meaning self.old) }
@@ -52,9 +52,9 @@ impl<F: Feed> Hub<F> {
         self.opening = Some(opening);
     }
 
-    /// Takes the ticket of the subscription of this number out, also where that goes on, and without a look. Who gets it has to spend it.
+    /// Takes the ticket of the subscription of this number out, also if that goes on, and without a look. Whoever gets it has to spend it.
     ///
-    /// `None` where it was taken out before or never was there, and where no subscription has the number; nothing has changed then.
+    /// `None` if it was taken out before or never was there, or if no subscription has the number; nothing has changed then.
     #[must_use]
     pub fn take_ticket(&mut self, entry: u32) -> Option<Ticket>
         requires sound { IsSound (hub_of F.meaning self.old) }
@@ -71,7 +71,7 @@ impl<F: Feed> Hub<F> {
     }
 }
 
-/// One more ticket of the count of an opening ticket, where one is held.
+/// Makes one more ticket of the count of an opening ticket, if one is held.
 fn one_more(opening: &mut Option<Opening>) -> Result<Option<Ticket>, Refusal>
     ensures ok { IfOk result (λ ticket. AddsTicket ticket opening.old opening.new) }
     ensures refusals { IfErr result (λ refusal. RefusesTicket refusal opening.old) }

@@ -3,8 +3,7 @@ ghost use Rattle.std.specs.Prelude.{◌≡◌, ◌+◌, ◌≤◌, ◌++◌, ◌
 ghost use Rattle.std.specs.Vec.{vec_capacity};
 ghost use Rattle.flow_rules.specs.declared.item.Item.{Item};
 ghost use Rattle.flow_rules.specs.declared.item.TheConstants.{MOST_PUBLICATIONS};
-ghost use Rattle.publisher_hub.specs.Giving.{AreShares, back_by};
-ghost use Rattle.publisher_hub.specs.Offering.{dropped_by, lag_by, missed_by, started_by, work_of};
+ghost use Rattle.publisher_hub.specs.Gathering.{AreShares, back_by, dropped_by, lag_by, missed_by, started_by, work_of};
 
 use crate::work::Work;
 use flow_rules::{Item, NoMemory, Put};
@@ -12,7 +11,7 @@ use std::alloc::Global;
 
 /// What a publication gathers as it goes round. Its room is kept for the next one.
 #[derive(Drop)]
-pub(crate) struct Giving {
+pub(crate) struct Gathering {
     /// Shares of the item that were not given yet.
     pub shares: Vec<Item>,
     /// The numbers of the subscriptions whose buffer was full, in order.
@@ -23,10 +22,10 @@ pub(crate) struct Giving {
     pub drops: u64,
 }
 
-impl Giving {
+impl Gathering {
     /// Nothing was gathered.
-    pub fn new(alloc: Global) -> Giving {
-        Giving {
+    pub fn new(alloc: Global) -> Gathering {
+        Gathering {
             shares: Vec::new(alloc),
             missed: Vec::new(alloc),
             lag: 0,
@@ -34,7 +33,7 @@ impl Giving {
         }
     }
 
-    /// Makes so many shares of an item, and forgets what was gathered before.
+    /// Makes this many shares of an item, and forgets what was gathered before.
     pub fn begin(&mut self, item: &Item, many: usize) -> Result<(), NoMemory>
         ensures shares { OnOk result (AreShares item.now self.new.shares.items) }
         ensures as_many { OnOk result (vec_len self.new.shares ≡ many) }
@@ -159,7 +158,7 @@ impl Giving {
     }
 }
 
-/// Puts so many shares of an item into an empty list that has room for them.
+/// Puts this many shares of an item into an empty list that has room for them.
 fn share_out(shares: &mut Vec<Item>, item: &Item, many: usize) -> Result<(), NoMemory>
     requires empty { shares.old.items ≡ [] }
     requires room { many ≤ vec_capacity shares.old }

@@ -14,7 +14,7 @@ invariant_of-self g c =
 pub invariant_of-self-2 : goal.invariant_of-self-2
 invariant_of-self-2 g c =
     let published = c.in_ok-lag.ensures.ok in
-    state_offered (hub_of producer_end c.self.inside.hub) (hub_of producer_end c.publish.new.self) published.item _ c.add.new.self.total c.self.inside.dropping.total c.self.invariant c.publish.ensures.sound published.offers c.add.ensures.total (c.self.invariant.dropping_is ∙ sym published.no_dropping)
+    state_offered (hub_of producer_end c.self.inside.hub) (hub_of producer_end c.publish.new.self) published.item _ c.add.new.self.total c.self.inside.dropping.total c.self.invariant c.publish.ensures.sound published.reaches c.add.ensures.total (c.self.invariant.dropping_is ∙ sym published.no_dropping)
 
 pub returns-clause-drops : goal.returns-clause-drops
 returns-clause-drops g c = refl

@@ -1,7 +1,7 @@
 -- A subscription is added to a Hub that was looked at.
 use Rattle.std.proofs.Common.{◌≡◌, ◌++◌, ◌∷◌, [], ◌<◌, Option, length, refl, sym, ap, subst, ◌∙◌, arith}
 use Rattle.flow_rules.specs.declared.ending.Ending.{Ending}
-use Rattle.publisher_hub.specs.Offering.{work_of}
+use Rattle.publisher_hub.specs.Gathering.{work_of}
 use Rattle.publisher_hub.specs.Subscribing.{ClosesNew, first_entry}
 use Rattle.publisher_hub.proofs.Subscribed.Admission.{rest_seen, seen_ending, seen_next}
 use Rattle.publisher_hub.proofs.hub.Hub.admit.Goals as goal

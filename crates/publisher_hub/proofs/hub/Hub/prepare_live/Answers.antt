@@ -22,7 +22,7 @@ returns-clause-ok g c =
     let hub = c.args.self.now in
     let whole = with_items_is hub.entries c.prepare_all.new.entries (c.prepare_all.auto.entries ∙ c.deref_mut.ensures.len) in
     let found : IfOk c.prepare_all.result (λ room. (glances : List (Option Standing))
-        × (EachBy (Prepares g.F.Feed.meaning g.F.Feed.does hub.next) glances hub.entries.items (with_items hub.entries c.prepare_all.new.entries).items × IsRoom room hub.capacity glances)) =
+    × (EachBy (Prepares g.F.Feed.meaning g.F.Feed.does hub.next) glances hub.entries.items (with_items hub.entries c.prepare_all.new.entries).items × IsRoom room hub.capacity glances)) =
     rw (whole, ← c.deref_mut.ensures.value) c.prepare_all.ensures.ok in found
 
 pub returns-clause-exact : goal.returns-clause-exact

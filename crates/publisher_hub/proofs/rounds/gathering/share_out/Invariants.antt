@@ -1,6 +1,6 @@
 use Rattle.std.proofs.Common.{◌≡◌, ◌≤◌, vec_len}
 use Rattle.std.specs.Vec.{vec_capacity}
-use Rattle.publisher_hub.specs.Giving.{AreShares}
+use Rattle.publisher_hub.specs.Gathering.{AreShares}
 use Rattle.publisher_hub.proofs.rounds.gathering.share_out.Given as goal
 
 abbrev pub invariant-loop : goal.invariant-loop

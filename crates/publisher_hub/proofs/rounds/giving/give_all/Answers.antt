@@ -1,6 +1,6 @@
 -- Each of the live subscriptions is offered the item once.
 use Rattle.std.proofs.Common.{rules, ◌≡◌, ◌+◌, ◌-◌, None, refl, subst, length, arith}
-use Rattle.publisher_hub.specs.Giving.{HasRoom}
+use Rattle.publisher_hub.specs.Gathering.{HasRoom}
 use Rattle.publisher_hub.specs.Offering.{Gives}
 use Rattle.publisher_hub.specs.Steps.{CanGive}
 use Rattle.publisher_hub.proofs.PartialRounds.Giving.{giving_next, giving_none, room_next}
@@ -9,8 +9,8 @@ use Rattle.publisher_hub.proofs.rounds.giving.give_all.Goals as goal
 
 pub loop-number-init : goal.loop-number-init
 loop-number-init g c = record {
-  given = giving_none g.F.Feed.meaning g.F.Feed.does c.args.item.now c.args.live.now c.args.entries.now c.args.giving.now c.args.due.now c.requires.missed c.requires.lag c.requires.shares;
-  room = subst (λ many. HasRoom many c.args.giving.now c.args.due.now) (omega arith) c.requires.room;
+  given = giving_none g.F.Feed.meaning g.F.Feed.does c.args.item.now c.args.live.now c.args.entries.now c.args.gathering.now c.args.due.now c.requires.missed c.requires.lag c.requires.shares;
+  room = subst (λ many. HasRoom many c.args.gathering.now c.args.due.now) (omega arith) c.requires.room;
 }
 
 pub offset_bounds-entries-number : goal.offset_bounds-entries-number
@@ -27,7 +27,7 @@ give_one-requires-clause-can g c = stands_as g.F.Feed.meaning c.args.live.now c.
 pub give_one-requires-clause-room : goal.give_one-requires-clause-room
 give_one-requires-clause-room g c = (
   length c.args.live.now - (c.loop-number.number-index + 1),
-  room_next (length c.args.live.now) c.loop-number.number-index c.loop-number.giving c.loop-number.due c.loop-number-test.true c.loop-number.invariant.room,
+  room_next (length c.args.live.now) c.loop-number.number-index c.loop-number.gathering c.loop-number.due c.loop-number-test.true c.loop-number.invariant.room,
 )
 
 pub loop-number-preserved : goal.loop-number-preserved
@@ -39,10 +39,10 @@ loop-number-preserved g c =
     let given = c.give_one.ensures.given in
     record {
       given = giving_next g.F.Feed.meaning g.F.Feed.does c.args.item.now c.args.live.now c.loop-number.number-index _ c.args.entries.now c.loop-number.entries given.0 _ c.give_one.new.entry
-          c.loop-number.giving c.give_one.new.giving c.args.due.now c.loop-number.due c.give_one.new.due numbers (number_at c.args.live.now c.loop-number.number-index c.loop-number-test.true) stood
+          c.loop-number.gathering c.give_one.new.gathering c.args.due.now c.loop-number.due c.give_one.new.due numbers (number_at c.args.live.now c.loop-number.number-index c.loop-number-test.true) stood
           given.1.0 given.1.1 so_far;
       room = c.give_one.ensures.room (length c.args.live.now - (c.loop-number.number-index + 1))
-          (room_next (length c.args.live.now) c.loop-number.number-index c.loop-number.giving c.loop-number.due c.loop-number-test.true c.loop-number.invariant.room);
+          (room_next (length c.args.live.now) c.loop-number.number-index c.loop-number.gathering c.loop-number.due c.loop-number-test.true c.loop-number.invariant.room);
     }
 
 pub returns-clause-given : goal.returns-clause-given

@@ -1,7 +1,7 @@
 -- What was gathered before is forgotten, whatever is refused.
 use Rattle.std.proofs.Common.{◌∙◌}
 use Rattle.publisher_hub.proofs.Subscribed.Readiness.{on_err}
-use Rattle.publisher_hub.proofs.rounds.gathering.Giving.begin.Goals as goal
+use Rattle.publisher_hub.proofs.rounds.gathering.Gathering.begin.Goals as goal
 
 pub returns-in_err-reserve-clause-no_share : goal.returns-in_err-reserve-clause-no_share
 returns-in_err-reserve-clause-no_share c = on_err c.from_residual.result _ c.forget.ensures.shares
