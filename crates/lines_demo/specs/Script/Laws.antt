@@ -95,6 +95,6 @@ pub record IsCountedUpTo (serial : ℕ) (subscription : SubscriptionState) : Typ
       → subscription.since + (length subscription.desk.lane.accepted + subscription.dropped)
       ≡ serial
 
--- so of each subscription
+-- what each subscription accepted and dropped is what was published while it took part
 abbrev pub CountsPublications : SessionState → Type 0
 CountsPublications state = All (IsCountedUpTo state.serial) state.subscriptions

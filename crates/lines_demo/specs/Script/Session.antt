@@ -44,14 +44,14 @@ state_of hub stock woken has_begun = record {
 abbrev pub numbers_of : List (Work Unit) → List ℕ
 numbers_of due = map (λ (work : Work Unit). work.entry) due
 
--- a subscription of a script: its desk is there and its subscriber is steady, and where it is retired it has ended
+-- a subscription of a script: its desk is there and its subscriber is steady, and if it is retired it has ended
 pub record IsScriptEntry (entry : Entry DeskState) : Type 0 where
   pub desk : DeskState
   pub there : entry.feed ≡ Some desk
   pub steady : desk.is_steady ≡ true
   pub ended : entry.retired ≡ true → is_some desk.lane.how ≡ true
 
--- so of each subscription
+-- each subscription of a Hub is one of a script
 abbrev pub AreScriptEntries : List (Entry DeskState) → Type 0
 AreScriptEntries entries =
     (k : ℕ) (entry : Entry DeskState) → slice_get entries k ≡ Some entry → IsScriptEntry entry

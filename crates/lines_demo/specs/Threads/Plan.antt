@@ -67,7 +67,7 @@ checked_plan workers capacity subscribers =
     else Ok (record { workers = workers; capacity = capacity; subscribers = subscribers }))))
     else Err Refusal.BadWorkers
 
--- the same, if all of them are spelled
+-- the plan of a number of workers, a capacity and subscribers, if all three are spelled
 abbrev pub plan_of_parts : Option ℕ → Option ℕ → Option (List NamedDemand)
     → Result PlanState Refusal
 plan_of_parts None capacity subscribers = Err Refusal.BadCommand
@@ -81,7 +81,7 @@ unfoldable pub plan_of : List ℕ → List ℕ → List (List ℕ) → Result Pl
 plan_of workers capacity words =
     plan_of_parts (spelled_digits workers) (spelled_digits capacity) (spelled_subscribers words)
 
--- the same of the values that a command line may have
+-- the plan that the values of a command line spell, if it has them all
 abbrev pub plan_of_values : Option (List ℕ) → Option (List ℕ) → Option (List (List ℕ))
     → Result PlanState Refusal
 plan_of_values None capacity words = Err Refusal.BadCommand
@@ -89,7 +89,7 @@ plan_of_values (Some workers) None words = Err Refusal.BadCommand
 plan_of_values (Some workers) (Some capacity) None = Err Refusal.BadCommand
 plan_of_values (Some workers) (Some capacity) (Some words) = plan_of workers capacity words
 
--- the same of a command line that was read: of the first value of each option, and of all words `NAME:D`
+-- the plan that a command line spells, once it is read: by the first value of each option, and by all words `NAME:D`
 abbrev pub plan_of_matches : ArgMatches → Result PlanState Refusal
 plan_of_matches matches =
     let found = found_of matches in

@@ -28,5 +28,5 @@ returns g c =
     record {
       can = on_ok_all c.add_ticket.result (adds.keeps c.args.name c.may_subscribe.new.due c.in_ok-may_subscribe.ensures.can);
       ticket = ticket_for_one c.add_ticket.result c.may_subscribe.new.self c.add_ticket.new.self adds.closed adds.ok;
-      refusals = ticket_refused c.add_ticket.result c.may_subscribe.new.self.opening adds.err;
+      refusals = ticket_refused c.add_ticket.result c.may_subscribe.new.self.opening adds.refusals;
     }
