@@ -2,7 +2,7 @@
 ghost use Rattle.std.specs.Prelude.{◌≡◌, ◌≤◌, IfOk};
 ghost use Rattle.call_tests.specs.Counting.{end_of_counting};
 ghost use Rattle.feed_core.specs.Feed.{end_of};
-ghost use Rattle.flow_rules.specs.declared.item.TheConstants.{PUBLICATIONS};
+ghost use Rattle.flow_rules.specs.declared.item.TheConstants.{MOST_PUBLICATIONS};
 ghost use Rattle.publisher_hub.specs.Adding.{IsFresh};
 ghost use Rattle.publisher_hub.specs.Hub.{hub_of};
 ghost use Rattle.publisher_hub.specs.Sound.{IsSound};
@@ -64,7 +64,7 @@ pub enum Ask<'a> {
 impl<F: Feed> Trial<F> {
     /// A Hub with its next serial number, which holds the opening of a count of its own.
     pub fn starting_at(alloc: Global, asked: usize, serial: u64) -> Result<Trial<F>, Refusal>
-        requires { serial ≤ PUBLICATIONS }
+        requires { serial ≤ MOST_PUBLICATIONS }
         ensures { IfOk result (λ trial. IsSound (hub_of F.meaning trial.hub)) }
     {
         let mut hub = Hub::starting_at(alloc, asked, serial)?;

@@ -5,7 +5,7 @@ ghost use Rattle.std.specs.Prelude.{◌≡◌, ◌≤◌, [], length};
 use super::in_order::InOrder;
 use crossbeam_queue::ArrayQueue;
 use feed_cell::{Producer, Task};
-use flow_rules::{Ending, Feed, Item, PUBLICATIONS, Put};
+use flow_rules::{Ending, Feed, Item, MOST_PUBLICATIONS, Put};
 use std::sync::Wait;
 
 /// The queue of tasks that are started.
@@ -29,7 +29,7 @@ impl Putting {
 
     /// Puts an item, or gives it back.
     fn put(&mut self, item: Item) -> Put<Task<InOrder>> {
-        if self.producer.ready().is_err() || self.tried >= PUBLICATIONS {
+        if self.producer.ready().is_err() || self.tried >= MOST_PUBLICATIONS {
             return Put::Full(item);
         }
         self.tried += 1;

@@ -35,7 +35,7 @@ pub struct Desk<B: Listener> {
     held: Buffer,
     /// How many items it holds at most, a value of [`capacity`](flow_rules::capacity).
     capacity: usize,
-    /// How many items it has accepted, at most [`PUBLICATIONS`](flow_rules::PUBLICATIONS).
+    /// How many items it has accepted, at most [`MOST_PUBLICATIONS`](flow_rules::MOST_PUBLICATIONS).
     accepted: u64,
     /// How many items were taken for `onNext`: those that were told, and one more where its callback was refused memory.
     given: u64,

@@ -23,7 +23,7 @@ pub trait Feed: Drop {
     ghost use Rattle.flow_rules.specs.Call as Call;
     ghost use Rattle.flow_rules.specs.Call.{Call};
     ghost use Rattle.flow_rules.specs.Feed.{End, MayStart, Looked, Puts, Ends, Duplicates, held_count};
-    ghost use Rattle.flow_rules.specs.declared.item.TheConstants.{PUBLICATIONS};
+    ghost use Rattle.flow_rules.specs.declared.item.TheConstants.{MOST_PUBLICATIONS};
 
     /// What a caller has to run where it is started.
     type Task: Drop;
@@ -47,7 +47,7 @@ pub trait Feed: Drop {
     /// and where it was closed, the item comes back.
     fn put(&mut self, item: Item) -> Put<Self::Task>
         requires may { MayStart (meaning self.old) }
-        requires few { length (meaning self.old).accepted < PUBLICATIONS }
+        requires few { length (meaning self.old).accepted < MOST_PUBLICATIONS }
         ensures means { Puts (meaning self.old) item result (meaning self.new) }
         ensures exact { does self.old (Call.Puts item result) self.new };
 

@@ -5,7 +5,7 @@ use crate::refusal::NoMemory;
 use crate::text::Text;
 
 /// How many publications there may be: their serial numbers are 0 to 2^62 - 1.
-pub const PUBLICATIONS: u64 = 1 << 62;
+pub const MOST_PUBLICATIONS: u64 = 1 << 62;
 
 /// What a publisher hands on: a text, the source that sent it, its number among the source's items (from 0 on),
 /// and its number among all publications (from 0 on). Items are equal where all four parts are.

@@ -46,7 +46,7 @@ pub use demand::{Demand, IllegalArgument, UNBOUNDED};
 pub use ending::Ending;
 pub use feed::{DropHandler, Feed, Put, Standing};
 pub use how::How;
-pub use item::{Item, PUBLICATIONS};
+pub use item::{Item, MOST_PUBLICATIONS};
 pub use listener::{GoesOn, Listener, Shown};
 pub use name::Name;
 pub use printer::Printer;

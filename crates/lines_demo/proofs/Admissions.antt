@@ -7,13 +7,13 @@ use Rattle.feed_core.specs.Desk.{Rests, desk_after_signal}
 use Rattle.feed_core.specs.LaneCalls.{lane_with_closing}
 use Rattle.feed_core.specs.Feed.{DoesCall, end_of}
 use Rattle.publisher_hub.specs.Hub.{HubState, Progress, hub_of}
-use Rattle.publisher_hub.specs.Offering.{work_of}
+use Rattle.publisher_hub.specs.Gathering.{work_of}
 use Rattle.publisher_hub.specs.Sound.{IsSound}
 use Rattle.publisher_hub.specs.Subscribing.{Admits, ClosesNew, first_entry}
 use Rattle.publisher_hub.specs.declared.entry.Entry.{Entry}
 use Rattle.publisher_hub.specs.declared.hub.Hub.{Hub}
 use Rattle.publisher_hub.specs.declared.work.Work.{Work}
-use Rattle.publisher_hub.proofs.Grown.{get_grown}
+use Rattle.publisher_hub.proofs.AnswerLists.Updates.{get_grown}
 use Rattle.lines_demo.specs.Prelude.{DeskState, Ending, Refusal, owes, desk_after_demand, desk_after_request, desk_without_looks}
 use Rattle.lines_demo.specs.Script.Session.{AreScriptEntries, IsScriptEntry, IsScriptHub, state_of, subscription_of}
 use Rattle.lines_demo.specs.Script.State.{SessionState}

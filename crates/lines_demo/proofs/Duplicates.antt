@@ -10,15 +10,15 @@ use Rattle.feed_core.specs.Desk.{desk_after_duplicate}
 use Rattle.feed_core.specs.Feed.{DoesCall, end_of}
 use Rattle.feed_core.specs.LaneCalls.{lane_with_duplicate}
 use Rattle.publisher_hub.specs.Hub.{HubState, Progress, hub_of}
-use Rattle.publisher_hub.specs.Offering.{work_of}
+use Rattle.publisher_hub.specs.Gathering.{work_of}
 use Rattle.publisher_hub.specs.Sound.{IsSound}
 use Rattle.publisher_hub.specs.Subscribing.{IsSeen, TellsOne, Told}
 use Rattle.publisher_hub.specs.declared.entry.Entry.{Entry}
 use Rattle.publisher_hub.specs.declared.hub.Hub.{Hub}
 use Rattle.publisher_hub.specs.declared.work.Work.{Work}
-use Rattle.publisher_hub.proofs.Grown.{get_elsewhere, get_there}
-use Rattle.publisher_hub.proofs.LiveRounds.{get_mapped}
-use Rattle.publisher_hub.proofs.PartialRounds.{same_some}
+use Rattle.publisher_hub.proofs.AnswerLists.Updates.{get_elsewhere, get_there}
+use Rattle.publisher_hub.proofs.PartialRounds.Next.{get_mapped}
+use Rattle.publisher_hub.proofs.PartialRounds.Progress.{same_some}
 use Rattle.lines_demo.specs.Prelude.{DeskState, owes}
 use Rattle.lines_demo.specs.Word.{is_word}
 use Rattle.lines_demo.specs.Script.Kept.{IsReached}

@@ -3,7 +3,7 @@ use Rattle.std.proofs.Common.{◌≡◌, ℕ, suc, ◌<◌, Some, List, [], ◌�
 use Rattle.std.specs.Prelude.{slice_get}
 use Rattle.std.proofs.lemmas.Option.{slice_get_within}
 use Rattle.publisher_hub.specs.Lists.{Each, EachBy}
-use Rattle.publisher_hub.proofs.Places.{there}
+use Rattle.publisher_hub.proofs.AnswerLists.Places.{there}
 
 -- where the relation says what a function sees of each, it says what it sees of the list
 pub each_map : {A C : Type 0} (see : A → C) (change : C → C) (R : A → A → Type 0) (xs ys : List A) → Each R xs ys

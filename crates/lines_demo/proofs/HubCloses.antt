@@ -8,10 +8,11 @@ use Rattle.publisher_hub.specs.Closing.{Closes, ClosesAll, started_by_end, start
 use Rattle.publisher_hub.specs.Hub.{HubState, hub_of}
 use Rattle.publisher_hub.specs.Looking.{Prepares}
 use Rattle.publisher_hub.specs.Sound.{IsSound}
+use Rattle.publisher_hub.specs.declared.entry.AtClose.{AtClose}
 use Rattle.publisher_hub.specs.declared.entry.Entry.{Entry}
 use Rattle.publisher_hub.specs.declared.hub.Hub.{Hub}
 use Rattle.publisher_hub.specs.declared.work.Work.{Work}
-use Rattle.publisher_hub.proofs.Places.{stood_by}
+use Rattle.publisher_hub.proofs.AnswerLists.Places.{stood_by}
 use Rattle.lines_demo.specs.Prelude.{DeskState, Ending, How, LaneState, desk_after_end, desk_without_looks, owes}
 use Rattle.lines_demo.specs.Script.Kept.{IsKept}
 use Rattle.lines_demo.specs.Script.Obeying.{closing_result, state_after_closing, subscription_after_closing}
@@ -33,7 +34,7 @@ use Rattle.lines_demo.proofs.Signals.{signal_wakes}
 use Rattle.lines_demo.proofs.StartedTasks.{gathered_woken, starts}
 
 -- what a close leaves of a subscription that was looked at
-record IsClosedEntry (ending : Ending) (k : ℕ) (start : Option (Option Unit)) (x y : Entry DeskState) : Type 0 where
+record IsClosedEntry (ending : Ending) (k : ℕ) (start : AtClose Unit) (x y : Entry DeskState) : Type 0 where
   same : subscription_of y ≡ subscription_after_closing ending (subscription_of x)
   entry : IsScriptEntry y
   wakes : numbers_of (started_by_end k start) ≡ (if starts x y then k ∷ [] else [])
@@ -43,9 +44,9 @@ stays : (owed : Bool) (k : ℕ) → [] ≡ (if owed && not owed then k ∷ [] el
 stays true k = refl
 stays false k = refl
 
-closed_entry : (ending : Ending) (k : ℕ) (start : Option (Option Unit)) (x y : Entry DeskState) → IsScriptEntry x → x.retired ≡ not (is_live (subscription_of x))
+closed_entry : (ending : Ending) (k : ℕ) (start : AtClose Unit) (x y : Entry DeskState) → IsScriptEntry x → x.retired ≡ not (is_live (subscription_of x))
     → ((subscription_of x).desk.lane.how ≡ None → (subscription_of x).desk.lane.causes.closing ≡ None) → Closes end_of DoesCall ending start x y → IsClosedEntry ending k start x y
-closed_entry ending k None x y is retired unclosed closes = rw closes.1 (record {
+closed_entry ending k AtClose.Retired x y is retired unclosed closes = rw closes.1 (record {
   same = gone (is_live (subscription_of x)) (sym retired ∙ closes.0);
   entry = is;
   wakes = stays (owes (subscription_of x).desk) k;
@@ -53,7 +54,7 @@ closed_entry ending k None x y is retired unclosed closes = rw closes.1 (record 
   gone : (live : Bool) → not live ≡ true → subscription_of x ≡ (if live then record (subscription_of x) { desk = desk_after_end ending (subscription_of x).desk } else subscription_of x)
   gone true e = cc
   gone false e = refl
-closed_entry ending k (Some start) x y is retired unclosed closes = record {
+closed_entry ending k (AtClose.Ended start) x y is retired unclosed closes = record {
   same = sees_now ∙ sym expected;
   entry = rw closes.now (record { desk = closes.after; there = refl; steady = steady; ended = λ odd. (let never : false ≡ true = sym closes.live ∙ odd in cc) });
   wakes = wakes;
@@ -131,7 +132,7 @@ module _ {B : Type 0} (session : Inside B) (new : Hub DeskState) (ending : Endin
       let kept : All (IsKept is.reached.0 old.next old.ending) (map subscription_of closes.middle) = subst (All (IsKept is.reached.0 old.next old.ending)) (sym looked.same) is.reached.1.subscriptions in
       (all_seen_at (IsKept is.reached.0 old.next old.ending) subscription_of closes.middle k x kept at).closing live ∙ unclosed
 
-  one : (k : ℕ) (start : Option (Option Unit)) (x y : Entry DeskState) → slice_get closes.middle k ≡ Some x → Closes end_of DoesCall ending start x y → IsClosedEntry ending k start x y
+  one : (k : ℕ) (start : AtClose Unit) (x y : Entry DeskState) → slice_get closes.middle k ≡ Some x → Closes end_of DoesCall ending start x y → IsClosedEntry ending k start x y
   one k start x y at closed = closed_entry ending k start x y (looked.entries k x at) (retired k x at) (open_still k x at) closed
 
   subscriptions : map subscription_of new.entries.items ≡ map (subscription_after_closing ending) state.subscriptions

@@ -8,7 +8,7 @@ use Rattle.feed_core.specs.Feed.{DoesCall, end_of}
 use Rattle.publisher_hub.specs.Lists.{Each, EachBy}
 use Rattle.publisher_hub.specs.Looking.{IsReadied, MayPrepare, Prepares, Sees}
 use Rattle.publisher_hub.specs.declared.entry.Entry.{Entry}
-use Rattle.publisher_hub.proofs.Places.{stood_by}
+use Rattle.publisher_hub.proofs.AnswerLists.Places.{stood_by}
 use Rattle.lines_demo.specs.Prelude.{DeskState, How, desk_without_looks}
 use Rattle.lines_demo.specs.Script.Session.{AreScriptEntries, IsScriptEntry, desk_in, subscription_of}
 use Rattle.lines_demo.specs.Script.State.{SubscriptionState}

@@ -4,20 +4,21 @@ use Rattle.std.specs.Prelude.{slice_get, slice_set}
 use Rattle.std.proofs.lemmas.Bool.Decides.{nat_tests}
 use Rattle.std.proofs.lemmas.List.{append-nil}
 use Rattle.flow_rules.specs.declared.feed.standing.Standing.{Standing}
-use Rattle.flow_rules.specs.declared.item.TheConstants.{PUBLICATIONS}
+use Rattle.flow_rules.specs.declared.item.TheConstants.{MOST_PUBLICATIONS}
 use Rattle.feed_core.specs.Feed.{DoesCall, end_of}
 use Rattle.feed_core.specs.LaneCalls.{IsCapacity}
 use Rattle.publisher_hub.specs.Hub.{HubState, hub_of}
 use Rattle.publisher_hub.specs.Lists.{EachBy, greatest}
 use Rattle.publisher_hub.specs.Looking.{IsLookedAt, Prepares}
-use Rattle.publisher_hub.specs.Offering.{IsNextItem, Offers, dropped, lags, lags_again, started, started_again}
+use Rattle.publisher_hub.specs.Gathering.{dropped, lags, lags_again, started, started_again}
+use Rattle.publisher_hub.specs.Offering.{IsNextItem, ReachesAll}
 use Rattle.publisher_hub.specs.Publishing as Publishing
 use Rattle.publisher_hub.specs.Publishing.{IsRefused, OffersItem, RefusesOffer, WhyNotOffered}
 use Rattle.publisher_hub.specs.Sound.{IsSound}
 use Rattle.publisher_hub.specs.declared.entry.Entry.{Entry}
 use Rattle.publisher_hub.specs.declared.hub.Hub.{Hub}
 use Rattle.publisher_hub.specs.declared.work.Work.{Work}
-use Rattle.publisher_hub.proofs.Published.{known_of}
+use Rattle.publisher_hub.proofs.Publications.WholePublication.{known_of}
 use Rattle.lines_demo.specs.Prelude.{Item, Refusal, DeskState}
 use Rattle.lines_demo.specs.Script.Publishing.{drop_count, drops_or_lag, greatest_lag, next_item, offer_answer, publication_refusal, state_after_publication, subscription_after_offer}
 use Rattle.lines_demo.specs.Script.Session.{AreScriptEntries, IsScriptHub, desk_in, numbers_of, state_of, subscription_of}
@@ -51,9 +52,9 @@ set_stands (first ∷ numbers) (suc place) value there at = set_stands numbers p
 -- ---- why nothing is published
 
 -- where the publisher takes items, so does the script
-pub nothing_against : (old : Hub DeskState) (stock : ℕ) (woken : List ℕ) (has_begun : Bool) → old.ending ≡ None → old.next < PUBLICATIONS → publication_refusal (state_of old stock woken has_begun) ≡ None
+pub nothing_against : (old : Hub DeskState) (stock : ℕ) (woken : List ℕ) (has_begun : Bool) → old.ending ≡ None → old.next < MOST_PUBLICATIONS → publication_refusal (state_of old stock woken has_begun) ≡ None
 nothing_against old stock woken has_begun unclosed few =
-    let test : nat_le PUBLICATIONS old.next ≡ false = grind (arith, nat_tests) in
+    let test : nat_le MOST_PUBLICATIONS old.next ≡ false = grind (arith, nat_tests) in
     rw (unclosed, test) refl
 
 -- why the publisher takes none is why the script publishes none
@@ -62,7 +63,7 @@ pub refused_as : (old : Hub DeskState) (stock : ℕ) (woken : List ℕ) (has_beg
 refused_as old stock woken has_begun (Refusal.Closed ending) why = rw why refl
 refused_as old stock woken has_begun Refusal.Exhausted why =
     let last = why.1 in
-    let test : nat_le PUBLICATIONS old.next ≡ true = grind (arith, nat_tests) in
+    let test : nat_le MOST_PUBLICATIONS old.next ≡ true = grind (arith, nat_tests) in
     rw (why.0, test) refl
 refused_as old stock woken has_begun Refusal.BadCapacity why = absurd why
 refused_as old stock woken has_begun Refusal.Duplicate why = absurd why
@@ -131,7 +132,7 @@ unclosed_entries old is unclosed k x at =
     ∙ (known_of {T = Unit} end_of DoesCall (hub_of end_of old) old.entries.items is.sound refl unclosed k x at (end_of entry.desk) (ap (λ feed. option_map end_of feed) entry.there)).0
 
 pub hub_published : (text : List ℕ) (old new : Hub DeskState) (item : Item) (due : List (Work Unit)) → IsScriptHub old → IsSound (hub_of end_of new) → item.source ≡ SOURCE → item.text ≡ text
-    → Offers item (hub_of end_of old) (hub_of end_of new) → map subscription_of new.entries.items ≡ map (subscription_after_offer item) (map subscription_of old.entries.items) → AreScriptEntries new.entries.items
+    → ReachesAll item (hub_of end_of old) (hub_of end_of new) → map subscription_of new.entries.items ≡ map (subscription_after_offer item) (map subscription_of old.entries.items) → AreScriptEntries new.entries.items
     → numbers_of due ≡ newly_woken (map subscription_of old.entries.items) (map subscription_of new.entries.items) → HubPublished text old new due
 hub_published text old new item due is sound from words offers same entries woken_now = record {
   script = record {
@@ -169,7 +170,7 @@ pub record HubOffered (text : List ℕ) (old new : Hub DeskState) (due : List (W
 pub hub_offered : (text : List ℕ) (declines : Bool) (old new : Hub DeskState) (due_old due : List (Work Unit)) (answer : ℤ) → IsScriptHub old → due_old ≡ [] → IsSound (hub_of end_of new)
     → OffersItem end_of DoesCall SOURCE text declines old new due_old due answer → HubOffered text old new due answer
 hub_offered text declines old new due_old due answer is no_due sound o = record {
-  published = hub_published text old new o.item due is sound o.from o.words o.offers
+  published = hub_published text old new o.item due is sound o.from o.words o.reaches
       (second.same ∙ first.same ∙ ap (map (subscription_after_offer o.item)) looked.same)
       second.entries
       (ap numbers_of due_is ∙ first.started ∙ ap (λ before. newly_woken before (map subscription_of o.middle)) looked.same ∙ ap (newly_woken (map subscription_of old.entries.items)) (sym second.same));
@@ -178,14 +179,14 @@ hub_offered text declines old new due_old due answer is no_due sound o = record 
       ∙ ap (λ n. drops_or_lag n (greatest (lags o.puts ++ lags_again o.seconds))) (ap length second.drops ∙ first.missed ∙ ap drop_count looked.same)
       ∙ ap (drops_or_lag (drop_count (map subscription_of old.entries.items))) (
       ap (λ more. greatest (lags o.puts ++ more)) second.lag ∙ ap greatest (append-nil (lags o.puts)) ∙ first.lag ∙ ap (greatest_lag o.item) looked.same
-      ∙ ap (λ i. greatest_lag i (map subscription_of old.entries.items)) (next_item_is old o.item text is o.offers.next o.from o.words)
+      ∙ ap (λ i. greatest_lag i (map subscription_of old.entries.items)) (next_item_is old o.item text is o.reaches.next o.from o.words)
       );
 } where
   looked : ListSeesSame old.entries.items o.ready
   looked = prepared_all_same old.next o.glances old.entries.items o.ready is.entries o.looked
 
   first : AllOffered o.item o.puts o.ready o.middle
-  first = all_offered o.item o.puts o.ready o.middle (may_all_be_offered old.next o.glances old.entries.items o.ready is.entries (unclosed_entries old is o.offers.next.unclosed) o.looked) o.given
+  first = all_offered o.item o.puts o.ready o.middle (may_all_be_offered old.next o.glances old.entries.items o.ready is.entries (unclosed_entries old is o.reaches.next.unclosed) o.looked) o.given
 
   second : AllStay o.puts o.seconds o.middle new.entries.items
   second = all_stay o.item o.puts o.seconds o.ready o.middle new.entries.items first.entries o.given o.again o.asked

@@ -13,14 +13,14 @@ use Rattle.feed_core.specs.LaneCalls.{accepts, lane_with_item}
 use Rattle.publisher_hub.specs.Hub.{hub_of}
 use Rattle.publisher_hub.specs.Lists.{EachBy}
 use Rattle.publisher_hub.specs.Looking.{Prepares, full, full_by}
-use Rattle.publisher_hub.specs.Offering.{started}
+use Rattle.publisher_hub.specs.Gathering.{started}
 use Rattle.publisher_hub.specs.Publishing.{Publishes, RefusesItem, RefusesOffer, WhyNotOffered, WhyRefused}
 use Rattle.publisher_hub.specs.Sound.{IsSound}
 use Rattle.publisher_hub.specs.declared.entry.Entry.{Entry}
 use Rattle.publisher_hub.specs.declared.hub.Hub.{Hub}
 use Rattle.publisher_hub.specs.declared.hub.publishing.Unpublished.TheVariants.{NoRoom, Refused}
 use Rattle.publisher_hub.specs.declared.work.Work.{Work}
-use Rattle.publisher_hub.proofs.Published.{below_most, known_of}
+use Rattle.publisher_hub.proofs.Publications.WholePublication.{below_most, known_of}
 use Rattle.lines_demo.specs.Prelude.{Item, Ending, How, Refusal, DeskState, is_gone, lag_of}
 use Rattle.lines_demo.specs.Script.Publishing.{drop_count, greatest_lag, is_full, lag_with, next_item, publication_refusal, refusal_or_wait, submit_refusal, subscription_after_offer}
 use Rattle.lines_demo.specs.Script.Session.{IsScriptEntry, IsScriptHub, desk_in, numbers_of, state_of, subscription_of}
@@ -183,19 +183,19 @@ hub_submitted text old new due_old due lag is no_due sound p = record {
       ap (λ (r : Option Refusal). refusal_or_wait r (list_any is_full (map subscription_of old.entries.items))) (published.allowed stock woken has_begun)
       ∙ ap (refusal_or_wait None) (none_passes is_full (map subscription_of old.entries.items) (sym (first.missed ∙ ap drop_count looked.same) ∙ ap length p.no_drop));
   answers = λ stock woken has_begun.
-      p.greatest_lag ∙ first.lag ∙ ap (greatest_lag p.item) looked.same ∙ ap (λ i. greatest_lag i (map subscription_of old.entries.items)) (next_item_is old p.item text is p.offers.next p.from p.words);
+      p.greatest_lag ∙ first.lag ∙ ap (greatest_lag p.item) looked.same ∙ ap (λ i. greatest_lag i (map subscription_of old.entries.items)) (next_item_is old p.item text is p.reaches.next p.from p.words);
 } where
   looked : ListSeesSame old.entries.items p.middle
   looked = prepared_all_same old.next p.glances old.entries.items p.middle is.entries p.looked
 
   first : AllOffered p.item p.puts p.middle new.entries.items
-  first = all_offered p.item p.puts p.middle new.entries.items (may_all_be_offered old.next p.glances old.entries.items p.middle is.entries (unclosed_entries old is p.offers.next.unclosed) p.looked) p.given
+  first = all_offered p.item p.puts p.middle new.entries.items (may_all_be_offered old.next p.glances old.entries.items p.middle is.entries (unclosed_entries old is p.reaches.next.unclosed) p.looked) p.given
 
   due_is : due ≡ started p.puts
   due_is = p.due ∙ ap (λ before. before ++ started p.puts) no_due
 
   published : HubPublished text old new due
-  published = hub_published text old new p.item due is sound p.from p.words p.offers
+  published = hub_published text old new p.item due is sound p.from p.words p.reaches
       (first.same ∙ ap (map (λ s. subscription_after_offer p.item s)) looked.same)
       first.entries
       (ap numbers_of due_is ∙ first.started ∙ ap (λ before. newly_woken before (map subscription_of new.entries.items)) looked.same)

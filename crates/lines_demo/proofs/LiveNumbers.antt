@@ -8,8 +8,8 @@ use Rattle.publisher_hub.specs.Entry.{EntryState, entry_of}
 use Rattle.publisher_hub.specs.Hub.{hub_of}
 use Rattle.publisher_hub.specs.declared.entry.Entry.{Entry}
 use Rattle.publisher_hub.specs.declared.hub.Hub.{Hub}
-use Rattle.publisher_hub.proofs.LiveRounds.{get_mapped, get_before_map}
-use Rattle.publisher_hub.proofs.PartialRounds.{same_some}
+use Rattle.publisher_hub.proofs.PartialRounds.Next.{get_mapped, get_before_map}
+use Rattle.publisher_hub.proofs.PartialRounds.Progress.{same_some}
 use Rattle.lines_demo.specs.Prelude.{DeskState}
 use Rattle.lines_demo.specs.Script.Session.{subscription_of}
 use Rattle.lines_demo.specs.Script.Waking.{is_live}

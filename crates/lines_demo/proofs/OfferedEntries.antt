@@ -7,7 +7,8 @@ use Rattle.flow_rules.specs.declared.feed.put.Put.TheVariants.{Accepted, Full, G
 use Rattle.feed_core.specs.Desk.{AcceptsItem, IsFull, Rests, desk_after_look, desk_after_signal}
 use Rattle.feed_core.specs.Feed.{DoesCall, end_of}
 use Rattle.feed_core.specs.LaneCalls.{IsOpen, accepts, lane_with_item}
-use Rattle.publisher_hub.specs.Offering.{Gives, GivesAgain, Offered, Second, dropped_by, lag_again_by, lag_by, missed_by, started_again_by, started_by, work_of}
+use Rattle.publisher_hub.specs.Gathering.{Second, dropped_by, lag_again_by, lag_by, missed_by, started_again_by, started_by, work_of}
+use Rattle.publisher_hub.specs.Offering.{Gives, GivesAgain, Offered}
 use Rattle.publisher_hub.specs.declared.entry.Entry.{Entry}
 use Rattle.lines_demo.specs.Prelude.{Item, How, Ending, DeskState, LaneState, desk_after_put, desk_without_looks, is_gone, lag_of, owes}
 use Rattle.lines_demo.specs.Script.Publishing.{is_full, lag_with, subscription_after_offer}

@@ -10,12 +10,13 @@ use Rattle.flow_rules.specs.declared.feed.standing.Standing.{Standing}
 use Rattle.feed_core.specs.Feed.{DoesCall, end_of}
 use Rattle.publisher_hub.specs.Lists.{Each, EachBy, gather, greatest}
 use Rattle.publisher_hub.specs.Looking.{Prepares}
-use Rattle.publisher_hub.specs.Offering.{AreAsked, Gives, GivesAgain, Second, dropped, dropped_by, lag_again_by, lag_by, lags, lags_again, missed, missed_by, started, started_again, started_again_by, started_by}
+use Rattle.publisher_hub.specs.Gathering.{AreAsked, Second, dropped, dropped_by, lag_again_by, lag_by, lags, lags_again, missed, missed_by, started, started_again, started_again_by, started_by}
+use Rattle.publisher_hub.specs.Offering.{Gives, GivesAgain}
 use Rattle.publisher_hub.specs.declared.entry.Entry.{Entry}
-use Rattle.publisher_hub.proofs.Gathered.{gather_nothing}
-use Rattle.publisher_hub.proofs.Missed.{missed_at, missed_is}
-use Rattle.publisher_hub.proofs.PartialRounds.{same_some}
-use Rattle.publisher_hub.proofs.Places.{answered_at, stood_by, there}
+use Rattle.publisher_hub.proofs.AnswerLists.Gathering.{gather_nothing}
+use Rattle.publisher_hub.proofs.Publications.FullBuffers.{missed_at, missed_is}
+use Rattle.publisher_hub.proofs.PartialRounds.Progress.{same_some}
+use Rattle.publisher_hub.proofs.AnswerLists.Places.{answered_at, stood_by, there}
 use Rattle.lines_demo.specs.Prelude.{Item, DeskState}
 use Rattle.lines_demo.specs.Script.Publishing.{drop_count, greatest_lag, is_full, lag_with, subscription_after_offer}
 use Rattle.lines_demo.specs.Script.Session.{AreScriptEntries, IsScriptEntry, desk_in, numbers_of, subscription_of}

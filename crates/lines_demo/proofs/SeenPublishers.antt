@@ -14,8 +14,8 @@ use Rattle.publisher_hub.specs.Sound.{IsSound}
 use Rattle.publisher_hub.specs.Subscribing.{IsSeen, IsSeenInPart, IsUnnamed}
 use Rattle.publisher_hub.specs.declared.entry.Entry.{Entry}
 use Rattle.publisher_hub.specs.declared.hub.Hub.{Hub}
-use Rattle.publisher_hub.proofs.LiveRounds.{get_mapped, get_before_map}
-use Rattle.publisher_hub.proofs.Places.{stood_by}
+use Rattle.publisher_hub.proofs.PartialRounds.Next.{get_mapped, get_before_map}
+use Rattle.publisher_hub.proofs.AnswerLists.Places.{stood_by}
 use Rattle.lines_demo.specs.Prelude.{DeskState}
 use Rattle.lines_demo.specs.Word.{is_word}
 use Rattle.lines_demo.specs.Script.Session.{AreScriptEntries, IsScriptHub, subscription_of}

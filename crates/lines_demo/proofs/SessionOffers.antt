@@ -2,7 +2,7 @@
 use Rattle.std.proofs.Common.{◌≡◌, ℕ, ◌+◌, ◌<◌, ◌≤◌, Bool, true, ℤ, pos, Ok, List, ◌++◌, length, map, sym, ap, subst, arith}
 use Rattle.std.specs.Prelude.{All}
 use Rattle.std.proofs.lemmas.List.Elements.{All-weaker}
-use Rattle.flow_rules.specs.declared.item.TheConstants.{PUBLICATIONS}
+use Rattle.flow_rules.specs.declared.item.TheConstants.{MOST_PUBLICATIONS}
 use Rattle.feed_core.specs.Feed.{end_of}
 use Rattle.publisher_hub.specs.Hub.{hub_of}
 use Rattle.publisher_hub.specs.Sound.{IsSound}
@@ -55,7 +55,7 @@ module _ (old new : Hub DeskState) (stock : ℕ) (woken : List ℕ) (has_begun :
   }
 
   -- the lag of a submission is small
-  pub lag_small : (text : List ℕ) (due : List (Work Unit)) (lag : ℕ) → HubSubmitted text old new due lag → lag ≤ PUBLICATIONS + 1
+  pub lag_small : (text : List ℕ) (due : List (Work Unit)) (lag : ℕ) → HubSubmitted text old new due lag → lag ≤ MOST_PUBLICATIONS + 1
   lag_small text due lag submitted =
       let item = next_item (state_of old stock woken has_begun) text in
       let kept = is.reached.1.subscriptions in

@@ -1,7 +1,7 @@
 -- Whom a signal starts.
 use Rattle.std.proofs.Common.{◌≡◌, ◌↔◌, ℕ, Bool, true, false, not, ◌&&◌, if◌then◌else◌, Option, None, Some, [], ◌∷◌, refl, sym, ap, ◌∙◌}
 use Rattle.std.specs.Prelude.{is_none, IsSome}
-use Rattle.publisher_hub.specs.Offering.{work_of}
+use Rattle.publisher_hub.specs.Gathering.{work_of}
 use Rattle.feed_core.specs.Desk.{Rests, desk_after_signal}
 use Rattle.lines_demo.specs.Prelude.{DeskState, How, LaneState, owes}
 use Rattle.lines_demo.specs.Script.Session.{numbers_of}

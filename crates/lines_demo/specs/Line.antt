@@ -13,7 +13,8 @@ with_first_byte byte (line ∷ lines) = (byte ∷ line) ∷ lines
 -- the lines of these bytes: each ends with a line feed, which the last one may lack
 abbrev pub lines_of : List ℕ → List (List ℕ)
 lines_of [] = []
-lines_of (byte ∷ rest) = if is_line_feed byte then [] ∷ lines_of rest else with_first_byte byte (lines_of rest)
+lines_of (byte ∷ rest) =
+    if is_line_feed byte then [] ∷ lines_of rest else with_first_byte byte (lines_of rest)
 
 -- whether the last byte is a carriage return
 abbrev pub ends_with_return : List ℕ → Bool

@@ -26,7 +26,8 @@ value_of_digits digits = fold with_digit 0 digits
 
 -- 1 to 19 digits
 abbrev pub is_number : List ℕ → Bool
-is_number bytes = nat_le 1 (length bytes) && nat_le (length bytes) MOST_DIGITS && list_all is_digit bytes
+is_number bytes =
+    nat_le 1 (length bytes) && nat_le (length bytes) MOST_DIGITS && list_all is_digit bytes
 
 -- the number that the bytes spell, if they are 1 to 19 digits
 unfoldable pub spelled_digits : List ℕ → Option ℕ
@@ -47,7 +48,8 @@ spelled_code bytes = at_most LARGEST_CODE (spelled_digits bytes)
 
 -- minus the number that the bytes spell, down to -2^63
 abbrev pub spelled_negative : List ℕ → Option ℤ
-spelled_negative digits = option_map (λ number. neg_ℤ (pos number)) (at_most (UNBOUNDED + 1) (spelled_digits digits))
+spelled_negative digits =
+    option_map (λ number. neg_ℤ (pos number)) (at_most (UNBOUNDED + 1) (spelled_digits digits))
 
 -- the number that the bytes spell with a `-` (ASCII 45) before it or without, from -2^63 to 2^63-1
 unfoldable pub spelled_signed : List ℕ → Option ℤ

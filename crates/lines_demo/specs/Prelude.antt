@@ -5,7 +5,7 @@ pub use Rattle.flow_rules.specs.declared.ending.Ending.TheVariants as Ending
 pub use Rattle.flow_rules.specs.declared.how.How.{How}
 pub use Rattle.flow_rules.specs.declared.how.How.TheVariants as How
 pub use Rattle.flow_rules.specs.declared.item.Item.{Item}
-pub use Rattle.flow_rules.specs.declared.item.TheConstants.{PUBLICATIONS}
+pub use Rattle.flow_rules.specs.declared.item.TheConstants.{MOST_PUBLICATIONS}
 pub use Rattle.flow_rules.specs.declared.refusal.Refusal.{Refusal}
 pub use Rattle.flow_rules.specs.declared.refusal.Refusal.TheVariants as Refusal
 pub use Rattle.flow_rules.specs.declared.signal.Fault.{Fault}

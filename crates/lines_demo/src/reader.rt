@@ -18,7 +18,8 @@ pub enum InputFault {
 
 /// Reads all bytes.
 pub fn read_whole<R: Read>(alloc: Global, reader: &mut R) -> Result<Vec<u8>, InputFault>
-    ensures known { IfOk result (λ bytes. IfSome (R.remaining reader.old) (λ known. known ≡ bytes.items)) }
+    ensures known { IfOk result
+        (λ bytes. IfSome (R.remaining reader.old) (λ known. known ≡ bytes.items)) }
     ensures bounded { IfOk result (λ bytes. length bytes.items ≤ LONGEST_INPUT) }
 {
     let mut bytes = Vec::new(alloc);

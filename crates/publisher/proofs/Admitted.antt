@@ -19,9 +19,9 @@ use Rattle.publisher_hub.specs.Subscribing.{Admits, first_entry}
 use Rattle.publisher_hub.specs.declared.entry.Entry.{Entry}
 use Rattle.publisher_hub.specs.declared.hub.Hub.{Hub}
 use Rattle.publisher_hub.specs.declared.work.Work.{Work}
-use Rattle.publisher_hub.proofs.Grown.{get_grown}
-use Rattle.publisher_hub.proofs.LiveRounds.{get_before_map, get_mapped}
-use Rattle.publisher_hub.proofs.PartialRounds.{same_some}
+use Rattle.publisher_hub.proofs.AnswerLists.Updates.{get_grown}
+use Rattle.publisher_hub.proofs.PartialRounds.Next.{get_before_map, get_mapped}
+use Rattle.publisher_hub.proofs.PartialRounds.Progress.{same_some}
 use Rattle.publisher.specs.Tickets.{IsOfCount, IsTicketFor, IsTicketed}
 use Rattle.publisher.proofs.KeptStates.{stays_seen, tickets_stay}
 use Rattle.publisher.specs.State.{IsCountedAtClose, producer_end}

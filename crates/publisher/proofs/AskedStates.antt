@@ -17,8 +17,8 @@ use Rattle.publisher_hub.specs.Sound.{IsSound}
 use Rattle.publisher_hub.specs.Tickets.{AsksForTicket, AsksForTicketAt}
 use Rattle.publisher_hub.specs.declared.entry.Entry.{Entry}
 use Rattle.publisher_hub.specs.declared.hub.Hub.{Hub}
-use Rattle.publisher_hub.proofs.LiveRounds.{get_mapped}
-use Rattle.publisher_hub.proofs.PartialRounds.{same_some}
+use Rattle.publisher_hub.proofs.PartialRounds.Next.{get_mapped}
+use Rattle.publisher_hub.proofs.PartialRounds.Progress.{same_some}
 use Rattle.publisher.specs.Spending.{last_after}
 use Rattle.publisher.specs.State.{IsState, Sums, producer_end}
 use Rattle.publisher.specs.Tickets.{IsOfCount}

@@ -10,8 +10,8 @@ use Rattle.publisher_hub.specs.Hub.{HubState, hub_of}
 use Rattle.publisher_hub.specs.Tickets.{ticket_at}
 use Rattle.publisher_hub.specs.declared.entry.Entry.{Entry}
 use Rattle.publisher_hub.specs.declared.hub.Hub.{Hub}
-use Rattle.publisher_hub.proofs.LiveRounds.{get_mapped}
-use Rattle.publisher_hub.proofs.PartialRounds.{below_or_last}
+use Rattle.publisher_hub.proofs.PartialRounds.Next.{get_mapped}
+use Rattle.publisher_hub.proofs.PartialRounds.Progress.{below_or_last}
 use Rattle.publisher.specs.Tickets.{AreOfOneCountOf, AreSpent, IsBeside}
 use Rattle.publisher.specs.State.{producer_end}
 

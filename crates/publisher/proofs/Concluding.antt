@@ -5,7 +5,7 @@ use Rattle.std.specs.Option.{option_or}
 use Rattle.std.proofs.lemmas.Option.{same_Some, slice_get_within}
 use Rattle.feed_core.specs.Prelude.{How, Signal}
 use Rattle.flow_rules.specs.declared.refusal.Refusal.{Refusal}
-use Rattle.publisher_hub.proofs.Places.{there}
+use Rattle.publisher_hub.proofs.AnswerLists.Places.{there}
 use Rattle.publisher.specs.Finding.{IsHandedIn}
 use Rattle.publisher.specs.Finishing.{AreAudited, AreTakenOut, IsNothing}
 use Rattle.publisher.specs.Handles.{SubmitterState, SubscriptionState}

@@ -11,10 +11,10 @@ use Rattle.publisher_hub.specs.Sound.{IsSound}
 use Rattle.publisher_hub.specs.Taking.{entry_without_feed}
 use Rattle.publisher_hub.specs.declared.entry.Entry.{Entry}
 use Rattle.publisher_hub.specs.declared.hub.Hub.{Hub}
-use Rattle.publisher_hub.proofs.Grown.{get_elsewhere, get_grown}
-use Rattle.publisher_hub.proofs.LiveRounds.{get_before_map, get_mapped}
-use Rattle.publisher_hub.proofs.Places.{there}
-use Rattle.publisher_hub.proofs.Replaced.{set_or_stood, set_same}
+use Rattle.publisher_hub.proofs.AnswerLists.Updates.{get_elsewhere, get_grown}
+use Rattle.publisher_hub.proofs.PartialRounds.Next.{get_before_map, get_mapped}
+use Rattle.publisher_hub.proofs.AnswerLists.Places.{there}
+use Rattle.publisher_hub.proofs.Soundness.Replacing.{set_or_stood, set_same}
 use Rattle.publisher.specs.Finding.{FindsAll, FindsBy, FindsOne, IsFoundOf, IsSameOrLeft, TakesBoth, is_missing}
 use Rattle.publisher.specs.State.{producer_end}
 use Rattle.publisher.specs.Tickets.{IsLate}

@@ -17,14 +17,14 @@ use Rattle.feed_core.specs.LaneCalls.{IsCapacity}
 use Rattle.publisher_hub.specs.Closing.{IsClosedLooking}
 use Rattle.publisher_hub.specs.Entry.{entry_of}
 use Rattle.publisher_hub.specs.Hub.{HubState, Progress, hub_at_start, hub_of}
-use Rattle.publisher_hub.specs.Offering.{Offers}
+use Rattle.publisher_hub.specs.Offering.{ReachesAll}
 use Rattle.publisher_hub.specs.OpeningTicket.{AddsTicket}
 use Rattle.publisher_hub.specs.Publishing.{dropping_after, offer_answer}
 use Rattle.publisher_hub.specs.Sound.{IsSound}
 use Rattle.publisher_hub.specs.Subscribing.{Admits}
 use Rattle.publisher_hub.specs.declared.hub.Hub.{Hub}
 use Rattle.publisher_hub.specs.declared.work.Work.{Work}
-use Rattle.publisher_hub.proofs.PartialRounds.{same_some}
+use Rattle.publisher_hub.proofs.PartialRounds.Progress.{same_some}
 use Rattle.publisher.specs.Publishing.{drop_of}
 use Rattle.publisher.specs.Spending.{last_after}
 use Rattle.publisher.specs.State.{IsCountedAtClose, IsState, PARTS, Sums, producer_end}
@@ -42,7 +42,7 @@ is_none None none some = cc
 is_none (Some many) none some = cc
 
 -- a publication: the totals grow as the Hub's numbers do
-pub state_offered : (v w : HubState) (x : Item) (sums : Sums) (published dropping : ℕ) → IsState v sums → IsSound w → Offers x v w
+pub state_offered : (v w : HubState) (x : Item) (sums : Sums) (published dropping : ℕ) → IsState v sums → IsSound w → ReachesAll x v w
     → published ≡ sums.published + 1 → dropping ≡ w.progress.dropping → IsState w (record sums { published = published; dropping = dropping })
 state_offered v w x sums published dropping is sound offers one_more drops = record {
   sound = sound;

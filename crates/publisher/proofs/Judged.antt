@@ -4,7 +4,7 @@ use Rattle.std.specs.Prelude.{slice_get, ◌==◌}
 use Rattle.std.proofs.lemmas.List.{length-append}
 use Rattle.std.proofs.lemmas.Option.{same_Some}
 use Rattle.feed_core.specs.Prelude.{How}
-use Rattle.publisher_hub.proofs.Grown.{get_grown}
+use Rattle.publisher_hub.proofs.AnswerLists.Updates.{get_grown}
 use Rattle.publisher.specs.Outcome.{IsUndone, is_undone}
 use Rattle.publisher.specs.declared.outcome.NamedLane.{NamedLane}
 

@@ -14,14 +14,14 @@ use Rattle.publisher_hub.specs.Hub.{HubState, Progress, hub_of}
 use Rattle.publisher_hub.specs.Lists.{Each}
 use Rattle.publisher_hub.specs.Looking.{Glances, IsKept, IsLookedAt, LooksAtAll}
 use Rattle.publisher_hub.specs.Sound.{IsSound}
-use Rattle.publisher_hub.specs.Standing.{LooksAtOne}
+use Rattle.publisher_hub.specs.Looking.{LooksAtOne}
 use Rattle.publisher_hub.specs.Subscribing.{IsSeen, IsSeenInPart, Refuses, FindsNoPlace, TellsAt, TellsOne}
 use Rattle.publisher_hub.specs.declared.hub.Hub.{Hub}
 use Rattle.publisher_hub.specs.declared.work.Work.{Work}
-use Rattle.publisher_hub.proofs.Kept.{each_mapped, glance_kept}
-use Rattle.publisher_hub.proofs.LiveRounds.{get_mapped}
-use Rattle.publisher_hub.proofs.LooksAtOne.{one_is_looked_at}
-use Rattle.publisher_hub.proofs.Telling.{was_told}
+use Rattle.publisher_hub.proofs.Subscribed.AfterLooks.{each_mapped, glance_kept}
+use Rattle.publisher_hub.proofs.PartialRounds.Next.{get_mapped}
+use Rattle.publisher_hub.proofs.Soundness.LookingAtOne.{one_is_looked_at}
+use Rattle.publisher_hub.proofs.Soundness.Telling.{was_told}
 use Rattle.publisher.specs.State.{IsCountedAtClose, IsState, Sums, producer_end}
 use Rattle.publisher.specs.Tickets.{IsOfCount}
 use Rattle.publisher.proofs.Ticketed.{AllKeep, all_looked, all_same, all_then, of_count_still, one_told}

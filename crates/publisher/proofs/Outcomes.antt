@@ -5,7 +5,7 @@ use Rattle.std.proofs.lemmas.Option.{same_Some, slice_get_within}
 use Rattle.feed_core.specs.Prelude.{Signal, Subscribed, Next, Complete, How}
 use Rattle.feed_core.specs.Lane.{LaneState, IsSettled, IsSettledAs}
 use Rattle.feed_core.proofs.TurnLoop.{last_contained}
-use Rattle.publisher_hub.proofs.Places.{there}
+use Rattle.publisher_hub.proofs.AnswerLists.Places.{there}
 use Rattle.publisher.specs.Finishing.{AreTakenOut, IsCountedIn}
 use Rattle.publisher.specs.Handles.{SubscriptionState}
 use Rattle.publisher.specs.Leaving.{ClosesAll, IsLeftOfTaken}

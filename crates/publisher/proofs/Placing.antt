@@ -4,8 +4,8 @@ use Rattle.std.specs.Prelude.{slice_get, slice_set}
 use Rattle.std.proofs.lemmas.List.{length-set}
 use Rattle.std.proofs.lemmas.Option.{slice_get_within}
 use Rattle.feed_cell.specs.Parties.{HandleState}
-use Rattle.publisher_hub.proofs.Grown.{get_grown, get_there}
-use Rattle.publisher_hub.proofs.Replaced.{set_or_stood}
+use Rattle.publisher_hub.proofs.AnswerLists.Updates.{get_grown, get_there}
+use Rattle.publisher_hub.proofs.Soundness.Replacing.{set_or_stood}
 use Rattle.publisher.specs.Finding.{AreNone, ArePlaced, IsHandedIn, IsHandedWith}
 use Rattle.publisher.specs.Handles.{SubscriptionState}
 

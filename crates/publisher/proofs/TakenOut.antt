@@ -14,8 +14,8 @@ use Rattle.publisher_hub.specs.Lists.{Each}
 use Rattle.publisher_hub.specs.Sound.{IsAccepted}
 use Rattle.publisher_hub.specs.declared.entry.Entry.{Entry}
 use Rattle.publisher_hub.specs.declared.hub.Hub.{Hub}
-use Rattle.publisher_hub.proofs.LiveRounds.{get_before_map}
-use Rattle.publisher_hub.proofs.Places.{there}
+use Rattle.publisher_hub.proofs.PartialRounds.Next.{get_before_map}
+use Rattle.publisher_hub.proofs.AnswerLists.Places.{there}
 use Rattle.publisher.specs.Finding.{AreFoundIn, ArePlaced, FindsAll, IsSameOrLeft, IsTakenOf}
 use Rattle.publisher.specs.Finishing.{AreAudited, AreTakenOut, IsCountedIn}
 use Rattle.publisher.specs.Handles.{SubmitterState, SubscriptionState}

@@ -18,11 +18,11 @@ use Rattle.publisher_hub.specs.Entry.{EntryState}
 use Rattle.publisher_hub.specs.Hub.{HubState}
 use Rattle.publisher_hub.specs.Lists.{Each}
 use Rattle.publisher_hub.specs.Looking.{IsKept}
-use Rattle.publisher_hub.specs.Offering.{IsOffered}
+use Rattle.publisher_hub.specs.Offering.{IsReached}
 use Rattle.publisher_hub.specs.Subscribing.{WasTold}
-use Rattle.publisher_hub.proofs.PartialRounds.{same_some}
-use Rattle.publisher_hub.proofs.Places.{stood_at}
-use Rattle.publisher_hub.proofs.Replaced.{set_or_stood}
+use Rattle.publisher_hub.proofs.PartialRounds.Progress.{same_some}
+use Rattle.publisher_hub.proofs.AnswerLists.Places.{stood_at}
+use Rattle.publisher_hub.proofs.Soundness.Replacing.{set_or_stood}
 use Rattle.publisher.specs.Spending.{last_after}
 use Rattle.publisher.specs.Tickets.{IsLate, IsOfCount, IsOver, IsTicketed}
 
@@ -88,7 +88,7 @@ looked_kept next old new (inr (inr retired)) = keeps_ended old new retired.befor
     (ap (λ (e : EntryState). e.feed) retired.now) (ap (λ (e : EntryState). e.ticket) retired.now) (ap (λ (e : EntryState). e.since) retired.now) retired.follows.over
 
 -- a publication
-offered_kept : (x : Item) (old new : EntryState) → IsOffered x old new → KeepsTicket old new
+offered_kept : (x : Item) (old new : EntryState) → IsReached x old new → KeepsTicket old new
 offered_kept x old new (inl stays) = same_kept old new stays.same
 offered_kept x old new (inr (inl grown)) = keeps_ended old new grown.before grown.after grown.was
     (ap (λ (e : EntryState). e.feed) grown.now) (ap (λ (e : EntryState). e.ticket) grown.now) (ap (λ (e : EntryState). e.since) grown.now)
@@ -132,8 +132,8 @@ all_then xs ys zs one other = record {
 pub all_looked : (next : ℕ) (xs ys : List EntryState) → Each (IsKept next) xs ys → AllKeep xs ys
 all_looked next xs ys each = all_keep (IsKept next) (looked_kept next) xs ys each
 
-pub all_offered : (x : Item) (xs ys : List EntryState) → Each (IsOffered x) xs ys → AllKeep xs ys
-all_offered x xs ys each = all_keep (IsOffered x) (offered_kept x) xs ys each
+pub all_offered : (x : Item) (xs ys : List EntryState) → Each (IsReached x) xs ys → AllKeep xs ys
+all_offered x xs ys each = all_keep (IsReached x) (offered_kept x) xs ys each
 
 pub all_closed : (ending : Ending) (xs ys : List EntryState) → Each (IsClosedBy ending) xs ys → AllKeep xs ys
 all_closed ending xs ys each = all_keep (IsClosedBy ending) (closed_kept ending) xs ys each

@@ -4,7 +4,7 @@ use Rattle.std.specs.Prelude.{IsSome, slice_get}
 use Rattle.std.proofs.lemmas.List.{length-append, length-set}
 use Rattle.std.proofs.lemmas.List.Sums.{sum_by-append}
 use Rattle.std.proofs.lemmas.Option.{slice_get_within}
-use Rattle.publisher_hub.proofs.Grown.{get_elsewhere, get_grown, get_there}
+use Rattle.publisher_hub.proofs.AnswerLists.Updates.{get_elsewhere, get_grown, get_there}
 use Rattle.publisher.specs.Handles.{SubmitterState}
 use Rattle.publisher.specs.Outcome.{AnyKnows, IsAway}
 use Rattle.publisher.specs.Together.{AreTogether, marks}

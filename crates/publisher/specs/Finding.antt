@@ -2,7 +2,7 @@
 use Rattle.std.specs.Prelude.{◌≡◌, ◌⊎◌, ℕ, ◌<◌, Bool, true, false, Option, None, Some, List, length, slice_get, slice_set}
 use Rattle.feed_cell.specs.Parties.{HandleState, ProducerState}
 use Rattle.publisher_hub.specs.Entry.{EntryState, entry_of}
-use Rattle.publisher_hub.specs.Hub.{HubState, hub_of}
+use Rattle.publisher_hub.specs.Hub.{HubState, OnlyEntriesChange, hub_of}
 use Rattle.publisher_hub.specs.Lists.{Each}
 use Rattle.publisher_hub.specs.Sound.{IsSound}
 use Rattle.publisher_hub.specs.Taking.{TakesOutAt, entry_without_feed}
@@ -16,20 +16,26 @@ use Rattle.publisher.specs.declared.state.finding.Taken.{Taken}
 
 -- one of these subscriptions has this number
 abbrev pub IsHandedIn : List SubscriptionState → ℕ → Type 0
-IsHandedIn subscriptions number = (i : ℕ) × (s : SubscriptionState) × ((slice_get subscriptions i ≡ Some s) × (s.entry ≡ number))
+IsHandedIn subscriptions number =
+    (i : ℕ) × (s : SubscriptionState) × ((slice_get subscriptions i ≡ Some s) × (s.entry ≡ number))
 
 -- one of them has this number and this handle
 abbrev pub IsHandedWith : List SubscriptionState → ℕ → HandleState → Type 0
-IsHandedWith subscriptions number handle = (i : ℕ) × (s : SubscriptionState) × ((slice_get subscriptions i ≡ Some s) × ((s.entry ≡ number) × (s.handle ≡ handle)))
+IsHandedWith subscriptions number handle = (i : ℕ) × (s : SubscriptionState)
+    × ((slice_get subscriptions i ≡ Some s) × ((s.entry ≡ number) × (s.handle ≡ handle)))
 
 -- no place has a handle
 abbrev pub AreNone : List (Option HandleState) → Type 0
-AreNone handles = (number : ℕ) (handle : HandleState) → slice_get handles number ≡ Some (Some handle) → ⊥
+AreNone handles =
+    (number : ℕ) (handle : HandleState) → slice_get handles number ≡ Some (Some handle) → ⊥
 
 -- the handle of each subscription lies at the place of its number, and no other lies anywhere; and whether each has a place
-pub record ArePlaced (subscriptions : List SubscriptionState) (handles : List (Option HandleState)) (all : Bool) : Type 0 where
-  pub placed : (number : ℕ) (handle : HandleState) → slice_get handles number ≡ Some (Some handle) → IsHandedWith subscriptions number handle
-  pub empty : (number : ℕ) → slice_get handles number ≡ Some None → IsHandedIn subscriptions number → ⊥
+pub record ArePlaced (subscriptions : List SubscriptionState) (handles : List (Option HandleState))
+    (all : Bool) : Type 0 where
+  pub placed : (number : ℕ) (handle : HandleState) → slice_get handles number ≡ Some (Some handle)
+      → IsHandedWith subscriptions number handle
+  pub empty : (number : ℕ) → slice_get handles number ≡ Some None → IsHandedIn subscriptions number
+      → ⊥
   pub within : all ≡ true → (number : ℕ) → IsHandedIn subscriptions number → number < length handles
 
 -- whether an end is missing
@@ -38,11 +44,13 @@ is_missing (Found.Both taken) = false
 is_missing (Found.Missing name) = true
 
 -- both ends of the subscription of this number, of which this is stored, with what is known of it
-pub record IsTakenOf {B : Type 0} (counted : Option ℕ) (number : ℕ) (entry : EntryState) (taken : Taken B) : Type 0 where
+pub record IsTakenOf {B : Type 0} (counted : Option ℕ) (number : ℕ) (entry : EntryState)
+    (taken : Taken B) : Type 0 where
   pub name : taken.name ≡ entry.name
   pub since : taken.since ≡ entry.since
   pub dropped : taken.dropped ≡ entry.dropped
-  pub late : (taken.late ≡ true → IsLate counted number) × (IsLate counted number → taken.late ≡ true)
+  pub late : (taken.late ≡ true → IsLate counted number)
+      × (IsLate counted number → taken.late ≡ true)
   pub producer : entry.feed ≡ Some taken.producer.end
 
 -- what is found of the subscription of this number, of which this is stored
@@ -52,38 +60,51 @@ IsFoundOf counted number entry (Found.Missing name) = name ≡ entry.name
 
 -- the producer's end of the subscription of this number was taken out, with this handle; or that was not handed in, or the producer's end was
 -- taken out before
-abbrev pub FindsBy : {B : Type 0} → ℕ → Option HandleState → Entry ProducerState → Found B → Hub ProducerState → Hub ProducerState → Type 0
-FindsBy number handle entry (Found.Both taken) old new = (handle ≡ Some taken.handle) × (new.entries.items ≡ slice_set old.entries.items number (entry_without_feed old.next entry))
-FindsBy number handle entry (Found.Missing name) old new = ((handle ≡ None) ⊎ (entry.feed ≡ None)) × (new.entries.items ≡ old.entries.items)
+abbrev pub FindsBy : {B : Type 0} → ℕ → Option HandleState → Entry ProducerState → Found B
+    → Hub ProducerState → Hub ProducerState → Type 0
+FindsBy number handle entry (Found.Both taken) old new = (handle ≡ Some taken.handle)
+    × (new.entries.items ≡ slice_set old.entries.items number (entry_without_feed old.next entry))
+FindsBy number handle entry (Found.Missing name) old new =
+    ((handle ≡ None) ⊎ (entry.feed ≡ None)) × (new.entries.items ≡ old.entries.items)
 
 -- what there is of the subscription of this number, with this handle, if that was handed in
-pub record FindsOne {B : Type 0} (counted : Option ℕ) (number : ℕ) (handle : Option HandleState) (found : Found B) (old new : Hub ProducerState) : Type 0 where
+pub record FindsOne {B : Type 0} (counted : Option ℕ) (number : ℕ) (handle : Option HandleState)
+    (found : Found B) (old new : Hub ProducerState) : Type 0 where
   pub entry : Entry ProducerState
   pub stands : slice_get old.entries.items number ≡ Some entry
   pub is : IsFoundOf counted number (entry_of producer_end entry) found
   pub by : FindsBy number handle entry found old new
-  pub rest : hub_of producer_end new ≡ record (hub_of producer_end old) { entries = (hub_of producer_end new).entries }
+  pub rest : OnlyEntriesChange (hub_of producer_end old) (hub_of producer_end new)
 
 -- the producer's end of the subscription of this number was taken out, if its handle was handed in
-abbrev pub TakesBoth : ℕ → Option HandleState → Option (ProducerState × HandleState) → Hub ProducerState → Hub ProducerState → Type 0
-TakesBoth number handle (Some (producer, other)) old new = (handle ≡ Some other) × TakesOutAt producer_end number (Some producer) old new
-TakesBoth number handle None old new = ((handle ≡ None) × (new ≡ old)) ⊎ TakesOutAt producer_end number None old new
+abbrev pub TakesBoth : ℕ → Option HandleState → Option (ProducerState × HandleState)
+    → Hub ProducerState → Hub ProducerState → Type 0
+TakesBoth number handle (Some (producer, other)) old new =
+    (handle ≡ Some other) × TakesOutAt producer_end number (Some producer) old new
+TakesBoth number handle None old new =
+    ((handle ≡ None) × (new ≡ old)) ⊎ TakesOutAt producer_end number None old new
 
 -- of each subscription of a Hub it was found, in order, what there is of it
-pub record AreFoundIn {B : Type 0} (hub : HubState) (counted : Option ℕ) (founds : List (Found B)) : Type 0 where
+pub record AreFoundIn {B : Type 0} (hub : HubState) (counted : Option ℕ) (founds : List (Found B))
+    : Type 0 where
   pub as_many : length founds ≡ length hub.entries
-  pub each : (k : ℕ) (entry : EntryState) (found : Found B) → slice_get hub.entries k ≡ Some entry → slice_get founds k ≡ Some found → IsFoundOf counted k entry found
+  pub each : (k : ℕ) (entry : EntryState) (found : Found B) → slice_get hub.entries k ≡ Some entry
+      → slice_get founds k ≡ Some found → IsFoundOf counted k entry found
 
 -- a subscription as it was, or without its producer's end and its ticket
 abbrev pub IsSameOrLeft : Entry ProducerState → Entry ProducerState → Type 0
-IsSameOrLeft old new = (new ≡ old) ⊎ (((new.feed ≡ None) × (new.ticket ≡ None)) × (new.since ≡ old.since))
+IsSameOrLeft old new =
+    (new ≡ old) ⊎ (((new.feed ≡ None) × (new.ticket ≡ None)) × (new.since ≡ old.since))
 
 -- what there is of each subscription of a Hub was found, with the handles that were handed in; nothing else changed. Whether a producer's
 -- end was taken out before
-pub record FindsAll {B : Type 0} (old new : Hub ProducerState) (counted : Option ℕ) (handles : List (Option HandleState)) (founds : List (Found B)) (gone : Bool) : Type 0 where
+pub record FindsAll {B : Type 0} (old new : Hub ProducerState) (counted : Option ℕ)
+    (handles : List (Option HandleState)) (founds : List (Found B)) (gone : Bool) : Type 0 where
   pub found : AreFoundIn (hub_of producer_end old) counted founds
-  pub here : (k : ℕ) (taken : Taken B) → slice_get founds k ≡ Some (Found.Both taken) → slice_get handles k ≡ Some (Some taken.handle)
-  pub missing : gone ≡ false → (k : ℕ) (name : List ℕ) → slice_get founds k ≡ Some (Found.Missing name) → slice_get handles k ≡ Some None
-  pub rest : hub_of producer_end new ≡ record (hub_of producer_end old) { entries = (hub_of producer_end new).entries }
+  pub here : (k : ℕ) (taken : Taken B) → slice_get founds k ≡ Some (Found.Both taken)
+      → slice_get handles k ≡ Some (Some taken.handle)
+  pub missing : gone ≡ false → (k : ℕ) (name : List ℕ)
+      → slice_get founds k ≡ Some (Found.Missing name) → slice_get handles k ≡ Some None
+  pub rest : OnlyEntriesChange (hub_of producer_end old) (hub_of producer_end new)
   pub stays : Each IsSameOrLeft old.entries.items new.entries.items
   pub sound : IsSound (hub_of producer_end new)

@@ -31,35 +31,49 @@ pub record IsNothing {B : Type 0} (outcome : Outcome B) : Type 0 where
 -- what a subscription accepted and dropped, by its producer's end, of a publisher that published so many items
 pub record IsCountedIn {B : Type 0} (published dropping : ℕ) (taken : Taken B) : Type 0 where
   pub ordered : IsOrdered taken.producer.end.accepted
-  pub items : (i : ℕ) (x : Item) → slice_get taken.producer.end.accepted i ≡ Some x → (taken.since ≤ x.serial) × (x.serial < published)
+  pub items : (i : ℕ) (x : Item) → slice_get taken.producer.end.accepted i ≡ Some x
+      → (taken.since ≤ x.serial) × (x.serial < published)
   pub counted : taken.since + (length taken.producer.end.accepted + taken.dropped) ≤ published
   -- one that was closed, or goes on by the last look at it, took part to the end
-  pub whole : (taken.producer.end.over ≡ false) ⊎ IsSome taken.producer.end.closing → taken.since + (length taken.producer.end.accepted + taken.dropped) ≡ published
+  pub whole : (taken.producer.end.over ≡ false) ⊎ IsSome taken.producer.end.closing
+      → taken.since + (length taken.producer.end.accepted + taken.dropped) ≡ published
   pub drops : taken.dropped ≤ dropping
   pub late : taken.late ≡ true → taken.since ≡ published
 
 -- what was found of the subscriptions that were handed in, of a publisher that published so many items; and once its last ticket was spent,
 -- each from before the close has ended
-pub record AreTakenOut {B : Type 0} (subscriptions : List SubscriptionState) (founds : List (Found B)) (published dropping : ℕ) (drained : Bool) : Type 0 where
-  pub each : (k : ℕ) (taken : Taken B) → slice_get founds k ≡ Some (Found.Both taken) → IsCountedIn published dropping taken
-  pub handed : (k : ℕ) (taken : Taken B) → slice_get founds k ≡ Some (Found.Both taken) → IsHandedWith subscriptions k taken.handle
-  pub missing : (k : ℕ) (name : List ℕ) → slice_get founds k ≡ Some (Found.Missing name) → IsHandedIn subscriptions k → ⊥
+pub record AreTakenOut {B : Type 0} (subscriptions : List SubscriptionState)
+    (founds : List (Found B)) (published dropping : ℕ) (drained : Bool) : Type 0 where
+  pub each : (k : ℕ) (taken : Taken B) → slice_get founds k ≡ Some (Found.Both taken)
+      → IsCountedIn published dropping taken
+  pub handed : (k : ℕ) (taken : Taken B) → slice_get founds k ≡ Some (Found.Both taken)
+      → IsHandedWith subscriptions k taken.handle
+  pub missing : (k : ℕ) (name : List ℕ) → slice_get founds k ≡ Some (Found.Missing name)
+      → IsHandedIn subscriptions k → ⊥
   pub within : (number : ℕ) → IsHandedIn subscriptions number → number < length founds
-  pub ended : drained ≡ true → (k : ℕ) (taken : Taken B) → slice_get founds k ≡ Some (Found.Both taken) → taken.late ≡ false → taken.producer.end.over ≡ true
+  pub ended : drained ≡ true → (k : ℕ) (taken : Taken B)
+      → slice_get founds k ≡ Some (Found.Both taken) → taken.late ≡ false
+      → taken.producer.end.over ≡ true
   -- items with one serial number are one item, whoever accepted them
   pub agreed : (j k m n : ℕ) (one other : Taken B) (x y : Item)
       → slice_get founds j ≡ Some (Found.Both one) → slice_get one.producer.end.accepted m ≡ Some x
-      → slice_get founds k ≡ Some (Found.Both other) → slice_get other.producer.end.accepted n ≡ Some y → x.serial ≡ y.serial → x ≡ y
+      → slice_get founds k ≡ Some (Found.Both other)
+      → slice_get other.producer.end.accepted n ≡ Some y → x.serial ≡ y.serial → x ≡ y
 
 -- the shares of the submitters were compared with the totals: all are there, and sum up to these; or one is missing
 abbrev pub AreAudited : List SubmitterState → ℕ → ℕ → Option (List ℕ) → Type 0
-AreAudited submitters published dropping None = (sum_by (λ (s : SubmitterState). s.published) submitters ≡ published) × (sum_by (λ (s : SubmitterState). s.dropping) submitters ≡ dropping)
-AreAudited submitters published dropping (Some name) = (source : ℕ) × ((source < SOURCES) × ((name ≡ source_name source) × IsAway source submitters))
+AreAudited submitters published dropping None = (sum_by
+    (λ (s : SubmitterState). s.published) submitters ≡ published)
+    × (sum_by (λ (s : SubmitterState). s.dropping) submitters ≡ dropping)
+AreAudited submitters published dropping (Some name) =
+    (source : ℕ) × ((source < SOURCES) × ((name ≡ source_name source) × IsAway source submitters))
 
 -- what stood behind the lock was taken out
-pub record TakesOut {B : Type 0} (submitters : List SubmitterState) (subscriptions : List SubscriptionState) (old : PublisherState) (books : Books B) : Type 0 where
+pub record TakesOut {B : Type 0} (submitters : List SubmitterState)
+    (subscriptions : List SubscriptionState) (old : PublisherState) (books : Books B) : Type 0 where
   pub found : AreFoundIn (hub_of producer_end old.hub) old.counted books.founds.items
-  pub ends : AreTakenOut subscriptions books.founds.items books.published old.hub.dropping books.drained
+  pub ends : AreTakenOut subscriptions books.founds.items books.published old.hub.dropping
+      books.drained
   pub published : books.published ≡ old.hub.next
   pub audited : AreAudited submitters books.published old.hub.dropping books.missing
   pub known : AnyKnows submitters → books.is_closed ≡ true

@@ -15,7 +15,8 @@ pub record SubscriptionState : Type 0 where
 
 -- a request of this number, of a handle: after a cancel it does nothing (Reactive Streams 1.0, 3.6 and 3.8)
 pub record Requests (n : ℤ) (old new : HandleState) : Type 0 where
-  pub requested : old.cancelled ≡ false → new ≡ record (handle_after_request n old) { ready = new.ready; started = new.started }
+  pub requested : old.cancelled ≡ false
+      → new ≡ record (handle_after_request n old) { ready = new.ready; started = new.started }
   pub ignored : old.cancelled ≡ true → new ≡ record old { ready = new.ready }
 
 -- a cancel of a handle: only the first does anything (Reactive Streams 1.0, 3.5 and 3.7)

@@ -22,7 +22,8 @@ module _ {B : Type 0} (told : B → List Signal) where
     pub late : left.late ≡ taken.late
     pub lane : IsLeftOf told taken.producer.end None left.lane
     -- if they are the ends of one subscription, it counts what its handle did
-    pub own : taken.handle.table ≡ taken.producer.table → IsLeftOf told taken.producer.end (Some taken.handle) left.lane
+    pub own : taken.handle.table ≡ taken.producer.table
+        → IsLeftOf told taken.producer.end (Some taken.handle) left.lane
 
   -- a subscription was closed, if both its ends were there
   abbrev pub ClosesOne : ℕ → Found B → Closed B → Type 0
@@ -32,26 +33,43 @@ module _ {B : Type 0} (told : B → List Signal) where
   ClosesOne number _ _ = ⊥
 
   -- the first of these that has no lane, if one has none: its handle was not handed in, or a thread has its task still
-  abbrev pub FindsFirst : List (Found B) → ℕ → List (NamedLane B) → List ℕ → Option (List ℕ) → Type 0
+  abbrev pub FindsFirst : List (Found B) → ℕ → List (NamedLane B) → List ℕ → Option (List ℕ)
+      → Type 0
   FindsFirst founds most lanes held None = (length lanes ≡ most) × (AreNumbered lanes × (held ≡ []))
-  FindsFirst founds most lanes held (Some name) = (number : ℕ) × ((number < most) × (IsFirstGap number lanes × ((slice_get founds number ≡ Some (Found.Missing name)) ⊎ IsHeld number held)))
+  FindsFirst founds most lanes held (Some name) = (number : ℕ)
+      × ((number < most)
+      × (IsFirstGap number lanes
+      × ((slice_get founds number ≡ Some (Found.Missing name)) ⊎ IsHeld number held)))
 
   -- those with a number below this were closed, in order
-  pub record ClosesAll (founds : List (Found B)) (most : ℕ) (lanes : List (NamedLane B)) (held : List ℕ) (first : Option (List ℕ)) : Type 0 where
+  pub record ClosesAll (founds : List (Found B)) (most : ℕ) (lanes : List (NamedLane B))
+      (held : List ℕ) (first : Option (List ℕ)) : Type 0 where
     pub each : (i : ℕ) (left : NamedLane B) → slice_get lanes i ≡ Some left
-        → (taken : Taken B) × ((slice_get founds left.entry ≡ Some (Found.Both taken)) × ((left.entry < most) × IsLeftOfTaken left.entry taken left))
-    pub rising : (i j : ℕ) (left other : NamedLane B) → slice_get lanes i ≡ Some left → slice_get lanes j ≡ Some other → i < j → left.entry < other.entry
-    pub all : (number : ℕ) (taken : Taken B) → number < most → slice_get founds number ≡ Some (Found.Both taken) → HasLane number lanes ⊎ IsHeld number held
-    pub held_are : (number : ℕ) → IsHeld number held → (taken : Taken B) × ((slice_get founds number ≡ Some (Found.Both taken)) × ((number < most) × (HasLane number lanes → ⊥)))
+        → (taken : Taken B)
+        × ((slice_get founds left.entry ≡ Some (Found.Both taken))
+        × ((left.entry < most) × IsLeftOfTaken left.entry taken left))
+    pub rising : (i j : ℕ) (left other : NamedLane B) → slice_get lanes i ≡ Some left
+        → slice_get lanes j ≡ Some other → i < j → left.entry < other.entry
+    pub all : (number : ℕ) (taken : Taken B) → number < most
+        → slice_get founds number ≡ Some (Found.Both taken)
+        → HasLane number lanes ⊎ IsHeld number held
+    pub held_are : (number : ℕ) → IsHeld number held
+        → (taken : Taken B)
+        × ((slice_get founds number ≡ Some (Found.Both taken))
+        × ((number < most) × (HasLane number lanes → ⊥)))
     pub finds : FindsFirst founds most lanes held first
     pub few_lanes : length lanes ≤ most
     pub few_held : length held ≤ most
 
   -- each subscription was closed, and what is left was judged
-  pub record Concludes (books : Books B) (result : Result (Outcome B) (Refusal × Outcome B)) : Type 0 where
+  pub record Concludes (books : Books B) (result : Result (Outcome B) (Refusal × Outcome B))
+      : Type 0 where
     pub first : Option (List ℕ)
-    pub closes : ClosesAll books.founds.items (length books.founds.items) (outcome_of result).lanes.items (outcome_of result).held.items first
+    pub closes : ClosesAll books.founds.items (length books.founds.items)
+        (outcome_of result).lanes.items (outcome_of result).held.items first
     pub published : (outcome_of result).published ≡ books.published
     pub drained : (outcome_of result).drained ≡ books.drained
-    pub missing : (name : List ℕ) → option_or first books.missing ≡ Some name → StillHolds name result
-    pub judged : option_or first books.missing ≡ None → Judges (outcome_of result) books.is_closed result
+    pub missing : (name : List ℕ) → option_or first books.missing ≡ Some name
+        → StillHolds name result
+    pub judged : option_or first books.missing ≡ None
+        → Judges (outcome_of result) books.is_closed result

@@ -18,7 +18,8 @@ TookPart (Some How.Completed) = ⊤
 TookPart (Some _) = ⊥
 
 -- what is left of one subscription of a publisher that published so many items, and the lane that it was
-pub record IsLane {B : Type 0} (told : B → List Signal) (published : ℕ) (left : NamedLane B) (lane : LaneState) : Type 0 where
+pub record IsLane {B : Type 0} (told : B → List Signal) (published : ℕ) (left : NamedLane B)
+    (lane : LaneState) : Type 0 where
   -- its subscriber was told onSubscribe, then the next of the items that its buffer accepted, in that order, never more than were requested;
   -- then at most one onComplete or onError, and onComplete only after every accepted item. If it doesn't run, it was told all that its demand
   -- and its ending allow
@@ -26,27 +27,34 @@ pub record IsLane {B : Type 0} (told : B → List Signal) (published : ℕ) (lef
   -- it accepted each item once, and those of each sender in the order in which they were sent
   pub ordered : IsOrdered lane.accepted
   -- each of them was published since it was subscribed
-  pub since : (i : ℕ) (x : Item) → slice_get lane.accepted i ≡ Some x → (left.since ≤ x.serial) × (x.serial < published)
+  pub since : (i : ℕ) (x : Item) → slice_get lane.accepted i ≡ Some x
+      → (left.since ≤ x.serial) × (x.serial < published)
   -- what it accepted and dropped is what was published while it took part
   pub counted : left.since + (left.lane.accepted + left.dropped) ≤ published
-  pub whole : TookPart left.lane.ending → left.since + (left.lane.accepted + left.dropped) ≡ published
+  pub whole : TookPart left.lane.ending
+      → left.since + (left.lane.accepted + left.dropped) ≡ published
 
 -- items with one serial number are one item, whoever accepted them
 abbrev pub AreAgreed : List LaneState → Type 0
 AreAgreed lanes = (i j k n : ℕ) (one other : LaneState) (x y : Item)
-    → slice_get lanes i ≡ Some one → slice_get one.accepted k ≡ Some x → slice_get lanes j ≡ Some other → slice_get other.accepted n ≡ Some y
+    → slice_get lanes i ≡ Some one → slice_get one.accepted k ≡ Some x
+    → slice_get lanes j ≡ Some other → slice_get other.accepted n ≡ Some y
     → x.serial ≡ y.serial → x ≡ y
 
 -- what a publisher leaves: each subscription was a lane, and these agree
 pub record IsOutcome {B : Type 0} (told : B → List Signal) (outcome : Outcome B) : Type 0 where
   pub lanes : List LaneState
   pub as_many : length lanes ≡ length outcome.lanes.items
-  pub each : (i : ℕ) (left : NamedLane B) (lane : LaneState) → slice_get outcome.lanes.items i ≡ Some left → slice_get lanes i ≡ Some lane → IsLane told outcome.published left lane
+  pub each : (i : ℕ) (left : NamedLane B) (lane : LaneState)
+      → slice_get outcome.lanes.items i ≡ Some left → slice_get lanes i ≡ Some lane
+      → IsLane told outcome.published left lane
   pub agreed : AreAgreed lanes
   -- once the last ticket was spent, each has ended that was subscribed before the close
-  pub drained : outcome.drained ≡ true → (i : ℕ) (left : NamedLane B) → slice_get outcome.lanes.items i ≡ Some left → left.late ≡ false → IsSome left.lane.ending
+  pub drained : outcome.drained ≡ true → (i : ℕ) (left : NamedLane B)
+      → slice_get outcome.lanes.items i ≡ Some left → left.late ≡ false → IsSome left.lane.ending
   -- since a later one was subscribed nothing was published
-  pub late : (i : ℕ) (left : NamedLane B) → slice_get outcome.lanes.items i ≡ Some left → left.late ≡ true → left.since ≡ outcome.published
+  pub late : (i : ℕ) (left : NamedLane B) → slice_get outcome.lanes.items i ≡ Some left
+      → left.late ≡ true → left.since ≡ outcome.published
 
 -- what is left, whatever the answer of `finish`
 abbrev pub outcome_of : {B : Type 0} → Result (Outcome B) (Refusal × Outcome B) → Outcome B
@@ -54,17 +62,22 @@ outcome_of (Ok outcome) = outcome
 outcome_of (Err refused) = refused.1
 
 -- what is left is that of subscriptions which were handed in, their numbers rising
-pub record AreHandedIn {B : Type 0} (subscriptions : List SubscriptionState) (lanes : List (NamedLane B)) : Type 0 where
-  pub rising : (i j : ℕ) (left other : NamedLane B) → slice_get lanes i ≡ Some left → slice_get lanes j ≡ Some other → i < j → left.entry < other.entry
-  pub each : (i : ℕ) (left : NamedLane B) → slice_get lanes i ≡ Some left → IsHandedIn subscriptions left.entry
+pub record AreHandedIn {B : Type 0} (subscriptions : List SubscriptionState)
+    (lanes : List (NamedLane B)) : Type 0 where
+  pub rising : (i j : ℕ) (left other : NamedLane B) → slice_get lanes i ≡ Some left
+      → slice_get lanes j ≡ Some other → i < j → left.entry < other.entry
+  pub each : (i : ℕ) (left : NamedLane B) → slice_get lanes i ≡ Some left
+      → IsHandedIn subscriptions left.entry
 
 -- each lane stands at the place of its number
 abbrev pub AreNumbered : {B : Type 0} → List (NamedLane B) → Type 0
-AreNumbered {B} lanes = (i : ℕ) (left : NamedLane B) → slice_get lanes i ≡ Some left → left.entry ≡ i
+AreNumbered {B} lanes =
+    (i : ℕ) (left : NamedLane B) → slice_get lanes i ≡ Some left → left.entry ≡ i
 
 -- the subscription of this number has a lane
 abbrev pub HasLane : {B : Type 0} → ℕ → List (NamedLane B) → Type 0
-HasLane {B} number lanes = (i : ℕ) × (left : NamedLane B) × ((slice_get lanes i ≡ Some left) × (left.entry ≡ number))
+HasLane {B} number lanes =
+    (i : ℕ) × (left : NamedLane B) × ((slice_get lanes i ≡ Some left) × (left.entry ≡ number))
 
 -- it is one of these
 abbrev pub IsHeld : ℕ → List ℕ → Type 0
@@ -72,39 +85,52 @@ IsHeld number held = (i : ℕ) × (slice_get held i ≡ Some number)
 
 -- it is the first that has no lane
 pub record IsFirstGap {B : Type 0} (number : ℕ) (lanes : List (NamedLane B)) : Type 0 where
-  pub before : (k : ℕ) → k < number → (left : NamedLane B) × ((slice_get lanes k ≡ Some left) × (left.entry ≡ k))
+  pub before : (k : ℕ) → k < number
+      → (left : NamedLane B) × ((slice_get lanes k ≡ Some left) × (left.entry ≡ k))
   pub none : HasLane number lanes → ⊥
 
 -- all is there: each subscription that was made, and all submitters, whose shares sum up to what was published
-pub record IsWhole {B : Type 0} (submitters : List SubmitterState) (subscriptions : List SubscriptionState) (outcome : Outcome B) : Type 0 where
+pub record IsWhole {B : Type 0} (submitters : List SubmitterState)
+    (subscriptions : List SubscriptionState) (outcome : Outcome B) : Type 0 where
   pub numbered : AreNumbered outcome.lanes.items
-  pub none_left_out : (number : ℕ) → IsHandedIn subscriptions number → HasLane number outcome.lanes.items
+  pub none_left_out : (number : ℕ) → IsHandedIn subscriptions number
+      → HasLane number outcome.lanes.items
   pub none_held : outcome.held.items ≡ []
   pub published : outcome.published ≡ sum_by (λ (s : SubmitterState). s.published) submitters
-  pub dropped : (i : ℕ) (left : NamedLane B) → slice_get outcome.lanes.items i ≡ Some left → left.dropped ≤ sum_by (λ (s : SubmitterState). s.dropping) submitters
+  pub dropped : (i : ℕ) (left : NamedLane B) → slice_get outcome.lanes.items i ≡ Some left
+      → left.dropped ≤ sum_by (λ (s : SubmitterState). s.dropping) submitters
 
 -- one of the submitters knows that the publisher is closed
 abbrev pub AnyKnows : List SubmitterState → Type 0
-AnyKnows submitters = (i : ℕ) × (s : SubmitterState) × ((slice_get submitters i ≡ Some s) × IsSome s.known)
+AnyKnows submitters =
+    (i : ℕ) × (s : SubmitterState) × ((slice_get submitters i ≡ Some s) × IsSome s.known)
 
 -- nothing runs, and all has ended where a submitter knows that the publisher is closed, or where the last ticket was spent
-pub record AreDone {B : Type 0} (submitters : List SubmitterState) (outcome : Outcome B) : Type 0 where
-  pub rests : (i : ℕ) (left : NamedLane B) → slice_get outcome.lanes.items i ≡ Some left → left.lane.running ≡ false
-  pub ended : AnyKnows submitters → (i : ℕ) (left : NamedLane B) → slice_get outcome.lanes.items i ≡ Some left → IsSome left.lane.ending
-  pub drained : outcome.drained ≡ true → (i : ℕ) (left : NamedLane B) → slice_get outcome.lanes.items i ≡ Some left → IsSome left.lane.ending
+pub record AreDone {B : Type 0} (submitters : List SubmitterState) (outcome : Outcome B)
+    : Type 0 where
+  pub rests : (i : ℕ) (left : NamedLane B) → slice_get outcome.lanes.items i ≡ Some left
+      → left.lane.running ≡ false
+  pub ended : AnyKnows submitters → (i : ℕ) (left : NamedLane B)
+      → slice_get outcome.lanes.items i ≡ Some left → IsSome left.lane.ending
+  pub drained : outcome.drained ≡ true → (i : ℕ) (left : NamedLane B)
+      → slice_get outcome.lanes.items i ≡ Some left → IsSome left.lane.ending
 
 -- it runs, or has not ended
 abbrev pub IsUndone : {B : Type 0} → NamedLane B → Type 0
 IsUndone left = (left.lane.running ≡ true) ⊎ (left.lane.ending ≡ None)
 
 -- each of these names is that of a lane that runs or has not ended, and there is one
-pub record NamesUndone {B : Type 0} (names : List (List ℕ)) (lanes : List (NamedLane B)) : Type 0 where
+pub record NamesUndone {B : Type 0} (names : List (List ℕ)) (lanes : List (NamedLane B))
+    : Type 0 where
   pub some : 0 < length names
-  pub each : (i : ℕ) (name : List ℕ) → slice_get names i ≡ Some name → (j : ℕ) × (left : NamedLane B) × ((slice_get lanes j ≡ Some left) × ((left.name ≡ name) × IsUndone left))
+  pub each : (i : ℕ) (name : List ℕ) → slice_get names i ≡ Some name
+      → (j : ℕ) × (left : NamedLane B)
+      × ((slice_get lanes j ≡ Some left) × ((left.name ≡ name) × IsUndone left))
 
 -- no submitter has this number
 abbrev pub IsAway : ℕ → List SubmitterState → Type 0
-IsAway source submitters = (i : ℕ) (s : SubmitterState) → slice_get submitters i ≡ Some s → s.source ≡ source → ⊥
+IsAway source submitters =
+    (i : ℕ) (s : SubmitterState) → slice_get submitters i ≡ Some s → s.source ≡ source → ⊥
 
 -- the name of the submitter of this number, as `source-3`
 abbrev pub source_name : ℕ → List ℕ
@@ -112,40 +138,58 @@ source_name source = codes "source-" ++ decimal source
 
 -- the first subscription that has no lane was not handed in, or is held still
 abbrev pub IsLaneAway : {B : Type 0} → List SubscriptionState → Outcome B → Type 0
-IsLaneAway subscriptions outcome = (number : ℕ) × (IsFirstGap number outcome.lanes.items × ((IsHandedIn subscriptions number → ⊥) ⊎ IsHeld number outcome.held.items))
+IsLaneAway subscriptions outcome = (number : ℕ)
+    × (IsFirstGap number outcome.lanes.items
+    × ((IsHandedIn subscriptions number → ⊥) ⊎ IsHeld number outcome.held.items))
 
 -- the submitter with this name was not handed in, and no lane is missing
 abbrev pub IsSourceAway : {B : Type 0} → List ℕ → List SubmitterState → Outcome B → Type 0
-IsSourceAway name submitters outcome = (source : ℕ) × ((source < SOURCES) × ((name ≡ source_name source) × (IsAway source submitters × (AreNumbered outcome.lanes.items × (outcome.held.items ≡ [])))))
+IsSourceAway name submitters outcome = (source : ℕ)
+    × ((source < SOURCES)
+    × ((name ≡ source_name source)
+    × (IsAway source submitters × (AreNumbered outcome.lanes.items × (outcome.held.items ≡ [])))))
 
 -- a subscription or a submitter is missing
-abbrev pub IsMissing : {B : Type 0} → List ℕ → List SubmitterState → List SubscriptionState → Outcome B → Type 0
-IsMissing name submitters subscriptions outcome = IsLaneAway subscriptions outcome ⊎ IsSourceAway name submitters outcome
+abbrev pub IsMissing : {B : Type 0} → List ℕ → List SubmitterState → List SubscriptionState
+    → Outcome B → Type 0
+IsMissing name submitters subscriptions outcome =
+    IsLaneAway subscriptions outcome ⊎ IsSourceAway name submitters outcome
 
 -- the rest is given: each subscription that was handed in has its lane, but those that are held still, which have none
-pub record IsRestGiven {B : Type 0} (subscriptions : List SubscriptionState) (outcome : Outcome B) : Type 0 where
-  pub given : (number : ℕ) → IsHandedIn subscriptions number → HasLane number outcome.lanes.items ⊎ IsHeld number outcome.held.items
-  pub held : (number : ℕ) → IsHeld number outcome.held.items → IsHandedIn subscriptions number × (HasLane number outcome.lanes.items → ⊥)
+pub record IsRestGiven {B : Type 0} (subscriptions : List SubscriptionState) (outcome : Outcome B)
+    : Type 0 where
+  pub given : (number : ℕ) → IsHandedIn subscriptions number
+      → HasLane number outcome.lanes.items ⊎ IsHeld number outcome.held.items
+  pub held : (number : ℕ) → IsHeld number outcome.held.items
+      → IsHandedIn subscriptions number × (HasLane number outcome.lanes.items → ⊥)
 
 -- if it is refused so, this holds of what is given
-abbrev pub IfRefused : {B : Type 0} → Refusal → Result (Outcome B) (Refusal × Outcome B) → (Outcome B → Type 0) → Type 0
-IfRefused {B} refusal result Holds = (outcome : Outcome B) → result ≡ Err (refusal, outcome) → Holds outcome
+abbrev pub IfRefused : {B : Type 0} → Refusal → Result (Outcome B) (Refusal × Outcome B)
+    → (Outcome B → Type 0) → Type 0
+IfRefused {B} refusal result Holds =
+    (outcome : Outcome B) → result ≡ Err (refusal, outcome) → Holds outcome
 
 -- on 5 no lane is left
 abbrev pub HasNoLane : {B : Type 0} → Outcome B → Type 0
 HasNoLane outcome = (outcome.lanes.items ≡ []) × (outcome.held.items ≡ [])
 
 -- on 8 the one of this name is missing, and the rest is given
-abbrev pub LacksOne : {B : Type 0} → List SubmitterState → List SubscriptionState → List ℕ → Outcome B → Type 0
-LacksOne submitters subscriptions name outcome = IsMissing name submitters subscriptions outcome × IsRestGiven subscriptions outcome
+abbrev pub LacksOne : {B : Type 0} → List SubmitterState → List SubscriptionState → List ℕ
+    → Outcome B → Type 0
+LacksOne submitters subscriptions name outcome =
+    IsMissing name submitters subscriptions outcome × IsRestGiven subscriptions outcome
 
 -- on 9 all is there, and these have not ended or run
-abbrev pub LeavesUndone : {B : Type 0} → List SubmitterState → List SubscriptionState → List (List ℕ) → Outcome B → Type 0
-LeavesUndone submitters subscriptions names outcome = IsWhole submitters subscriptions outcome × NamesUndone names outcome.lanes.items
+abbrev pub LeavesUndone : {B : Type 0} → List SubmitterState → List SubscriptionState
+    → List (List ℕ) → Outcome B → Type 0
+LeavesUndone submitters subscriptions names outcome =
+    IsWhole submitters subscriptions outcome × NamesUndone names outcome.lanes.items
 
 -- on Ok all is there, and done
-abbrev pub LeavesAllDone : {B : Type 0} → List SubmitterState → List SubscriptionState → Outcome B → Type 0
-LeavesAllDone submitters subscriptions outcome = IsWhole submitters subscriptions outcome × AreDone submitters outcome
+abbrev pub LeavesAllDone : {B : Type 0} → List SubmitterState → List SubscriptionState
+    → Outcome B → Type 0
+LeavesAllDone submitters subscriptions outcome =
+    IsWhole submitters subscriptions outcome × AreDone submitters outcome
 
 -- what `finish` may be refused with
 abbrev pub IsRefusalOfFinish : Refusal → Type 0
@@ -155,23 +199,31 @@ IsRefusalOfFinish (Refusal.Unsettled names) = ⊤
 IsRefusalOfFinish _ = ⊥
 
 -- the answers of `finish` together, in the order of its refusals
-abbrev pub Finishes : {B : Type 0} → List SubmitterState → List SubscriptionState → Result (Outcome B) (Refusal × Outcome B) → Type 0
+abbrev pub Finishes : {B : Type 0} → List SubmitterState → List SubscriptionState
+    → Result (Outcome B) (Refusal × Outcome B) → Type 0
 Finishes submitters subscriptions (Ok outcome) = LeavesAllDone submitters subscriptions outcome
 Finishes submitters subscriptions (Err (Refusal.NoMemory, outcome)) = HasNoLane outcome
-Finishes submitters subscriptions (Err (Refusal.StillHeld name, outcome)) = LacksOne submitters subscriptions name outcome
-Finishes submitters subscriptions (Err (Refusal.Unsettled names, outcome)) = LeavesUndone submitters subscriptions names.items outcome
+Finishes submitters subscriptions (Err (Refusal.StillHeld name, outcome)) =
+    LacksOne submitters subscriptions name outcome
+Finishes submitters subscriptions (Err (Refusal.Unsettled names, outcome)) =
+    LeavesUndone submitters subscriptions names.items outcome
 Finishes submitters subscriptions (Err (_, outcome)) = ⊥
 
 -- it is refused by this name
 abbrev pub StillHolds : {B : Type 0} → List ℕ → Result (Outcome B) (Refusal × Outcome B) → Type 0
-StillHolds {B} name result = (outcome : Outcome B) × (result ≡ Err (Refusal.StillHeld name, outcome))
+StillHolds {B} name result =
+    (outcome : Outcome B) × (result ≡ Err (Refusal.StillHeld name, outcome))
 
 -- whether what is left runs, or has not ended where the publisher is closed
 abbrev pub is_undone : {B : Type 0} → Bool → NamedLane B → Bool
 is_undone closed left = left.lane.running || (closed && is_none left.lane.ending)
 
 -- what is left is refused where something runs, or is closed and has not ended
-abbrev pub Judges : {B : Type 0} → Outcome B → Bool → Result (Outcome B) (Refusal × Outcome B) → Type 0
-Judges {B} outcome closed (Ok same) = (same ≡ outcome) × ((i : ℕ) (left : NamedLane B) → slice_get outcome.lanes.items i ≡ Some left → is_undone closed left ≡ false)
-Judges outcome closed (Err (Refusal.Unsettled names, same)) = (same ≡ outcome) × NamesUndone names.items outcome.lanes.items
+abbrev pub Judges : {B : Type 0} → Outcome B → Bool → Result (Outcome B) (Refusal × Outcome B)
+    → Type 0
+Judges {B} outcome closed (Ok same) = (same ≡ outcome)
+    × ((i : ℕ) (left : NamedLane B) → slice_get outcome.lanes.items i ≡ Some left
+    → is_undone closed left ≡ false)
+Judges outcome closed (Err (Refusal.Unsettled names, same)) =
+    (same ≡ outcome) × NamesUndone names.items outcome.lanes.items
 Judges outcome closed (Err (_, same)) = ⊥

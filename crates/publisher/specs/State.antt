@@ -38,7 +38,8 @@ pub record Sums : Type 0 where
 -- how many subscriptions were made before the close is known once the publisher is closed
 pub record IsCountedAtClose (hub : HubState) (counted : Option ℕ) : Type 0 where
   pub unclosed : hub.progress.ending ≡ None → counted ≡ None
-  pub closed : IsSome hub.progress.ending → (many : ℕ) × ((counted ≡ Some many) × (many ≤ length hub.entries))
+  pub closed : IsSome hub.progress.ending
+      → (many : ℕ) × ((counted ≡ Some many) × (many ≤ length hub.entries))
 
 -- whenever the lock is free: the Hub is sound, and holds the opening ticket until it is closed; the totals are its numbers; each submitter has
 -- one part of each ledger, and the rest has no amount; and each subscription from before the close has its ticket until it has ended

@@ -7,7 +7,8 @@ use Rattle.publisher.specs.declared.state.subscribing.Subscribed.{Subscribed}
 
 -- a new subscription: it stands in the Hub, under its name; its handle did nothing yet, and its task was never run; and all three are of one
 -- subscription
-pub record IsSubscription {B : Type 0} (name : List ℕ) (subscribed : Subscribed B) (new : PublisherState) : Type 0 where
+pub record IsSubscription {B : Type 0} (name : List ℕ) (subscribed : Subscribed B)
+    (new : PublisherState) : Type 0 where
   pub entry : Entry ProducerState
   pub producer : ProducerState
   pub stands : slice_get new.hub.entries.items subscribed.entry ≡ Some entry

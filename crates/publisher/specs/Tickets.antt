@@ -21,17 +21,21 @@ abbrev pub IsLate : Option ℕ → ℕ → Type 0
 IsLate counted number = (many : ℕ) × ((counted ≡ Some many) × (many ≤ number))
 
 -- a subscription from before the close has a ticket of this count until it has ended. Since a later one was made nothing was published
-pub record IsTicketed (count : CountId) (counted : Option ℕ) (next number : ℕ) (entry : EntryState) : Type 0 where
+pub record IsTicketed (count : CountId) (counted : Option ℕ) (next number : ℕ) (entry : EntryState)
+    : Type 0 where
   pub of_count : (ticket : Ticket) → entry.ticket ≡ Some ticket → count_of_ticket ticket ≡ count
   pub spent : entry.ticket ≡ None → IsOver entry ⊎ IsLate counted number
   pub late : IsLate counted number → entry.since ≡ next
 
 -- the opening and all tickets are of this count; and so is what is left of the last ticket, if that was spent, which it is only once the
 -- publisher is closed
-pub record IsOfCount (count : CountId) (hub : HubState) (counted : Option ℕ) (last : Option Spent) : Type 0 where
+pub record IsOfCount (count : CountId) (hub : HubState) (counted : Option ℕ) (last : Option Spent)
+    : Type 0 where
   pub opening : (opening : Opening) → hub.opening ≡ Some opening → count_of_opening opening ≡ count
-  pub entries : (k : ℕ) (entry : EntryState) → slice_get hub.entries k ≡ Some entry → IsTicketed count counted hub.progress.next k entry
-  pub last_is : (spent : Spent) → last ≡ Some spent → (count_of_spent spent ≡ count) × (was_last spent ≡ true)
+  pub entries : (k : ℕ) (entry : EntryState) → slice_get hub.entries k ≡ Some entry
+      → IsTicketed count counted hub.progress.next k entry
+  pub last_is : (spent : Spent) → last ≡ Some spent
+      → (count_of_spent spent ≡ count) × (was_last spent ≡ true)
   pub closed : IsSome last → IsSome hub.progress.ending
 
 -- they are of one count
@@ -45,12 +49,15 @@ AreOfOneCountOf hub last = (counted : Option ℕ) × AreOfOneCount hub counted l
 -- what a subscription gets that is to be added: a ticket of the count of this Hub's opening, or none if the Hub is closed
 abbrev pub IsTicketFor : {F : Type 0} → Hub F → Option Ticket → Type 0
 IsTicketFor hub None = IsSome hub.ending
-IsTicketFor hub (Some ticket) = (opening : Opening) × ((hub.opening ≡ Some opening) × (count_of_ticket ticket ≡ count_of_opening opening))
+IsTicketFor hub (Some ticket) = (opening : Opening)
+    × ((hub.opening ≡ Some opening) × (count_of_ticket ticket ≡ count_of_opening opening))
 
 -- the last ticket of a count, and another one of it
 abbrev pub IsBeside : Option Spent → Option Ticket → Type 0
-IsBeside last other = (spent : Spent) (ticket : Ticket) → last ≡ Some spent → other ≡ Some ticket → (count_of_spent spent ≡ count_of_ticket ticket) × (was_last spent ≡ true)
+IsBeside last other = (spent : Spent) (ticket : Ticket) → last ≡ Some spent → other ≡ Some ticket
+    → (count_of_spent spent ≡ count_of_ticket ticket) × (was_last spent ≡ true)
 
 -- the subscriptions with a number below this have no ticket
 abbrev pub AreSpent : ℕ → HubState → Type 0
-AreSpent many hub = (k : ℕ) (entry : EntryState) → k < many → slice_get hub.entries k ≡ Some entry → entry.ticket ≡ None
+AreSpent many hub = (k : ℕ) (entry : EntryState) → k < many → slice_get hub.entries k ≡ Some entry
+    → entry.ticket ≡ None

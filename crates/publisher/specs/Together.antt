@@ -12,14 +12,18 @@ marks (false ∷ bits) = marks bits
 
 -- what all of these submitters but the rest have together: how much they published, and how many of their offers found a buffer full; their
 -- parts of both ledgers; the marks of their numbers; and whether one of them knows that the publisher is closed
-pub record AreTogether (submitters rest : List SubmitterState) (published dropping parts drop_parts : ℕ) (sources : List Bool) (knows : Bool) : Type 0 where
-  pub published_are : published + sum_by (λ (s : SubmitterState). s.published) rest ≡ sum_by (λ (s : SubmitterState). s.published) submitters
-  pub dropping_are : dropping + sum_by (λ (s : SubmitterState). s.dropping) rest ≡ sum_by (λ (s : SubmitterState). s.dropping) submitters
+pub record AreTogether (submitters rest : List SubmitterState)
+    (published dropping parts drop_parts : ℕ) (sources : List Bool) (knows : Bool) : Type 0 where
+  pub published_are : published + sum_by (λ (s : SubmitterState). s.published) rest
+      ≡ sum_by (λ (s : SubmitterState). s.published) submitters
+  pub dropping_are : dropping + sum_by (λ (s : SubmitterState). s.dropping) rest
+      ≡ sum_by (λ (s : SubmitterState). s.dropping) submitters
   pub parts_are : parts + length rest ≡ length submitters
   pub drop_parts_are : drop_parts + length rest ≡ length submitters
   pub long : length sources ≡ SOURCES
   pub few : marks sources + length rest ≤ length submitters
-  pub away : (source : ℕ) → slice_get sources source ≡ Some false → IsAway source rest → IsAway source submitters
+  pub away : (source : ℕ) → slice_get sources source ≡ Some false → IsAway source rest
+      → IsAway source submitters
   pub knows_is : AnyKnows submitters → (knows ≡ true) ⊎ AnyKnows rest
 
 -- the first of so many sources that is missing, if one is
@@ -30,4 +34,5 @@ FindsMissing sources many (Some source) = (source < many) × (slice_get sources 
 -- the shares of the submitters were compared with the totals: all is there, or one is missing
 abbrev pub Audits : List Bool → ℕ → ℕ → ℕ → ℕ → Option (List ℕ) → Type 0
 Audits sources published dropping next dropped None = (published ≡ next) × (dropping ≡ dropped)
-Audits sources published dropping next dropped (Some name) = (source : ℕ) × ((name ≡ source_name source) × (slice_get sources source ≡ Some false))
+Audits sources published dropping next dropped (Some name) =
+    (source : ℕ) × ((name ≡ source_name source) × (slice_get sources source ≡ Some false))

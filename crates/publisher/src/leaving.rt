@@ -60,9 +60,11 @@ fn close_all<B: Listener>(
     mut held: Vec<u32>,
 ) -> Left<B>
     requires empty { (lanes.items ≡ []) × (held.items ≡ []) }
-    requires room { (length founds.items ≤ vec_capacity lanes) × (length founds.items ≤ vec_capacity held) }
+    requires room { (length founds.items ≤ vec_capacity lanes)
+        × (length founds.items ≤ vec_capacity held) }
     requires few { length founds.items < 4294967296 }
-    ensures { ClosesAll B.told founds.items (length founds.items) result.lanes.items result.held.items result.first }
+    ensures { ClosesAll B.told founds.items
+        (length founds.items) result.lanes.items result.held.items result.first }
 {
     let mut first = None;
     let mut number = 0;

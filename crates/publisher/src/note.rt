@@ -113,7 +113,7 @@ impl Note {
         ensures cell { self.new.cell ≡ self.old.cell }
         ensures ok { IfOk result (λ ending. self.new.known ≡ Some ending) }
         ensures same { IfSome self.old.known (λ ending. self.new.known ≡ Some ending) }
-        ensures err { OnErr result (self.new ≡ self.old) }
+        ensures unchanged { OnErr result (self.new ≡ self.old) }
     {
         if let Some(known) = self.look(closing) {
             return Ok(known);

@@ -46,7 +46,10 @@ impl<L: Ledger + Send, D: Ledger + Send, B: Listener + Send> Model for Publisher
 
     ghost Value = { PublisherView };
 
-    ghost view = { λ p. record { closing = cell_name (arc_value (arc_value p.shared).closing); workers = pool_workers (arc_value p.pool) } };
+    ghost view = { λ p. record {
+      closing = cell_name (arc_value (arc_value p.shared).closing);
+      workers = pool_workers (arc_value p.pool);
+    } };
 }
 
 impl<
@@ -70,8 +73,10 @@ impl<
         requires publications { IsBlankOf publications L.name L.parts }
         requires drops { IsBlankOf drops D.name D.parts }
         ensures bad_workers { (result ≡ Err Refusal.BadWorkers) ↔ (¬ IsWorkerCount workers) }
-        ensures bad_capacity { IsWorkerCount workers → (result ≡ Err Refusal.BadCapacity) ↔ (capacity ≡ 0) }
-        ensures refusals { IfErr result (λ refusal. (refusal ≡ Refusal.BadWorkers) ⊎ ((refusal ≡ Refusal.BadCapacity) ⊎ (refusal ≡ Refusal.NoMemory))) }
+        ensures bad_capacity { IsWorkerCount workers
+            → (result ≡ Err Refusal.BadCapacity) ↔ (capacity ≡ 0) }
+        ensures refusals { IfErr result (λ refusal. (refusal ≡ Refusal.BadWorkers)
+            ⊎ ((refusal ≡ Refusal.BadCapacity) ⊎ (refusal ≡ Refusal.NoMemory))) }
     {
         if !is_worker_count(workers) {
             return Err(Refusal::BadWorkers);
@@ -97,9 +102,12 @@ impl<
     ) -> Result<Publisher<L, D, B>, Refusal>
         requires publications { IsBlankOf publications L.name L.parts }
         requires drops { IsBlankOf drops D.name D.parts }
-        ensures bad_workers { (result ≡ Err Refusal.BadWorkers) ↔ (¬ IsWorkerCount options.workers) }
-        ensures bad_capacity { IsWorkerCount options.workers → (result ≡ Err Refusal.BadCapacity) ↔ (options.capacity ≡ 0) }
-        ensures refusals { IfErr result (λ refusal. (refusal ≡ Refusal.BadWorkers) ⊎ ((refusal ≡ Refusal.BadCapacity) ⊎ (refusal ≡ Refusal.NoMemory))) }
+        ensures bad_workers { (result ≡ Err Refusal.BadWorkers) ↔
+            (¬ IsWorkerCount options.workers) }
+        ensures bad_capacity { IsWorkerCount options.workers
+            → (result ≡ Err Refusal.BadCapacity) ↔ (options.capacity ≡ 0) }
+        ensures refusals { IfErr result (λ refusal. (refusal ≡ Refusal.BadWorkers)
+            ⊎ ((refusal ≡ Refusal.BadCapacity) ⊎ (refusal ≡ Refusal.NoMemory))) }
     {
         let PublisherOptions { workers, capacity } = options;
         Publisher::new(rt, alloc, publications, drops, workers, capacity)
@@ -254,9 +262,11 @@ impl<L: Ledger + Send, D: Ledger + Send, B: Listener + Send> Publisher<L, D, B> 
         requires { note.old.cell ≡ self.now.closing }
         ensures closing { IfOk result (λ submitter. submitter.closing ≡ self.now.closing) }
         ensures known { IfOk result (λ submitter. submitter.known ≡ note.old.known) }
-        ensures nothing { IfOk result (λ submitter. (submitter.published ≡ 0) × (submitter.dropping ≡ 0)) }
+        ensures nothing { IfOk result
+            (λ submitter. (submitter.published ≡ 0) × (submitter.dropping ≡ 0)) }
         ensures same { note.new ≡ note.old }
-        ensures refusals { IfErr result (λ refusal. (refusal ≡ Refusal.NoMemory) ⊎ (refusal ≡ Refusal.TooMany)) }
+        ensures refusals { IfErr result
+            (λ refusal. (refusal ≡ Refusal.NoMemory) ⊎ (refusal ≡ Refusal.TooMany)) }
     {
         let caller = Caller::new(alloc, &self.shared, &self.pool)?;
         let closing = Arc::try_clone(&self.shared.closing)?;
@@ -275,7 +285,7 @@ impl<L: Ledger + Send, D: Ledger + Send, B: Listener + Send> Publisher<L, D, B> 
         ensures known { IsSome note.old.known → IsOk result }
         ensures knows { OnOk result (IsSome note.new.known) }
         ensures same { IfSome note.old.known (λ ending. note.new.known ≡ Some ending) }
-        ensures err { OnErr result (note.new ≡ note.old) }
+        ensures unchanged { OnErr result (note.new ≡ note.old) }
         ensures refusals { IfErr result (λ refusal. refusal ≡ Refusal.NoMemory) }
     {
         self.end(rt, alloc, note, Ending::Normal)
@@ -295,7 +305,7 @@ impl<L: Ledger + Send, D: Ledger + Send, B: Listener + Send> Publisher<L, D, B> 
         ensures known { IsSome note.old.known → IsOk result }
         ensures knows { OnOk result (IsSome note.new.known) }
         ensures same { IfSome note.old.known (λ ending. note.new.known ≡ Some ending) }
-        ensures err { OnErr result (note.new ≡ note.old) }
+        ensures unchanged { OnErr result (note.new ≡ note.old) }
         ensures refusals { IfErr result (λ refusal. refusal ≡ Refusal.NoMemory) }
     {
         self.end(rt, alloc, note, Ending::Failed(code))
@@ -320,7 +330,7 @@ impl<L: Ledger + Send, D: Ledger + Send, B: Listener + Send> Publisher<L, D, B> 
         ensures known { IsSome note.old.known → IsOk result }
         ensures knows { OnOk result (IsSome note.new.known) }
         ensures same { IfSome note.old.known (λ ending. note.new.known ≡ Some ending) }
-        ensures err { OnErr result (note.new ≡ note.old) }
+        ensures unchanged { OnErr result (note.new ≡ note.old) }
         ensures refusals { IfErr result (λ refusal. refusal ≡ Refusal.NoMemory) }
     {
         if note.known(&self.shared.closing).is_some() {

@@ -88,8 +88,9 @@ impl<L: Ledger, D: Ledger, B: Listener> State<L, D, B> {
     ) -> Result<State<L, D, B>, Refusal>
         requires publications { IsBlankOf publications L.name L.parts }
         requires drops { IsBlankOf drops D.name D.parts }
-        ensures zero { (result ≡ Err Refusal.BadCapacity) ↔ (asked ≡ 0) }
-        ensures refusals { IfErr result (λ refusal. (refusal ≡ Refusal.BadCapacity) ⊎ (refusal ≡ Refusal.NoMemory)) }
+        ensures bad_capacity { (result ≡ Err Refusal.BadCapacity) ↔ (asked ≡ 0) }
+        ensures refusals { IfErr result
+            (λ refusal. (refusal ≡ Refusal.BadCapacity) ⊎ (refusal ≡ Refusal.NoMemory)) }
     {
         let _ = capacity(asked)?;
         let mut hub = Hub::new(alloc, asked)?;

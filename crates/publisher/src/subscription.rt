@@ -62,7 +62,7 @@ impl<L: Ledger + Send, D: Ledger + Send, B: Listener + Send> Subscription<L, D, 
     pub fn request<R: Wait>(&mut self, rt: &R, n: i64) -> Result<(), NoMemory>
         ensures entry { self.new.entry ≡ self.old.entry }
         ensures ok { OnOk result (Requests n self.old.handle self.new.handle) }
-        ensures err { OnErr result (self.new ≡ self.old) }
+        ensures unchanged { OnErr result (self.new ≡ self.old) }
     {
         self.handle.ready()?;
         if let Some(task) = self.handle.request(n) {
@@ -78,7 +78,7 @@ impl<L: Ledger + Send, D: Ledger + Send, B: Listener + Send> Subscription<L, D, 
     pub fn cancel<R: Wait>(&mut self, rt: &R) -> Result<(), NoMemory>
         ensures entry { self.new.entry ≡ self.old.entry }
         ensures ok { OnOk result (Cancels self.old.handle self.new.handle) }
-        ensures err { OnErr result (self.new ≡ self.old) }
+        ensures unchanged { OnErr result (self.new ≡ self.old) }
     {
         self.handle.ready()?;
         if let Some(task) = self.handle.cancel() {

@@ -37,8 +37,10 @@ pub fn finish<L: Ledger + Send, D: Ledger + Send, B: Listener + Send, R: Wait>(
     // What each answer says of what is left.
     ensures ok { IfOk result (LeavesAllDone submitters.items subscriptions.items) }
     ensures no_memory { IfRefused Refusal.NoMemory result HasNoLane }
-    ensures held { (name : _) → IfRefused (Refusal.StillHeld name) result (LacksOne submitters.items subscriptions.items name) }
-    ensures unsettled { (names : _) → IfRefused (Refusal.Unsettled names) result (LeavesUndone submitters.items subscriptions.items names.items) }
+    ensures held { (name : _) → IfRefused (Refusal.StillHeld name) result
+        (LacksOne submitters.items subscriptions.items name) }
+    ensures unsettled { (names : _) → IfRefused (Refusal.Unsettled names) result
+        (LeavesUndone submitters.items subscriptions.items names.items) }
     ensures refusals { IfErr result (λ refused. IsRefusalOfFinish refused.0) }
 {
     publisher.stop(rt);

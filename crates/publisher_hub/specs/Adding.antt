@@ -20,7 +20,8 @@ live_of entries numbers = filter (goes_on entries) numbers
 -- the numbers of all subscriptions that aren't retired, and of no others, rising
 pub record AreAllLive (live : List ℕ) (entries : List EntryState) : Type 0 where
   pub are : AreLive live entries
-  pub only : (i n : ℕ) → slice_get live i ≡ Some n → (entry : EntryState) × ((slice_get entries n ≡ Some entry) × (entry.retired ≡ false))
+  pub only : (i n : ℕ) → slice_get live i ≡ Some n
+      → (entry : EntryState) × ((slice_get entries n ≡ Some entry) × (entry.retired ≡ false))
 
 -- a producer's end of this capacity that nothing was done with
 pub record IsFresh (capacity : ℕ) (e : End) : Type 0 where
@@ -32,7 +33,7 @@ pub record IsFresh (capacity : ℕ) (e : End) : Type 0 where
   pub unasked : e.state ≡ false
   pub is_ready : e.ready ≡ true
 
--- a new subscription of a Hub that has come so far
+-- a new subscription of a Hub whose publications have come this far
 abbrev pub new_entry : Progress → List ℕ → End → Option Ticket → EntryState
 new_entry progress name e ticket = record {
   name = name;
@@ -46,4 +47,7 @@ new_entry progress name e ticket = record {
 
 -- a Hub with one subscription more
 abbrev pub hub_with : EntryState → HubState → HubState
-hub_with entry hub = record hub { entries = hub.entries ++ entry ∷ []; live = hub.live ++ length hub.entries ∷ [] }
+hub_with entry hub = record hub {
+  entries = hub.entries ++ entry ∷ [];
+  live = hub.live ++ length hub.entries ∷ [];
+}

@@ -9,7 +9,8 @@ use Rattle.publisher_hub.specs.Entry.{EntryState}
 use Rattle.publisher_hub.specs.Hub.{HubState, Progress, hub_of}
 use Rattle.publisher_hub.specs.Lists.{Each, EachBy, gather}
 use Rattle.publisher_hub.specs.Looking.{IsLookedAt, Prepares, StaysRetired}
-use Rattle.publisher_hub.specs.Offering.{work_of}
+use Rattle.publisher_hub.specs.Gathering.{work_of}
+use Rattle.publisher_hub.specs.declared.entry.AtClose.{AtClose}
 use Rattle.publisher_hub.specs.declared.entry.Entry.{Entry}
 use Rattle.publisher_hub.specs.declared.hub.Hub.{Hub}
 use Rattle.publisher_hub.specs.declared.work.Work.{Work}
@@ -34,22 +35,26 @@ progress_closed ending progress = record progress { ending = Some ending }
 -- a Hub without an ending was closed: each live subscription was, and the opening ticket is taken out
 pub record IsClosed (ending : Ending) (old new : HubState) : Type 0 where
   pub unclosed : old.progress.ending ≡ None
-  pub rest : new ≡ record old { progress = progress_closed ending old.progress; opening = None; entries = new.entries }
+  pub rest : new ≡ record old {
+    progress = progress_closed ending old.progress;
+    opening = None;
+    entries = new.entries;
+  }
   pub entries : Each (IsClosedBy ending) old.entries new.entries
 
--- the same after looks
+-- a Hub without an ending was looked at, and then closed
 pub record IsClosedLooking (ending : Ending) (old new : HubState) : Type 0 where
   pub middle : HubState
   pub looked : IsLookedAt old middle
   pub closed : IsClosed ending middle new
 
 -- the task that a close of a subscription started
-abbrev pub started_by_end : {T : Type 0} → ℕ → Option (Option T) → List (Work T)
-started_by_end number None = []
-started_by_end number (Some start) = work_of number start
+abbrev pub started_by_end : {T : Type 0} → ℕ → AtClose T → List (Work T)
+started_by_end number AtClose.Retired = []
+started_by_end number (AtClose.Ended start) = work_of number start
 
 -- the tasks that the closes of a round started, in order of subscription
-abbrev pub started_by_ends : {T : Type 0} → List (Option (Option T)) → List (Work T)
+abbrev pub started_by_ends : {T : Type 0} → List (AtClose T) → List (Work T)
 started_by_ends answers = gather started_by_end 0 answers
 
 module _ {F T : Type 0} (meaning : F → End) (does : F → Call T → F → Type 0) where
@@ -63,20 +68,22 @@ module _ {F T : Type 0} (meaning : F → End) (does : F → Call T → F → Typ
     pub exact : does before (Call.Ends ending start) after
     pub now : new ≡ record old { feed = Some after }
 
-  -- the same of any subscription: a retired one answers nothing
-  abbrev pub Closes : Ending → Option (Option T) → Entry F → Entry F → Type 0
-  Closes ending None old new = (old.retired ≡ true) × (new ≡ old)
-  Closes ending (Some start) old new = Closed ending start old new
+  -- what a close did at any subscription: a retired one is left alone
+  abbrev pub Closes : Ending → AtClose T → Entry F → Entry F → Type 0
+  Closes ending AtClose.Retired old new = (old.retired ≡ true) × (new ≡ old)
+  Closes ending (AtClose.Ended start) old new = Closed ending start old new
 
   -- each live subscription was closed once, and the tasks that this started are due, in order of subscription
-  pub record ClosesLive (ending : Ending) (xs ys : List (Entry F)) (due_before due_after : List (Work T)) : Type 0 where
-    pub answers : List (Option (Option T))
+  pub record ClosesLive (ending : Ending) (xs ys : List (Entry F))
+      (due_before due_after : List (Work T)) : Type 0 where
+    pub answers : List (AtClose T)
     pub each : EachBy (Closes ending) answers xs ys
     pub due : due_after ≡ due_before ++ started_by_ends answers
 
   -- the first close of a Hub: all live subscriptions were looked at and made ready, which left the middle list; then each that goes on was
   -- closed; the ending is set and the opening ticket taken out, and nothing else changed
-  pub record ClosesAll (ending : Ending) (due_before due_after : List (Work T)) (old new : Hub F) : Type 0 where
+  pub record ClosesAll (ending : Ending) (due_before due_after : List (Work T)) (old new : Hub F)
+      : Type 0 where
     pub middle : List (Entry F)
     pub glances : List (Option Standing)
     pub prepared : EachBy (Prepares meaning does old.next) glances old.entries.items middle

@@ -4,8 +4,8 @@ use Rattle.close_count.specs.declared.ticket.Ticket.{Ticket}
 use Rattle.flow_rules.specs.Feed.{End}
 use Rattle.publisher_hub.specs.declared.entry.Entry.{Entry}
 
--- a subscription: its name; the next serial number when it was subscribed, and when it was retired; how many publications found its
--- buffer full; whether it was retired; what the publisher knows of its producer's end; and its ticket
+-- a subscription: its name; the next serial number when it was subscribed, and when it was retired; how many publications it
+-- dropped; whether it was retired; what the publisher knows of its producer's end; and its ticket
 pub record EntryState : Type 0 where
   pub name : List ℕ
   pub since : ℕ

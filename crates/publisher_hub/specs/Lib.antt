@@ -1,7 +1,7 @@
 pub mod Adding
 pub mod Closing
 pub mod Entry
-pub mod Giving
+pub mod Gathering
 pub mod Hub
 pub mod Lending
 pub mod Lists
@@ -13,7 +13,6 @@ pub mod Overview
 pub mod Publishing
 pub mod Readiness
 pub mod Sound
-pub mod Standing
 pub mod Steps
 pub mod Subscribing
 pub mod Taking

@@ -6,11 +6,13 @@ pub record Each {A : Type 0} (R : A → A → Type 0) (xs ys : List A) : Type 0 
   pub as_long : length ys ≡ length xs
   pub each : (k : ℕ) (x y : A) → slice_get xs k ≡ Some x → slice_get ys k ≡ Some y → R x y
 
--- the same, where each place gave an answer
-pub record EachBy {B A : Type 0} (R : B → A → A → Type 0) (answers : List B) (xs ys : List A) : Type 0 where
+-- two lists are as long, each place gave an answer, and this holds of that and the elements there
+pub record EachBy {B A : Type 0} (R : B → A → A → Type 0) (answers : List B) (xs ys : List A)
+    : Type 0 where
   pub answered : length answers ≡ length xs
   pub as_long : length ys ≡ length xs
-  pub each : (k : ℕ) (answer : B) (x y : A) → slice_get answers k ≡ Some answer → slice_get xs k ≡ Some x → slice_get ys k ≡ Some y → R answer x y
+  pub each : (k : ℕ) (answer : B) (x y : A) → slice_get answers k ≡ Some answer
+      → slice_get xs k ≡ Some x → slice_get ys k ≡ Some y → R answer x y
 
 -- what the answers gather, each with its place, from this place on
 unfoldable pub gather : {B C : Type 0} → (ℕ → B → List C) → ℕ → List B → List C

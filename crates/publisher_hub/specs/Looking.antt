@@ -1,11 +1,11 @@
 -- What looks do to the subscriptions of a Hub.
-use Rattle.std.specs.Prelude.{◌≡◌, ◌⊎◌, ℕ, ◌<◌, ◌≤◌, Bool, true, false, ◌||◌, nat_lt, if◌then◌else◌, Option, None, Some, Result, List, [], ◌∷◌, length, OnOk, OnErr, IsOk, IsErr}
+use Rattle.std.specs.Prelude.{◌≡◌, ◌⊎◌, ℕ, ◌<◌, ◌≤◌, Bool, true, false, ◌||◌, nat_lt, if◌then◌else◌, Option, None, Some, Result, List, [], ◌∷◌, length, slice_get, slice_set, OnOk, OnErr, IsOk, IsErr}
 use Rattle.flow_rules.specs.Call.{Call}
 use Rattle.flow_rules.specs.Feed.{End, Looked, held_count, is_gone}
 use Rattle.flow_rules.specs.declared.feed.standing.Standing.{Standing}
 use Rattle.flow_rules.specs.declared.refusal.NoMemory.{NoMemory}
 use Rattle.publisher_hub.specs.Entry.{EntryState}
-use Rattle.publisher_hub.specs.Hub.{HubState, hub_of}
+use Rattle.publisher_hub.specs.Hub.{HubState, OnlyEntriesChange, hub_of}
 use Rattle.publisher_hub.specs.Lists.{Each, EachBy, gather}
 use Rattle.publisher_hub.specs.declared.entry.Entry.{Entry}
 use Rattle.publisher_hub.specs.declared.hub.Hub.{Hub}
@@ -47,13 +47,14 @@ IsKept next old new = StaysRetired old new ⊎ (StaysLive old new ⊎ IsRetiredA
 
 -- nothing of a Hub changed but by looks
 pub record IsLookedAt (old new : HubState) : Type 0 where
-  pub rest : new ≡ record old { entries = new.entries }
+  pub rest : OnlyEntriesChange old new
   pub entries : Each (IsKept old.progress.next) old.entries new.entries
 
--- the number of a subscription that goes on, where a look showed that its buffer is full
+-- the number of a subscription that goes on, if a look showed that its buffer is full
 abbrev pub full_by : ℕ → ℕ → Option Standing → List ℕ
 full_by capacity number None = []
-full_by capacity number (Some standing) = if standing.ended || nat_lt standing.held capacity then [] else number ∷ []
+full_by capacity number (Some standing) =
+    if standing.ended || nat_lt standing.held capacity then [] else number ∷ []
 
 -- the numbers of the subscriptions that looks showed to be full, in order
 abbrev pub full : ℕ → List (Option Standing) → List ℕ
@@ -79,17 +80,18 @@ module _ {F T : Type 0} (meaning : F → End) (does : F → Call T → F → Typ
     pub stays : (meaning f).ready ≡ true → IsOk answer
     pub exact : does f (Call.Readies answer) g
 
-  -- a live subscription was looked at, which retires it at this serial number where that shows its end
+  -- a live subscription was looked at, which retires it at this serial number if that shows its end
   pub record Sees (next : ℕ) (standing : Standing) (old new : Entry F) : Type 0 where
     pub before : F
     pub after : F
     pub live : old.retired ≡ false
     pub was : old.feed ≡ Some before
     pub stands : Stands standing before after
-    pub ended : standing.ended ≡ true → new ≡ record old { feed = Some after; retired = true; until = next }
+    pub ended : standing.ended ≡ true
+        → new ≡ record old { feed = Some after; retired = true; until = next }
     pub stays : standing.ended ≡ false → new ≡ record old { feed = Some after }
 
-  -- what a look showed of a subscription: nothing where that was retired before
+  -- what a look showed of a subscription: nothing, if that was retired before
   abbrev pub Glances : ℕ → Option Standing → Entry F → Entry F → Type 0
   Glances next None old new = (old.retired ≡ true) × (new ≡ old)
   Glances next (Some standing) old new = Sees next standing old new
@@ -102,14 +104,15 @@ module _ {F T : Type 0} (meaning : F → End) (does : F → Call T → F → Typ
     pub readies : Readies answer before after
     pub now : new ≡ record old { feed = Some after }
 
-  -- a live subscription was looked at, and made ready where it goes on
+  -- a live subscription was looked at, and made ready if it goes on
   pub record SeesReady (next : ℕ) (standing : Standing) (old new : Entry F) : Type 0 where
     pub middle : Entry F
     pub sees : Sees next standing old middle
     pub ended : standing.ended ≡ true → new ≡ middle
-    pub stays : standing.ended ≡ false → (answer : Result Unit NoMemory) × (IsOk answer × IsReadied answer middle new)
+    pub stays : standing.ended ≡ false
+        → (answer : Result Unit NoMemory) × (IsOk answer × IsReadied answer middle new)
 
-  -- the same of any subscription
+  -- any subscription was looked at and made ready, unless it is retired
   abbrev pub Prepares : ℕ → Option Standing → Entry F → Entry F → Type 0
   Prepares next None old new = (old.retired ≡ true) × (new ≡ old)
   Prepares next (Some standing) old new = SeesReady next standing old new
@@ -126,7 +129,23 @@ module _ {F T : Type 0} (meaning : F → End) (does : F → Call T → F → Typ
 
   -- a subscription was looked at or not, and made ready or not
   abbrev pub MayPrepare : ℕ → Entry F → Entry F → Type 0
-  MayPrepare next old new = (new ≡ old) ⊎ (((glance : Option Standing) × Prepares next glance old new) ⊎ FailsToPrepare next old new)
+  MayPrepare next old new = (new ≡ old)
+      ⊎ (((glance : Option Standing) × Prepares next glance old new) ⊎ FailsToPrepare next old new)
+
+  -- each live subscription of a Hub was looked at, and made ready if it goes on, with these standings
+  abbrev pub PreparesAll : List (Option Standing) → Hub F → Hub F → Type 0
+  PreparesAll glances old new =
+      EachBy (Prepares old.next) glances old.entries.items new.entries.items
+
+  -- each live subscription was looked at and made ready, and this tells whether none that goes on was full
+  abbrev pub FindsRoom : Hub F → Hub F → Bool → Type 0
+  FindsRoom old new room =
+      (glances : List (Option Standing))
+      × (PreparesAll glances old new × IsRoom room old.capacity glances)
+
+  -- some live subscriptions of a Hub were looked at and made ready, before memory was refused
+  abbrev pub PreparesInPart : Hub F → Hub F → Type 0
+  PreparesInPart old new = Each (MayPrepare old.next) old.entries.items new.entries.items
 
 -- the number of a subscription that goes on, by a look
 abbrev pub living_by : ℕ → Option Standing → List ℕ
@@ -148,5 +167,15 @@ waiting glances = gather waiting_by 0 glances
 module _ {F T : Type 0} (meaning : F → End) (does : F → Call T → F → Type 0) where
   -- all live subscriptions of a Hub were looked at, those that had ended were retired, and nothing else changed
   pub record LooksAtAll (glances : List (Option Standing)) (old new : Hub F) : Type 0 where
-    pub rest : hub_of meaning new ≡ record (hub_of meaning old) { entries = (hub_of meaning new).entries }
+    pub rest : OnlyEntriesChange (hub_of meaning old) (hub_of meaning new)
     pub entries : EachBy (Glances meaning does old.next) glances old.entries.items new.entries.items
+
+  -- the subscription of this number was looked at, which retires it if that shows its end; one that was retired before, or was never made,
+  -- shows nothing; and nothing else changed
+  pub record LooksAtOne (number : ℕ) (glance : Option Standing) (old new : Hub F) : Type 0 where
+    pub rest : OnlyEntriesChange (hub_of meaning old) (hub_of meaning new)
+    pub none : slice_get old.entries.items number ≡ None
+        → (glance ≡ None) × (new.entries.items ≡ old.entries.items)
+    pub there : (before : Entry F) → slice_get old.entries.items number ≡ Some before
+        → (after : Entry F) × (Glances meaning does old.next glance before after
+        × (new.entries.items ≡ slice_set old.entries.items number after))

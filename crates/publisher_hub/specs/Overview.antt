@@ -6,7 +6,8 @@ use Rattle.publisher_hub.specs.Looking.{IsRoom, full_by, living, living_by, wait
 use Rattle.publisher_hub.specs.declared.rounds.looking.Overview.{Overview}
 
 -- this is what these looks showed of buffers of this capacity
-pub record Shows (capacity : ℕ) (glances : List (Option Standing)) (overview : Overview) : Type 0 where
+pub record Shows (capacity : ℕ) (glances : List (Option Standing)) (overview : Overview)
+    : Type 0 where
   pub living : overview.living ≡ length (living glances)
   pub most_waiting : overview.most_waiting ≡ greatest (waiting glances)
   pub room : IsRoom overview.room capacity glances
@@ -15,6 +16,9 @@ pub record Shows (capacity : ℕ) (glances : List (Option Standing)) (overview :
 pub record CountsLook (capacity : ℕ) (glance : Option Standing) (old new : Overview) : Type 0 where
   pub living : (number : ℕ) → new.living ≡ old.living + length (living_by number glance)
   pub few : new.living ≤ old.living + 1
-  pub most_waiting : (number : ℕ) → new.most_waiting ≡ fold max old.most_waiting (waiting_by number glance)
-  pub room : new.room ≡ true → (old.room ≡ true) × ((number : ℕ) → full_by capacity number glance ≡ [])
-  pub missing : new.room ≡ false → (old.room ≡ false) ⊎ ((number : ℕ) → full_by capacity number glance ≡ number ∷ [])
+  pub most_waiting : (number : ℕ)
+      → new.most_waiting ≡ fold max old.most_waiting (waiting_by number glance)
+  pub room : new.room ≡ true
+      → (old.room ≡ true) × ((number : ℕ) → full_by capacity number glance ≡ [])
+  pub missing : new.room ≡ false
+      → (old.room ≡ false) ⊎ ((number : ℕ) → full_by capacity number glance ≡ number ∷ [])

@@ -6,15 +6,15 @@ use Rattle.flow_rules.specs.Feed.{End}
 use Rattle.flow_rules.specs.declared.feed.put.Put.{Put}
 use Rattle.flow_rules.specs.declared.feed.standing.Standing.{Standing}
 use Rattle.flow_rules.specs.declared.item.Item.{Item}
-use Rattle.flow_rules.specs.declared.item.TheConstants.{PUBLICATIONS}
+use Rattle.flow_rules.specs.declared.item.TheConstants.{MOST_PUBLICATIONS}
 use Rattle.flow_rules.specs.declared.refusal.Refusal.{Refusal}
-use Rattle.publisher_hub.specs.Giving.{AreShares, GathersAgain, HasRoom}
+use Rattle.publisher_hub.specs.Gathering.{AreAsked, AreShares, GathersAgain, HasRoom, Second, dropped, lags, lags_again, missed, stands, started, started_again}
 use Rattle.publisher_hub.specs.Hub.{Progress, hub_of}
-use Rattle.publisher_hub.specs.Lists.{Each, EachBy, greatest}
-use Rattle.publisher_hub.specs.Looking.{IsLookedAt, MayPrepare, Prepares, full}
-use Rattle.publisher_hub.specs.Offering.{AreAsked, Gives, GivesAgain, Offers, Second, dropped, lags, lags_again, missed, stands, started, started_again}
+use Rattle.publisher_hub.specs.Lists.{EachBy, greatest}
+use Rattle.publisher_hub.specs.Looking.{IsLookedAt, Prepares, PreparesAll, PreparesInPart, full}
+use Rattle.publisher_hub.specs.Offering.{Gives, GivesAgain, ReachesAll}
 use Rattle.publisher_hub.specs.declared.entry.Entry.{Entry}
-use Rattle.publisher_hub.specs.declared.giving.Giving.{Giving}
+use Rattle.publisher_hub.specs.declared.rounds.gathering.Gathering.{Gathering}
 use Rattle.publisher_hub.specs.declared.hub.Hub.{Hub}
 use Rattle.publisher_hub.specs.declared.hub.publishing.Unpublished.{Unpublished}
 use Rattle.publisher_hub.specs.declared.hub.publishing.Unpublished.TheVariants.{NoRoom, Refused}
@@ -22,12 +22,13 @@ use Rattle.publisher_hub.specs.declared.work.Work.{Work}
 
 -- why no item is taken any more: the ending, or that as many were published as may be
 abbrev pub IsRefused : Progress → Option Refusal → Type 0
-IsRefused progress None = (progress.ending ≡ None) × (progress.next ≡ PUBLICATIONS → ⊥)
+IsRefused progress None = (progress.ending ≡ None) × (progress.next ≡ MOST_PUBLICATIONS → ⊥)
 IsRefused progress (Some (Refusal.Closed ending)) = progress.ending ≡ Some ending
-IsRefused progress (Some Refusal.Exhausted) = (progress.ending ≡ None) × (progress.next ≡ PUBLICATIONS)
+IsRefused progress (Some Refusal.Exhausted) =
+    (progress.ending ≡ None) × (progress.next ≡ MOST_PUBLICATIONS)
 IsRefused progress (Some _) = ⊥
 
--- how many offers found a buffer full, after one more where so many drops stand
+-- how many offers were dropped anywhere, after one more after which this many drops stand
 abbrev pub dropping_after : ℕ → ℕ → ℕ
 dropping_after zero dropping = dropping
 dropping_after (suc drops) dropping = dropping + 1
@@ -38,16 +39,18 @@ offer_answer zero lag = pos lag
 offer_answer (suc drops) lag = negsuc drops
 
 -- a publication of this item has all that it needs
-pub record CanPublish {F T : Type 0} (item : Item) (hub : Hub F) (due : Vec (Work T) Global) : Type 0 where
-  pub room : HasRoom (length hub.live.items) hub.giving due
-  pub shares : AreShares item hub.giving.shares.items
-  pub missed : hub.giving.missed.items ≡ []
-  pub lag : hub.giving.lag ≡ 0
+pub record CanPublish {F T : Type 0} (item : Item) (hub : Hub F) (due : Vec (Work T) Global)
+    : Type 0 where
+  pub room : HasRoom (length hub.live.items) hub.gathering due
+  pub shares : AreShares item hub.gathering.shares.items
+  pub missed : hub.gathering.missed.items ≡ []
+  pub lag : hub.gathering.lag ≡ 0
 
 module _ {F T : Type 0} (meaning : F → End) (does : F → Call T → F → Type 0) where
   -- an item of this source and text was published, with this lag: each subscription was looked at and made ready, each that goes on had
   -- room, and then each of them was offered the item
-  pub record Publishes (source : ℕ) (text : List ℕ) (old new : Hub F) (due_old due_new : List (Work T)) (lag : ℕ) : Type 0 where
+  pub record Publishes (source : ℕ) (text : List ℕ) (old new : Hub F)
+      (due_old due_new : List (Work T)) (lag : ℕ) : Type 0 where
     pub item : Item
     pub from : item.source ≡ source
     pub words : item.text ≡ text
@@ -57,22 +60,26 @@ module _ {F T : Type 0} (meaning : F → End) (does : F → Call T → F → Typ
     pub looked : EachBy (Prepares meaning does old.next) glances old.entries.items middle
     pub room : full old.capacity glances ≡ []
     pub given : EachBy (Gives meaning does item) puts middle new.entries.items
-    pub offers : Offers item (hub_of meaning old) (hub_of meaning new)
+    pub reaches : ReachesAll item (hub_of meaning old) (hub_of meaning new)
     pub no_drop : missed puts ≡ []
     pub no_dropping : new.dropping ≡ old.dropping
     pub due : due_new ≡ due_old ++ started puts
     pub greatest_lag : lag ≡ greatest (lags puts)
 
   -- the second pass: it asks about those that missed the item, or about nobody; then their drops stand
-  pub record PassesAgain (item : Item) (declines : Bool) (puts : List (Option (Put T))) (seconds : List (Second T)) (xs ys : List (Entry F)) (giving giving_new : Giving) (due_old due_new : Vec (Work T) Global) : Type 0 where
+  pub record PassesAgain (item : Item) (declines : Bool)
+      (puts : List (Option (Put T))) (seconds : List (Second T))
+      (xs ys : List (Entry F)) (gathering gathering_new : Gathering)
+      (due_old due_new : Vec (Work T) Global) : Type 0 where
     pub again : EachBy (GivesAgain meaning does item) seconds xs ys
     pub asked : AreAsked (missed puts) seconds
     pub declined : declines ≡ true → seconds ≡ map stands puts
-    pub gathers : GathersAgain item seconds giving giving_new due_old due_new
+    pub gathers : GathersAgain item seconds gathering gathering_new due_old due_new
 
   -- an item of this source and text was offered, with this answer: each subscription was looked at and made ready; then each that goes on
-  -- was offered the item; and then those that missed it were asked about, and offered it once more where the answer was to try again
-  pub record OffersItem (source : ℕ) (text : List ℕ) (declines : Bool) (old new : Hub F) (due_old due_new : List (Work T)) (answer : ℤ) : Type 0 where
+  -- was offered the item; and then those that missed it were asked about, and offered it once more if the answer was to try again
+  pub record OffersItem (source : ℕ) (text : List ℕ) (declines : Bool) (old new : Hub F)
+      (due_old due_new : List (Work T)) (answer : ℤ) : Type 0 where
     pub item : Item
     pub from : item.source ≡ source
     pub words : item.text ≡ text
@@ -86,27 +93,28 @@ module _ {F T : Type 0} (meaning : F → End) (does : F → Call T → F → Typ
     pub again : EachBy (GivesAgain meaning does item) seconds middle new.entries.items
     pub asked : AreAsked (missed puts) seconds
     pub declined : declines ≡ true → seconds ≡ map stands puts
-    pub offers : Offers item (hub_of meaning old) (hub_of meaning new)
+    pub reaches : ReachesAll item (hub_of meaning old) (hub_of meaning new)
     pub counted : new.dropping ≡ dropping_after (length (dropped seconds)) old.dropping
     pub due : due_new ≡ due_old ++ started puts ++ started_again seconds
-    pub answers : answer ≡ offer_answer (length (dropped seconds)) (greatest (lags puts ++ lags_again seconds))
+    pub answers : answer
+        ≡ offer_answer (length (dropped seconds)) (greatest (lags puts ++ lags_again seconds))
 
-  -- each subscription was looked at and made ready, with these standings
-  abbrev pub PreparesAll : List (Option Standing) → Hub F → Hub F → Type 0
-  PreparesAll glances old new = EachBy (Prepares meaning does old.next) glances old.entries.items new.entries.items
-
-  -- why an item was not published: want of memory, where some subscriptions may have been looked at; or all were looked at, and the
+  -- why an item was not published: memory was refused, and some subscriptions may have been looked at; or all were looked at, and the
   -- publisher takes no items, or a buffer was full
   abbrev pub WhyRefused : List ℕ → Hub F → Hub F → Unpublished → Type 0
-  WhyRefused text old new (Refused Refusal.NoMemory) = Each (MayPrepare meaning does old.next) old.entries.items new.entries.items
-  WhyRefused text old new (Refused refusal) = IsRefused (hub_of meaning old).progress (Some refusal) × ((glances : List (Option Standing)) × PreparesAll glances old new)
-  WhyRefused text old new (NoRoom back) = (back ≡ text) × (IsRefused (hub_of meaning old).progress None
-      × ((glances : List (Option Standing)) × (PreparesAll glances old new × (0 < length (full old.capacity glances)))))
+  WhyRefused text old new (Refused Refusal.NoMemory) = PreparesInPart meaning does old new
+  WhyRefused text old new (Refused refusal) = IsRefused (hub_of meaning old).progress (Some refusal)
+      × ((glances : List (Option Standing)) × PreparesAll meaning does glances old new)
+  WhyRefused text old new (NoRoom back) = (back ≡ text)
+      × (IsRefused (hub_of meaning old).progress None
+      × ((glances : List (Option Standing))
+      × (PreparesAll meaning does glances old new × (0 < length (full old.capacity glances)))))
 
   -- why an item was not offered
   abbrev pub WhyNotOffered : Hub F → Hub F → Refusal → Type 0
-  WhyNotOffered old new Refusal.NoMemory = Each (MayPrepare meaning does old.next) old.entries.items new.entries.items
-  WhyNotOffered old new refusal = IsRefused (hub_of meaning old).progress (Some refusal) × ((glances : List (Option Standing)) × PreparesAll glances old new)
+  WhyNotOffered old new Refusal.NoMemory = PreparesInPart meaning does old new
+  WhyNotOffered old new refusal = IsRefused (hub_of meaning old).progress (Some refusal)
+      × ((glances : List (Option Standing)) × PreparesAll meaning does glances old new)
 
   -- an item was not offered: nothing has changed but by looks
   pub record RefusesOffer (old new : Hub F) (refusal : Refusal) : Type 0 where
@@ -114,6 +122,7 @@ module _ {F T : Type 0} (meaning : F → End) (does : F → Call T → F → Typ
     pub why : WhyNotOffered old new refusal
 
   -- an item was not published: nothing has changed but by looks
-  pub record RefusesItem (text : List ℕ) (old new : Hub F) (unpublished : Unpublished) : Type 0 where
+  pub record RefusesItem (text : List ℕ) (old new : Hub F) (unpublished : Unpublished)
+      : Type 0 where
     pub unchanged : IsLookedAt (hub_of meaning old) (hub_of meaning new)
     pub why : WhyRefused text old new unpublished

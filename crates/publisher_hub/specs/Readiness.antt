@@ -4,11 +4,11 @@ use Rattle.flow_rules.specs.Feed.{End}
 use Rattle.publisher_hub.specs.Entry.{EntryState}
 use Rattle.publisher_hub.specs.Steps.{CanTake}
 
--- where a subscription isn't retired, its producer's end is there, and has what one started task needs
+-- if a subscription isn't retired, its producer's end is there, and has what one started task needs
 abbrev pub IsReady : EntryState → Type 0
 IsReady entry = entry.retired ≡ false → (end : End) × ((entry.feed ≡ Some end) × (end.ready ≡ true))
 
--- so of each subscription
+-- each subscription that isn't retired is ready for one task
 abbrev pub AreReady : List EntryState → Type 0
 AreReady entries = (k : ℕ) (entry : EntryState) → slice_get entries k ≡ Some entry → IsReady entry
 

@@ -1,27 +1,33 @@
 -- What has to hold of one subscription before a step of a round.
 use Rattle.std.specs.Prelude.{◌≡◌, ℕ, ◌<◌, ◌≤◌, false, Some, IsSome, List, length, slice_get}
 use Rattle.flow_rules.specs.Feed.{End, MayStart}
-use Rattle.flow_rules.specs.declared.item.TheConstants.{PUBLICATIONS}
+use Rattle.flow_rules.specs.declared.item.TheConstants.{MOST_PUBLICATIONS}
 use Rattle.publisher_hub.specs.Entry.{EntryState}
 
--- where a subscription isn't retired, its producer's end is there
+-- if a subscription isn't retired, its producer's end is there
 abbrev pub IsHere : EntryState → Type 0
 IsHere entry = entry.retired ≡ false → IsSome entry.feed
 
--- where it isn't retired, a task may be started, too
+-- if it isn't retired, its producer's end is there, and a task of it may be started
 abbrev pub CanTake : EntryState → Type 0
 CanTake entry = entry.retired ≡ false → (end : End) × ((entry.feed ≡ Some end) × MayStart end)
 
--- so of each subscription
+-- its producer's end, if that is there, has accepted fewer items than may ever be published
+abbrev pub HasAcceptedFew : EntryState → Type 0
+HasAcceptedFew entry =
+    (end : End) → entry.feed ≡ Some end → length end.accepted < MOST_PUBLICATIONS
+
+-- each subscription that isn't retired has its producer's end
 abbrev pub AreHere : List EntryState → Type 0
 AreHere entries = (k : ℕ) (entry : EntryState) → slice_get entries k ≡ Some entry → IsHere entry
 
 -- it may be offered an item, and the numbers that grow have room
 pub record CanGive (entry : EntryState) : Type 0 where
   pub take : CanTake entry
-  pub few : (end : End) → entry.feed ≡ Some end → length end.accepted < PUBLICATIONS
-  pub few_drops : entry.dropped < PUBLICATIONS
+  pub few : HasAcceptedFew entry
+  pub few_drops : entry.dropped < MOST_PUBLICATIONS
 
+-- each of these subscriptions may be offered an item
 abbrev pub CanAllGive : List EntryState → Type 0
 CanAllGive entries = (k : ℕ) (entry : EntryState) → slice_get entries k ≡ Some entry → CanGive entry
 
@@ -29,10 +35,11 @@ CanAllGive entries = (k : ℕ) (entry : EntryState) → slice_get entries k ≡ 
 pub record CanTryAgain (entry : EntryState) : Type 0 where
   pub live : entry.retired ≡ false
   pub take : CanTake entry
-  pub few : (end : End) → entry.feed ≡ Some end → length end.accepted < PUBLICATIONS
+  pub few : HasAcceptedFew entry
   pub dropped : 0 < entry.dropped
-  pub few_drops : entry.dropped ≤ PUBLICATIONS
+  pub few_drops : entry.dropped ≤ MOST_PUBLICATIONS
 
--- so each of these
+-- each of the subscriptions of these numbers has dropped an item, and may be offered it once more
 abbrev pub CanEachTryAgain : List ℕ → List EntryState → Type 0
-CanEachTryAgain numbers entries = (i k : ℕ) (entry : EntryState) → slice_get numbers i ≡ Some k → slice_get entries k ≡ Some entry → CanTryAgain entry
+CanEachTryAgain numbers entries = (i k : ℕ) (entry : EntryState) → slice_get numbers i ≡ Some k
+    → slice_get entries k ≡ Some entry → CanTryAgain entry

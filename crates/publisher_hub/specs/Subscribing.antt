@@ -11,10 +11,10 @@ use Rattle.flow_rules.specs.declared.feed.standing.Standing.{Standing}
 use Rattle.flow_rules.specs.declared.refusal.Refusal.{Refusal}
 use Rattle.publisher_hub.specs.Adding.{AreAllLive, live_of}
 use Rattle.publisher_hub.specs.Entry.{EntryState}
-use Rattle.publisher_hub.specs.Hub.{hub_of}
-use Rattle.publisher_hub.specs.Lists.{Each, EachBy}
-use Rattle.publisher_hub.specs.Looking.{IsKept, MayPrepare, Prepares}
-use Rattle.publisher_hub.specs.Offering.{work_of}
+use Rattle.publisher_hub.specs.Hub.{OnlyEntriesChange, OnlySubscriptionsChange, hub_of}
+use Rattle.publisher_hub.specs.Lists.{Each}
+use Rattle.publisher_hub.specs.Looking.{IsKept, PreparesAll, PreparesInPart}
+use Rattle.publisher_hub.specs.Gathering.{work_of}
 use Rattle.publisher_hub.specs.Readiness.{AreReady}
 use Rattle.publisher_hub.specs.Sound.{MOST_ENTRIES, MOST_LIVE}
 use Rattle.publisher_hub.specs.declared.entry.Entry.{Entry}
@@ -32,18 +32,22 @@ pub record WasTold (old new : EntryState) : Type 0 where
 
 -- the subscription of this number has this name, or has another
 abbrev pub IsNamed : {F : Type 0} → List ℕ → ℕ → List (Entry F) → Type 0
-IsNamed {F} name number entries = (entry : Entry F) × ((slice_get entries number ≡ Some entry) × (entry.name ≡ name))
+IsNamed {F} name number entries =
+    (entry : Entry F) × ((slice_get entries number ≡ Some entry) × (entry.name ≡ name))
 
 abbrev pub IsNotNamed : {F : Type 0} → List ℕ → ℕ → List (Entry F) → Type 0
-IsNotNamed {F} name number entries = (entry : Entry F) → slice_get entries number ≡ Some entry → entry.name ≡ name → ⊥
+IsNotNamed {F} name number entries =
+    (entry : Entry F) → slice_get entries number ≡ Some entry → entry.name ≡ name → ⊥
 
 -- no subscription that isn't retired has this name
 abbrev pub IsUnnamed : List ℕ → List EntryState → Type 0
-IsUnnamed name entries = (k : ℕ) (entry : EntryState) → slice_get entries k ≡ Some entry → entry.retired ≡ false → entry.name ≡ name → ⊥
+IsUnnamed name entries = (k : ℕ) (entry : EntryState) → slice_get entries k ≡ Some entry
+    → entry.retired ≡ false → entry.name ≡ name → ⊥
 
 -- the subscription of this number isn't retired
 abbrev pub IsLiveAt : {F : Type 0} → ℕ → List (Entry F) → Type 0
-IsLiveAt {F} number entries = (entry : Entry F) × ((slice_get entries number ≡ Some entry) × (entry.retired ≡ false))
+IsLiveAt {F} number entries =
+    (entry : Entry F) × ((slice_get entries number ≡ Some entry) × (entry.retired ≡ false))
 
 -- there is a place for one subscription more
 pub record HasPlace {F : Type 0} (hub : Hub F) : Type 0 where
@@ -55,12 +59,15 @@ pub record HasPlace {F : Type 0} (hub : Hub F) : Type 0 where
 -- why there is none: there are as many live ones as there may be; else as many that were ever made; else memory is refused
 abbrev pub HasNoPlace : {F : Type 0} → Refusal → Hub F → Type 0
 HasNoPlace Refusal.TooMany hub = length hub.live.items ≡ MOST_LIVE
-HasNoPlace Refusal.Exhausted hub = (length hub.live.items < MOST_LIVE) × (length hub.entries.items ≡ MOST_ENTRIES)
-HasNoPlace Refusal.NoMemory hub = (length hub.live.items < MOST_LIVE) × (length hub.entries.items < MOST_ENTRIES)
+HasNoPlace Refusal.Exhausted hub =
+    (length hub.live.items < MOST_LIVE) × (length hub.entries.items ≡ MOST_ENTRIES)
+HasNoPlace Refusal.NoMemory hub =
+    (length hub.live.items < MOST_LIVE) × (length hub.entries.items < MOST_ENTRIES)
 HasNoPlace _ hub = ⊥
 
 -- a subscription of this name may be added to a Hub, and one task may be started
-pub record CanAdmit {F T : Type 0} (meaning : F → End) (name : List ℕ) (hub : Hub F) (due : Vec (Work T) Global) : Type 0 where
+pub record CanAdmit {F T : Type 0} (meaning : F → End) (name : List ℕ) (hub : Hub F)
+    (due : Vec (Work T) Global) : Type 0 where
   pub due_place : vec_len due < vec_capacity due
   pub place : HasPlace hub
   pub ready : AreReady (hub_of meaning hub).entries
@@ -83,17 +90,17 @@ module _ {F T : Type 0} (meaning : F → End) (does : F → Call T → F → Typ
   -- left out; nothing else changed
   pub record IsSeen (old new : Hub F) : Type 0 where
     pub glances : List (Option Standing)
-    pub prepared : EachBy (Prepares meaning does old.next) glances old.entries.items new.entries.items
+    pub prepared : PreparesAll meaning does glances old new
     pub left : new.live.items ≡ live_of (hub_of meaning new).entries old.live.items
     pub kept : Each (IsKept old.next) (hub_of meaning old).entries (hub_of meaning new).entries
     pub all_live : AreAllLive new.live.items (hub_of meaning new).entries
-    pub rest : hub_of meaning new ≡ record (hub_of meaning old) { entries = (hub_of meaning new).entries; live = new.live.items }
+    pub rest : OnlySubscriptionsChange (hub_of meaning old) (hub_of meaning new)
 
   -- some live subscriptions of a Hub were looked at, the ended ones of these retired, and the others made ready; nothing else changed
   pub record IsSeenInPart (old new : Hub F) : Type 0 where
-    pub prepared : Each (MayPrepare meaning does old.next) old.entries.items new.entries.items
+    pub prepared : PreparesInPart meaning does old new
     pub kept : Each (IsKept old.next) (hub_of meaning old).entries (hub_of meaning new).entries
-    pub rest : hub_of meaning new ≡ record (hub_of meaning old) { entries = (hub_of meaning new).entries }
+    pub rest : OnlyEntriesChange (hub_of meaning old) (hub_of meaning new)
 
   -- the producer's end of a live subscription was told once of a second subscribing, which answered this task
   pub record Told (start : Option T) (old new : Entry F) : Type 0 where
@@ -106,7 +113,8 @@ module _ {F T : Type 0} (meaning : F → End) (does : F → Call T → F → Typ
     pub now : new ≡ record old { feed = Some after }
 
   -- the live subscription of this number was told of a second subscribing; the task that this started is due, and nothing else changed
-  pub record TellsAt (number : ℕ) (due_before due_after : List (Work T)) (old new : Hub F) : Type 0 where
+  pub record TellsAt (number : ℕ) (due_before due_after : List (Work T)) (old new : Hub F)
+      : Type 0 where
     pub start : Option T
     pub before : Entry F
     pub after : Entry F
@@ -114,10 +122,11 @@ module _ {F T : Type 0} (meaning : F → End) (does : F → Call T → F → Typ
     pub told : Told start before after
     pub entries : new.entries.items ≡ slice_set old.entries.items number after
     pub due : due_after ≡ due_before ++ work_of number start
-    pub rest : hub_of meaning new ≡ record (hub_of meaning old) { entries = (hub_of meaning new).entries }
+    pub rest : OnlyEntriesChange (hub_of meaning old) (hub_of meaning new)
 
   -- one live subscription of this name was told of a second subscribing
-  pub record TellsOne (name : List ℕ) (due_before due_after : List (Work T)) (old new : Hub F) : Type 0 where
+  pub record TellsOne (name : List ℕ) (due_before due_after : List (Work T)) (old new : Hub F)
+      : Type 0 where
     pub number : ℕ
     pub named : IsNamed name number old.entries.items
     pub tells : TellsAt number due_before due_after old new
@@ -131,17 +140,23 @@ module _ {F T : Type 0} (meaning : F → End) (does : F → Call T → F → Typ
   -- why a subscribing is refused, and what is left then: a live subscription has the name, and is told of it; else there is no place; or
   -- memory was refused before all were looked at
   abbrev pub Refuses : List ℕ → Refusal → List (Work T) → List (Work T) → Hub F → Hub F → Type 0
-  Refuses name Refusal.Duplicate due_before due_after old new = (middle : Hub F) × (IsSeen old middle × TellsOne name due_before due_after middle new)
-  Refuses name Refusal.NoMemory due_before due_after old new = (IsSeenInPart old new ⊎ FindsNoPlace name Refusal.NoMemory old new) × (due_after ≡ due_before)
-  Refuses name refusal due_before due_after old new = FindsNoPlace name refusal old new × (due_after ≡ due_before)
+  Refuses name Refusal.Duplicate due_before due_after old new =
+      (middle : Hub F) × (IsSeen old middle × TellsOne name due_before due_after middle new)
+  Refuses name Refusal.NoMemory due_before due_after old new =
+      (IsSeenInPart old new ⊎ FindsNoPlace name Refusal.NoMemory old new) × (due_after ≡ due_before)
+  Refuses name refusal due_before due_after old new =
+      FindsNoPlace name refusal old new × (due_after ≡ due_before)
 
-  -- the producer's end of a new subscription is closed at once where its Hub was
+  -- the producer's end of a new subscription is closed at once if its Hub was
   abbrev pub ClosesNew : Option Ending → F → Option T → F → Type 0
   ClosesNew None feed start after = (start ≡ None) × (after ≡ feed)
-  ClosesNew (Some ending) feed start after = Feed.Ends (meaning feed) ending start (meaning after) × does feed (Call.Ends ending start) after
+  ClosesNew (Some ending) feed start after =
+      Feed.Ends (meaning feed) ending start (meaning after)
+      × does feed (Call.Ends ending start) after
 
   -- a subscription was added to a Hub that had been looked at, and nothing else changed
-  pub record Admits (name : List ℕ) (feed : F) (ticket : Option Ticket) (number : ℕ) (due_before due_after : List (Work T)) (old new : Hub F) : Type 0 where
+  pub record Admits (name : List ℕ) (feed : F) (ticket : Option Ticket) (number : ℕ)
+      (due_before due_after : List (Work T)) (old new : Hub F) : Type 0 where
     pub middle : Hub F
     pub seen : IsSeen old middle
     pub unnamed : IsUnnamed name (hub_of meaning middle).entries
@@ -152,6 +167,7 @@ module _ {F T : Type 0} (meaning : F → End) (does : F → Call T → F → Typ
     pub after : F
     pub closes : ClosesNew old.ending feed start after
     pub due : due_after ≡ due_before ++ work_of number start
-    pub entries : new.entries.items ≡ middle.entries.items ++ first_entry name old.next after ticket ∷ []
+    pub entries : new.entries.items
+        ≡ middle.entries.items ++ first_entry name old.next after ticket ∷ []
     pub live : new.live.items ≡ middle.live.items ++ number ∷ []
-    pub rest : hub_of meaning new ≡ record (hub_of meaning old) { entries = (hub_of meaning new).entries; live = new.live.items }
+    pub rest : OnlySubscriptionsChange (hub_of meaning old) (hub_of meaning new)

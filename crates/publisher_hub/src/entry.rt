@@ -1,17 +1,20 @@
-//! One subscription of a Hub.
-ghost use Rattle.std.specs.Prelude.{◌≡◌, ◌-◌, ◌<◌, ◌≤◌, length, IfOk, IsSome, OnErr, Some, false};
-ghost use Rattle.flow_rules.specs.Feed.{End};
-ghost use Rattle.flow_rules.specs.declared.item.TheConstants.{PUBLICATIONS};
+//! One subscription of a Hub, with each step that a call or a pass makes of it.
+ghost use Rattle.std.specs.Prelude.{◌≡◌, ◌-◌, ◌<◌, ◌≤◌, if◌then◌else◌, IfOk, IsSome, OnErr, Option, Some, false, true};
+ghost use Rattle.std.specs.Borrow.{sem};
+ghost use Rattle.flow_rules.specs.declared.feed.standing.Standing.{Standing};
+ghost use Rattle.flow_rules.specs.declared.item.TheConstants.{MOST_PUBLICATIONS};
+ghost use Rattle.publisher_hub.specs.Closing.{Closes};
 ghost use Rattle.publisher_hub.specs.Entry.{entry_of};
 ghost use Rattle.publisher_hub.specs.Looking.{FailsToPrepare, Glances, IsReadied, Prepares};
 ghost use Rattle.publisher_hub.specs.Offering.{Gives, GivesAgain};
-ghost use Rattle.publisher_hub.specs.Steps.{CanTake, IsHere};
-
-mod closing;
-mod telling;
+ghost use Rattle.publisher_hub.specs.Readiness.{IsReady};
+ghost use Rattle.publisher_hub.specs.Steps.{CanTake, HasAcceptedFew, IsHere};
+ghost use Rattle.publisher_hub.specs.Subscribing.{Told};
+ghost use Rattle.publisher_hub.specs.Taking.{TakesOut};
+ghost use Rattle.publisher_hub.specs.Tickets.{AsksForTicket};
 
 use close_count::Ticket;
-use flow_rules::{Feed, Item, Name, NoMemory, Put, Standing};
+use flow_rules::{Ending, Feed, Item, Name, NoMemory, Put, Standing};
 
 /// One subscription of a Hub, from its subscribing on. It stays when it has ended.
 #[derive(Drop)]
@@ -22,7 +25,8 @@ pub(crate) struct Entry<F> {
     pub since: u64,
     /// The next serial number when it was retired.
     pub until: u64,
-    /// How many publications found its buffer full.
+    /// How many publications were dropped because its buffer was full. A second try takes its drop back first, and counts it again if
+    /// the buffer is full still.
     pub dropped: u64,
     /// Whether it takes part in no publication any more.
     pub retired: bool,
@@ -32,8 +36,20 @@ pub(crate) struct Entry<F> {
     pub ticket: Option<Ticket>,
 }
 
+/// What a close did at one subscription.
+#[must_use]
+#[derive(Drop)]
+pub(crate) enum AtClose<T> {
+    /// The subscription was retired before, and is left alone.
+    Retired,
+    /// Its producer's end was closed, which answered this task.
+    Ended(Option<T>),
+}
+
 impl<F: Feed> Entry<F> {
-    /// Looks at a subscription that isn't retired, and retires it where it has ended.
+    ghost use Rattle.publisher_hub.specs.Lending.{lends_feed};
+
+    /// Looks at a subscription that isn't retired, and retires it if it has ended.
     pub fn look(&mut self, next: u64) -> Option<Standing>
         requires here { IsHere (entry_of F.meaning self.old) }
         ensures { Glances F.meaning F.does next result self.old self.new }
@@ -45,8 +61,7 @@ impl<F: Feed> Entry<F> {
             Some(feed) => {
                 let standing = feed.standing();
                 if standing.ended {
-                    self.retired = true;
-                    self.until = next;
+                    self.retire(next);
                 }
                 Some(standing)
             }
@@ -54,11 +69,12 @@ impl<F: Feed> Entry<F> {
         }
     }
 
-    /// Looks at a subscription that isn't retired, retires it where it has ended, and else makes it ready for one task.
+    /// Looks at a subscription that isn't retired, retires it if it has ended, and else makes it ready for one task.
     pub fn prepare(&mut self, next: u64) -> Result<Option<Standing>, NoMemory>
         requires here { IsHere (entry_of F.meaning self.old) }
-        ensures ok { IfOk result (λ glance. Prepares F.meaning F.does next glance self.old self.new) }
-        ensures err { OnErr result (FailsToPrepare F.meaning F.does next self.old self.new) }
+        ensures ok { IfOk result (λ glance.
+            Prepares F.meaning F.does next glance self.old self.new) }
+        ensures refused { OnErr result (FailsToPrepare F.meaning F.does next self.old self.new) }
     {
         let Some(standing) = self.look(next) else {
             return Ok(None);
@@ -80,13 +96,13 @@ impl<F: Feed> Entry<F> {
         }
     }
 
-    /// Offers an item to a subscription that isn't retired. Where it takes no more items it is retired; where its buffer is full,
-    /// the drop is counted.
+    /// Offers an item to a subscription that isn't retired. If it takes no more items, it is retired; if its buffer is full, the drop
+    /// is counted.
     #[must_use]
     pub fn give(&mut self, item: Item) -> Option<Put<F::Task>>
         requires take { CanTake (entry_of F.meaning self.old) }
-        requires few { (end : End) → (entry_of F.meaning self.old).feed ≡ Some end → length end.accepted < PUBLICATIONS }
-        requires few_drops { self.old.dropped < PUBLICATIONS }
+        requires few { HasAcceptedFew (entry_of F.meaning self.old) }
+        requires few_drops { self.old.dropped < MOST_PUBLICATIONS }
         ensures { Gives F.meaning F.does item result self.old self.new }
     {
         if self.retired {
@@ -99,10 +115,7 @@ impl<F: Feed> Entry<F> {
                 match &answer {
                     Put::Accepted { .. } => {}
                     Put::Full(_) => self.dropped += 1,
-                    Put::Gone(_) => {
-                        self.retired = true;
-                        self.until = serial;
-                    }
+                    Put::Gone(_) => self.retire(serial),
                 }
                 Some(answer)
             }
@@ -114,14 +127,92 @@ impl<F: Feed> Entry<F> {
     #[must_use]
     pub fn give_again(&mut self, item: Item) -> Option<Put<F::Task>>
         requires take { CanTake (entry_of F.meaning self.old) }
-        requires few { (end : End) → (entry_of F.meaning self.old).feed ≡ Some end → length end.accepted < PUBLICATIONS }
+        requires few { HasAcceptedFew (entry_of F.meaning self.old) }
         requires live { self.old.retired ≡ false }
         requires dropped { 0 < self.old.dropped }
-        requires few_drops { self.old.dropped ≤ PUBLICATIONS }
+        requires few_drops { self.old.dropped ≤ MOST_PUBLICATIONS }
         ensures some { IsSome result }
         ensures again { GivesAgain F.meaning F.does item (Some result) self.old self.new }
     {
         self.dropped -= 1;
         self.give(item)
+    }
+
+    /// Closes a subscription that isn't retired.
+    pub fn end(&mut self, ending: Ending) -> AtClose<F::Task>
+        requires take { CanTake (entry_of F.meaning self.old) }
+        ensures { Closes F.meaning F.does ending result self.old self.new }
+    {
+        if self.retired {
+            return AtClose::Retired;
+        }
+        match &mut self.feed {
+            Some(feed) => AtClose::Ended(feed.end(ending)),
+            None => unreachable!(),
+        }
+    }
+
+    /// Tells a subscription that isn't retired of a second subscribing.
+    #[must_use]
+    pub fn duplicate(&mut self) -> Option<F::Task>
+        requires live { self.old.retired ≡ false }
+        requires ready { IsReady (entry_of F.meaning self.old) }
+        ensures { Told F.meaning F.does result self.old self.new }
+    {
+        match &mut self.feed {
+            Some(feed) => feed.duplicate(),
+            None => unreachable!(),
+        }
+    }
+
+    /// Looks at a subscription, if its producer's end is there. If that shows that it has ended, it is retired and its ticket taken out.
+    pub fn ended(&mut self, next: u64) -> Option<Ticket>
+        ensures { (glance : Option Standing)
+            × AsksForTicket F.meaning F.does next glance result self.old self.new }
+    {
+        let Some(feed) = &mut self.feed else {
+            return None;
+        };
+        let standing = feed.standing();
+        if !standing.ended {
+            return None;
+        }
+        self.retire(next);
+        self.ticket.take()
+    }
+
+    /// Takes its producer's end out, and with that its ticket, and retires it.
+    pub fn take_feed(&mut self, next: u64) -> Option<F>
+        ensures { TakesOut next result self.old self.new }
+    {
+        let feed = self.feed.take()?;
+        self.retire(next);
+        self.ticket = None;
+        Some(feed)
+    }
+
+    /// Lends the producer's end.
+    pub fn feed_mut(&mut self) -> &mut F
+        requires { IsSome self.old.feed }
+        ensures* writes_back { sem 𝓛 (lends_feed F.row self.entry result) }
+        ensures value { self.old.feed ≡ Some result.now }
+    {
+        match &mut self.feed {
+            Some(feed) => feed,
+            None => unreachable!(),
+        }
+    }
+
+    /// Retires a subscription; one that was retired before stays so since then.
+    fn retire(&mut self, next: u64)
+        ensures { self.new ≡ record self.old {
+          retired = true;
+          until = if self.old.retired then self.old.until else next;
+        } }
+    {
+        if !self.retired {
+            self.retired = true;
+            self.until = next;
+        }
     }
 }

@@ -14,12 +14,11 @@
 #![tactic(auto)]
 
 mod entry;
-mod giving;
 mod hub;
 mod laws;
 mod rounds;
 mod work;
 
-pub use hub::{Hub, MOST_ENTRIES, MOST_LIVE, Unpublished};
+pub use hub::{Hub, MOST_ENTRIES, MOST_LIVE, MOST_SOURCES, Unpublished};
 pub use laws::lent_feeds_keep_hubs_sound;
 pub use work::Work;

@@ -1,6 +1,6 @@
 //! A task that a publisher's call started.
 
-/// A started task, with the number of its subscription. Who gets it has to see that the task is run.
+/// A started task, with the number of its subscription. Whoever gets it has to see that the task is run.
 #[must_use]
 #[derive(Debug, Drop)]
 pub struct Work<T> {

@@ -7,7 +7,7 @@ ghost use Rattle.feed_core.specs.LaneCalls.{IsCapacity};
 
 use anyhow::ensure;
 use feed_core::{Desk, Outlook, Seen};
-use flow_rules::{Ending, Feed, Item, Listener, NoMemory, PUBLICATIONS, Put, Text, capacity};
+use flow_rules::{Ending, Feed, Item, Listener, MOST_PUBLICATIONS, NoMemory, Put, Text, capacity};
 use shipper::Shipper;
 use std::alloc::Global;
 use std::io;
@@ -65,7 +65,7 @@ fn read_line<R: BufRead>(reader: &mut R, line: &mut Vec<u8>) -> io::Result<bool>
 
 /// Publishes an item, and runs the turns that this starts. False if it is not taken.
 fn publish<B: Listener>(desk: &mut Desk<B>, seen: &mut Seen, item: Item) -> bool {
-    if desk.accepted() >= PUBLICATIONS {
+    if desk.accepted() >= MOST_PUBLICATIONS {
         return false;
     }
     match desk.put(item) {

@@ -9,7 +9,7 @@ ghost use Rattle.call_tests.specs.Row.{Fits, MakesTurn};
 use super::Row;
 use crate::letters::{item_with, signals};
 use feed_core::{Desk, Outlook, Seen, desks_keep_the_flow_rules};
-use flow_rules::{Ending, Feed, Listener, NoMemory, PUBLICATIONS, Put, Refusal, capacity};
+use flow_rules::{Ending, Feed, Listener, MOST_PUBLICATIONS, NoMemory, Put, Refusal, capacity};
 use std::alloc::Global;
 
 /// A Desk whose buffer has the capacity that is enforced where this one is asked for.
@@ -77,7 +77,7 @@ fn is_accepted<B: Listener>(
     ensures err { OnErr result (desk.new ≡ desk.old) }
 {
     let item = item_with(alloc, &[letter])?;
-    if desk.accepted() >= PUBLICATIONS {
+    if desk.accepted() >= MOST_PUBLICATIONS {
         return Ok(false);
     }
     let answer = desk.put(item);
@@ -102,7 +102,7 @@ fn comes_back<B: Listener>(
 {
     let item = item_with(alloc, &[letter])?;
     let twin = item.share()?;
-    if desk.accepted() >= PUBLICATIONS {
+    if desk.accepted() >= MOST_PUBLICATIONS {
         return Ok(false);
     }
     let answer = desk.put(item);

@@ -4,7 +4,7 @@ ghost use Rattle.publisher_hub.specs.Sound.{IsSound};
 
 use crate::{Ask, Notes, Trial, Why, counting_hub, desks_of};
 use feed_core::Desk;
-use flow_rules::{Collector, DropHandler, Ending, Feed, NoMemory, PUBLICATIONS, Refusal};
+use flow_rules::{Collector, DropHandler, Ending, Feed, MOST_PUBLICATIONS, NoMemory, Refusal};
 use std::alloc::Global;
 use std::process::Abort;
 use std::test::Fail;
@@ -80,7 +80,7 @@ fn play<F: Feed>(rt: &impl Abort, mut trial: Trial<F>, asks: &[Ask<'_>]) -> Resu
 
 #[test]
 fn the_last_serial_number_is_given_once(rt: HostRuntime) -> Result<(), Fail> {
-    let trial: Trial<Desk<Collector>> = Trial::starting_at(rt.alloc(), 4, PUBLICATIONS - 1)?;
+    let trial: Trial<Desk<Collector>> = Trial::starting_at(rt.alloc(), 4, MOST_PUBLICATIONS - 1)?;
     play(&rt, trial, &LAST_ITEM)
 }
 

@@ -14,10 +14,12 @@ abbrev pub was_started : DeskState → DeskState → Bool
 was_started before now = owes now && not (owes before)
 
 -- the owner of the subscription of this number did this to it, and nothing else changed; its task was started, or not
-pub record ActsOn (act : Act) (number : ℕ) (old : Hub DeskState) (is_started : Bool) (new : Hub DeskState) : Type 0 where
+pub record ActsOn (act : Act) (number : ℕ) (old : Hub DeskState) (is_started : Bool)
+    (new : Hub DeskState) : Type 0 where
   pub before : DeskState
   pub stood : feed_at old number ≡ Some before
-  pub left : new ≡ with_feed old number (slice_get old.entries.items number) (desk_after_act act before)
+  pub left : new
+      ≡ with_feed old number (slice_get old.entries.items number) (desk_after_act act before)
   pub starts : is_started ≡ was_started before (desk_after_act act before)
 
 -- the subscription of this number owes a turn, and its subscriber is steady
@@ -28,8 +30,11 @@ pub record OwesTurn (number : ℕ) (hub : Hub DeskState) : Type 0 where
   pub steady : desk.is_steady ≡ true
 
 -- the subscription of this number made a turn, which told these signals and had this outlook, and nothing else changed
-pub record TurnsOn (number : ℕ) (old : Hub DeskState) (told : List Signal) (outlook : Outlook) (new : Hub DeskState) : Type 0 where
+pub record TurnsOn (number : ℕ) (old : Hub DeskState) (told : List Signal) (outlook : Outlook)
+    (new : Hub DeskState) : Type 0 where
   pub before : DeskState
   pub stood : feed_at old number ≡ Some before
-  pub left : new ≡ with_feed old number (slice_get old.entries.items number) (desk_after_turn before told outlook)
+  pub left : new
+      ≡ with_feed old number (slice_get old.entries.items number)
+      (desk_after_turn before told outlook)
   pub plain : MeetsPlainTurn (plain_turn_of before.lane) told outlook

@@ -14,7 +14,11 @@ use Rattle.lines_demo.specs.declared.script.player.TheConstants.{LONGEST_LINE}
 
 -- a reply is written as one line
 abbrev pub reply_result : CommandResult → LineResult
-reply_result result = record { output = line_of (reply_text result.reply); state = result.state; refusals = result.refusals }
+reply_result result = record {
+  output = line_of (reply_text result.reply);
+  state = result.state;
+  refusals = result.refusals;
+}
 
 -- the turns before a command is answered: those of a `run`
 abbrev pub turns_before : Command → SessionState → List Bool → LineResult
@@ -33,19 +37,22 @@ turns_before Run state refusals = run_turns state refusals
 abbrev pub spelled_result : Option Command → SessionState → List Bool → LineResult
 spelled_result None state refusals = reply_result (refused_result state refusals Refusal.BadCommand)
 spelled_result (Some command) state refusals =
-    result_then (turns_before command state refusals) (λ state' left. reply_result (command_result command state' left))
+    result_then (turns_before command state refusals)
+    (λ state' left. reply_result (command_result command state' left))
 
 -- what comes of a line: nothing where it is empty, and a refusal where it is too long
 unfoldable pub line_result : SessionState → List Bool → List ℕ → LineResult
 line_result state refusals line =
     if length line == 0 then empty_result state refusals
-    else (if nat_lt LONGEST_LINE (length line) then reply_result (refused_result state refusals Refusal.LineTooLong)
+    else (if nat_lt LONGEST_LINE (length line)
+    then reply_result (refused_result state refusals Refusal.LineTooLong)
     else spelled_result (command_of line) state refusals)
 
 -- what comes of the lines, one after the other
 abbrev pub lines_result : List (List ℕ) → SessionState → List Bool → LineResult
 lines_result [] state refusals = empty_result state refusals
-lines_result (line ∷ lines) state refusals = result_then (line_result state refusals (without_return line)) (lines_result lines)
+lines_result (line ∷ lines) state refusals =
+    result_then (line_result state refusals (without_return line)) (lines_result lines)
 
 -- what comes of a script
 abbrev pub script_result : ℕ → List Bool → List ℕ → LineResult

@@ -7,15 +7,18 @@ use Rattle.lines_demo.specs.declared.script.command.Command.{Command}
 use Rattle.lines_demo.specs.declared.script.command.Command.TheVariants.{Cap, Sub, Offer, Retry, Submit, Request, Cancel, Close, Fail, Run}
 
 -- a command of a name and a number, if both are there
-abbrev pub with_name : {N : Type 0} → (List ℕ → N → Command) → Option (List ℕ) → Option N → Option Command
+abbrev pub with_name : {N : Type 0} → (List ℕ → N → Command) → Option (List ℕ) → Option N
+    → Option Command
 with_name command None number = None
 with_name command (Some name) number = option_map (command name) number
 
 -- the command that a word and what follows it spell, if it begins with a name
 unfoldable pub named_command_of : List ℕ → List ℕ → Option Command
 named_command_of word rest =
-    if is_word word (codes "sub") then with_name Sub (spelled_name (first_word rest)) (spelled_number (after_space rest))
-    else (if is_word word (codes "request") then with_name Request (spelled_name (first_word rest)) (spelled_signed (after_space rest))
+    if is_word word (codes "sub")
+    then with_name Sub (spelled_name (first_word rest)) (spelled_number (after_space rest))
+    else (if is_word word (codes "request")
+    then with_name Request (spelled_name (first_word rest)) (spelled_signed (after_space rest))
     else (if is_word word (codes "cancel") then option_map Cancel (spelled_name rest)
     else None))
 

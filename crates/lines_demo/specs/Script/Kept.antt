@@ -7,17 +7,21 @@ use Rattle.lines_demo.specs.Script.Laws.{SerialsRise, WakesWhoOwes, FewAreLive, 
 
 -- an item of a script with the texts that were published, by their serial numbers; it was published since this one and before that one
 pub record IsPublished (texts : ℕ → List ℕ) (first next : ℕ) (item : Item) : Type 0 where
-  pub is : item ≡ record { source = 0; seq = item.serial; serial = item.serial; text = texts item.serial }
+  pub is : item
+      ≡ record { source = 0; seq = item.serial; serial = item.serial; text = texts item.serial }
   pub since : first ≤ item.serial
   pub before : item.serial < next
 
 -- what a subscription keeps while the next serial number is this and the publisher was closed so
-pub record IsKept (texts : ℕ → List ℕ) (next : ℕ) (closed : Option Ending) (subscription : SubscriptionState) : Type 0 where
+pub record IsKept (texts : ℕ → List ℕ) (next : ℕ) (closed : Option Ending)
+    (subscription : SubscriptionState) : Type 0 where
   pub sound : IsSoundDesk subscription.desk
   pub rise : SerialsRise subscription.desk.lane.accepted
   pub published : All (IsPublished texts subscription.since next) subscription.desk.lane.accepted
-  pub most : subscription.since + (length subscription.desk.lane.accepted + subscription.dropped) ≤ next
-  pub all : subscription.desk.lane.how ≡ None → subscription.since + (length subscription.desk.lane.accepted + subscription.dropped) ≡ next
+  pub most : subscription.since + (length subscription.desk.lane.accepted + subscription.dropped)
+      ≤ next
+  pub all : subscription.desk.lane.how ≡ None
+      → subscription.since + (length subscription.desk.lane.accepted + subscription.dropped) ≡ next
   pub closing : subscription.desk.lane.how ≡ None → subscription.desk.lane.causes.closing ≡ closed
 
 -- where a script may stand that has published these texts

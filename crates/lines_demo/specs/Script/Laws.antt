@@ -11,6 +11,11 @@ abbrev pub script_state : ℕ → List Bool → List ℕ → SessionState
 script_state stock refusals bytes = (script_result stock refusals bytes).state
 
 -- what each subscriber was told is a list of signals that Flow allows: its items are a prefix of what its buffer accepted, in that
+-- this holds at the end of every script, whatever the stock has, and wherever memory is refused
+abbrev pub OfEveryScript : (SessionState → Type 0) → Type 0
+OfEveryScript P =
+    (stock : ℕ) → (refusals : List Bool) → (bytes : List ℕ) → P (script_state stock refusals bytes)
+
 -- order, no more than were requested, and completion comes only after all of them
 abbrev pub KeepsFlow : SessionState → Type 0
 KeepsFlow state = All (λ subscription. IsFlow subscription.desk.lane) state.subscriptions
@@ -18,7 +23,8 @@ KeepsFlow state = All (λ subscription. IsFlow subscription.desk.lane) state.sub
 -- nothing is forgotten: each subscriber that isn't woken was told all that its demand and its ending allow
 abbrev pub IsSettledSession : SessionState → Type 0
 IsSettledSession state =
-    (number : ℕ) (subscription : SubscriptionState) → slice_get state.subscriptions number ≡ Some subscription
+    (number : ℕ) (subscription : SubscriptionState)
+    → slice_get state.subscriptions number ≡ Some subscription
     → (Contains state.woken number → ⊥) → IsSettled subscription.desk.lane
 
 -- how often this number stands in the list
@@ -27,7 +33,8 @@ places_of number numbers = count_by (λ other. other == number) numbers
 
 -- a subscription whose task was started and which has not ended is woken, once; and nobody else is
 abbrev pub WakesWhoOwes : SessionState → Type 0
-WakesWhoOwes state = (number : ℕ) → places_of number state.woken ≡ (if owes_turn state.subscriptions number then 1 else 0)
+WakesWhoOwes state = (number : ℕ)
+    → places_of number state.woken ≡ (if owes_turn state.subscriptions number then 1 else 0)
 
 -- at most as many subscriptions are live as may be
 abbrev pub FewAreLive : SessionState → Type 0
@@ -43,15 +50,19 @@ SerialsRise items = AllPairs (λ item later. item.serial < later.serial) items
 
 -- the serial numbers of what each buffer accepted rise, so no item was accepted twice
 abbrev pub SerialsRiseIn : SessionState → Type 0
-SerialsRiseIn state = All (λ subscription. SerialsRise subscription.desk.lane.accepted) state.subscriptions
+SerialsRiseIn state =
+    All (λ subscription. SerialsRise subscription.desk.lane.accepted) state.subscriptions
 
 -- items of these two lists that have one serial number are one item
 abbrev pub Agree : List Item → List Item → Type 0
-Agree items others = All (λ item. All (λ other. item.serial ≡ other.serial → item ≡ other) others) items
+Agree items others =
+    All (λ item. All (λ other. item.serial ≡ other.serial → item ≡ other) others) items
 
 -- items with one serial number are one item, whoever accepted them
 abbrev pub AgreesOnItems : SessionState → Type 0
-AgreesOnItems state = All (λ first. All (λ second. Agree first.desk.lane.accepted second.desk.lane.accepted) state.subscriptions) state.subscriptions
+AgreesOnItems state =
+    All (λ first. All (λ second. Agree first.desk.lane.accepted second.desk.lane.accepted)
+    state.subscriptions) state.subscriptions
 
 -- this item stands in the list, and that one after it
 pub record StandsBefore (items : List Item) (item later : Item) : Type 0 where
@@ -64,19 +75,26 @@ pub record StandsBefore (items : List Item) (item later : Item) : Type 0 where
 -- any two items that are in both lists stand in the same order in both
 abbrev pub HaveOneOrder : List Item → List Item → Type 0
 HaveOneOrder items others =
-    (item later : Item) → StandsBefore items item later → Contains others item → Contains others later → StandsBefore others item later
+    (item later : Item) → StandsBefore items item later → Contains others item
+    → Contains others later → StandsBefore others item later
 
 -- any two subscribers that were told the same two items were told them in the same order
 abbrev pub TellsInOneOrder : SessionState → Type 0
-TellsInOneOrder state = All (λ first. All (λ second. HaveOneOrder (items_of first.desk.lane.told) (items_of second.desk.lane.told)) state.subscriptions) state.subscriptions
+TellsInOneOrder state =
+    All (λ first. All (λ second.
+    HaveOneOrder (items_of first.desk.lane.told) (items_of second.desk.lane.told))
+    state.subscriptions) state.subscriptions
 
 -- what a subscription accepted was published since it subscribed; that and what it dropped is all that was, as long as it has not ended
 pub record IsCountedUpTo (serial : ℕ) (subscription : SubscriptionState) : Type 0 where
   pub since : All (λ item. subscription.since ≤ item.serial) subscription.desk.lane.accepted
   pub published : All (λ item. item.serial < serial) subscription.desk.lane.accepted
-  pub most : subscription.since + (length subscription.desk.lane.accepted + subscription.dropped) ≤ serial
-  pub all : subscription.desk.lane.how ≡ None → subscription.since + (length subscription.desk.lane.accepted + subscription.dropped) ≡ serial
+  pub most : subscription.since + (length subscription.desk.lane.accepted + subscription.dropped)
+      ≤ serial
+  pub all : subscription.desk.lane.how ≡ None
+      → subscription.since + (length subscription.desk.lane.accepted + subscription.dropped)
+      ≡ serial
 
--- so of each subscription
+-- what each subscription accepted and dropped is what was published while it took part
 abbrev pub CountsPublications : SessionState → Type 0
 CountsPublications state = All (IsCountedUpTo state.serial) state.subscriptions

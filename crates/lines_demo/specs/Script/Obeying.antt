@@ -25,7 +25,8 @@ cap_result state refusals capacity =
 
 -- whether any subscription ever had this name
 abbrev pub is_known : List ℕ → List SubscriptionState → Bool
-is_known name subscriptions = list_any (λ subscription. is_word subscription.name name) subscriptions
+is_known name subscriptions =
+    list_any (λ subscription. is_word subscription.name name) subscriptions
 
 -- what the owner of a subscription does to it (`Flow.Subscription`, Java SE 17)
 abbrev pub desk_after_act : Act → DeskState → DeskState
@@ -37,7 +38,8 @@ abbrev pub subscriptions_after_act : List ℕ → Act → List SubscriptionState
 subscriptions_after_act name act [] = []
 subscriptions_after_act name act (subscription ∷ later) =
     if is_known name later then subscription ∷ subscriptions_after_act name act later
-    else (if is_word subscription.name name then (record subscription { desk = desk_after_act act subscription.desk }) ∷ later
+    else (if is_word subscription.name name
+    then (record subscription { desk = desk_after_act act subscription.desk }) ∷ later
     else subscription ∷ later)
 
 -- `request NAME N` and `cancel NAME`: on an ended subscription, too
@@ -53,18 +55,22 @@ act_result state refusals name act =
 -- a subscription after the publisher was closed: one that has ended stays as it is
 abbrev pub subscription_after_closing : Ending → SubscriptionState → SubscriptionState
 subscription_after_closing ending subscription =
-    if is_live subscription then record subscription { desk = desk_after_end ending subscription.desk } else subscription
+    if is_live subscription
+    then record subscription { desk = desk_after_end ending subscription.desk }
+    else subscription
 
 -- where a script stands after its publisher was closed
 abbrev pub state_after_closing : Ending → SessionState → SessionState
 state_after_closing ending state =
-    with_subscriptions (map (subscription_after_closing ending) state.subscriptions) (record state { closing = Some ending })
+    with_subscriptions (map (subscription_after_closing ending) state.subscriptions)
+    (record state { closing = Some ending })
 
 -- a close in this way: only the first one does anything; memory is taken for whom it may wake
 abbrev pub closing_result : Ending → SessionState → List Bool → CommandResult
 closing_result ending state refusals =
     if is_some state.closing then unchanged_result state refusals Done
-    else result_unless_no_memory state refusals (λ left. record { reply = Done; state = state_after_closing ending state; refusals = left })
+    else result_unless_no_memory state refusals
+    (λ left. record { reply = Done; state = state_after_closing ending state; refusals = left })
 
 -- a command other than `cap` was read
 abbrev pub begun_state : SessionState → SessionState
@@ -90,7 +96,8 @@ call_result (Sub name number) state refusals = sub_result state refusals name nu
 call_result (Offer text) state refusals = offer_result state refusals text
 call_result (Retry text) state refusals = retry_result state refusals text
 call_result (Submit text) state refusals = submit_result state refusals text
-call_result (Request name number) state refusals = act_result state refusals name (Act.Request number)
+call_result (Request name number) state refusals =
+    act_result state refusals name (Act.Request number)
 call_result (Cancel name) state refusals = act_result state refusals name Act.Cancel
 call_result Close state refusals = closing_result Ending.Normal state refusals
 call_result (Fail code) state refusals = closing_result (Ending.Failed code) state refusals
@@ -98,4 +105,5 @@ call_result Run state refusals = unchanged_result state refusals Idle
 
 -- what a command is answered
 abbrev pub command_result : Command → SessionState → List Bool → CommandResult
-command_result command state refusals = call_result command (state_at_command command state) refusals
+command_result command state refusals =
+    call_result command (state_at_command command state) refusals

@@ -2,7 +2,7 @@
 use Rattle.std.specs.Prelude.{ℕ, zero, suc, ◌+◌, ◌==◌, max, ℤ, pos, negsuc, Bool, true, false, ◌&&◌, not, if◌then◌else◌, nat_le, nat_lt, Option, Some, None, List, length, map, fold, count_by}
 use Rattle.std.specs.List.{list_any}
 use Rattle.feed_core.specs.LaneCalls.{accepts, lane_with_item}
-use Rattle.lines_demo.specs.Prelude.{PUBLICATIONS, Item, Ending, Refusal, LONGEST_TEXT, desk_after_put, is_gone, lag_of}
+use Rattle.lines_demo.specs.Prelude.{MOST_PUBLICATIONS, Item, Ending, Refusal, LONGEST_TEXT, desk_after_put, is_gone, lag_of}
 use Rattle.lines_demo.specs.Script.State.{SubscriptionState, SessionState, CommandResult, refused_result, result_unless_no_memory}
 use Rattle.lines_demo.specs.Script.Waking.{with_subscriptions}
 use Rattle.lines_demo.specs.declared.script.reply.Reply.{Reply}
@@ -14,7 +14,8 @@ next_item state text = record { source = 0; seq = state.serial; serial = state.s
 
 -- whether its buffer has no room for an item that it would take
 abbrev pub is_full : SubscriptionState → Bool
-is_full subscription = not (is_gone subscription.desk.lane) && (lag_of subscription.desk.lane == subscription.desk.capacity)
+is_full subscription = not (is_gone subscription.desk.lane)
+    && (lag_of subscription.desk.lane == subscription.desk.capacity)
 
 -- a subscription after an item was offered to it: it takes it where it has room, and where it has none the drop is counted
 abbrev pub subscription_after_offer : Item → SubscriptionState → SubscriptionState
@@ -26,12 +27,14 @@ subscription_after_offer item subscription = record subscription {
 -- where a script stands after a publication: each has a serial number of its own
 abbrev pub state_after_publication : List ℕ → SessionState → SessionState
 state_after_publication text state =
-    with_subscriptions (map (subscription_after_offer (next_item state text)) state.subscriptions) (record state { serial = state.serial + 1 })
+    with_subscriptions (map (subscription_after_offer (next_item state text)) state.subscriptions)
+    (record state { serial = state.serial + 1 })
 
 -- how many items a subscription holds with this one, where it takes it, and else 0
 abbrev pub lag_with : Item → SubscriptionState → ℕ
 lag_with item subscription =
-    if accepts subscription.desk.capacity subscription.desk.lane then lag_of (lane_with_item item subscription.desk.lane) else 0
+    if accepts subscription.desk.capacity subscription.desk.lane
+    then lag_of (lane_with_item item subscription.desk.lane) else 0
 
 -- the greatest lag of those that take the item, and 0 where nobody does
 abbrev pub greatest_lag : Item → List SubscriptionState → ℕ
@@ -48,14 +51,15 @@ drops_or_lag (suc drops) lag = negsuc drops
 
 -- what an offer answers
 abbrev pub offer_answer : Item → List SubscriptionState → ℤ
-offer_answer item subscriptions = drops_or_lag (drop_count subscriptions) (greatest_lag item subscriptions)
+offer_answer item subscriptions =
+    drops_or_lag (drop_count subscriptions) (greatest_lag item subscriptions)
 
 -- why a text is not published, if it is not: the publisher was closed, or there are no more serial numbers
 abbrev pub publication_refusal : SessionState → Option Refusal
 publication_refusal state = by state.closing where
   by : Option Ending → Option Refusal
   by (Some ending) = Some (Refusal.Closed ending)
-  by None = if nat_le PUBLICATIONS state.serial then Some Refusal.Exhausted else None
+  by None = if nat_le MOST_PUBLICATIONS state.serial then Some Refusal.Exhausted else None
 
 -- a refusal, or that the call would wait
 abbrev pub refusal_or_wait : Option Refusal → Bool → Option Refusal
@@ -65,10 +69,12 @@ refusal_or_wait None false = None
 
 -- why a text is not submitted, if it is not: a submit would wait where any subscription has no room
 abbrev pub submit_refusal : SessionState → Option Refusal
-submit_refusal state = refusal_or_wait (publication_refusal state) (list_any is_full state.subscriptions)
+submit_refusal state =
+    refusal_or_wait (publication_refusal state) (list_any is_full state.subscriptions)
 
 -- a publication, unless it is refused
-abbrev pub publication_unless : Option Refusal → (Item → List SubscriptionState → Reply) → SessionState → List Bool → List ℕ → CommandResult
+abbrev pub publication_unless : Option Refusal → (Item → List SubscriptionState → Reply)
+    → SessionState → List Bool → List ℕ → CommandResult
 publication_unless (Some refusal) reply state refusals text = refused_result state refusals refusal
 publication_unless None reply state refusals text = record {
   reply = reply (next_item state text) state.subscriptions;
@@ -77,31 +83,37 @@ publication_unless None reply state refusals text = record {
 }
 
 -- a publication: a text that is too long is refused, then memory may be, and then the publisher may have a reason
-abbrev pub publication_result : (SessionState → Option Refusal) → (Item → List SubscriptionState → Reply) → SessionState → List Bool → List ℕ → CommandResult
+abbrev pub publication_result : (SessionState → Option Refusal)
+    → (Item → List SubscriptionState → Reply) → SessionState → List Bool → List ℕ → CommandResult
 publication_result refusal_of reply state refusals text =
     if nat_lt LONGEST_TEXT (length text) then refused_result state refusals Refusal.LineTooLong
-    else result_unless_no_memory state refusals (λ left. publication_unless (refusal_of state) reply state left text)
+    else result_unless_no_memory state refusals
+    (λ left. publication_unless (refusal_of state) reply state left text)
 
 -- `offer TEXT`: it drops the item at each subscription that has no room
 abbrev pub offered_reply : Item → List SubscriptionState → Reply
 offered_reply item subscriptions = Offered (offer_answer item subscriptions)
 
 abbrev pub offer_result : SessionState → List Bool → List ℕ → CommandResult
-offer_result state refusals text = publication_result publication_refusal offered_reply state refusals text
+offer_result state refusals text =
+    publication_result publication_refusal offered_reply state refusals text
 
 -- `retry TEXT`: it offers once more to each subscription that has no room, in vain, since no turn is made between
 abbrev pub retried_reply : Item → List SubscriptionState → Reply
-retried_reply item subscriptions = Retried (offer_answer item subscriptions) (drop_count subscriptions)
+retried_reply item subscriptions =
+    Retried (offer_answer item subscriptions) (drop_count subscriptions)
 
 abbrev pub retry_result : SessionState → List Bool → List ℕ → CommandResult
-retry_result state refusals text = publication_result publication_refusal retried_reply state refusals text
+retry_result state refusals text =
+    publication_result publication_refusal retried_reply state refusals text
 
 -- `submit TEXT`: it is refused where any subscription has no room, and so drops nothing
 abbrev pub submitted_reply : Item → List SubscriptionState → Reply
 submitted_reply item subscriptions = Submitted (pos (greatest_lag item subscriptions))
 
 abbrev pub submit_result : SessionState → List Bool → List ℕ → CommandResult
-submit_result state refusals text = publication_result submit_refusal submitted_reply state refusals text
+submit_result state refusals text =
+    publication_result submit_refusal submitted_reply state refusals text
 
 -- how many drops an answer to an offer tells
 abbrev pub drops_in : ℤ → ℕ

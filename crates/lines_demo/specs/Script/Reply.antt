@@ -11,7 +11,8 @@ abbrev pub reply_text : Reply → List ℕ
 reply_text (Capacity capacity) = codes "cap " ++ decimal capacity
 reply_text (Name name) = codes "sub " ++ name
 reply_text (Offered answer) = codes "offer " ++ signed_decimal answer
-reply_text (Retried answer calls) = codes "retry " ++ signed_decimal answer ++ codes " calls " ++ decimal calls
+reply_text (Retried answer calls) =
+    codes "retry " ++ signed_decimal answer ++ codes " calls " ++ decimal calls
 reply_text (Submitted answer) = codes "submit " ++ signed_decimal answer
 reply_text Done = codes "ok"
 reply_text Idle = codes "idle"

@@ -29,7 +29,8 @@ IsAsMuch (Err Write) written output = IsPrefix written output
 IsAsMuch (Err Memory) written output = IsPrefix written output
 
 -- the script that was read was answered as the definition says, under some refusals of memory
-pub record PlaysScript (result : Result (Unit {0}) ScriptFault) (stock : ℕ) (known old new : Option (List ℕ)) : Type 0 where
+pub record PlaysScript (result : Result (Unit {0}) ScriptFault) (stock : ℕ)
+    (known old new : Option (List ℕ)) : Type 0 where
   pub bytes : List ℕ
   pub refusals : List Bool
   pub written : List ℕ

@@ -8,12 +8,15 @@ use Rattle.lines_demo.specs.Script.Turns.{turn_lines, parts_of_turn, outlook_whe
 
 -- the subscription after a turn that told these signals, and had this outlook
 abbrev pub subscription_after_turn : List Signal → Outlook → SubscriptionState → SubscriptionState
-subscription_after_turn told outlook subscription = record subscription { desk = desk_after_turn subscription.desk told outlook }
+subscription_after_turn told outlook subscription =
+    record subscription { desk = desk_after_turn subscription.desk told outlook }
 
 -- where a script stands after this turn of the subscription of this number: it is woken again, after all others, where it owes another
-abbrev pub state_after_turn : ℕ → SubscriptionState → List Signal → Outlook → SessionState → SessionState
+abbrev pub state_after_turn : ℕ → SubscriptionState → List Signal → Outlook → SessionState
+    → SessionState
 state_after_turn number subscription told outlook state = record state {
-  subscriptions = slice_set state.subscriptions number (subscription_after_turn told outlook subscription);
+  subscriptions =
+      slice_set state.subscriptions number (subscription_after_turn told outlook subscription);
   woken = state.woken ++ (if is_again outlook then number ∷ [] else []);
 }
 
@@ -34,12 +37,14 @@ turn_result number (Some subscription) state refusals =
 abbrev pub first_turn_result : List ℕ → SessionState → List Bool → LineResult
 first_turn_result [] state refusals = empty_result state refusals
 first_turn_result (number ∷ rest) state refusals =
-    turn_result number (slice_get state.subscriptions number) (record state { woken = rest }) refusals
+    turn_result number (slice_get state.subscriptions number)
+    (record state { woken = rest }) refusals
 
 -- turns as long as anybody is woken, and at most so many
 abbrev pub turns_result : ℕ → SessionState → List Bool → LineResult
 turns_result zero state refusals = empty_result state refusals
-turns_result (suc most) state refusals = result_then (first_turn_result state.woken state refusals) (turns_result most)
+turns_result (suc most) state refusals =
+    result_then (first_turn_result state.woken state refusals) (turns_result most)
 
 -- how many items wait, in all buffers
 abbrev pub waiting_items : List SubscriptionState → ℕ

@@ -21,7 +21,12 @@ desk_in (Some desk) = desk
 -- what a script sees of a subscription of its publisher
 abbrev pub subscription_of : Entry DeskState → SubscriptionState
 subscription_of entry =
-    record { name = entry.name; since = entry.since; dropped = entry.dropped; desk = desk_without_looks (desk_in entry.feed) }
+    record {
+      name = entry.name;
+      since = entry.since;
+      dropped = entry.dropped;
+      desk = desk_without_looks (desk_in entry.feed);
+    }
 
 -- where a script stands with this publisher, so many subscribers left, these woken, and its beginning over or not
 abbrev pub state_of : Hub DeskState → ℕ → List ℕ → Bool → SessionState
@@ -39,16 +44,17 @@ state_of hub stock woken has_begun = record {
 abbrev pub numbers_of : List (Work Unit) → List ℕ
 numbers_of due = map (λ (work : Work Unit). work.entry) due
 
--- a subscription of a script: its desk is there and its subscriber is steady, and where it is retired it has ended
+-- a subscription of a script: its desk is there and its subscriber is steady, and if it is retired it has ended
 pub record IsScriptEntry (entry : Entry DeskState) : Type 0 where
   pub desk : DeskState
   pub there : entry.feed ≡ Some desk
   pub steady : desk.is_steady ≡ true
   pub ended : entry.retired ≡ true → is_some desk.lane.how ≡ true
 
--- so of each subscription
+-- each subscription of a Hub is one of a script
 abbrev pub AreScriptEntries : List (Entry DeskState) → Type 0
-AreScriptEntries entries = (k : ℕ) (entry : Entry DeskState) → slice_get entries k ≡ Some entry → IsScriptEntry entry
+AreScriptEntries entries =
+    (k : ℕ) (entry : Entry DeskState) → slice_get entries k ≡ Some entry → IsScriptEntry entry
 
 -- the publisher of a script: all its items have one source
 pub record IsScriptHub (hub : Hub DeskState) : Type 0 where
@@ -58,7 +64,10 @@ pub record IsScriptHub (hub : Hub DeskState) : Type 0 where
   pub numbered : slice_get hub.counts.items SOURCE ≡ Some hub.next
 
 -- what holds of a session; before the first command but `cap` it stands where a script starts
-pub record IsSession (hub : Hub DeskState) (stock : ℕ) (woken : List ℕ) (has_begun : Bool) : Type 0 where
+pub record IsSession (hub : Hub DeskState) (stock : ℕ) (woken : List ℕ) (has_begun : Bool)
+    : Type 0 where
   pub publisher : IsScriptHub hub
   pub reached : IsReached (state_of hub stock woken has_begun)
-  pub fresh : has_begun ≡ false → state_of hub stock woken has_begun ≡ record (state_at_start stock) { capacity = hub.capacity }
+  pub fresh : has_begun ≡ false
+      → state_of hub stock woken has_begun
+      ≡ record (state_at_start stock) { capacity = hub.capacity }

@@ -52,10 +52,12 @@ abbrev pub refused_result : SessionState → List Bool → Refusal → CommandRe
 refused_result state refusals refusal = unchanged_result state refusals (Refused refusal)
 
 -- a point at which memory may be refused: then the call is refused, and changes nothing. Past the end of the list it is not
-abbrev pub result_unless_no_memory : SessionState → List Bool → (List Bool → CommandResult) → CommandResult
+abbrev pub result_unless_no_memory : SessionState → List Bool → (List Bool → CommandResult)
+    → CommandResult
 result_unless_no_memory state [] call = call []
 result_unless_no_memory state (false ∷ refusals) call = call refusals
-result_unless_no_memory state (true ∷ refusals) call = refused_result state refusals Refusal.NoMemory
+result_unless_no_memory state (true ∷ refusals) call =
+    refused_result state refusals Refusal.NoMemory
 
 -- what is written, where the script stands then, and at which of the points to come memory is refused
 pub record LineResult : Type 0 where
@@ -69,7 +71,8 @@ empty_result state refusals = record { output = []; state = state; refusals = re
 
 -- a result, with these bytes before its output
 abbrev pub result_after_bytes : List ℕ → LineResult → LineResult
-result_after_bytes bytes result = record { output = bytes ++ result.output; state = result.state; refusals = result.refusals }
+result_after_bytes bytes result =
+    record { output = bytes ++ result.output; state = result.state; refusals = result.refusals }
 
 -- a result, and then the one that follows from where it leaves the script
 abbrev pub result_then : LineResult → (SessionState → List Bool → LineResult) → LineResult

@@ -12,7 +12,14 @@ pub use Rattle.publisher_hub.specs.declared.hub.subscribing.TheConstants.{MOST_E
 
 -- what the publisher has of a new subscription: its first turn is owed, and its subscriber is steady
 abbrev pub desk_at_start : ℕ → DeskState
-desk_at_start capacity = record { lane = empty_lane; capacity = capacity; started = true; is_steady = true; looks = 0; is_cancelled = false }
+desk_at_start capacity = record {
+  lane = empty_lane;
+  capacity = capacity;
+  started = true;
+  is_steady = true;
+  looks = 0;
+  is_cancelled = false;
+}
 
 -- what the publisher has of a subscription before it requests anything: it is closed at once where the publisher was
 abbrev pub desk_at_subscribing : Option Ending → ℕ → DeskState
@@ -31,7 +38,8 @@ new_subscription state name number = record {
 -- where a script stands after the next subscriber of its stock has subscribed
 abbrev pub state_after_subscribing : List ℕ → ℕ → SessionState → SessionState
 state_after_subscribing name number state =
-    with_subscriptions (state.subscriptions ++ new_subscription state name number ∷ []) (record state { stock = state.stock - 1 })
+    with_subscriptions (state.subscriptions ++ new_subscription state name number ∷ [])
+    (record state { stock = state.stock - 1 })
 
 -- whether it is live and has this name
 abbrev pub is_live_as : List ℕ → SubscriptionState → Bool
@@ -44,11 +52,13 @@ is_subscribed name subscriptions = list_any (is_live_as name) subscriptions
 -- a subscription after a second one of this name was refused: the live one of that name gets its error
 abbrev pub subscription_after_duplicate : List ℕ → SubscriptionState → SubscriptionState
 subscription_after_duplicate name subscription =
-    if is_live_as name subscription then record subscription { desk = desk_after_duplicate subscription.desk } else subscription
+    if is_live_as name subscription
+    then record subscription { desk = desk_after_duplicate subscription.desk } else subscription
 
 -- where a script stands after a second subscription of this name was refused
 abbrev pub state_after_duplicate : List ℕ → SessionState → SessionState
-state_after_duplicate name state = with_subscriptions (map (subscription_after_duplicate name) state.subscriptions) state
+state_after_duplicate name state =
+    with_subscriptions (map (subscription_after_duplicate name) state.subscriptions) state
 
 -- why nobody may subscribe, if nobody may: as many are live as may be, as many were made as may be, or no subscriber is left
 abbrev pub subscribing_refusal : SessionState → Option Refusal
@@ -58,15 +68,24 @@ subscribing_refusal state =
     else (if state.stock == 0 then Some Refusal.TooMany else None))
 
 -- a subscribing, unless it is refused; memory is taken for the buffer
-abbrev pub subscribing_unless : Option Refusal → SessionState → List Bool → List ℕ → ℕ → CommandResult
+abbrev pub subscribing_unless : Option Refusal → SessionState → List Bool → List ℕ → ℕ
+    → CommandResult
 subscribing_unless (Some refusal) state refusals name number = refused_result state refusals refusal
 subscribing_unless None state refusals name number =
     result_unless_no_memory state refusals
-    (λ left. record { reply = Name name; state = state_after_subscribing name number state; refusals = left })
+    (λ left. record {
+      reply = Name name;
+      state = state_after_subscribing name number state;
+      refusals = left;
+    })
 
 -- a second subscription of a live one's name is refused, and the live one gets its error
 abbrev pub duplicate_result : SessionState → List Bool → List ℕ → CommandResult
-duplicate_result state refusals name = record { reply = Refused Refusal.Duplicate; state = state_after_duplicate name state; refusals = refusals }
+duplicate_result state refusals name = record {
+  reply = Refused Refusal.Duplicate;
+  state = state_after_duplicate name state;
+  refusals = refusals;
+}
 
 -- `sub NAME N`: memory is taken for whom it may wake, then the name is judged, and then whether anybody may subscribe
 abbrev pub sub_result : SessionState → List Bool → List ℕ → ℕ → CommandResult

@@ -53,8 +53,10 @@ with_signal_told signal parts = record parts { told = signal ∷ parts.told }
 abbrev pub parts_of_turn : List Bool → List Signal → TurnParts
 parts_of_turn refusals [] = record { told = []; missed = []; refusals = refusals }
 parts_of_turn [] (signal ∷ signals) = with_signal_told signal (parts_of_turn [] signals)
-parts_of_turn (false ∷ refusals) (signal ∷ signals) = with_signal_told signal (parts_of_turn refusals signals)
-parts_of_turn (true ∷ refusals) (signal ∷ signals) = record { told = []; missed = signal ∷ signals; refusals = refusals }
+parts_of_turn (false ∷ refusals) (signal ∷ signals) =
+    with_signal_told signal (parts_of_turn refusals signals)
+parts_of_turn (true ∷ refusals) (signal ∷ signals) =
+    record { told = []; missed = signal ∷ signals; refusals = refusals }
 
 -- a callback that is refused memory ends the subscription
 abbrev pub outlook_where : List Signal → Outlook → Outlook

@@ -24,8 +24,10 @@ owes_turn subscriptions number = owes_if_there (slice_get subscriptions number)
 
 -- the numbers of the subscriptions that owe a turn now and owed none before, in order of subscription
 abbrev pub newly_woken : List SubscriptionState → List SubscriptionState → List ℕ
-newly_woken before now = filter (λ number. owes_turn now number && not (owes_turn before number)) (range_with_len 0 (length now))
+newly_woken before now = filter (λ number. owes_turn now number && not (owes_turn before number))
+    (range_with_len 0 (length now))
 
 -- where a script stands once a call has left its subscriptions so: whom it has started is woken, after those that are woken already
 abbrev pub with_subscriptions : List SubscriptionState → SessionState → SessionState
-with_subscriptions now state = record state { subscriptions = now; woken = state.woken ++ newly_woken state.subscriptions now }
+with_subscriptions now state =
+    record state { subscriptions = now; woken = state.woken ++ newly_woken state.subscriptions now }

@@ -28,10 +28,12 @@ named_demand (Some name) (Some demand) = Some (record { name = name; demand = de
 
 -- the subscriber that a word `NAME:D` spells, if it spells one
 unfoldable pub spelled_subscriber : List ℕ → Option NamedDemand
-spelled_subscriber word = named_demand (spelled_name (before_first is_colon word)) (spelled_number (after_first is_colon word))
+spelled_subscriber word = named_demand (spelled_name (before_first is_colon word))
+    (spelled_number (after_first is_colon word))
 
 -- a subscriber before others, if all are there
-abbrev pub before_others : Option NamedDemand → Option (List NamedDemand) → Option (List NamedDemand)
+abbrev pub before_others : Option NamedDemand → Option (List NamedDemand)
+    → Option (List NamedDemand)
 before_others None others = None
 before_others (Some subscriber) None = None
 before_others (Some subscriber) (Some others) = Some (subscriber ∷ others)
@@ -39,7 +41,8 @@ before_others (Some subscriber) (Some others) = Some (subscriber ∷ others)
 -- the subscribers that the words spell, if each of them spells one
 abbrev pub spelled_subscribers : List (List ℕ) → Option (List NamedDemand)
 spelled_subscribers [] = Some []
-spelled_subscribers (word ∷ words) = before_others (spelled_subscriber word) (spelled_subscribers words)
+spelled_subscribers (word ∷ words) =
+    before_others (spelled_subscriber word) (spelled_subscribers words)
 
 -- the name is that of one of these
 abbrev pub is_among : List ℕ → List NamedDemand → Bool
@@ -64,29 +67,34 @@ checked_plan workers capacity subscribers =
     else Ok (record { workers = workers; capacity = capacity; subscribers = subscribers }))))
     else Err Refusal.BadWorkers
 
--- the same, if all of them are spelled
-abbrev pub plan_of_parts : Option ℕ → Option ℕ → Option (List NamedDemand) → Result PlanState Refusal
+-- the plan of a number of workers, a capacity and subscribers, if all three are spelled
+abbrev pub plan_of_parts : Option ℕ → Option ℕ → Option (List NamedDemand)
+    → Result PlanState Refusal
 plan_of_parts None capacity subscribers = Err Refusal.BadCommand
 plan_of_parts (Some workers) None subscribers = Err Refusal.BadCommand
 plan_of_parts (Some workers) (Some capacity) None = Err Refusal.BadCommand
-plan_of_parts (Some workers) (Some capacity) (Some subscribers) = checked_plan workers capacity subscribers
+plan_of_parts (Some workers) (Some capacity) (Some subscribers) =
+    checked_plan workers capacity subscribers
 
 -- the plan that the values of `--workers` and `--cap` and the words `NAME:D` spell, or the first of its refusals
 unfoldable pub plan_of : List ℕ → List ℕ → List (List ℕ) → Result PlanState Refusal
-plan_of workers capacity words = plan_of_parts (spelled_digits workers) (spelled_digits capacity) (spelled_subscribers words)
+plan_of workers capacity words =
+    plan_of_parts (spelled_digits workers) (spelled_digits capacity) (spelled_subscribers words)
 
--- the same of the values that a command line may have
-abbrev pub plan_of_values : Option (List ℕ) → Option (List ℕ) → Option (List (List ℕ)) → Result PlanState Refusal
+-- the plan that the values of a command line spell, if it has them all
+abbrev pub plan_of_values : Option (List ℕ) → Option (List ℕ) → Option (List (List ℕ))
+    → Result PlanState Refusal
 plan_of_values None capacity words = Err Refusal.BadCommand
 plan_of_values (Some workers) None words = Err Refusal.BadCommand
 plan_of_values (Some workers) (Some capacity) None = Err Refusal.BadCommand
 plan_of_values (Some workers) (Some capacity) (Some words) = plan_of workers capacity words
 
--- the same of a command line that was read: of the first value of each option, and of all words `NAME:D`
+-- the plan that a command line spells, once it is read: by the first value of each option, and by all words `NAME:D`
 abbrev pub plan_of_matches : ArgMatches → Result PlanState Refusal
 plan_of_matches matches =
     let found = found_of matches in
-    plan_of_values (first_value found (codes "workers")) (first_value found (codes "cap")) (option_map raw_values (matched_of found (codes "subscribers")))
+    plan_of_values (first_value found (codes "workers")) (first_value found (codes "cap"))
+    (option_map raw_values (matched_of found (codes "subscribers")))
 
 -- this answer, but where memory was refused
 abbrev pub IsOrLacksMemory : {T : Type 0} → Result T Refusal → Result T Refusal → Type 0

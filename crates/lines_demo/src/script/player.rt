@@ -57,7 +57,8 @@ impl<B: Listener> Player<B> {
         writer: &mut W,
         explain: &mut E,
     ) -> Result<(), OutputFault>
-        ensures { Answers (is_ok result) (λ refusals. lines_result (lines_of bytes.now) self.old.session refusals)
+        ensures { Answers (is_ok result)
+            (λ refusals. lines_result (lines_of bytes.now) self.old.session refusals)
             (W.contents writer.old) (W.contents writer.new) self.new.session }
     {
         let mut rest = bytes;
@@ -79,7 +80,8 @@ impl<B: Listener> Player<B> {
         writer: &mut W,
         explain: &mut E,
     ) -> Result<(), OutputFault>
-        ensures { Answers (is_ok result) (λ refusals. line_result self.old.session refusals line.now)
+        ensures { Answers (is_ok result)
+            (λ refusals. line_result self.old.session refusals line.now)
             (W.contents writer.old) (W.contents writer.new) self.new.session }
     {
         if line.is_empty() {
@@ -107,7 +109,8 @@ impl<B: Listener> Player<B> {
         explain: &mut E,
     ) -> Result<(), OutputFault>
         requires { IsInRange command }
-        ensures { Answers (is_ok result) (λ refusals. spelled_result (Some command.entry) self.old.session refusals)
+        ensures { Answers (is_ok result)
+            (λ refusals. spelled_result (Some command.entry) self.old.session refusals)
             (W.contents writer.old) (W.contents writer.new) self.new.session }
     {
         if matches!(command, Command::Run) {
@@ -133,9 +136,11 @@ impl<B: Listener> Player<B> {
     /// Makes the turn of the first of the woken, and writes its lines.
     fn play_turn<W: Write>(&mut self, writer: &mut W) -> Result<(), OutputFault>
         requires { has_woken self.old.session.woken ≡ true }
-        ensures turn { Answers (is_ok result) (λ refusals. first_turn_result self.old.session.woken self.old.session refusals)
+        ensures turn { Answers (is_ok result)
+            (λ refusals. first_turn_result self.old.session.woken self.old.session refusals)
             (W.contents writer.old) (W.contents writer.new) self.new.session }
-        ensures prints { PrintsTurn (is_ok result) self.old.session self.new.session (W.contents writer.old) (W.contents writer.new) }
+        ensures prints { PrintsTurn (is_ok result) self.old.session self.new.session
+            (W.contents writer.old) (W.contents writer.new) }
         ensures fewer { most_turns self.new.session < most_turns self.old.session }
     {
         let (name, outlook) = self.session.turn(&mut self.seen);
@@ -156,7 +161,8 @@ impl<B: Listener> Player<B> {
         writer: &mut W,
         explain: &mut E,
     ) -> Result<(), OutputFault>
-        ensures line { Writes (is_ok result) (W.contents writer.old) (W.contents writer.new) (line_of (reply_text reply)) }
+        ensures line { Writes (is_ok result) (W.contents writer.old) (W.contents writer.new)
+            (line_of (reply_text reply)) }
         ensures kept { self.new.session ≡ self.old.session }
     {
         explain_reply(explain, at, &reply, &self.session);

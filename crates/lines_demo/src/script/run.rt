@@ -25,8 +25,10 @@ pub fn run_script<R: Read, W: Write>(
 ) -> Result<(), ScriptFault>
     requires untold { All (λ b. told b ≡ []) stock.items }
     requires steady { All (λ b. is_steady b ≡ true) stock.items }
-    ensures plays { PlaysScript result (length stock.items) (R.remaining reader.old) (W.contents writer.old) (W.contents writer.new) }
-    ensures too_long { IfSome (R.remaining reader.old) (λ known. LONGEST_INPUT < length known → StopsReading result) }
+    ensures plays { PlaysScript result (length stock.items) (R.remaining reader.old)
+        (W.contents writer.old) (W.contents writer.new) }
+    ensures too_long { IfSome (R.remaining reader.old)
+        (λ known. LONGEST_INPUT < length known → StopsReading result) }
 {
     play_script(alloc, reader, writer, stock, &mut Silent)
 }
@@ -41,8 +43,10 @@ pub fn play_script<R: Read, W: Write, B: Listener, E: Explain>(
 ) -> Result<(), ScriptFault>
     requires untold { All (λ b. B.told b ≡ []) stock.items }
     requires steady { All (λ b. B.is_steady b ≡ true) stock.items }
-    ensures plays { PlaysScript result (length stock.items) (R.remaining reader.old) (W.contents writer.old) (W.contents writer.new) }
-    ensures too_long { IfSome (R.remaining reader.old) (λ known. LONGEST_INPUT < length known → StopsReading result) }
+    ensures plays { PlaysScript result (length stock.items) (R.remaining reader.old)
+        (W.contents writer.old) (W.contents writer.new) }
+    ensures too_long { IfSome (R.remaining reader.old)
+        (λ known. LONGEST_INPUT < length known → StopsReading result) }
 {
     let bytes = read_whole(alloc, reader)?;
     let Ok(mut player) = Player::new(alloc, stock) else {

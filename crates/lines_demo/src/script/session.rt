@@ -77,7 +77,8 @@ impl<B: Listener> Session<B> {
     /// Does what a command says, and answers it. Of a `run` the turns are made before, by [`Session::turn`].
     pub fn obey(&mut self, alloc: Global, command: Command<'_>) -> Reply
         requires { IsInRange command }
-        ensures { Replies (λ refusals. command_result command.entry self.old refusals) result self.new }
+        ensures { Replies
+            (λ refusals. command_result command.entry self.old refusals) result self.new }
     {
         self.begin(&command);
         match self.call(alloc, command) {
@@ -99,7 +100,8 @@ impl<B: Listener> Session<B> {
     fn call(&mut self, alloc: Global, command: Command<'_>) -> Result<Reply, Refusal>
         requires range { IsInRange command }
         requires begun { state_at_command command self.old ≡ self.old }
-        ensures { Replies (λ refusals. call_result command.entry self.old refusals) (reply_or_refusal result) self.new }
+        ensures { Replies (λ refusals. call_result command.entry self.old refusals)
+            (reply_or_refusal result) self.new }
     {
         match command {
             Command::Cap(capacity) => self.set_capacity(alloc, capacity as usize),
@@ -117,7 +119,8 @@ impl<B: Listener> Session<B> {
 
     /// Asks for a capacity. Refused once another command was read, and where the capacity is 0.
     fn set_capacity(&mut self, alloc: Global, asked: usize) -> Result<Reply, Refusal>
-        ensures { Replies (λ refusals. cap_result self.old refusals asked) (reply_or_refusal result) self.new }
+        ensures { Replies (λ refusals. cap_result self.old refusals asked)
+            (reply_or_refusal result) self.new }
     {
         if self.has_begun {
             return Err(Refusal::BadCommand);
@@ -130,7 +133,8 @@ impl<B: Listener> Session<B> {
     /// Closes the publisher so. Only the first call does anything.
     fn close(&mut self, ending: Ending) -> Result<Reply, Refusal>
         requires begun { self.old.has_begun ≡ true }
-        ensures { Replies (λ refusals. closing_result ending self.old refusals) (reply_or_refusal result) self.new }
+        ensures { Replies (λ refusals. closing_result ending self.old refusals)
+            (reply_or_refusal result) self.new }
     {
         if self.hub.ending().is_some() {
             return Ok(Reply::Done);

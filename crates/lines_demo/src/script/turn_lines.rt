@@ -18,7 +18,8 @@ pub fn write_turn<W: Write>(
     told: &[Signal],
     outlook: Outlook,
 ) -> Result<(), OutputFault>
-    ensures { Writes (is_ok result) (W.contents writer.old) (W.contents writer.new) (turn_lines name.now told.now outlook) }
+    ensures { Writes (is_ok result) (W.contents writer.old) (W.contents writer.new)
+        (turn_lines name.now told.now outlook) }
 {
     write_signals(writer, line, name, told)?;
     match outlook {
@@ -34,7 +35,8 @@ fn write_signals<W: Write>(
     name: &Name,
     signals: &[Signal],
 ) -> Result<(), OutputFault>
-    ensures { Writes (is_ok result) (W.contents writer.old) (W.contents writer.new) (signal_lines name.now signals.now) }
+    ensures { Writes (is_ok result) (W.contents writer.old) (W.contents writer.new)
+        (signal_lines name.now signals.now) }
 {
     for signal in signals {
         write_signal(writer, line, name, signal)?;
@@ -49,7 +51,8 @@ fn write_signal<W: Write>(
     name: &Name,
     signal: &Signal,
 ) -> Result<(), OutputFault>
-    ensures { Writes (is_ok result) (W.contents writer.old) (W.contents writer.new) (signal_line name.now signal.now) }
+    ensures { Writes (is_ok result) (W.contents writer.old) (W.contents writer.new)
+        (signal_line name.now signal.now) }
 {
     match signal {
         Signal::Subscribed => write_named(writer, line, name, " subscribed"),
@@ -71,7 +74,8 @@ fn write_fault<W: Write>(
     name: &Name,
     fault: &Fault,
 ) -> Result<(), OutputFault>
-    ensures { Writes (is_ok result) (W.contents writer.old) (W.contents writer.new) (line_of (name.now ++ fault_text fault.now)) }
+    ensures { Writes (is_ok result) (W.contents writer.old) (W.contents writer.new)
+        (line_of (name.now ++ fault_text fault.now)) }
 {
     match fault {
         Fault::Published(code) => write_line(
@@ -91,14 +95,16 @@ fn write_named<W: Write>(
     name: &Name,
     what: &str,
 ) -> Result<(), OutputFault>
-    ensures { Writes (is_ok result) (W.contents writer.old) (W.contents writer.new) (line_of (name.now ++ what.now)) }
+    ensures { Writes (is_ok result) (W.contents writer.old) (W.contents writer.new)
+        (line_of (name.now ++ what.now)) }
 {
     write_line(writer, line, format_args!("{name}{what}"))
 }
 
 /// Puts the line of an item into the buffer.
 fn make_next(line: &mut Vec<u8>, name: &Name, text: &[u8]) -> Result<(), AllocError>
-    ensures { IfOk result (λ _. line.new.items ≡ name.now ++ codes " next " ++ text.now ++ 10 ∷ []) }
+    ensures { IfOk result
+        (λ _. line.new.items ≡ name.now ++ codes " next " ++ text.now ++ 10 ∷ []) }
 {
     line.clear();
     line.extend_from_slice(name.as_bytes())?;
@@ -115,7 +121,8 @@ fn write_end<W: Write>(
     name: &Name,
     how: How,
 ) -> Result<(), OutputFault>
-    ensures { Writes (is_ok result) (W.contents writer.old) (W.contents writer.new) (untold_end_line name.now (Some how)) }
+    ensures { Writes (is_ok result) (W.contents writer.old) (W.contents writer.new)
+        (untold_end_line name.now (Some how)) }
 {
     match how {
         How::OutOfMemory => write_line(writer, line, format_args!("{name} memory")),

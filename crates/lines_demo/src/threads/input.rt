@@ -82,8 +82,10 @@ impl<'a> Input<'a> {
 
 /// The publications that the lines of these bytes spell.
 fn parse_publications(alloc: Global, bytes: &[u8]) -> Result<Vec<Publication<'_>>, Refusal>
-    ensures ok { IfOk result (λ publications. spelled_publications (lines_of bytes.entry.now) ≡ Ok publications.items) }
-    ensures err { IfErr result (λ refusal. (refusal ≡ Refusal.NoMemory) ⊎ (spelled_publications (lines_of bytes.entry.now) ≡ Err refusal)) }
+    ensures ok { IfOk result (λ publications.
+        spelled_publications (lines_of bytes.entry.now) ≡ Ok publications.items) }
+    ensures refusals { IfErr result (λ refusal. (refusal ≡ Refusal.NoMemory)
+        ⊎ (spelled_publications (lines_of bytes.entry.now) ≡ Err refusal)) }
 {
     let mut publications = Vec::new(alloc);
     let mut rest = bytes;
@@ -99,8 +101,10 @@ fn parse_publications(alloc: Global, bytes: &[u8]) -> Result<Vec<Publication<'_>
 
 /// Adds the publication that a line spells, unless the line is empty.
 fn push_line<'a>(publications: &mut Vec<Publication<'a>>, line: &'a [u8]) -> Result<(), Refusal>
-    ensures ok { OnOk result (AddsLine line.entry.now publications.old.items publications.new.items) }
-    ensures err { IfErr result (λ refusal. (refusal ≡ Refusal.NoMemory) ⊎ (line_publications line.entry.now ≡ Err refusal)) }
+    ensures ok { OnOk result
+        (AddsLine line.entry.now publications.old.items publications.new.items) }
+    ensures refusals { IfErr result (λ refusal. (refusal ≡ Refusal.NoMemory)
+        ⊎ (line_publications line.entry.now ≡ Err refusal)) }
 {
     if line.is_empty() {
         return Ok(());
@@ -132,8 +136,11 @@ fn parse_publication(line: &[u8]) -> Result<Publication<'_>, Refusal>
 
 /// The sources of these publications. Refused 12 where there are too many.
 fn collect_sources(alloc: Global, publications: &[Publication<'_>]) -> Result<Vec<u32>, Refusal>
-    ensures ok { IfOk result (λ sources. (sources.items ≡ sources_of publications.now) × (length sources.items ≤ MOST_SOURCES)) }
-    ensures err { IfErr result (λ refusal. (refusal ≡ Refusal.NoMemory) ⊎ ((refusal ≡ Refusal.BadCommand) × (MOST_SOURCES < length (sources_of publications.now)))) }
+    ensures ok { IfOk result (λ sources. (sources.items ≡ sources_of publications.now)
+        × (length sources.items ≤ MOST_SOURCES)) }
+    ensures refusals { IfErr result (λ refusal. (refusal ≡ Refusal.NoMemory)
+        ⊎ ((refusal ≡ Refusal.BadCommand)
+        × (MOST_SOURCES < length (sources_of publications.now)))) }
 {
     let mut sources = Vec::new(alloc);
     for publication in publications {

@@ -45,7 +45,8 @@ impl Model for Plan {
 
     ghost Value = { PlanState };
 
-    ghost view = { λ p. record { workers = p.workers; capacity = p.capacity; subscribers = p.subscribers.items } };
+    ghost view = { λ p.
+        record { workers = p.workers; capacity = p.capacity; subscribers = p.subscribers.items } };
 
     ghost invariant = { λ p. IsWorkerCount p.workers × (1 ≤ p.capacity) };
 }
@@ -85,7 +86,8 @@ impl Plan {
         capacity: &[u8],
         words: &[&str],
     ) -> Result<Plan, Refusal>
-        ensures { IsOrLacksMemory result (plan_of workers.now capacity.now (map (λ w. w.now) words.now)) }
+        ensures { IsOrLacksMemory result
+            (plan_of workers.now capacity.now (map (λ w. w.now) words.now)) }
     {
         let Some(workers) = parse_digits(workers) else {
             return Err(Refusal::BadCommand);
@@ -146,7 +148,8 @@ impl Plan {
     /// Whether a publication might wait for ever, where so many items are published: some subscriber requests fewer, and its buffer
     /// does not hold the others.
     pub fn would_block(&self, many: usize) -> bool
-        ensures { result ≡ list_any (would_block (capacity_of self.now.capacity) many) self.now.subscribers }
+        ensures { result
+            ≡ list_any (would_block (capacity_of self.now.capacity) many) self.now.subscribers }
     {
         let Ok(capacity) = capacity(self.capacity) else {
             return true;
@@ -160,8 +163,11 @@ impl Plan {
 
 /// The subscribers that the words spell. Refused 12 where one of them spells none.
 fn parse_subscribers(alloc: Global, words: &[&str]) -> Result<Vec<NamedDemand>, Refusal>
-    ensures ok { IfOk result (λ subscribers. spelled_subscribers (map (λ w. w.now) words.now) ≡ Some subscribers.items) }
-    ensures err { IfErr result (λ refusal. (refusal ≡ Refusal.NoMemory) ⊎ ((refusal ≡ Refusal.BadCommand) × (spelled_subscribers (map (λ w. w.now) words.now) ≡ None))) }
+    ensures ok { IfOk result (λ subscribers.
+        spelled_subscribers (map (λ w. w.now) words.now) ≡ Some subscribers.items) }
+    ensures refusals { IfErr result (λ refusal. (refusal ≡ Refusal.NoMemory)
+        ⊎ ((refusal ≡ Refusal.BadCommand)
+        × (spelled_subscribers (map (λ w. w.now) words.now) ≡ None))) }
 {
     let mut subscribers = Vec::new(alloc);
     for word in words {

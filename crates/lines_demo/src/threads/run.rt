@@ -68,7 +68,8 @@ fn report_lines<
     publications: Blank,
     drops: Blank,
 ) -> Result<u8, LinesFault>
-    requires publications { (publications.name ≡ L.name) × ((publications.parts ≡ L.parts) × (L.parts ≡ PARTS)) }
+    requires publications { (publications.name ≡ L.name)
+        × ((publications.parts ≡ L.parts) × (L.parts ≡ PARTS)) }
     requires drops { (drops.name ≡ D.name) × ((drops.parts ≡ D.parts) × (D.parts ≡ PARTS)) }
     requires untold { All (λ s. S.told s ≡ []) subscribers.items }
 {
@@ -103,7 +104,8 @@ fn publish_lines<
     publications: Blank,
     drops: Blank,
 ) -> Result<Outcome<Shown<S>>, Refusal>
-    requires publications { (publications.name ≡ L.name) × ((publications.parts ≡ L.parts) × (L.parts ≡ PARTS)) }
+    requires publications { (publications.name ≡ L.name)
+        × ((publications.parts ≡ L.parts) × (L.parts ≡ PARTS)) }
     requires drops { (drops.name ≡ D.name) × ((drops.parts ≡ D.parts) × (D.parts ≡ PARTS)) }
     requires untold { All (λ s. S.told s ≡ []) subscribers.items }
     ensures { IfOk result (λ outcome. IsOutcome (λ shown. S.told shown.0) outcome) }

@@ -27,10 +27,13 @@ impl<L: Ledger, D: Ledger, B: Listener> State<L, D, B> {
     /// Refused 5 if a growth is refused; each subscription was looked at then, and nothing else has changed.
     pub fn close(&mut self, ending: Ending, due: &mut Vec<Work<Task<B>>>) -> Result<Ending, Refusal>
         ensures closed { IfOk result (λ how. self.new.hub.ending ≡ Some how) }
-        ensures first { self.old.hub.ending ≡ None → IfOk result (λ how. (how ≡ ending) × ClosesFirst ending due.old.items due.new.items self.old self.new) }
+        ensures first { self.old.hub.ending ≡ None → IfOk result (λ how. (how ≡ ending)
+            × ClosesFirst ending due.old.items due.new.items self.old self.new) }
         ensures later { IsSome self.old.hub.ending → (self.new ≡ self.old) × (due.new ≡ due.old) }
-        ensures err { OnErr result ((self.new.last ≡ self.old.last) × ((self.new.counted ≡ self.old.counted) × (due.new.items ≡ due.old.items))) }
-        ensures looked { OnErr result (IsLookedAt (hub_of producer_end self.old.hub) (hub_of producer_end self.new.hub)) }
+        ensures unchanged { OnErr result ((self.new.last ≡ self.old.last)
+            × ((self.new.counted ≡ self.old.counted) × (due.new.items ≡ due.old.items))) }
+        ensures looked { OnErr result
+            (IsLookedAt (hub_of producer_end self.old.hub) (hub_of producer_end self.new.hub)) }
         ensures refusals { IfErr result (λ refusal. refusal ≡ Refusal.NoMemory) }
     {
         if let Some(opening) = self.hub.end(ending, due)? {

@@ -56,8 +56,9 @@ impl<L: Ledger + Send, D: Ledger + Send, B: Listener + Send> State<L, D, B> {
         subscriptions: Vec<Subscription<L, D, B>>,
     ) -> Result<Books<B>, Outcome<B>>
         requires { (L.parts ≡ PARTS) × (D.parts ≡ PARTS) }
-        ensures ok { IfOk result (λ books. TakesOut submitters.items subscriptions.items self.old books) }
-        ensures err { IfErr result (λ outcome. IsNothing outcome) }
+        ensures ok { IfOk result
+            (λ books. TakesOut submitters.items subscriptions.items self.old books) }
+        ensures nothing { IfErr result (λ outcome. IsNothing outcome) }
     {
         let Ok(
             Places {
@@ -107,7 +108,8 @@ impl<L: Ledger + Send, D: Ledger + Send, B: Listener + Send> State<L, D, B> {
 /// Places for so many subscriptions, with the room for what is left of them.
 fn new_places<B: Listener>(alloc: Global, entries: usize) -> Result<Places<B>, NoMemory>
     ensures handles { IfOk result (λ places. places.handles.items ≡ replicate entries None) }
-    ensures founds { IfOk result (λ places. (places.founds.items ≡ []) × (entries ≤ vec_capacity places.founds)) }
+    ensures founds { IfOk result
+        (λ places. (places.founds.items ≡ []) × (entries ≤ vec_capacity places.founds)) }
     ensures room { IfOk result (λ places. HasRoom entries places.room) }
 {
     Ok(Places {

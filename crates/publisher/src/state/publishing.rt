@@ -31,10 +31,12 @@ impl<L: Ledger, D: Ledger, B: Listener> State<L, D, B> {
     pub fn next_source(&mut self) -> Result<Own<L, D>, Refusal>
         ensures next { IfOk result (λ own. own.source ≡ self.old.hub.sources) }
         ensures new { IfOk result (λ own. (own.publications.amount ≡ 0) × (own.drops.amount ≡ 0)) }
-        ensures counted { IfOk result (λ own. self.new ≡ record self.old { hub = record self.old.hub { sources = own.source + 1 } }) }
-        ensures many { IfErr result (λ refusal. refusal ≡ Refusal.TooMany) }
+        ensures counted { IfOk result (λ own. self.new ≡ record self.old {
+          hub = record self.old.hub { sources = own.source + 1 };
+        }) }
+        ensures refusals { IfErr result (λ refusal. refusal ≡ Refusal.TooMany) }
         ensures refused { IsErr result ↔ (self.old.hub.sources ≡ SOURCES) }
-        ensures err { OnErr result (self.new ≡ self.old) }
+        ensures unchanged { OnErr result (self.new ≡ self.old) }
     {
         let source = self.hub.next_source()?;
         self.sources = source + 1;
@@ -48,7 +50,8 @@ impl<L: Ledger, D: Ledger, B: Listener> State<L, D, B> {
     /// Looks whether a publication has to wait, which gives a reason to. It has not to if each live subscription has room, or the publisher is
     /// closed.
     pub fn look_for_room(&mut self) -> Result<(), Reason>
-        ensures { (room : Bool) × (LooksForRoom room self.old self.new × (IsOk result ↔ (room ≡ true))) }
+        ensures { (room : Bool)
+            × (LooksForRoom room self.old self.new × (IsOk result ↔ (room ≡ true))) }
     {
         if self.has_room() {
             Ok(())
@@ -74,10 +77,13 @@ impl<L: Ledger, D: Ledger, B: Listener> State<L, D, B> {
         text: Text,
         due: &mut Vec<Work<Task<B>>>,
     ) -> Result<u64, Unpublished>
-        ensures ok { IfOk result (λ lag. Publishes producer_end DoesCall own.old.source text self.old.hub self.new.hub due.old.items due.new.items lag) }
-        ensures err { IfErr result (λ why. RefusesItem producer_end DoesCall text self.old.hub self.new.hub why) }
+        ensures ok { IfOk result (λ lag. Publishes producer_end DoesCall own.old.source text
+            self.old.hub self.new.hub due.old.items due.new.items lag) }
+        ensures refusals { IfErr result
+            (λ why. RefusesItem producer_end DoesCall text self.old.hub self.new.hub why) }
         ensures reasons { IfErr result (λ why. IsHubReason why) }
-        ensures one_more { OnOk result (own.new.publications.amount ≡ own.old.publications.amount + 1) }
+        ensures one_more { OnOk result
+            (own.new.publications.amount ≡ own.old.publications.amount + 1) }
         ensures none { OnErr result (own.new.publications.amount ≡ own.old.publications.amount) }
         ensures source { own.new.source ≡ own.old.source }
         ensures drops { own.new.drops.amount ≡ own.old.drops.amount }
@@ -97,12 +103,16 @@ impl<L: Ledger, D: Ledger, B: Listener> State<L, D, B> {
         handler: Option<&mut H>,
         due: &mut Vec<Work<Task<B>>>,
     ) -> Result<i64, Refusal>
-        ensures ok { IfOk result (λ answer. OffersItem producer_end DoesCall own.old.source text (is_none handler.entry) self.old.hub self.new.hub due.old.items due.new.items answer) }
-        ensures err { IfErr result (λ refusal. RefusesOffer producer_end DoesCall self.old.hub self.new.hub refusal) }
+        ensures ok { IfOk result (λ answer. OffersItem producer_end DoesCall own.old.source text
+            (is_none handler.entry) self.old.hub self.new.hub due.old.items due.new.items answer) }
+        ensures refusals { IfErr result
+            (λ refusal. RefusesOffer producer_end DoesCall self.old.hub self.new.hub refusal) }
         ensures reasons { IfErr result (λ refusal. IsHubRefusal refusal) }
-        ensures one_more { OnOk result (own.new.publications.amount ≡ own.old.publications.amount + 1) }
+        ensures one_more { OnOk result
+            (own.new.publications.amount ≡ own.old.publications.amount + 1) }
         ensures none { OnErr result (own.new.publications.amount ≡ own.old.publications.amount) }
-        ensures dropped { IfOk result (λ answer. own.new.drops.amount ≡ own.old.drops.amount + drop_of answer) }
+        ensures dropped { IfOk result
+            (λ answer. own.new.drops.amount ≡ own.old.drops.amount + drop_of answer) }
         ensures none_dropped { OnErr result (own.new.drops.amount ≡ own.old.drops.amount) }
         ensures source { own.new.source ≡ own.old.source }
     {

@@ -24,7 +24,8 @@ pub(super) struct Together<L: Ledger, D: Ledger> {
 impl<L: Ledger, D: Ledger> Together<L, D> {
     /// One more.
     fn take_in(&mut self, own: Own<L, D>, knows: bool)
-        ensures publications { self.new.publications.amount ≡ self.old.publications.amount + own.publications.amount }
+        ensures publications { self.new.publications.amount
+            ≡ self.old.publications.amount + own.publications.amount }
         ensures drops { self.new.drops.amount ≡ self.old.drops.amount + own.drops.amount }
         ensures parts { self.new.publications.parts ≡ self.old.publications.parts + 1 }
         ensures drop_parts { self.new.drops.parts ≡ self.old.drops.parts + 1 }
@@ -46,7 +47,9 @@ impl<L: Ledger, D: Ledger> Together<L, D> {
 impl<L: Ledger + Send, D: Ledger + Send, B: Listener + Send> State<L, D, B> {
     /// Puts together what these submitters have.
     pub(super) fn put_together(&mut self, mut submitters: Vec<Submitter<L, D, B>>) -> Together<L, D>
-        ensures together { AreTogether submitters.items [] result.publications.amount result.drops.amount result.publications.parts result.drops.parts result.sources result.knows }
+        ensures together { AreTogether submitters.items [] result.publications.amount
+            result.drops.amount result.publications.parts result.drops.parts result.sources
+            result.knows }
         ensures same { self.new ≡ self.old }
     {
         let mut together = Together {
@@ -67,7 +70,8 @@ impl<L: Ledger + Send, D: Ledger + Send, B: Listener + Send> State<L, D, B> {
         requires ledgers { (L.parts ≡ PARTS) × (D.parts ≡ PARTS) }
         requires parts { marks together.sources ≤ together.publications.parts }
         requires drop_parts { marks together.sources ≤ together.drops.parts }
-        ensures audits { Audits together.sources together.publications.amount together.drops.amount self.old.hub.next self.old.hub.dropping result }
+        ensures audits { Audits together.sources together.publications.amount
+            together.drops.amount self.old.hub.next self.old.hub.dropping result }
         ensures same { self.new ≡ self.old }
     {
         let Together {

@@ -2,7 +2,7 @@
 ghost use Rattle.std.specs.Prelude.{◌≡◌, ◌↔◌, Option, IsErr, IsOk, IsSome, None, true};
 ghost use Rattle.feed_cell.specs.Offering.{DoesCall};
 ghost use Rattle.flow_rules.specs.declared.feed.standing.Standing.{Standing};
-ghost use Rattle.publisher_hub.specs.Standing.{LooksAtOne};
+ghost use Rattle.publisher_hub.specs.Looking.{LooksAtOne};
 ghost use Rattle.publisher.specs.Standing.{has_ended_by, lag_by};
 ghost use Rattle.publisher.specs.State.{producer_end};
 
@@ -13,7 +13,9 @@ use std::sync::ledger::Ledger;
 impl<L: Ledger, D: Ledger, B: Listener> State<L, D, B> {
     /// How many items wait for the subscriber of this number; 0 once its subscription has ended.
     pub fn lag(&mut self, entry: u32) -> u64
-        ensures { (glance : Option Standing) × (LooksAtOne producer_end DoesCall entry glance self.old.hub self.new.hub × (result ≡ lag_by glance)) }
+        ensures { (glance : Option Standing)
+            × (LooksAtOne producer_end DoesCall entry glance self.old.hub self.new.hub
+            × (result ≡ lag_by glance)) }
     {
         match self.look(entry) {
             Some(standing) if !standing.ended => standing.held,
@@ -23,7 +25,9 @@ impl<L: Ledger, D: Ledger, B: Listener> State<L, D, B> {
 
     /// Whether the subscription of this number has ended.
     pub fn has_ended(&mut self, entry: u32) -> bool
-        ensures { (glance : Option Standing) × (LooksAtOne producer_end DoesCall entry glance self.old.hub self.new.hub × (result ≡ has_ended_by glance)) }
+        ensures { (glance : Option Standing)
+            × (LooksAtOne producer_end DoesCall entry glance self.old.hub self.new.hub
+            × (result ≡ has_ended_by glance)) }
     {
         match self.look(entry) {
             Some(standing) => standing.ended,
@@ -33,7 +37,9 @@ impl<L: Ledger, D: Ledger, B: Listener> State<L, D, B> {
 
     /// Looks whether the subscription of this number goes on, which is a reason to wait for its end.
     pub fn look_for_end(&mut self, entry: u32) -> Result<(), Reason>
-        ensures { (glance : Option Standing) × (LooksAtOne producer_end DoesCall entry glance self.old.hub self.new.hub × (IsOk result ↔ (has_ended_by glance ≡ true))) }
+        ensures { (glance : Option Standing)
+            × (LooksAtOne producer_end DoesCall entry glance self.old.hub self.new.hub
+            × (IsOk result ↔ (has_ended_by glance ≡ true))) }
     {
         if self.has_ended(entry) {
             Ok(())

@@ -89,7 +89,8 @@ impl<L: Ledger, D: Ledger, B: Listener> State<L, D, B> {
         requires can { CanAdmit producer_end name self.old.hub due.old }
         requires ticket { IsTicketFor self.old.hub ticket }
         requires fresh { IsFresh self.old.hub.capacity (producer_end producer) }
-        ensures admits { Admits producer_end DoesCall name producer ticket result due.old.items due.new.items self.old.hub self.new.hub }
+        ensures admits { Admits producer_end DoesCall name producer ticket result due.old.items
+            due.new.items self.old.hub self.new.hub }
     {
         let entry = self.hub.admit(name, producer, ticket, due).unwrap();
         self.entries = entry + 1;
@@ -98,22 +99,28 @@ impl<L: Ledger, D: Ledger, B: Listener> State<L, D, B> {
 
     /// The longest backlog of any live subscription, in items, and 0 if there is none.
     pub fn max_lag(&mut self) -> u64
-        ensures { (glances : List (Option Standing)) × (LooksAtAll producer_end DoesCall glances self.old.hub self.new.hub × (result ≡ greatest (waiting glances))) }
+        ensures { (glances : List (Option Standing))
+            × (LooksAtAll producer_end DoesCall glances self.old.hub self.new.hub
+            × (result ≡ greatest (waiting glances))) }
     {
         self.hub.max_lag()
     }
 
     /// How many subscriptions are live.
     pub fn number_of_subscribers(&mut self) -> usize
-        ensures { (glances : List (Option Standing)) × (LooksAtAll producer_end DoesCall glances self.old.hub self.new.hub × (result ≡ length (living glances))) }
+        ensures { (glances : List (Option Standing))
+            × (LooksAtAll producer_end DoesCall glances self.old.hub self.new.hub
+            × (result ≡ length (living glances))) }
     {
         self.hub.number_of_subscribers()
     }
 
     /// Whether a live subscription has this name.
     pub fn is_subscribed(&mut self, name: Name) -> bool
-        ensures looks { (glances : List (Option Standing)) × LooksAtAll producer_end DoesCall glances self.old.hub self.new.hub }
-        ensures named { (result ≡ true) ↔ IsSubscribed name (hub_of producer_end self.new.hub).entries }
+        ensures looks { (glances : List (Option Standing))
+            × LooksAtAll producer_end DoesCall glances self.old.hub self.new.hub }
+        ensures named { (result ≡ true)
+            ↔ IsSubscribed name (hub_of producer_end self.new.hub).entries }
     {
         self.hub.is_subscribed(name)
     }

@@ -57,7 +57,9 @@ pub(super) fn compare_tickets<B: Listener>(
 fn compare_ticket<B: Listener>(hub: &mut Hub<Producer<B>>, last: &mut Option<Spent>, entry: u32)
     requires sound { IsSound (hub_of producer_end hub.old) }
     requires one_count { IsBeside last.old (ticket_at hub.old entry) }
-    ensures none { IsSome last.old → (stored : EntryState) → slice_get (hub_of producer_end hub.old).entries entry ≡ Some stored → stored.ticket ≡ None }
+    ensures none { IsSome last.old → (stored : EntryState)
+        → slice_get (hub_of producer_end hub.old).entries entry ≡ Some stored
+        → stored.ticket ≡ None }
     ensures hub { hub_of producer_end hub.new ≡ hub_of producer_end hub.old }
     ensures last { last.new ≡ last.old }
 {

@@ -4,7 +4,6 @@ ghost use Rattle.std.specs.Borrow.{sem};
 ghost use Rattle.std.specs.Option.{option_copied, option_copied_mut};
 ghost use Rattle.publisher_hub.specs.Hub.{hub_of};
 
-use crate::entry::Entry;
 use crate::hub::Hub;
 use flow_rules::{Feed, Name};
 
@@ -12,10 +11,11 @@ impl<F: Feed> Hub<F> {
     ghost use Rattle.publisher_hub.specs.Entry.{EntryState};
     ghost use Rattle.publisher_hub.specs.Lending.{feed_at, lends_feed_at, lends_feed_if};
 
-    /// How many publications found the buffer of the subscription of this number full, and `None` where no subscription has this
-    /// number.
+    /// How many publications were dropped at the subscription of this number because its buffer was full, after the second tries.
+    /// `None` if no subscription has this number.
     pub fn dropped(&self, entry: u32) -> Option<u64>
-        ensures { result ≡ option_map (λ (entry : EntryState). entry.dropped) (slice_get (hub_of F.meaning self.now).entries entry) }
+        ensures { result ≡ option_map (λ (entry : EntryState). entry.dropped)
+            (slice_get (hub_of F.meaning self.now).entries entry) }
     {
         match self.entries.get(entry as usize) {
             Some(it) => Some(it.dropped),
@@ -23,9 +23,10 @@ impl<F: Feed> Hub<F> {
         }
     }
 
-    /// The next serial number when the subscription of this number was made, and `None` where no subscription has this number.
+    /// The next serial number when the subscription of this number was made, and `None` if no subscription has this number.
     pub fn since(&self, entry: u32) -> Option<u64>
-        ensures { result ≡ option_map (λ (entry : EntryState). entry.since) (slice_get (hub_of F.meaning self.now).entries entry) }
+        ensures { result ≡ option_map (λ (entry : EntryState). entry.since)
+            (slice_get (hub_of F.meaning self.now).entries entry) }
     {
         match self.entries.get(entry as usize) {
             Some(it) => Some(it.since),
@@ -33,9 +34,10 @@ impl<F: Feed> Hub<F> {
         }
     }
 
-    /// The name that the subscriber of this number subscribed with, and `None` where no subscription has this number.
+    /// The name that the subscriber of this number subscribed with, and `None` if no subscription has this number.
     pub fn name_of(&self, entry: u32) -> Option<Name>
-        ensures { result ≡ option_map (λ (entry : EntryState). entry.name) (slice_get (hub_of F.meaning self.now).entries entry) }
+        ensures { result ≡ option_map (λ (entry : EntryState). entry.name)
+            (slice_get (hub_of F.meaning self.now).entries entry) }
     {
         match self.entries.get(entry as usize) {
             Some(it) => Some(it.name),
@@ -54,11 +56,11 @@ impl<F: Feed> Hub<F> {
         }
     }
 
-    /// The producer's end of the subscription of this number, and `None` where no subscription has this number or the end was
-    /// taken out.
+    /// Lends the producer's end of the subscription of this number, and `None` if no subscription has this number or the end was taken
+    /// out.
     ///
-    /// Nothing else of the Hub changes. It stays sound where the end is left with its capacity, what it accepted and how it was
-    /// closed, and where neither an item that was taken nor its end is taken back
+    /// Nothing else of the Hub changes. The Hub stays sound if the end is left with its capacity, what it accepted and how it was closed,
+    /// and if neither an item that was taken nor its end is taken back
     /// ([`lent_feeds_keep_hubs_sound`](crate::lent_feeds_keep_hubs_sound)).
     pub fn feed_mut(&mut self, entry: u32) -> Option<&mut F>
         ensures* writes_back { sem 𝓛 (lends_feed_if F.row self.entry entry result) }
@@ -88,21 +90,5 @@ impl<F: Feed> Hub<F> {
         ensures value { feed_at self.old entry ≡ Some result.now }
     {
         self.entries[entry as usize].feed_mut()
-    }
-}
-
-impl<F: Feed> Entry<F> {
-    ghost use Rattle.publisher_hub.specs.Lending.{lends_feed};
-
-    /// The producer's end.
-    fn feed_mut(&mut self) -> &mut F
-        requires { IsSome self.old.feed }
-        ensures* writes_back { sem 𝓛 (lends_feed F.row self.entry result) }
-        ensures value { self.old.feed ≡ Some result.now }
-    {
-        match &mut self.feed {
-            Some(feed) => feed,
-            None => unreachable!(),
-        }
     }
 }

@@ -13,7 +13,8 @@ impl<F: Feed> Hub<F> {
     /// Leaves the numbers of the retired subscriptions out of those that may be live.
     pub(crate) fn leave_out_retired(&mut self)
         requires sound { IsSound (hub_of F.meaning self.old) }
-        ensures left { self.new.live.items ≡ live_of (hub_of F.meaning self.old).entries self.old.live.items }
+        ensures left { self.new.live.items
+            ≡ live_of (hub_of F.meaning self.old).entries self.old.live.items }
         ensures all_live { AreAllLive self.new.live.items (hub_of F.meaning self.old).entries }
         ensures rest { self.new ≡ record self.old { live = self.new.live } }
         ensures places { vec_capacity self.new.live ≡ vec_capacity self.old.live }

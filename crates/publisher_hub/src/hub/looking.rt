@@ -16,10 +16,12 @@ use std::alloc::Global;
 /// Each of these calls looks at every live subscription, and retires those that have ended. They change nothing else.
 impl<F: Feed> Hub<F> {
     /// Whether no live subscription's buffer is full, so that a publication would not have to wait
-    /// (`SubmissionPublisher.submit` blocks where one is).
+    /// (`SubmissionPublisher.submit` blocks if one is).
     pub fn has_room(&mut self) -> bool
         requires sound { IsSound (hub_of F.meaning self.old) }
-        ensures looks { (glances : List (Option Standing)) × (LooksAtAll F.meaning F.does glances self.old self.new × IsRoom result (hub_of F.meaning self.old).progress.capacity glances) }
+        ensures looks { (glances : List (Option Standing))
+            × (LooksAtAll F.meaning F.does glances self.old self.new
+            × IsRoom result (hub_of F.meaning self.old).progress.capacity glances) }
         ensures sound { IsSound (hub_of F.meaning self.new) }
     {
         self.look_at_all().room
@@ -28,17 +30,21 @@ impl<F: Feed> Hub<F> {
     /// How many subscriptions are live (`SubmissionPublisher.getNumberOfSubscribers`).
     pub fn number_of_subscribers(&mut self) -> usize
         requires sound { IsSound (hub_of F.meaning self.old) }
-        ensures looks { (glances : List (Option Standing)) × (LooksAtAll F.meaning F.does glances self.old self.new × (result ≡ length (living glances))) }
+        ensures looks { (glances : List (Option Standing))
+            × (LooksAtAll F.meaning F.does glances self.old self.new
+            × (result ≡ length (living glances))) }
         ensures sound { IsSound (hub_of F.meaning self.new) }
     {
         self.look_at_all().living
     }
 
-    /// How many items wait for that live subscription for which most do, and 0 where there is none
+    /// The longest backlog of any live subscription, in items, and 0 if there is none
     /// (`SubmissionPublisher.estimateMaximumLag`).
     pub fn max_lag(&mut self) -> u64
         requires sound { IsSound (hub_of F.meaning self.old) }
-        ensures looks { (glances : List (Option Standing)) × (LooksAtAll F.meaning F.does glances self.old self.new × (result ≡ greatest (waiting glances))) }
+        ensures looks { (glances : List (Option Standing))
+            × (LooksAtAll F.meaning F.does glances self.old self.new
+            × (result ≡ greatest (waiting glances))) }
         ensures sound { IsSound (hub_of F.meaning self.new) }
     {
         self.look_at_all().most_waiting
@@ -47,7 +53,8 @@ impl<F: Feed> Hub<F> {
     /// Whether a live subscription has this name (`SubmissionPublisher.isSubscribed`).
     pub fn is_subscribed(&mut self, name: Name) -> bool
         requires sound { IsSound (hub_of F.meaning self.old) }
-        ensures looks { (glances : List (Option Standing)) × LooksAtAll F.meaning F.does glances self.old self.new }
+        ensures looks { (glances : List (Option Standing))
+            × LooksAtAll F.meaning F.does glances self.old self.new }
         ensures named { (result ≡ true) ↔ IsSubscribed name (hub_of F.meaning self.new).entries }
         ensures sound { IsSound (hub_of F.meaning self.new) }
     {
@@ -57,11 +64,13 @@ impl<F: Feed> Hub<F> {
 
     /// The names of the live subscriptions, in order of subscription (`SubmissionPublisher.getSubscribers`).
     ///
-    /// `NoMemory` where a growth is refused; the subscriptions were looked at nevertheless.
+    /// `NoMemory` if a growth is refused; the subscriptions were looked at nevertheless.
     pub fn names(&mut self, alloc: Global) -> Result<Vec<Name>, NoMemory>
         requires sound { IsSound (hub_of F.meaning self.old) }
-        ensures looks { (glances : List (Option Standing)) × LooksAtAll F.meaning F.does glances self.old self.new }
-        ensures ok { IfOk result (λ names. names.items ≡ live_names (hub_of F.meaning self.new).entries) }
+        ensures looks { (glances : List (Option Standing))
+            × LooksAtAll F.meaning F.does glances self.old self.new }
+        ensures ok { IfOk result (λ names.
+            names.items ≡ live_names (hub_of F.meaning self.new).entries) }
         ensures sound { IsSound (hub_of F.meaning self.new) }
     {
         self.look_at_all();
@@ -71,7 +80,9 @@ impl<F: Feed> Hub<F> {
     /// Looks at all live subscriptions.
     fn look_at_all(&mut self) -> Overview
         requires sound { IsSound (hub_of F.meaning self.old) }
-        ensures looks { (glances : List (Option Standing)) × (LooksAtAll F.meaning F.does glances self.old self.new × Shows self.old.capacity glances result) }
+        ensures looks { (glances : List (Option Standing))
+            × (LooksAtAll F.meaning F.does glances self.old self.new
+            × Shows self.old.capacity glances result) }
         ensures sound { IsSound (hub_of F.meaning self.new) }
     {
         let Hub {

@@ -7,8 +7,10 @@ use flow_rules::Name;
 
 /// The number of a live subscription of this name.
 pub(crate) fn find_named<F>(entries: &[Entry<F>], live: &[u32], name: Name) -> Option<u32>
-    ensures found { IfSome result (λ number. (i : ℕ) × ((slice_get live.now i ≡ Some number) × IsNamed name number entries.now)) }
-    ensures none { result ≡ None → (i number : ℕ) → slice_get live.now i ≡ Some number → IsNotNamed name number entries.now }
+    ensures found { IfSome result (λ number.
+        (i : ℕ) × ((slice_get live.now i ≡ Some number) × IsNamed name number entries.now)) }
+    ensures none { result ≡ None → (i number : ℕ) → slice_get live.now i ≡ Some number
+        → IsNotNamed name number entries.now }
 {
     for number in live {
         if is_named(entries, *number, name) {

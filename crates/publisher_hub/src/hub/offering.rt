@@ -1,15 +1,15 @@
-//! Offering an item to all live subscriptions, and dropping it where there is no room.
-ghost use Rattle.std.specs.Prelude.{◌≡◌, ◌<◌, ◌≤◌, ℕ, [], List, Option, IfOk, IfErr, OnErr, is_none, length, map, vec_len};
+//! Offering an item to all live subscriptions, and dropping it at those that have no room.
+ghost use Rattle.std.specs.Prelude.{◌≡◌, ◌<◌, ◌≤◌, ℕ, [], List, Option, IfOk, IfErr, OnErr, OnOk, is_none, length, map, vec_len};
 ghost use Rattle.flow_rules.specs.declared.feed.put.Put.{Put};
-ghost use Rattle.flow_rules.specs.declared.item.TheConstants.{PUBLICATIONS};
+ghost use Rattle.flow_rules.specs.declared.item.TheConstants.{MOST_PUBLICATIONS};
 ghost use Rattle.publisher_hub.specs.Entry.{entry_of};
-ghost use Rattle.publisher_hub.specs.Giving.{AreShares, HasRoomAgain};
+ghost use Rattle.publisher_hub.specs.Gathering.{AreShares, HasRoomAgain, Second, missed};
 ghost use Rattle.publisher_hub.specs.Hub.{hub_of};
-ghost use Rattle.publisher_hub.specs.Offering.{Second, missed};
+ghost use Rattle.publisher_hub.specs.Offering.{CountsOne, ReachesAllFrom};
 ghost use Rattle.publisher_hub.specs.Publishing.{OffersItem, PassesAgain, RefusesOffer, dropping_after, offer_answer};
 ghost use Rattle.publisher_hub.specs.Sound.{AreNumbers, IsSound};
 ghost use Rattle.publisher_hub.specs.Steps.{CanEachTryAgain};
-ghost use Rattle.publisher_hub.specs.declared.hub.TheConstants.{SOURCES};
+ghost use Rattle.publisher_hub.specs.declared.hub.TheConstants.{MOST_SOURCES};
 
 use super::Hub;
 use crate::rounds::retry_all;
@@ -19,10 +19,10 @@ use flow_rules::{DropHandler, Feed, Item, Refusal, Text};
 impl<F: Feed> Hub<F> {
     /// Gives a text to all live subscriptions that have room, and drops it at the others (`SubmissionPublisher.offer`).
     ///
-    /// First every buffer is tried; then, for each that was full, in order of subscription, the handler is asked, and where it answers
-    /// true the item is offered once more. The answer is the greatest lag, in items, or, where it was dropped, minus the number of
-    /// drops. Refused 5 where a growth is refused, 2 where the Hub is closed, and 13 once
-    /// [`PUBLICATIONS`](flow_rules::PUBLICATIONS) were made; then no list and no count has changed.
+    /// First every buffer is tried; then, for each that was full, in order of subscription, the handler is asked, and if it answers
+    /// true the item is offered once more. The answer is the greatest lag, in items, or, if it was dropped, minus the number of
+    /// drops. Refused 5 if a growth is refused, 2 if the Hub is closed, and 13 once
+    /// [`MOST_PUBLICATIONS`](flow_rules::MOST_PUBLICATIONS) were made; then no list and no count has changed.
     pub fn offer(
         &mut self,
         source: u32,
@@ -31,12 +31,19 @@ impl<F: Feed> Hub<F> {
         due: &mut Vec<Work<F::Task>>,
     ) -> Result<i64, Refusal>
         requires sound { IsSound (hub_of F.meaning self.old) }
-        requires source { source < SOURCES }
+        requires source { source < MOST_SOURCES }
         ensures sound { IsSound (hub_of F.meaning self.new) }
-        ensures ok { IfOk result (λ answer. OffersItem F.meaning F.does source text (is_none handler.entry) self.old self.new due.old.items due.new.items answer) }
-        ensures err { IfErr result (λ refusal. RefusesOffer F.meaning F.does self.old self.new refusal) }
+        ensures ok { IfOk result (λ answer.
+            OffersItem F.meaning F.does source text (is_none handler.entry) self.old self.new
+            due.old.items due.new.items answer) }
+        ensures reached { OnOk result (ReachesAllFrom source text
+            (hub_of F.meaning self.old) (hub_of F.meaning self.new)) }
+        ensures counted { OnOk result (CountsOne source
+            (hub_of F.meaning self.old).progress (hub_of F.meaning self.new).progress) }
+        ensures refusals { IfErr result (λ refusal.
+            RefusesOffer F.meaning F.does self.old self.new refusal) }
         ensures nothing_due { OnErr result (due.new.items ≡ due.old.items) }
-        ensures no_share { self.new.giving.shares.items ≡ [] }
+        ensures no_share { self.new.gathering.shares.items ≡ [] }
     {
         self.offer_with(source, text, handler, due)
     }
@@ -50,75 +57,94 @@ impl<F: Feed> Hub<F> {
         due: &mut Vec<Work<F::Task>>,
     ) -> Result<i64, Refusal>
         requires sound { IsSound (hub_of F.meaning self.old) }
-        requires source { source < SOURCES }
+        requires source { source < MOST_SOURCES }
         ensures sound { IsSound (hub_of F.meaning self.new) }
-        ensures ok { IfOk result (λ answer. OffersItem F.meaning F.does source text (is_none handler.entry) self.old self.new due.old.items due.new.items answer) }
-        ensures err { IfErr result (λ refusal. RefusesOffer F.meaning F.does self.old self.new refusal) }
+        ensures ok { IfOk result (λ answer.
+            OffersItem F.meaning F.does source text (is_none handler.entry) self.old self.new
+            due.old.items due.new.items answer) }
+        ensures reached { OnOk result (ReachesAllFrom source text
+            (hub_of F.meaning self.old) (hub_of F.meaning self.new)) }
+        ensures counted { OnOk result (CountsOne source
+            (hub_of F.meaning self.old).progress (hub_of F.meaning self.new).progress) }
+        ensures refusals { IfErr result (λ refusal.
+            RefusesOffer F.meaning F.does self.old self.new refusal) }
         ensures nothing_due { OnErr result (due.new.items ≡ due.old.items) }
-        ensures no_share { self.new.giving.shares.items ≡ [] }
+        ensures no_share { self.new.gathering.shares.items ≡ [] }
     {
         let item = self.next_item(source, text);
         let _ = self.prepare(&item, due)?;
         if let Some(refusal) = self.refusal() {
-            self.giving.drop_shares();
+            self.gathering.drop_shares();
             return Err(refusal);
         }
         self.give(&item, due);
         self.try_again(&item, handler, due);
         self.count_drops();
-        self.giving.drop_shares();
+        self.gathering.drop_shares();
         self.count(&item);
         Ok(self.answer())
     }
 
-    /// Asks about each subscription that missed the item, and offers it once more where the answer is to try again.
+    /// Asks about each subscription that missed the item, and offers it once more if the answer is to try again.
     fn try_again<H: DropHandler>(
         &mut self,
         item: &Item,
         handler: Option<&mut H>,
         due: &mut Vec<Work<F::Task>>,
     )
-        requires numbers { AreNumbers self.old.giving.missed.items (length self.old.entries.items) }
-        requires can { CanEachTryAgain self.old.giving.missed.items (map (entry_of F.meaning) self.old.entries.items) }
-        requires shares { AreShares item.now self.old.giving.shares.items }
-        requires room { HasRoomAgain (vec_len self.old.giving.missed) self.old.giving due.old }
-        requires few { vec_len self.old.giving.missed < PUBLICATIONS }
-        ensures passes { (puts : List (Option (Put F.Task))) → self.old.giving.missed.items ≡ missed puts → length puts ≡ length self.old.entries.items
-            → (seconds : List (Second F.Task)) × PassesAgain F.meaning F.does item.now (is_none handler.entry) puts seconds self.old.entries.items self.new.entries.items self.old.giving self.new.giving due.old due.new }
-        ensures rest { hub_of F.meaning self.new ≡ record (hub_of F.meaning self.old) { entries = (hub_of F.meaning self.new).entries } }
+        requires numbers { AreNumbers self.old.gathering.missed.items
+            (length self.old.entries.items) }
+        requires can { CanEachTryAgain self.old.gathering.missed.items
+            (map (entry_of F.meaning) self.old.entries.items) }
+        requires shares { AreShares item.now self.old.gathering.shares.items }
+        requires room { HasRoomAgain (vec_len self.old.gathering.missed)
+            self.old.gathering due.old }
+        requires few { vec_len self.old.gathering.missed < MOST_PUBLICATIONS }
+        ensures passes { (puts : List (Option (Put F.Task)))
+            → self.old.gathering.missed.items ≡ missed puts
+            → length puts ≡ length self.old.entries.items
+            → (seconds : List (Second F.Task))
+            × PassesAgain F.meaning F.does item.now (is_none handler.entry) puts seconds
+            self.old.entries.items self.new.entries.items self.old.gathering self.new.gathering
+            due.old due.new }
+        ensures rest { hub_of F.meaning self.new ≡ record (hub_of F.meaning self.old) {
+          entries = (hub_of F.meaning self.new).entries;
+        } }
     {
         let Hub {
             entries,
-            giving,
+            gathering,
             ..
         } = self;
-        giving.drops = 0;
+        gathering.drops = 0;
         match handler {
-            Some(handler) => retry_all(entries, item, handler, giving, due),
-            None => giving.decline(),
+            Some(handler) => retry_all(entries, item, handler, gathering, due),
+            None => gathering.decline(),
         }
     }
 
     /// Counts an offer that found a buffer full, if drops stand.
     fn count_drops(&mut self)
-        requires few { self.old.dropping < PUBLICATIONS }
-        ensures { self.new ≡ record self.old { dropping = dropping_after self.old.giving.drops self.old.dropping } }
+        requires few { self.old.dropping < MOST_PUBLICATIONS }
+        ensures { self.new ≡ record self.old {
+          dropping = dropping_after self.old.gathering.drops self.old.dropping;
+        } }
     {
-        if self.giving.drops > 0 {
+        if self.gathering.drops > 0 {
             self.dropping += 1;
         }
     }
 
     /// The answer to an offer.
     fn answer(&self) -> i64
-        requires lag { self.now.giving.lag ≤ PUBLICATIONS }
-        requires drops { self.now.giving.drops ≤ PUBLICATIONS }
-        ensures { result ≡ offer_answer self.now.giving.drops self.now.giving.lag }
+        requires lag { self.now.gathering.lag ≤ MOST_PUBLICATIONS }
+        requires drops { self.now.gathering.drops ≤ MOST_PUBLICATIONS }
+        ensures { result ≡ offer_answer self.now.gathering.drops self.now.gathering.lag }
     {
-        if self.giving.drops > 0 {
-            -(self.giving.drops as i64)
+        if self.gathering.drops > 0 {
+            -(self.gathering.drops as i64)
         } else {
-            self.giving.lag as i64
+            self.gathering.lag as i64
         }
     }
 }

@@ -1,23 +1,23 @@
 //! Giving an item to all live subscriptions.
 ghost use Rattle.std.specs.Prelude.{◌≡◌, ◌+◌, ◌<◌, ◌≤◌, ◌++◌, [], List, Option, Some, None, IfOk, IfErr, OnOk, OnErr, IfSome, IfNone, IsNone, Result, false, map, length, slice_get};
 ghost use Rattle.flow_rules.specs.declared.feed.put.Put.{Put};
-ghost use Rattle.flow_rules.specs.declared.feed.standing.Standing.{Standing};
-ghost use Rattle.flow_rules.specs.declared.item.TheConstants.{PUBLICATIONS};
+ghost use Rattle.flow_rules.specs.declared.item.TheConstants.{MOST_PUBLICATIONS};
 ghost use Rattle.publisher_hub.specs.Entry.{entry_of};
-ghost use Rattle.publisher_hub.specs.Giving.{AreShares, Gathers, HasRoom};
+ghost use Rattle.publisher_hub.specs.Gathering.{AreShares, Gathers, HasRoom};
 ghost use Rattle.publisher_hub.specs.Hub.{hub_of};
-ghost use Rattle.publisher_hub.specs.Lists.{Each, EachBy};
-ghost use Rattle.publisher_hub.specs.Looking.{IsLookedAt, IsRoom, MayPrepare, Prepares};
-ghost use Rattle.publisher_hub.specs.Offering.{Gives, IsNextItem, progress_after};
+ghost use Rattle.publisher_hub.specs.Lists.{EachBy, greatest};
+ghost use Rattle.publisher_hub.specs.Looking.{FindsRoom, IsLookedAt, PreparesInPart};
+ghost use Rattle.publisher_hub.specs.Offering.{CountsOne, Gives, IsNextItem, ReachesAllFrom, backlogs, progress_after};
 ghost use Rattle.publisher_hub.specs.Publishing.{CanPublish, IsRefused, Publishes, RefusesItem};
 ghost use Rattle.publisher_hub.specs.Sound.{IsSound};
 ghost use Rattle.publisher_hub.specs.Steps.{CanAllGive};
 ghost use Rattle.publisher_hub.specs.declared.hub.publishing.Unpublished.TheVariants.{NoRoom};
+ghost use Rattle.publisher_hub.specs.declared.work.Work.{Work};
 
-use super::{Hub, SOURCES};
+use super::{Hub, MOST_SOURCES};
 use crate::rounds::give_all;
 use crate::work::Work;
-use flow_rules::{Feed, Item, NoMemory, PUBLICATIONS, Refusal, Text};
+use flow_rules::{Feed, Item, MOST_PUBLICATIONS, NoMemory, Refusal, Text};
 use std::error::Error;
 use std::fmt;
 
@@ -44,9 +44,9 @@ impl Error for Unpublished {}
 impl<F: Feed> Hub<F> {
     /// Gives a text to all live subscriptions at once, if all have room (`SubmissionPublisher.submit`, without waiting).
     ///
-    /// The answer is the greatest lag, in items, or 0 where there are no subscriptions. Refused 5 where a growth is refused, 2 where the Hub
-    /// is closed, and 13 once [`PUBLICATIONS`](flow_rules::PUBLICATIONS) were made; else `NoRoom` where a buffer is full. Then no list and
-    /// no count has changed.
+    /// The answer is the greatest lag, in items, or 0 if there are no subscriptions. Refused 5 if a growth is refused, 2 if the Hub is
+    /// closed, and 13 once [`MOST_PUBLICATIONS`](flow_rules::MOST_PUBLICATIONS) were made; else `NoRoom` if a buffer is full. Then no list
+    /// and no count has changed.
     pub fn publish(
         &mut self,
         source: u32,
@@ -54,12 +54,22 @@ impl<F: Feed> Hub<F> {
         due: &mut Vec<Work<F::Task>>,
     ) -> Result<u64, Unpublished>
         requires sound { IsSound (hub_of F.meaning self.old) }
-        requires source { source < SOURCES }
+        requires source { source < MOST_SOURCES }
         ensures sound { IsSound (hub_of F.meaning self.new) }
-        ensures ok { IfOk result (λ lag. Publishes F.meaning F.does source text self.old self.new due.old.items due.new.items lag) }
-        ensures err { IfErr result (λ why. RefusesItem F.meaning F.does text self.old self.new why) }
+        ensures ok { IfOk result (λ lag. Publishes F.meaning F.does source text self.old self.new
+            due.old.items due.new.items lag) }
+        ensures reached { OnOk result (ReachesAllFrom source text
+            (hub_of F.meaning self.old) (hub_of F.meaning self.new)) }
+        ensures counted { OnOk result (CountsOne source
+            (hub_of F.meaning self.old).progress (hub_of F.meaning self.new).progress) }
+        ensures lag { IfOk result (λ lag.
+            lag ≡ greatest (backlogs (hub_of F.meaning self.new).entries)) }
+        ensures due { OnOk result ((works : List (Work F.Task))
+            × (due.new.items ≡ due.old.items ++ works)) }
+        ensures refusals { IfErr result (λ why.
+            RefusesItem F.meaning F.does text self.old self.new why) }
         ensures nothing_due { OnErr result (due.new.items ≡ due.old.items) }
-        ensures no_share { self.new.giving.shares.items ≡ [] }
+        ensures no_share { self.new.gathering.shares.items ≡ [] }
     {
         let item = self.next_item(source, text);
         let room = match self.prepare(&item, due) {
@@ -67,37 +77,38 @@ impl<F: Feed> Hub<F> {
             Err(NoMemory) => return Err(Unpublished::Refused(Refusal::NoMemory)),
         };
         if let Some(refusal) = self.refusal() {
-            self.giving.drop_shares();
+            self.gathering.drop_shares();
             return Err(Unpublished::Refused(refusal));
         }
         if !room {
             return Err(self.no_room(item));
         }
         self.give(&item, due);
-        self.giving.drop_shares();
+        self.gathering.drop_shares();
         self.count(&item);
-        Ok(self.giving.lag)
+        Ok(self.gathering.lag)
     }
 
     /// Gives an item up for which a live subscription has no room.
     fn no_room(&mut self, item: Item) -> Unpublished
         ensures text { result ≡ NoRoom item.text }
-        ensures no_share { self.new.giving.shares.items ≡ [] }
-        ensures rest { self.new ≡ record self.old { giving = self.new.giving } }
+        ensures no_share { self.new.gathering.shares.items ≡ [] }
+        ensures rest { self.new ≡ record self.old { gathering = self.new.gathering } }
     {
         let text = item.text;
-        self.giving.drop_shares();
+        self.gathering.drop_shares();
         Unpublished::NoRoom(text)
     }
 
     /// The next item of a source.
     pub(super) fn next_item(&self, source: u32, text: Text) -> Item
         requires sound { IsSound (hub_of F.meaning self.now) }
-        requires source { source < SOURCES }
+        requires source { source < MOST_SOURCES }
         ensures source { result.source ≡ source }
         ensures text { result.text ≡ text }
         ensures serial { result.serial ≡ (hub_of F.meaning self.now).progress.next }
-        ensures seq { slice_get (hub_of F.meaning self.now).progress.counts source ≡ Some result.seq }
+        ensures seq { slice_get (hub_of F.meaning self.now).progress.counts source
+            ≡ Some result.seq }
     {
         Item {
             source,
@@ -114,20 +125,20 @@ impl<F: Feed> Hub<F> {
         due: &mut Vec<Work<F::Task>>,
     ) -> Result<bool, NoMemory>
         requires sound { IsSound (hub_of F.meaning self.old) }
-        ensures ok { IfOk result (λ room. (glances : List (Option Standing)) × (EachBy (Prepares F.meaning F.does self.old.next) glances self.old.entries.items self.new.entries.items × IsRoom room self.old.capacity glances)) }
-        ensures err { OnErr result (Each (MayPrepare F.meaning F.does self.old.next) self.old.entries.items self.new.entries.items) }
+        ensures ok { IfOk result (FindsRoom F.meaning F.does self.old self.new) }
+        ensures exact { OnErr result (PreparesInPart F.meaning F.does self.old self.new) }
         ensures looked { IsLookedAt (hub_of F.meaning self.old) (hub_of F.meaning self.new) }
         ensures sound { IsSound (hub_of F.meaning self.new) }
         ensures due { due.new.items ≡ due.old.items }
         ensures ready { OnOk result (CanPublish item.now self.new due.new) }
-        ensures no_share { OnErr result (self.new.giving.shares.items ≡ []) }
+        ensures no_share { OnErr result (self.new.gathering.shares.items ≡ []) }
     {
-        self.giving.forget();
+        self.gathering.forget();
         due.reserve(self.live.len())?;
-        self.giving.begin(item, self.live.len())?;
+        self.gathering.begin(item, self.live.len())?;
         let prepared = self.prepare_live();
         if prepared.is_err() {
-            self.giving.drop_shares();
+            self.gathering.drop_shares();
         }
         prepared
     }
@@ -139,7 +150,7 @@ impl<F: Feed> Hub<F> {
         if let Some(ending) = self.ending {
             return Some(Refusal::Closed(ending));
         }
-        if self.next == PUBLICATIONS {
+        if self.next == MOST_PUBLICATIONS {
             return Some(Refusal::Exhausted);
         }
         None
@@ -150,28 +161,36 @@ impl<F: Feed> Hub<F> {
         requires sound { IsSound (hub_of F.meaning self.old) }
         requires can { CanAllGive (map (entry_of F.meaning) self.old.entries.items) }
         requires ready { CanPublish item.now self.old due.old }
-        ensures given { (puts : List (Option (Put F.Task))) × (EachBy (Gives F.meaning F.does item.now) puts self.old.entries.items self.new.entries.items × Gathers item.now puts self.new.giving due.old due.new) }
-        ensures rest { hub_of F.meaning self.new ≡ record (hub_of F.meaning self.old) { entries = (hub_of F.meaning self.new).entries } }
-        ensures room { HasRoom 0 self.new.giving due.new }
+        ensures given { (puts : List (Option (Put F.Task)))
+            × (EachBy (Gives F.meaning F.does item.now) puts self.old.entries.items
+            self.new.entries.items
+            × Gathers item.now puts self.new.gathering due.old due.new) }
+        ensures rest { hub_of F.meaning self.new ≡ record (hub_of F.meaning self.old) {
+          entries = (hub_of F.meaning self.new).entries;
+        } }
+        ensures room { HasRoom 0 self.new.gathering due.new }
     {
         let Hub {
             entries,
             live,
-            giving,
+            gathering,
             ..
         } = self;
-        give_all(entries, live, item, giving, due);
+        give_all(entries, live, item, gathering, due);
     }
 
     /// Counts an item as published.
     pub(super) fn count(&mut self, item: &Item)
-        requires sound { length (hub_of F.meaning self.old).progress.counts ≡ SOURCES }
+        requires sound { length (hub_of F.meaning self.old).progress.counts ≡ MOST_SOURCES }
         requires next { IsNextItem (hub_of F.meaning self.old).progress item.now }
-        requires source { item.now.source < SOURCES }
-        requires few { item.now.seq < PUBLICATIONS }
-        ensures rest { hub_of F.meaning self.new ≡ record (hub_of F.meaning self.old) { progress = progress_after item.now (hub_of F.meaning self.old).progress.dropping (hub_of F.meaning self.old).progress } }
+        requires source { item.now.source < MOST_SOURCES }
+        requires few { item.now.seq < MOST_PUBLICATIONS }
+        ensures rest { hub_of F.meaning self.new ≡ record (hub_of F.meaning self.old) {
+          progress = progress_after item.now (hub_of F.meaning self.old).progress.dropping
+              (hub_of F.meaning self.old).progress;
+        } }
         ensures entries { self.new.entries ≡ self.old.entries }
-        ensures giving { self.new.giving ≡ self.old.giving }
+        ensures gathering { self.new.gathering ≡ self.old.gathering }
     {
         self.next += 1;
         self.counts[item.source as usize] = item.seq + 1;

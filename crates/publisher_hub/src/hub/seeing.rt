@@ -16,14 +16,18 @@ impl<F: Feed> Hub<F> {
     pub(crate) fn see_all(&mut self, due: &mut Vec<Work<F::Task>>) -> Result<(), NoMemory>
         requires sound { IsSound (hub_of F.meaning self.old) }
         ensures seen { OnOk result (IsSeen F.meaning F.does self.old self.new) }
-        ensures err { OnErr result (IsSeenInPart F.meaning F.does self.old self.new) }
-        ensures rest { self.new ≡ record self.old { entries = self.new.entries; live = self.new.live } }
+        ensures in_part { OnErr result (IsSeenInPart F.meaning F.does self.old self.new) }
+        ensures rest { self.new ≡ record self.old {
+          entries = self.new.entries;
+          live = self.new.live;
+        } }
         ensures entry_places { vec_capacity self.new.entries ≡ vec_capacity self.old.entries }
         ensures number_places { vec_capacity self.new.live ≡ vec_capacity self.old.live }
         ensures due { due.new.items ≡ due.old.items }
         ensures due_place { OnOk result (vec_len due.new < vec_capacity due.new) }
         ensures ready { OnOk result (AreReady (hub_of F.meaning self.new).entries) }
-        ensures stays { vec_len due.old < vec_capacity due.old → AreReady (hub_of F.meaning self.old).entries → IsOk result }
+        ensures not_refused { vec_len due.old < vec_capacity due.old
+            → AreReady (hub_of F.meaning self.old).entries → IsOk result }
         ensures sound { IsSound (hub_of F.meaning self.new) }
     {
         reserve_due(due, 1)?;

@@ -1,6 +1,6 @@
 //! A look at one subscription.
 ghost use Rattle.publisher_hub.specs.Hub.{hub_of};
-ghost use Rattle.publisher_hub.specs.Standing.{LooksAtOne};
+ghost use Rattle.publisher_hub.specs.Looking.{LooksAtOne};
 ghost use Rattle.publisher_hub.specs.Sound.{IsSound};
 
 use crate::hub::Hub;

@@ -1,17 +1,16 @@
 //! The producer's end of a subscription, taken out for good.
 ghost use Rattle.publisher_hub.specs.Hub.{hub_of};
 ghost use Rattle.publisher_hub.specs.Sound.{IsSound};
-ghost use Rattle.publisher_hub.specs.Taking.{TakesOut, TakesOutAt};
+ghost use Rattle.publisher_hub.specs.Taking.{TakesOutAt};
 
-use crate::entry::Entry;
 use crate::hub::Hub;
 use flow_rules::Feed;
 
 impl<F: Feed> Hub<F> {
     /// Takes the producer's end of the subscription of this number out. The subscription is retired, if it isn't, and its ticket is
-    /// dropped, if it is there: such a ticket is never spent. Its name, what it dropped and since when it took part stay.
+    /// dropped, if it is there: that ticket is never spent. Its name, what it dropped and since when it took part stay.
     ///
-    /// `None`, with nothing changed, where the end was taken out before, and where no subscription has the number.
+    /// `None`, with nothing changed, if the end was taken out before, or if no subscription has the number.
     pub fn take_feed(&mut self, entry: u32) -> Option<F>
         requires sound { IsSound (hub_of F.meaning self.old) }
         ensures takes { TakesOutAt F.meaning entry result self.old self.new }
@@ -22,17 +21,5 @@ impl<F: Feed> Hub<F> {
             Some(entry) => entry.take_feed(next),
             None => None,
         }
-    }
-}
-
-impl<F: Feed> Entry<F> {
-    /// Takes its producer's end out, and with that its ticket, and retires it.
-    fn take_feed(&mut self, next: u64) -> Option<F>
-        ensures { TakesOut next result self.old self.new }
-    {
-        let feed = self.feed.take()?;
-        self.retire(next);
-        self.ticket = None;
-        Some(feed)
     }
 }

@@ -18,19 +18,21 @@ use close_count::{Opening, Ticket};
 use flow_rules::{Feed, Refusal};
 
 impl<F: Feed> Hub<F> {
-    /// One more ticket of the count that finds the last subscription, for a subscription that is to be added. `None` where the Hub is
+    /// Makes one more ticket of the count that finds the last subscription, for a subscription that is to be added. `None` if the Hub is
     /// closed, and then nothing changes.
     ///
-    /// `Exhausted` where no opening ticket is held, or where [`MOST_TICKETS`](close_count::MOST_TICKETS) were made; and `NoMemory` where one
+    /// `Exhausted` if no opening ticket is held, or if [`MOST_TICKETS`](close_count::MOST_TICKETS) were made; and `NoMemory` if one
     /// more owner of the count is refused. Then nothing has changed.
     pub fn add_ticket(&mut self) -> Result<Option<Ticket>, Refusal>
         requires sound { IsSound (hub_of F.meaning self.old) }
         ensures closed { IsSome self.old.ending → (result ≡ Ok None) × (self.new ≡ self.old) }
-        ensures ok { self.old.ending ≡ None → IfOk result (λ ticket. AddsTicket ticket self.old.opening self.new.opening) }
-        ensures err { IfErr result (λ refusal. RefusesTicket refusal self.old.opening) }
+        ensures ok { self.old.ending ≡ None → IfOk result (λ ticket.
+            AddsTicket ticket self.old.opening self.new.opening) }
+        ensures refusals { IfErr result (λ refusal. RefusesTicket refusal self.old.opening) }
         ensures unchanged { OnErr result (self.new ≡ self.old) }
         ensures rest { self.new ≡ record self.old { opening = self.new.opening } }
-        ensures keeps { (name : List ℕ) → (due : Vec (Work F.Task) Global) → CanAdmit F.meaning name self.old due → CanAdmit F.meaning name self.new due }
+        ensures keeps { (name : List ℕ) → (due : Vec (Work F.Task) Global)
+            → CanAdmit F.meaning name self.old due → CanAdmit F.meaning name self.new due }
         ensures sound { IsSound (hub_of F.meaning self.new) }
     {
         if self.ending.is_some() {
@@ -50,14 +52,15 @@ impl<F: Feed> Hub<F> {
         self.opening = Some(opening);
     }
 
-    /// Takes the ticket of the subscription of this number out, also where that goes on, and without a look. Who gets it has to spend it.
+    /// Takes the ticket of the subscription of this number out, also if that goes on, and without a look. Whoever gets it has to spend it.
     ///
-    /// `None` where it was taken out before or never was there, and where no subscription has the number; nothing has changed then.
+    /// `None` if it was taken out before or never was there, or if no subscription has the number; nothing has changed then.
     #[must_use]
     pub fn take_ticket(&mut self, entry: u32) -> Option<Ticket>
         requires sound { IsSound (hub_of F.meaning self.old) }
         ensures ticket { result ≡ ticket_at self.old entry }
-        ensures taken { self.new ≡ without_ticket self.old entry (slice_get self.old.entries.items entry) }
+        ensures taken { self.new
+            ≡ without_ticket self.old entry (slice_get self.old.entries.items entry) }
         ensures none { result ≡ None → hub_of F.meaning self.new ≡ hub_of F.meaning self.old }
         ensures sound { IsSound (hub_of F.meaning self.new) }
     {
@@ -68,10 +71,10 @@ impl<F: Feed> Hub<F> {
     }
 }
 
-/// One more ticket of the count of an opening ticket, where one is held.
+/// Makes one more ticket of the count of an opening ticket, if one is held.
 fn one_more(opening: &mut Option<Opening>) -> Result<Option<Ticket>, Refusal>
     ensures ok { IfOk result (λ ticket. AddsTicket ticket opening.old opening.new) }
-    ensures err { IfErr result (λ refusal. RefusesTicket refusal opening.old) }
+    ensures refusals { IfErr result (λ refusal. RefusesTicket refusal opening.old) }
     ensures unchanged { OnErr result (opening.new ≡ opening.old) }
 {
     match opening {

@@ -48,7 +48,9 @@ pub(crate) fn look_all<F: Feed>(
 ) -> Overview
     requires live { AreLive live.now (map (entry_of F.meaning) entries.old) }
     requires here { AreHere (map (entry_of F.meaning) entries.old) }
-    ensures { (glances : List (Option Standing)) × (EachBy (Glances F.meaning F.does next) glances entries.old entries.new × Shows capacity glances result) }
+    ensures { (glances : List (Option Standing))
+        × (EachBy (Glances F.meaning F.does next) glances entries.old entries.new
+        × Shows capacity glances result) }
 {
     let mut overview = Overview {
         living: 0,

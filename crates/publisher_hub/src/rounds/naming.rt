@@ -15,7 +15,8 @@ pub(crate) fn names_of<F: Feed>(
     live: &[u32],
 ) -> Result<Vec<Name>, NoMemory>
     requires live { AreLive live.now (map (entry_of F.meaning) entries.now) }
-    ensures ok { IfOk result (λ names. names.items ≡ live_names (map (entry_of F.meaning) entries.now)) }
+    ensures ok { IfOk result (λ names.
+        names.items ≡ live_names (map (entry_of F.meaning) entries.now)) }
 {
     let mut names = Vec::new(alloc);
     for number in live {

@@ -21,9 +21,11 @@ pub(crate) fn prepare_all<F: Feed>(
 ) -> Result<bool, NoMemory>
     requires live { AreLive live.now (map (entry_of F.meaning) entries.old) }
     requires here { AreHere (map (entry_of F.meaning) entries.old) }
-    ensures ok { IfOk result (λ room. (glances : List (Option Standing)) × (EachBy (Prepares F.meaning F.does next) glances entries.old entries.new × IsRoom room capacity glances)) }
-    ensures err { OnErr result (Each (MayPrepare F.meaning F.does next) entries.old entries.new) }
-    ensures stays { AreReady (map (entry_of F.meaning) entries.old) → IsOk result }
+    ensures ok { IfOk result (λ room. (glances : List (Option Standing))
+        × (EachBy (Prepares F.meaning F.does next) glances entries.old entries.new
+        × IsRoom room capacity glances)) }
+    ensures exact { OnErr result (Each (MayPrepare F.meaning F.does next) entries.old entries.new) }
+    ensures not_refused { AreReady (map (entry_of F.meaning) entries.old) → IsOk result }
 {
     let mut room = true;
     for number in live {
@@ -35,7 +37,8 @@ pub(crate) fn prepare_all<F: Feed>(
 
 /// Whether a look showed no full buffer.
 pub(super) fn has_room(glance: &Option<Standing>, capacity: usize) -> bool
-    ensures full { result ≡ false → (number : ℕ) → full_by capacity number glance.now ≡ number ∷ [] }
+    ensures full { result ≡ false → (number : ℕ)
+        → full_by capacity number glance.now ≡ number ∷ [] }
     ensures not_full { result ≡ true → (number : ℕ) → full_by capacity number glance.now ≡ [] }
 {
     match glance {

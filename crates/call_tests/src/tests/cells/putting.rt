@@ -2,7 +2,7 @@
 ghost use Rattle.std.specs.Prelude.{◌≡◌, ◌≤◌, [], length};
 
 use feed_cell::{Producer, Task};
-use flow_rules::{Feed, Item, Listener, NoMemory, PUBLICATIONS, Put};
+use flow_rules::{Feed, Item, Listener, MOST_PUBLICATIONS, NoMemory, Put};
 
 // A producer, and how many puts were tried.
 #[derive(Drop)]
@@ -23,7 +23,7 @@ impl<B: Listener> Putting<B> {
     // A put. One too many gives the item back, as if the subscription were gone.
     pub fn put(&mut self, item: Item) -> Result<Put<Task<B>>, NoMemory> {
         self.producer.ready()?;
-        if self.puts >= PUBLICATIONS {
+        if self.puts >= MOST_PUBLICATIONS {
             return Ok(Put::Gone(item));
         }
         self.puts += 1;

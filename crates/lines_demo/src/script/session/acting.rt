@@ -25,7 +25,8 @@ impl<B: Listener> Session<B> {
     /// Does this to the latest subscription of this name.
     pub(super) fn act(&mut self, name: Name, act: Act) -> Result<Reply, Refusal>
         requires begun { self.old.has_begun ≡ true }
-        ensures { Replies (λ refusals. act_result self.old refusals name act) (reply_or_refusal result) self.new }
+        ensures { Replies (λ refusals. act_result self.old refusals name act)
+            (reply_or_refusal result) self.new }
     {
         let Some(entry) = self.latest(name) else {
             return Err(Refusal::Unknown);

@@ -17,7 +17,8 @@ impl<B: Listener> Session<B> {
     /// Offers a text to all live subscriptions.
     pub(super) fn offer(&mut self, alloc: Global, text: &[u8]) -> Result<Reply, Refusal>
         requires begun { self.old.has_begun ≡ true }
-        ensures { Replies (λ refusals. offer_result self.old refusals text.now) (reply_or_refusal result) self.new }
+        ensures { Replies (λ refusals. offer_result self.old refusals text.now)
+            (reply_or_refusal result) self.new }
     {
         let text = text_of(alloc, text)?;
         let answer = self.offer_text(text, None)?;
@@ -27,7 +28,8 @@ impl<B: Listener> Session<B> {
     /// Offers a text to all live subscriptions, and once more to each that had no room.
     pub(super) fn retry(&mut self, alloc: Global, text: &[u8]) -> Result<Reply, Refusal>
         requires begun { self.old.has_begun ≡ true }
-        ensures { Replies (λ refusals. retry_result self.old refusals text.now) (reply_or_refusal result) self.new }
+        ensures { Replies (λ refusals. retry_result self.old refusals text.now)
+            (reply_or_refusal result) self.new }
     {
         let text = text_of(alloc, text)?;
         let Ok(handler) = Box::new(alloc, AlwaysAgain) else {
@@ -46,7 +48,7 @@ impl<B: Listener> Session<B> {
     ) -> Result<i64, Refusal>
         requires begun { self.old.has_begun ≡ true }
         ensures ok { IfOk result (λ answer. OffersText self.old text answer self.new) }
-        ensures err { IfErr result (λ refusal. RefusesText self.old refusal self.new) }
+        ensures refusals { IfErr result (λ refusal. RefusesText self.old refusal self.new) }
     {
         let answer = self.hub.offer(SOURCE, text, handler, &mut self.due)?;
         self.woken.push_all(&mut self.due);
@@ -56,7 +58,8 @@ impl<B: Listener> Session<B> {
     /// Publishes a text to all live subscriptions, and is refused where that would wait for room.
     pub(super) fn submit(&mut self, alloc: Global, text: &[u8]) -> Result<Reply, Refusal>
         requires begun { self.old.has_begun ≡ true }
-        ensures { Replies (λ refusals. submit_result self.old refusals text.now) (reply_or_refusal result) self.new }
+        ensures { Replies (λ refusals. submit_result self.old refusals text.now)
+            (reply_or_refusal result) self.new }
     {
         let text = text_of(alloc, text)?;
         match self.hub.publish(SOURCE, text, &mut self.due) {

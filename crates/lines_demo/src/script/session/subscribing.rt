@@ -22,7 +22,8 @@ impl<B: Listener> Session<B> {
     ) -> Result<Reply, Refusal>
         requires begun { self.old.has_begun ≡ true }
         requires bounded { number ≤ UNBOUNDED }
-        ensures { Replies (λ refusals. sub_result self.old refusals name number) (reply_or_refusal result) self.new }
+        ensures { Replies (λ refusals. sub_result self.old refusals name number)
+            (reply_or_refusal result) self.new }
     {
         if let Err(refusal) = self.hub.may_subscribe(name, &mut self.due) {
             self.woken.push_all(&mut self.due);
@@ -57,7 +58,7 @@ fn new_desk<B: Listener>(
     requires sized { IsCapacity capacity }
     requires bounded { number ≤ UNBOUNDED }
     ensures ok { IfOk result (λ desk. desk ≡ desk_after_demand number (desk_at_start capacity)) }
-    ensures err { IfErr result (λ back. back ≡ subscriber) }
+    ensures back { IfErr result (λ back. back ≡ subscriber) }
 {
     match Desk::new(alloc, capacity, subscriber) {
         Ok(mut desk) => {

@@ -24,4 +24,4 @@ pub returns-in-Ok-clause-refusals : goal.returns-in-Ok-clause-refusals
 returns-in-Ok-clause-refusals g c = let out = c.in-Ok.ensures.ok in says_refusals c.args.submitters.items c.args.subscriptions.items c.conclude.result (finishes_is g.B.Listener.told c.args.submitters.items c.args.subscriptions.items c.in-Ok.books _ c.conclude.result out.ends out.audited c.conclude.ensures out.known out.closed)
 
 pub returns-clause-outcome : goal.returns-clause-outcome
-returns-clause-outcome g c = nothing_is g.B.Listener.told c.in-Err.outcome c.in-Err.ensures.err
+returns-clause-outcome g c = nothing_is g.B.Listener.told c.in-Err.outcome c.in-Err.ensures.nothing

@@ -1,5 +1,5 @@
 -- What was lent keeps a Hub sound.
-use Rattle.publisher_hub.proofs.Lending.{sound_with_feed}
+use Rattle.publisher_hub.proofs.Soundness.Lending.{sound_with_feed}
 use Rattle.publisher_hub.proofs.laws.lent_feeds_keep_hubs_sound.Goals as goal
 
 pub returns : goal.returns

@@ -4,8 +4,8 @@ use Rattle.lines_demo.specs.declared.threads.input.TheConstants.{MOST_SOURCES}
 use Rattle.lines_demo.proofs.InputSources.{sources_more, sources_fewer}
 use Rattle.lines_demo.proofs.threads.input.collect_sources.Goals as goal
 
-pub returns-then-len-gt-MOST_SOURCES-clause-err : goal.returns-then-len-gt-MOST_SOURCES-clause-err
-returns-then-len-gt-MOST_SOURCES-clause-err c =
+pub returns-then-len-gt-MOST_SOURCES-clause-refusals : goal.returns-then-len-gt-MOST_SOURCES-clause-refusals
+returns-then-len-gt-MOST_SOURCES-clause-refusals c =
     let i = c.loop-publication.publication-index in
     let ps = c.args.publications.now in
     let added : c.add_source.new.sources.items ≡ with_source c.publication-item.result.source c.loop-publication.sources.items = search rules in

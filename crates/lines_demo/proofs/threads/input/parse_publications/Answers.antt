@@ -19,15 +19,15 @@ loop-rest-preserved c =
     spells_first bytes c.loop-rest.rest.now line rest c.loop-rest.publications.items c.loop-rest.invariant (lines_split c.loop-rest.rest.now line rest some c.split_line.ensures.line c.split_line.ensures.rest) in
     spells_more bytes line c.strip_return.result.now rest c.loop-rest.publications.items c.push_line.new.publications.items first c.strip_return.ensures adds
 
-pub returns-in-Err-clause-err : goal.returns-in-Err-clause-err
-returns-in-Err-clause-err c =
+pub returns-in-Err-clause-refusals : goal.returns-in-Err-clause-refusals
+returns-in-Err-clause-refusals c =
     let bytes = c.args.bytes.now in
     let line = c.split_line.result.0.now in
     let rest = c.split_line.result.1.now in
     let some : 0 < length c.loop-rest.rest.now = search rules in
     let first : SpellsFirst bytes c.loop-rest.publications.items line rest =
     spells_first bytes c.loop-rest.rest.now line rest c.loop-rest.publications.items c.loop-rest.invariant (lines_split c.loop-rest.rest.now line rest some c.split_line.ensures.line c.split_line.ensures.rest) in
-    refused_line bytes line c.strip_return.result.now rest c.loop-rest.publications.items c.in-Err.refusal first c.strip_return.ensures c.in-Err.ensures.err
+    refused_line bytes line c.strip_return.result.now rest c.loop-rest.publications.items c.in-Err.refusal first c.strip_return.ensures c.in-Err.ensures.refusals
 
 pub returns-clause-ok : goal.returns-clause-ok
 returns-clause-ok c = spells_all c.args.bytes.now c.loop-rest.rest.now _ c.loop-rest.invariant (empty_is _ c.loop-rest-test.ensures)

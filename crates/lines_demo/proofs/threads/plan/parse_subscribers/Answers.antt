@@ -6,8 +6,8 @@ use Rattle.lines_demo.proofs.threads.plan.parse_subscribers.Goals as goal
 pub loop-word-init : goal.loop-word-init
 loop-word-init c = rw c.new-subscribers.ensures.items (reads_none _)
 
-pub returns-in_default-clause-err : goal.returns-in_default-clause-err
-returns-in_default-clause-err c =
+pub returns-in_default-clause-refusals : goal.returns-in_default-clause-refusals
+returns-in_default-clause-refusals c =
     let wrong = sym (ap (λ text. spelled_subscriber text) c.as_bytes.ensures.value) ∙ sym c.parse_subscriber.ensures ∙ c.in_default.is in
     inr (refl, reads_wrong _ _ _ _ c.loop-word.subscribers.items c.loop-word.invariant (texts_from c.args.words.now c.loop-word.word-index _ c.loop-word-test.true) wrong)
 
@@ -20,5 +20,5 @@ loop-word-preserved c =
 pub returns-clause-ok : goal.returns-clause-ok
 returns-clause-ok c = reads_all _ _ _ c.loop-word.invariant (texts_past _ _ c.loop-word-test.false)
 
-pub returns-then-is_err-clause-err : goal.returns-then-is_err-clause-err
-returns-then-is_err-clause-err c = inl refl
+pub returns-then-is_err-clause-refusals : goal.returns-then-is_err-clause-refusals
+returns-then-is_err-clause-refusals c = inl refl

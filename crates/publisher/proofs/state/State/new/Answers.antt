@@ -22,7 +22,7 @@ invariant_of-result g c =
     let asked = c.args.asked in
     let opening = c.in_ok-new.field-0 in
     let start = opened (capacity_of asked) opening c.in_ok-hub.hub c.set_opening.new.self c.set_opening.ensures.opening c.in_ok-hub.ensures.ok in
-    let some : 0 < asked = is_some_number asked (λ zero. let contra = c.in_ok-hub.ensures.zero zero in cc) in
+    let some : 0 < asked = is_some_number asked (λ zero. let contra = c.in_ok-hub.ensures.bad_capacity.1 zero in cc) in
     let sized : IsCapacity (capacity_of asked) = (asked, some, subst (IsCapacityOf asked) c.in_ok-capacity.ensures.value c.in_ok-capacity.ensures.least) in
     rw (c.open-published.ensures.total, c.open-published.ensures.amount, c.open-dropping.ensures.total, c.open-dropping.ensures.amount)
     (state_at_start (capacity_of asked) opening (hub_of producer_end c.set_opening.new.self) c.open-published.result.1.parts c.open-dropping.result.1.parts start c.set_opening.ensures.sound sized

@@ -9,7 +9,7 @@ invariant_of-self-2 g c = state_with_source (hub_of producer_end c.self.inside.h
     c.self.invariant c.next_source.ensures.sound (ap (hub_of producer_end) c.in_ok-source.ensures.counted) c.in_ok-source.ensures.next c.split_off.ensures.parts_left c.split_off.ensures.amount_left c.split_off-2.ensures.parts_left c.split_off-2.ensures.amount_left
 
 pub invariant_of-self : goal.invariant_of-self
-invariant_of-self g c = rw c.in_err-source.ensures.err c.self.invariant
+invariant_of-self g c = rw c.in_err-source.ensures.unchanged c.self.invariant
 
 pub invariant_of-result : goal.invariant_of-result
 invariant_of-result g c = record { few = c.in_ok-source.ensures.below; one = c.split_off.ensures.parts; one_of_drops = c.split_off-2.ensures.parts }

@@ -2,7 +2,7 @@ use Rattle.std.proofs.Common.{◌≡◌, ◌+◌, ◌++◌, length, w64, rules, 
 use mir.Val.{to_z, of_z}
 use Rattle.publisher_hub.specs.Hub.{hub_of}
 use Rattle.publisher_hub.specs.Lists.{greatest}
-use Rattle.publisher_hub.specs.Offering.{dropped, lags, lags_again}
+use Rattle.publisher_hub.specs.Gathering.{dropped, lags, lags_again}
 use Rattle.publisher_hub.specs.Publishing.{offer_answer}
 use Rattle.publisher.specs.Publishing.{drop_of}
 use Rattle.publisher.proofs.GrownStates.{drop_is, state_offered}
@@ -14,7 +14,7 @@ pub invariant_of-self : goal.invariant_of-self
 invariant_of-self g c =
     let old = hub_of producer_end c.self.inside.hub in
     let new = hub_of producer_end c.offer_with.new.self in
-    state_stays old new _ c.self.invariant c.offer_with.ensures.sound (stays_looked old new c.in_err-answer.ensures.err.unchanged)
+    state_stays old new _ c.self.invariant c.offer_with.ensures.sound (stays_looked old new c.in_err-answer.ensures.refusals.unchanged)
 
 pub invariant_of-self-2 : goal.invariant_of-self-2
 invariant_of-self-2 g c =
@@ -25,7 +25,7 @@ invariant_of-self-2 g c =
     let same : to_z w64 (of_z w64 c.in_ok-answer.answer) ≡ c.in_ok-answer.answer = search rules in
     let counted = c.count_drop.ensures.total ∙ ap (λ a. c.self.inside.dropping.total + drop_of a) same ∙ ap (λ a. c.self.inside.dropping.total + drop_of a) offered.answers
     ∙ ap (λ d. d + drop_of (offer_answer n lag)) c.self.invariant.dropping_is ∙ sym (drop_is n lag c.self.inside.hub.dropping) ∙ sym offered.counted in
-    state_offered (hub_of producer_end c.self.inside.hub) (hub_of producer_end c.offer_with.new.self) offered.item _ c.add.new.self.total c.count_drop.new.dropping.total c.self.invariant c.offer_with.ensures.sound offered.offers c.add.ensures.total counted
+    state_offered (hub_of producer_end c.self.inside.hub) (hub_of producer_end c.offer_with.new.self) offered.item _ c.add.new.self.total c.count_drop.new.dropping.total c.self.invariant c.offer_with.ensures.sound offered.reaches c.add.ensures.total counted
 
 pub returns-clause-one_more : goal.returns-clause-one_more
 returns-clause-one_more g c = c.add.ensures.amount

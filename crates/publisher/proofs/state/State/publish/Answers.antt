@@ -9,12 +9,12 @@ pub invariant_of-self : goal.invariant_of-self
 invariant_of-self g c =
     let old = hub_of producer_end c.self.inside.hub in
     let new = hub_of producer_end c.publish.new.self in
-    state_stays old new _ c.self.invariant c.publish.ensures.sound (stays_looked old new c.in_err-lag.ensures.err.unchanged)
+    state_stays old new _ c.self.invariant c.publish.ensures.sound (stays_looked old new c.in_err-lag.ensures.refusals.unchanged)
 
 pub invariant_of-self-2 : goal.invariant_of-self-2
 invariant_of-self-2 g c =
     let published = c.in_ok-lag.ensures.ok in
-    state_offered (hub_of producer_end c.self.inside.hub) (hub_of producer_end c.publish.new.self) published.item _ c.add.new.self.total c.self.inside.dropping.total c.self.invariant c.publish.ensures.sound published.offers c.add.ensures.total (c.self.invariant.dropping_is ∙ sym published.no_dropping)
+    state_offered (hub_of producer_end c.self.inside.hub) (hub_of producer_end c.publish.new.self) published.item _ c.add.new.self.total c.self.inside.dropping.total c.self.invariant c.publish.ensures.sound published.reaches c.add.ensures.total (c.self.invariant.dropping_is ∙ sym published.no_dropping)
 
 pub returns-clause-drops : goal.returns-clause-drops
 returns-clause-drops g c = refl

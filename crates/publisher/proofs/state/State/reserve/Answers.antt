@@ -10,7 +10,7 @@ pub invariant_of-self : goal.invariant_of-self
 invariant_of-self g c =
     let old = hub_of producer_end c.self.inside.hub in
     let new = hub_of producer_end c.may_subscribe.new.self in
-    state_stays old new _ c.self.invariant c.may_subscribe.ensures.sound (stays_refused c.args.name c.args.due.now.items c.may_subscribe.new.due.items c.self.inside.hub c.may_subscribe.new.self c.in_err-may_subscribe.field-0.0 c.in_err-may_subscribe.ensures.err)
+    state_stays old new _ c.self.invariant c.may_subscribe.ensures.sound (stays_refused c.args.name c.args.due.now.items c.may_subscribe.new.due.items c.self.inside.hub c.may_subscribe.new.self c.in_err-may_subscribe.field-0.0 c.in_err-may_subscribe.ensures.refusals)
 
 pub invariant_of-self-2 : goal.invariant_of-self-2
 invariant_of-self-2 g c =
@@ -28,5 +28,5 @@ returns g c =
     record {
       can = on_ok_all c.add_ticket.result (adds.keeps c.args.name c.may_subscribe.new.due c.in_ok-may_subscribe.ensures.can);
       ticket = ticket_for_one c.add_ticket.result c.may_subscribe.new.self c.add_ticket.new.self adds.closed adds.ok;
-      refusals = ticket_refused c.add_ticket.result c.may_subscribe.new.self.opening adds.err;
+      refusals = ticket_refused c.add_ticket.result c.may_subscribe.new.self.opening adds.refusals;
     }

@@ -14,6 +14,6 @@ returns g c = record {
   now = elim c.match-answer.branch [
     | in-Accepted w ↦ rw (w.self-is, w.in-Accepted.is) refl
     | in-Full w ↦ rw (w.self-is, w.in-Full.is) refl
-    | in-Gone w ↦ rw (w.self-is, w.in-Gone.is) refl
+    | in-Gone w ↦ rw (w.self-is, w.in-Gone.is, w.retire.ensures, c.if-self.false) refl
   ];
 }

@@ -15,8 +15,8 @@ went_on : (ended : Bool) → not ended ≡ true → ended ≡ true → ⊥
 went_on true on is = cc
 went_on false on is = cc
 
-pub returns-in_err-make_ready-clause-err : goal.returns-in_err-make_ready-clause-err
-returns-in_err-make_ready-clause-err g c = on_err c.from_residual.result _ (record {
+pub returns-in_err-make_ready-clause-refused : goal.returns-in_err-make_ready-clause-refused
+returns-in_err-make_ready-clause-refused g c = on_err c.from_residual.result _ (record {
   middle = c.look.new.self;
   standing = c.in-Some.standing;
   answer = c.make_ready.result;

@@ -1,6 +1,6 @@
 -- A subscription is added.
 use Rattle.std.proofs.Common.{rules, ◌++◌, ◌∷◌, [], ap, ◌∙◌}
-use Rattle.publisher_hub.proofs.Additions.{sound_grown}
+use Rattle.publisher_hub.proofs.Soundness.Adding.{sound_grown}
 use Rattle.publisher_hub.proofs.hub.Hub.add.Goals as goal
 
 pub returns-clause-sound : goal.returns-clause-sound

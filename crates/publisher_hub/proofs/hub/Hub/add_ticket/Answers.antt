@@ -11,8 +11,8 @@ refused (Err e) more so = more so
 pub returns-then-is_some-clause-closed : goal.returns-then-is_some-clause-closed
 returns-then-is_some-clause-closed g c closed = (refl, refl)
 
-pub returns-then-is_some-clause-err : goal.returns-then-is_some-clause-err
-returns-then-is_some-clause-err g c = tt
+pub returns-then-is_some-clause-refusals : goal.returns-then-is_some-clause-refusals
+returns-then-is_some-clause-refusals g c = tt
 
 pub returns-then-is_some-clause-rest : goal.returns-then-is_some-clause-rest
 returns-then-is_some-clause-rest g c = refl
@@ -26,8 +26,8 @@ returns-then-is_some-clause-keeps g c name due can = can
 pub returns-clause-ok : goal.returns-clause-ok
 returns-clause-ok g c unclosed = c.one_more.ensures.ok
 
-pub returns-clause-err : goal.returns-clause-err
-returns-clause-err g c = c.one_more.ensures.err
+pub returns-clause-refusals : goal.returns-clause-refusals
+returns-clause-refusals g c = c.one_more.ensures.refusals
 
 pub returns-clause-unchanged : goal.returns-clause-unchanged
 returns-clause-unchanged g c = refused c.one_more.result (λ same. ap (λ (opening : Option Opening). record c.args.self.now { opening = opening }) same) c.one_more.ensures.unchanged

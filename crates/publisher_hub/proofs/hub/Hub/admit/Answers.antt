@@ -1,9 +1,9 @@
 -- A subscription is added to a Hub that was looked at.
 use Rattle.std.proofs.Common.{◌≡◌, ◌++◌, ◌∷◌, [], ◌<◌, Option, length, refl, sym, ap, subst, ◌∙◌, arith}
 use Rattle.flow_rules.specs.declared.ending.Ending.{Ending}
-use Rattle.publisher_hub.specs.Offering.{work_of}
+use Rattle.publisher_hub.specs.Gathering.{work_of}
 use Rattle.publisher_hub.specs.Subscribing.{ClosesNew, first_entry}
-use Rattle.publisher_hub.proofs.Subscriptions.{rest_seen, seen_ending, seen_next}
+use Rattle.publisher_hub.proofs.Subscribed.Admission.{rest_seen, seen_ending, seen_next}
 use Rattle.publisher_hub.proofs.hub.Hub.admit.Goals as goal
 
 pub returns-clause-ok : goal.returns-clause-ok
@@ -36,8 +36,8 @@ returns-clause-ok g c =
     }
 
 -- what is added is not refused
-pub returns-clause-err : goal.returns-clause-err
-returns-clause-err g c = tt
+pub returns-clause-refusals : goal.returns-clause-refusals
+returns-clause-refusals g c = tt
 
-pub returns-clause-stays : goal.returns-clause-stays
-returns-clause-stays g c can = refl
+pub returns-clause-not_refused : goal.returns-clause-not_refused
+returns-clause-not_refused g c can = refl

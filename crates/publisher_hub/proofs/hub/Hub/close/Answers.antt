@@ -2,8 +2,8 @@
 use Rattle.std.proofs.Common.{◌≡◌, None, refl}
 use Rattle.publisher_hub.specs.Closing.{IsClosed}
 use Rattle.publisher_hub.specs.Hub.{hub_of}
-use Rattle.publisher_hub.proofs.Closes.{all_closed_by, none_closed, sound_closed}
-use Rattle.publisher_hub.proofs.Readying.{not_looked_at, on_err}
+use Rattle.publisher_hub.proofs.Soundness.Closing.{all_closed_by, none_closed, sound_closed}
+use Rattle.publisher_hub.proofs.Subscribed.Readiness.{not_looked_at, on_err}
 use Rattle.publisher_hub.proofs.hub.Hub.close.Goals as goal
 
 pub returns-in_err-reserve_due-clause-looked : goal.returns-in_err-reserve_due-clause-looked

@@ -2,7 +2,7 @@
 use Rattle.std.proofs.Common.{refl, ◌∙◌}
 use Rattle.std.proofs.lemmas.List.{with_items_is}
 use Rattle.publisher_hub.specs.Hub.{hub_of}
-use Rattle.publisher_hub.proofs.Readying.{ready_can_take}
+use Rattle.publisher_hub.proofs.Subscribed.Readiness.{ready_can_take}
 use Rattle.publisher_hub.proofs.hub.Hub.end_live.Goals as goal
 
 pub end_all-requires-clause-live : goal.end_all-requires-clause-live

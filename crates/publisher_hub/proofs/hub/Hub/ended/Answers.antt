@@ -2,7 +2,7 @@
 use Rattle.std.proofs.Common.{rules, ◌<◌, ◌≤◌, length, Some, ap, sym, ◌∙◌}
 use Rattle.std.proofs.lemmas.Option.{slice_get-get_or}
 use Rattle.std.specs.Vec.{with_item}
-use Rattle.publisher_hub.proofs.Tickets.{asks_nobody, asks_there, sound_asked}
+use Rattle.publisher_hub.proofs.Soundness.Tickets.{asks_nobody, asks_there, sound_asked}
 use Rattle.publisher_hub.proofs.hub.Hub.ended.Goals as goal
 
 pub returns-in-Some-clause-looks : goal.returns-in-Some-clause-looks

@@ -3,7 +3,7 @@ use Rattle.std.proofs.Common.{Option, refl, ap, sym, ◌∙◌}
 use Rattle.std.specs.Option.{option_and_then}
 use Rattle.publisher_hub.specs.Lending.{with_feed}
 use Rattle.publisher_hub.specs.declared.entry.Entry.{Entry}
-use Rattle.publisher_hub.proofs.Lending.{entry_there}
+use Rattle.publisher_hub.proofs.Soundness.Lending.{entry_there}
 use Rattle.publisher_hub.proofs.hub.Hub.feed_at.Goals as goal
 
 pub returns : goal.returns

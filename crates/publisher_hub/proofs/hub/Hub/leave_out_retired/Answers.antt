@@ -2,7 +2,7 @@
 use Rattle.std.proofs.Common.{map}
 use Rattle.publisher_hub.specs.Entry.{entry_of}
 use Rattle.publisher_hub.specs.Hub.{hub_of}
-use Rattle.publisher_hub.proofs.LeavingOut.{all_live_left, sound_left}
+use Rattle.publisher_hub.proofs.Soundness.LeavingOut.{all_live_left, sound_left}
 use Rattle.publisher_hub.proofs.hub.Hub.leave_out_retired.Goals as goal
 
 pub returns-clause-all_live : goal.returns-clause-all_live

@@ -4,8 +4,8 @@ use Rattle.std.specs.Vec.{with_items}
 use Rattle.std.proofs.lemmas.List.{with_items_is}
 use Rattle.publisher_hub.specs.Hub.{hub_of}
 use Rattle.publisher_hub.specs.Looking.{LooksAtAll}
-use Rattle.publisher_hub.proofs.LooksAtAll.{sound_looks}
-use Rattle.publisher_hub.proofs.Readying.{all_here}
+use Rattle.publisher_hub.proofs.Soundness.LookingAtAll.{sound_looks}
+use Rattle.publisher_hub.proofs.Subscribed.Readiness.{all_here}
 use Rattle.publisher_hub.proofs.hub.Hub.look_at_all.Goals as goal
 
 pub look_all-requires-clause-live : goal.look_all-requires-clause-live

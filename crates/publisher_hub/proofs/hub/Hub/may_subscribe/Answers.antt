@@ -4,7 +4,7 @@ use Rattle.std.specs.Prelude.{slice_get}
 use Rattle.publisher_hub.specs.Hub.{hub_of}
 use Rattle.publisher_hub.specs.Subscribing.{IsNamed, IsNotNamed, IsSeen, IsUnnamed, TellsAt}
 use Rattle.publisher_hub.specs.declared.entry.Entry.{Entry}
-use Rattle.publisher_hub.proofs.Subscriptions.{can_admit, found_none, live_at, on_ok, refused_place, seen_with_place, still_place, unnamed_of}
+use Rattle.publisher_hub.proofs.Subscribed.Admission.{can_admit, found_none, live_at, on_ok, refused_place, seen_with_place, still_place, unnamed_of}
 use Rattle.publisher_hub.proofs.hub.Hub.may_subscribe.Goals as goal
 
 pub tell_duplicate-requires-clause-live : goal.tell_duplicate-requires-clause-live
@@ -13,8 +13,8 @@ tell_duplicate-requires-clause-live g c =
     let at : slice_get c.see_all.new.self.live.items found.0 ≡ Some c.in-Some.number = subst (λ (l : List ℕ). slice_get l found.0 ≡ Some c.in-Some.number) c.deref-2.ensures.value found.1.0 in
     live_at g.F.Feed.meaning g.F.Feed.does c.see_all.new.self found.0 c.in-Some.number c.in_ok-see_all.ensures.seen.all_live at
 
-pub returns-in-Some-clause-err : goal.returns-in-Some-clause-err
-returns-in-Some-clause-err g c =
+pub returns-in-Some-clause-refusals : goal.returns-in-Some-clause-refusals
+returns-in-Some-clause-refusals g c =
     let found = c.in-Some.ensures.found in (
       c.see_all.new.self,
       (
@@ -27,8 +27,8 @@ returns-in-Some-clause-err g c =
       ),
     )
 
-pub returns-in-Some-clause-stays : goal.returns-in-Some-clause-stays
-returns-in-Some-clause-stays g c can =
+pub returns-in-Some-clause-not_refused : goal.returns-in-Some-clause-not_refused
+returns-in-Some-clause-not_refused g c can =
     let found = c.in-Some.ensures.found in
     let at : slice_get c.see_all.new.self.live.items found.0 ≡ Some c.in-Some.number = subst (λ (l : List ℕ). slice_get l found.0 ≡ Some c.in-Some.number) c.deref-2.ensures.value found.1.0 in
     let named : IsNamed c.args.name c.in-Some.number c.see_all.new.self.entries.items = subst (λ (l : List (Entry g.row.F.Denot)). IsNamed c.args.name c.in-Some.number l) c.deref.ensures.value found.1.1 in
@@ -52,12 +52,12 @@ returns-clause-can g c = can_admit g.F.Feed.meaning g.F.Feed.does c.args.name c.
 pub returns-clause-seen : goal.returns-clause-seen
 returns-clause-seen g c = on_ok c.make_place.result _ (seen g c)
 
-pub returns-clause-err : goal.returns-clause-err
-returns-clause-err g c = refused_place g.F.Feed.meaning g.F.Feed.does c.args.name c.make_place.result c.args.due.now.items c.see_all.new.due.items c.args.self.now c.make_place.new.self (seen g c)
-    (subst (λ (hub : Rattle.publisher_hub.specs.Hub.HubState). IsUnnamed c.args.name hub.entries) (sym c.make_place.ensures.same) (unnamed g c)) c.see_all.ensures.due c.make_place.ensures.err
+pub returns-clause-refusals : goal.returns-clause-refusals
+returns-clause-refusals g c = refused_place g.F.Feed.meaning g.F.Feed.does c.args.name c.make_place.result c.args.due.now.items c.see_all.new.due.items c.args.self.now c.make_place.new.self (seen g c)
+    (subst (λ (hub : Rattle.publisher_hub.specs.Hub.HubState). IsUnnamed c.args.name hub.entries) (sym c.make_place.ensures.same) (unnamed g c)) c.see_all.ensures.due c.make_place.ensures.refusals
 
-pub returns-clause-stays : goal.returns-clause-stays
-returns-clause-stays g c can = c.make_place.ensures.stays (still_place g.F.Feed.meaning g.F.Feed.does c.args.self.now c.see_all.new.self c.in_ok-see_all.ensures.seen
+pub returns-clause-not_refused : goal.returns-clause-not_refused
+returns-clause-not_refused g c can = c.make_place.ensures.not_refused (still_place g.F.Feed.meaning g.F.Feed.does c.args.self.now c.see_all.new.self c.in_ok-see_all.ensures.seen
     c.see_all.ensures.entry_places c.see_all.ensures.number_places can.place)
 
 -- a refusal says nothing of a yes

@@ -2,9 +2,9 @@
 use Rattle.std.proofs.Common.{◌≡◌, ◌∙◌, Result, Ok, Err, OnErr, OnOk, true, false, is_err, refl, rules, subst, sym, inl}
 use Rattle.publisher_hub.specs.Hub.{hub_of}
 use Rattle.publisher_hub.specs.Publishing.{CanPublish}
-use Rattle.publisher_hub.proofs.Kept.{each_untouched}
-use Rattle.publisher_hub.proofs.PartialRounds.{same_some}
-use Rattle.publisher_hub.proofs.Readying.{on_err}
+use Rattle.publisher_hub.proofs.Subscribed.AfterLooks.{each_untouched}
+use Rattle.publisher_hub.proofs.PartialRounds.Progress.{same_some}
+use Rattle.publisher_hub.proofs.Subscribed.Readiness.{on_err}
 use Rattle.publisher_hub.proofs.hub.Hub.prepare.Goals as goal
 
 -- what is no error says nothing of one, and what is one nothing else
@@ -32,14 +32,14 @@ pub returns-else-is_err-clause-ready : goal.returns-else-is_err-clause-ready
 returns-else-is_err-clause-ready g c =
     subst (λ hub. OnOk c.prepare_live-prepared.result (CanPublish c.args.item.now hub c.reserve.new.self)) (sym c.prepare_live-prepared.ensures.rest) (search rules)
 
-pub returns-in_err-reserve-clause-err : goal.returns-in_err-reserve-clause-err
-returns-in_err-reserve-clause-err g c = on_err c.from_residual.result _ (record { as_long = refl; each = λ k x y at at'. inl (same_some (sym at' ∙ at)) })
+pub returns-in_err-reserve-clause-exact : goal.returns-in_err-reserve-clause-exact
+returns-in_err-reserve-clause-exact g c = on_err c.from_residual.result _ (record { as_long = refl; each = λ k x y at at'. inl (same_some (sym at' ∙ at)) })
 
 pub returns-in_err-reserve-clause-sound : goal.returns-in_err-reserve-clause-sound
 returns-in_err-reserve-clause-sound g c = c.requires.sound
 
-pub returns-in_err-begin-clause-err : goal.returns-in_err-begin-clause-err
-returns-in_err-begin-clause-err g c = on_err c.from_residual-in_err-begin.result _ (record { as_long = refl; each = λ k x y at at'. inl (same_some (sym at' ∙ at)) })
+pub returns-in_err-begin-clause-exact : goal.returns-in_err-begin-clause-exact
+returns-in_err-begin-clause-exact g c = on_err c.from_residual-in_err-begin.result _ (record { as_long = refl; each = λ k x y at at'. inl (same_some (sym at' ∙ at)) })
 
 pub returns-in_err-begin-clause-sound : goal.returns-in_err-begin-clause-sound
 returns-in_err-begin-clause-sound g c = c.requires.sound
@@ -47,8 +47,8 @@ returns-in_err-begin-clause-sound g c = c.requires.sound
 pub returns-then-is_err-clause-ok : goal.returns-then-is_err-clause-ok
 returns-then-is_err-clause-ok g c = c.prepare_live-prepared.ensures.ok
 
-pub returns-then-is_err-clause-err : goal.returns-then-is_err-clause-err
-returns-then-is_err-clause-err g c = c.prepare_live-prepared.ensures.err
+pub returns-then-is_err-clause-exact : goal.returns-then-is_err-clause-exact
+returns-then-is_err-clause-exact g c = c.prepare_live-prepared.ensures.exact
 
 pub returns-then-is_err-clause-looked : goal.returns-then-is_err-clause-looked
 returns-then-is_err-clause-looked g c = c.prepare_live-prepared.ensures.looked
@@ -62,8 +62,8 @@ returns-then-is_err-clause-due g c = c.reserve.ensures.items
 pub returns-else-is_err-clause-ok : goal.returns-else-is_err-clause-ok
 returns-else-is_err-clause-ok g c = c.prepare_live-prepared.ensures.ok
 
-pub returns-else-is_err-clause-err : goal.returns-else-is_err-clause-err
-returns-else-is_err-clause-err g c = c.prepare_live-prepared.ensures.err
+pub returns-else-is_err-clause-exact : goal.returns-else-is_err-clause-exact
+returns-else-is_err-clause-exact g c = c.prepare_live-prepared.ensures.exact
 
 pub returns-else-is_err-clause-looked : goal.returns-else-is_err-clause-looked
 returns-else-is_err-clause-looked g c = c.prepare_live-prepared.ensures.looked

@@ -1,11 +1,14 @@
 -- An item that is published comes after all that were.
 use Rattle.std.proofs.Common.{rules, ◌∙◌, ap, refl}
 use Rattle.publisher_hub.specs.Hub.{hub_of}
+use Rattle.publisher_hub.specs.Lists.{greatest}
+use Rattle.publisher_hub.specs.Gathering.{started}
 use Rattle.publisher_hub.specs.Publishing.{Publishes}
 use Rattle.publisher_hub.specs.Sound.{IsSound}
-use Rattle.publisher_hub.specs.declared.giving.Giving.{Giving}
-use Rattle.publisher_hub.proofs.Publications.{can_all_give}
-use Rattle.publisher_hub.proofs.Published.{below_most, publishes}
+use Rattle.publisher_hub.specs.declared.rounds.gathering.Gathering.{Gathering}
+use Rattle.publisher_hub.proofs.Publications.AllSubscriptions.{can_all_give}
+use Rattle.publisher_hub.proofs.Publications.Backlogs.{counts_one, lags_are_backlogs}
+use Rattle.publisher_hub.proofs.Publications.WholePublication.{below_most, publishes}
 use Rattle.publisher_hub.proofs.hub.Hub.publish.Goals as goal
 
 pub give-requires-clause-can : goal.give-requires-clause-can
@@ -19,7 +22,7 @@ give-requires-clause-can g c =
 
 whole : (g : Rattle.publisher_hub.proofs.hub.Hub.publish.Given.Over) (c : goal.After-drop-item-2 g)
     → IsSound (hub_of g.F.Feed.meaning c.count.new.self)
-    × Publishes g.F.Feed.meaning g.F.Feed.does c.args.source c.args.text c.args.self.now c.count.new.self c.args.due.now.items c.give.new.due.items c.count.new.self.giving.lag
+    × Publishes g.F.Feed.meaning g.F.Feed.does c.args.source c.args.text c.args.self.now c.count.new.self c.args.due.now.items c.give.new.due.items c.count.new.self.gathering.lag
 whole g c =
     let meaning = g.F.Feed.meaning in
     let item = c.next_item-item.ensures in
@@ -27,7 +30,7 @@ whole g c =
     let given = c.give.ensures.given in
     publishes meaning g.F.Feed.does c.args.self.now c.prepare.new.self c.give.new.self c.count.new.self c.next_item-item.result c.args.source c.args.text
     c.args.due.now c.prepare.new.due c.give.new.due looks.0 given.0 c.requires.sound c.requires.source item.source item.text item.serial item.seq c.prepare.ensures.looked
-    looks.1.0 (looks.1.1.there c.if-not-room.false) c.prepare.ensures.due c.in_default.ensures given.1.0 given.1.1 c.give.ensures.rest c.count.ensures.rest c.count.ensures.entries (ap (λ (g : Giving). g.lag) c.count.ensures.giving ∙ c.drop_shares-2.ensures.lag)
+    looks.1.0 (looks.1.1.there c.if-not-room.false) c.prepare.ensures.due c.in_default.ensures given.1.0 given.1.1 c.give.ensures.rest c.count.ensures.rest c.count.ensures.entries (ap (λ (g : Gathering). g.lag) c.count.ensures.gathering ∙ c.drop_shares-2.ensures.lag)
 
 pub returns-clause-sound : goal.returns-clause-sound
 returns-clause-sound g c = (whole g c).0
@@ -35,8 +38,24 @@ returns-clause-sound g c = (whole g c).0
 pub returns-clause-ok : goal.returns-clause-ok
 returns-clause-ok g c = (whole g c).1
 
-pub returns-then-not-room-clause-err : goal.returns-then-not-room-clause-err
-returns-then-not-room-clause-err g c = rw c.no_room.ensures.text (record { unchanged = rw c.no_room.ensures.rest c.prepare.ensures.looked; why = search rules })
+pub returns-clause-reached : goal.returns-clause-reached
+returns-clause-reached g c = let whole = (whole g c).1 in (whole.item, ((whole.from, whole.words), whole.reaches))
+
+pub returns-clause-counted : goal.returns-clause-counted
+returns-clause-counted g c =
+    let whole = (whole g c).1 in
+    counts_one c.args.source whole.item (hub_of g.F.Feed.meaning c.args.self.now) (hub_of g.F.Feed.meaning c.count.new.self) whole.from whole.reaches
+
+pub returns-clause-lag : goal.returns-clause-lag
+returns-clause-lag g c =
+    let whole = (whole g c).1 in
+    whole.greatest_lag ∙ ap greatest (lags_are_backlogs g.F.Feed.meaning g.F.Feed.does whole.item whole.puts whole.middle c.count.new.self.entries.items whole.given whole.no_drop)
+
+pub returns-clause-due : goal.returns-clause-due
+returns-clause-due g c = let whole = (whole g c).1 in (started whole.puts, whole.due)
+
+pub returns-then-not-room-clause-refusals : goal.returns-then-not-room-clause-refusals
+returns-then-not-room-clause-refusals g c = rw c.no_room.ensures.text (record { unchanged = rw c.no_room.ensures.rest c.prepare.ensures.looked; why = search rules })
 
 pub returns-then-not-room-clause-sound : goal.returns-then-not-room-clause-sound
 returns-then-not-room-clause-sound g c = rw c.no_room.ensures.rest c.prepare.ensures.sound

@@ -1,21 +1,21 @@
 -- Where no place for a task is made, nothing was looked at.
 use Rattle.std.proofs.Common.{refl, sym, ◌∙◌, inl}
 use Rattle.publisher_hub.specs.Hub.{hub_of}
-use Rattle.publisher_hub.proofs.PartialRounds.{same_some}
-use Rattle.publisher_hub.proofs.Readying.{not_looked_at, on_err}
-use Rattle.publisher_hub.proofs.Subscriptions.{seen_left}
+use Rattle.publisher_hub.proofs.PartialRounds.Progress.{same_some}
+use Rattle.publisher_hub.proofs.Subscribed.Readiness.{not_looked_at, on_err}
+use Rattle.publisher_hub.proofs.Subscribed.Admission.{seen_left}
 use Rattle.publisher_hub.proofs.hub.Hub.see_all.Goals as goal
 
-pub returns-in_err-reserve_due-clause-err : goal.returns-in_err-reserve_due-clause-err
-returns-in_err-reserve_due-clause-err g c = on_err c.from_residual.result _ (record {
+pub returns-in_err-reserve_due-clause-in_part : goal.returns-in_err-reserve_due-clause-in_part
+returns-in_err-reserve_due-clause-in_part g c = on_err c.from_residual.result _ (record {
   prepared = record { as_long = refl; each = λ k x y at at'. inl (same_some (sym at' ∙ at)) };
   kept = (not_looked_at (hub_of g.F.Feed.meaning c.args.self.now) c.requires.sound).entries;
   rest = refl;
 })
 
-pub returns-in_err-prepare_live-clause-err : goal.returns-in_err-prepare_live-clause-err
-returns-in_err-prepare_live-clause-err g c = on_err c.from_residual-in_err-prepare_live.result _ (record {
-  prepared = c.in_err-prepare_live.ensures.err;
+pub returns-in_err-prepare_live-clause-in_part : goal.returns-in_err-prepare_live-clause-in_part
+returns-in_err-prepare_live-clause-in_part g c = on_err c.from_residual-in_err-prepare_live.result _ (record {
+  prepared = c.in_err-prepare_live.ensures.exact;
   kept = c.prepare_live.ensures.looked.entries;
   rest = c.prepare_live.ensures.looked.rest;
 })

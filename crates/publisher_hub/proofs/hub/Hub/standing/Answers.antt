@@ -1,13 +1,12 @@
 -- One subscription was looked at.
-use Rattle.std.proofs.Common.{rules, ◌≡◌, ◌<◌, ◌≤◌, length, Some, ap, sym, ◌∙◌}
+use Rattle.std.proofs.Common.{rules, ◌<◌, ◌≤◌, length, Some, ap, sym, ◌∙◌}
 use Rattle.std.proofs.lemmas.Option.{slice_get-get_or}
-use Rattle.std.specs.Prelude.{slice_get}
 use Rattle.std.specs.Vec.{with_item}
 use Rattle.publisher_hub.specs.Entry.{entry_of}
 use Rattle.publisher_hub.specs.Hub.{hub_of}
-use Rattle.publisher_hub.proofs.LiveRounds.{get_mapped}
-use Rattle.publisher_hub.proofs.LooksAtOne.{looks_nowhere, looks_there, sound_look}
-use Rattle.publisher_hub.proofs.Readying.{all_here}
+use Rattle.publisher_hub.proofs.PartialRounds.Next.{get_mapped}
+use Rattle.publisher_hub.proofs.Soundness.LookingAtOne.{looks_nowhere, looks_there, sound_look}
+use Rattle.publisher_hub.proofs.Subscribed.Readiness.{all_here}
 use Rattle.publisher_hub.proofs.hub.Hub.standing.Goals as goal
 
 pub look-requires : goal.look-requires

@@ -1,6 +1,6 @@
 -- A Hub without subscriptions is sound.
 use Rattle.std.proofs.Common.{refl}
-use Rattle.publisher_hub.proofs.Starting.{sound_at_start}
+use Rattle.publisher_hub.proofs.Soundness.Starting.{sound_at_start}
 use Rattle.publisher_hub.proofs.hub.Hub.starting_at.Goals as goal
 
 pub returns-clause-sound : goal.returns-clause-sound

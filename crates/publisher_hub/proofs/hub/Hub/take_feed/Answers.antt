@@ -2,7 +2,7 @@
 use Rattle.std.proofs.Common.{rules, ◌<◌, ◌≤◌, length, Some, ap, sym, ◌∙◌}
 use Rattle.std.proofs.lemmas.Option.{slice_get-get_or}
 use Rattle.std.specs.Vec.{with_item}
-use Rattle.publisher_hub.proofs.Taken.{takes_nobody, takes_there, sound_without}
+use Rattle.publisher_hub.proofs.Soundness.TakingOut.{takes_nobody, takes_there, sound_without}
 use Rattle.publisher_hub.proofs.hub.Hub.take_feed.Goals as goal
 
 pub returns-in-Some-clause-takes : goal.returns-in-Some-clause-takes

@@ -8,7 +8,7 @@ use Rattle.publisher_hub.specs.Hub.{hub_of}
 use Rattle.publisher_hub.specs.Sound.{IsSound}
 use Rattle.publisher_hub.specs.Tickets.{without_ticket}
 use Rattle.publisher_hub.specs.declared.entry.Entry.{Entry}
-use Rattle.publisher_hub.proofs.Tickets.{sound_unticketed, unticketed_same}
+use Rattle.publisher_hub.proofs.Soundness.Tickets.{sound_unticketed, unticketed_same}
 use Rattle.publisher_hub.proofs.hub.Hub.take_ticket.Given.{Over}
 use Rattle.publisher_hub.proofs.hub.Hub.take_ticket.Goals as goal
 use Rattle.publisher_hub.proofs.hub.Hub.take_ticket.Goals.{After-take}

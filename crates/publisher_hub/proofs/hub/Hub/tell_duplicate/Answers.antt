@@ -1,8 +1,8 @@
 -- One subscription is told of a second subscribing.
 use Rattle.std.proofs.Common.{rules, refl}
 use Rattle.publisher_hub.specs.Entry.{entry_of}
-use Rattle.publisher_hub.proofs.LiveRounds.{get_mapped}
-use Rattle.publisher_hub.proofs.Telling.{read_at, sound_tells}
+use Rattle.publisher_hub.proofs.PartialRounds.Next.{get_mapped}
+use Rattle.publisher_hub.proofs.Soundness.Telling.{read_at, sound_tells}
 use Rattle.publisher_hub.proofs.hub.Hub.tell_duplicate.Goals as goal
 
 pub duplicate-start-requires-clause-ready : goal.duplicate-start-requires-clause-ready

@@ -3,8 +3,8 @@ use Rattle.std.proofs.Common.{◌≡◌, ◌⊎◌, ◌<◌, Some, length, sym, 
 use Rattle.std.specs.Prelude.{slice_get}
 use Rattle.std.proofs.lemmas.Option.{slice_get_within}
 use Rattle.publisher_hub.specs.Subscribing.{IsNotNamed}
-use Rattle.publisher_hub.proofs.LiveRounds.{number_at}
-use Rattle.publisher_hub.proofs.PartialRounds.{below_or_last, same_some}
+use Rattle.publisher_hub.proofs.PartialRounds.Next.{number_at}
+use Rattle.publisher_hub.proofs.PartialRounds.Progress.{below_or_last, same_some}
 use Rattle.publisher_hub.proofs.hub.named.find_named.Goals as goal
 
 pub loop-number-preserved : goal.loop-number-preserved

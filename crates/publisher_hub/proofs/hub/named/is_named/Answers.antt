@@ -1,9 +1,9 @@
 -- Two names are equal where their bytes are.
-use Rattle.std.proofs.Common.{◌≡◌, Bool, true, false, ◌<◌, ◌≤◌, length, refl, sym, ap, ◌∙◌, arith}
+use Rattle.std.proofs.Common.{◌≡◌, true, false, ◌<◌, ◌≤◌, length, refl, sym, ap, ◌∙◌, arith}
 use Rattle.std.specs.Cmp.Lexicographic.{other_text, same_text}
 use Rattle.std.proofs.lemmas.Option.{slice_get_read, slice_get_within}
 use Rattle.publisher_hub.specs.declared.entry.Entry.{Entry}
-use Rattle.publisher_hub.proofs.PartialRounds.{same_some}
+use Rattle.publisher_hub.proofs.PartialRounds.Progress.{same_some}
 use Rattle.publisher_hub.proofs.hub.named.is_named.Goals as goal
 
 pub returns-in-Some-clause-yes : goal.returns-in-Some-clause-yes

@@ -1,4 +1,4 @@
-use Rattle.publisher_hub.proofs.ClosingRounds.{IsClosing}
+use Rattle.publisher_hub.proofs.PartialRounds.Closing.{IsClosing}
 use Rattle.publisher_hub.proofs.rounds.closing.end_all.Given as goal
 
 abbrev pub invariant-loop-number : goal.invariant-loop-number

@@ -1,9 +1,9 @@
 -- The share that was offered is the item, and one that came back is a share again.
 use Rattle.std.proofs.Common.{◌≡◌, ◌+◌, ◌∙◌, ap, arith, length, length-append, rules, subst}
 use Rattle.flow_rules.specs.declared.item.Item.{Item}
-use Rattle.publisher_hub.specs.Giving.{back_by}
-use Rattle.publisher_hub.specs.Offering.{Gives, missed_by, started_by}
-use Rattle.publisher_hub.proofs.Shares.{shares_back, takes_a_place}
+use Rattle.publisher_hub.specs.Gathering.{back_by, missed_by, started_by}
+use Rattle.publisher_hub.specs.Offering.{Gives}
+use Rattle.publisher_hub.proofs.PartialRounds.Shares.{shares_back, takes_a_place}
 use Rattle.publisher_hub.proofs.rounds.giving.give_one.Goals as goal
 
 pub returns-clause-given : goal.returns-clause-given
@@ -50,12 +50,12 @@ returns-clause-room g c many room =
     ap length noted.ensures.missed ∙ length-append taken.new.self.missed.items (missed_by c.args.number answer) in
     let shares : length noted.new.self.shares.items ≡ length taken.new.self.shares.items + length (back_by answer) =
     ap length noted.ensures.shares ∙ length-append taken.new.self.shares.items (back_by answer) in
-    let numbers : length taken.new.self.missed.items ≡ length c.args.giving.now.missed.items = ap (λ v. length v.items) taken.ensures.missed in
-    let places : taken.new.self.missed.cap ≡ c.args.giving.now.missed.cap = ap (λ v. v.cap) taken.ensures.missed in
+    let numbers : length taken.new.self.missed.items ≡ length c.args.gathering.now.missed.items = ap (λ v. length v.items) taken.ensures.missed in
+    let places : taken.new.self.missed.cap ≡ c.args.gathering.now.missed.cap = ap (λ v. v.cap) taken.ensures.missed in
     let due_long = noted.new.due.ok.0 in
     let due_was = c.args.due.now.ok.0 in
     let missed_long = noted.new.self.missed.ok.0 in
-    let missed_was = c.args.giving.now.missed.ok.0 in
+    let missed_was = c.args.gathering.now.missed.ok.0 in
     let shares_long = noted.new.self.shares.ok.0 in
     let shares_were = taken.new.self.shares.ok.0 in
     record { due_places = omega arith; missed_places = omega arith; shares = omega arith }

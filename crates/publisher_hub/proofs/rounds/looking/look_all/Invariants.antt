@@ -1,4 +1,4 @@
-use Rattle.publisher_hub.proofs.Looking.{IsLooking}
+use Rattle.publisher_hub.proofs.PartialRounds.Looking.{IsLooking}
 use Rattle.publisher_hub.proofs.rounds.looking.look_all.Given as goal
 
 abbrev pub invariant-loop-number : goal.invariant-loop-number

@@ -1,16 +1,16 @@
 -- One is found by its name, or none of the live subscriptions has it.
 use Rattle.std.proofs.Common.{◌≡◌, map, length, refl, arith}
 use Rattle.publisher_hub.specs.Entry.{entry_of}
-use Rattle.publisher_hub.proofs.LiveRounds.{number_at}
-use Rattle.publisher_hub.proofs.Naming.{entry_next, none_at_all, none_more, number_inside, other_names, same_names}
+use Rattle.publisher_hub.proofs.PartialRounds.Next.{number_at, number_inside}
+use Rattle.publisher_hub.proofs.PartialRounds.Naming.{entry_next, none_at_all, none_more, other_names, same_names}
 use Rattle.publisher_hub.proofs.rounds.naming.has_name.Goals as goal
 use Rattle.publisher_hub.proofs.rounds.naming.has_name.Goals.{else-not-entry-via-then-not-entry+else-eq, else-not-entry-via-else-not-entry}
 
 pub offset_bounds-entries-number : goal.offset_bounds-entries-number
-offset_bounds-entries-number g c = let inside = number_inside g.F.Feed.meaning c.args.live.now c.args.entries.now c.loop-number.number-index c.requires.live c.loop-number-test.true in omega arith
+offset_bounds-entries-number g c = let inside = number_inside g.F.Feed.meaning c.args.live.now c.args.entries.now c.requires.live c.loop-number.number-index c.loop-number-test.true in omega arith
 
 pub bounds-entries-number : goal.bounds-entries-number
-bounds-entries-number g c = number_inside g.F.Feed.meaning c.args.live.now c.args.entries.now c.loop-number.number-index c.requires.live c.loop-number-test.true
+bounds-entries-number g c = number_inside g.F.Feed.meaning c.args.live.now c.args.entries.now c.requires.live c.loop-number.number-index c.loop-number-test.true
 
 pub returns-then-eq : goal.returns-then-eq
 returns-then-eq g c =

@@ -1,8 +1,8 @@
 -- Each of the live subscriptions that isn't retired is named once.
 use Rattle.std.proofs.Common.{◌≡◌, map, length, arith}
 use Rattle.publisher_hub.specs.Entry.{entry_of}
-use Rattle.publisher_hub.proofs.LiveRounds.{number_at}
-use Rattle.publisher_hub.proofs.Naming.{entry_next, named_all, named_less, named_more, named_none, number_inside}
+use Rattle.publisher_hub.proofs.PartialRounds.Next.{number_at, number_inside}
+use Rattle.publisher_hub.proofs.PartialRounds.Naming.{entry_next, named_all, named_less, named_more, named_none}
 use Rattle.publisher_hub.proofs.rounds.naming.names_of.Goals as goal
 use Rattle.publisher_hub.proofs.rounds.naming.names_of.Goals.{then-not-entry+in_ok-push, else-not-entry}
 
@@ -10,10 +10,10 @@ pub loop-number-init : goal.loop-number-init
 loop-number-init g c = rw c.new-names.ensures.items (named_none c.args.live.now (map (entry_of g.F.Feed.meaning) c.args.entries.now) c.requires.live)
 
 pub offset_bounds-entries-number : goal.offset_bounds-entries-number
-offset_bounds-entries-number g c = let inside = number_inside g.F.Feed.meaning c.args.live.now c.args.entries.now c.loop-number.number-index c.requires.live c.loop-number-test.true in omega arith
+offset_bounds-entries-number g c = let inside = number_inside g.F.Feed.meaning c.args.live.now c.args.entries.now c.requires.live c.loop-number.number-index c.loop-number-test.true in omega arith
 
 pub bounds-entries-number : goal.bounds-entries-number
-bounds-entries-number g c = number_inside g.F.Feed.meaning c.args.live.now c.args.entries.now c.loop-number.number-index c.requires.live c.loop-number-test.true
+bounds-entries-number g c = number_inside g.F.Feed.meaning c.args.live.now c.args.entries.now c.requires.live c.loop-number.number-index c.loop-number-test.true
 
 pub loop-number-preserved : goal.loop-number-preserved
 loop-number-preserved g c =

@@ -1,6 +1,6 @@
 use Rattle.std.specs.Prelude.{map}
 use Rattle.publisher_hub.specs.Entry.{entry_of}
-use Rattle.publisher_hub.proofs.Naming.{AreNamed}
+use Rattle.publisher_hub.proofs.PartialRounds.Naming.{AreNamed}
 use Rattle.publisher_hub.proofs.rounds.naming.names_of.Given as goal
 
 abbrev pub invariant-loop-number : goal.invariant-loop-number

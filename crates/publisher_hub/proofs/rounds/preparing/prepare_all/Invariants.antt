@@ -1,4 +1,4 @@
-use Rattle.publisher_hub.proofs.Preparing.{IsPreparing}
+use Rattle.publisher_hub.proofs.PartialRounds.Preparing.{IsPreparing}
 use Rattle.publisher_hub.proofs.rounds.preparing.prepare_all.Given as goal
 
 abbrev pub invariant-loop-number : goal.invariant-loop-number

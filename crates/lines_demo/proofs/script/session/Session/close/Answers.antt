@@ -36,7 +36,7 @@ invariant_of-self g c = (c.self.invariant.0, c.self.invariant.1, (looked g (goal
 pub returns-in_err-end : goal.returns-in_err-end
 returns-in_err-end g c =
     let failed = err_from_is_err_and c.from_residual.result c.from_residual.ensures.1 in
-    let why : c.in_err-end.field-0.0 ≡ Refusal.NoMemory = (let same = c.in_err-end.ensures.err in cc) in
+    let why : c.in_err-end.field-0.0 ≡ Refusal.NoMemory = (let same = c.in_err-end.ensures.refusals in cc) in
     rw (← c.self.view_is, failed.1, failed.2, why, (looked g (goal.at.returns-in_err-end g c).After-from_residual).state) (
     closing_no_memory c.args.ending (state_inside c.self.inside) (sym (c.is_some.ensures ∙ ap is_some c.ending.ensures) ∙ c.if-is_some.false))
 

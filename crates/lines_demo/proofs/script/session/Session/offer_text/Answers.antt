@@ -9,7 +9,7 @@ use Rattle.lines_demo.proofs.script.session.Session.offer_text.Goals as goal
 
 -- the text was refused
 refused : (g : Over) (c : goal.After-from_residual g) → OfferRefused c.self.inside.hub c.offer.new.self c.in_err-answer.field-0.0
-refused g c = offer_refused c.self.inside.hub c.offer.new.self c.in_err-answer.field-0.0 c.self.invariant.2.publisher c.in_err-answer.ensures.err
+refused g c = offer_refused c.self.inside.hub c.offer.new.self c.in_err-answer.field-0.0 c.self.invariant.2.publisher c.in_err-answer.ensures.refusals
 
 pub invariant_of-self : goal.invariant_of-self
 invariant_of-self g c =
@@ -18,8 +18,8 @@ invariant_of-self g c =
     let nothing : c.offer.new.due.items ≡ c.self.inside.due.items = c.in_err-answer.ensures.nothing_due in
     (c.self.invariant.0, c.self.invariant.1, same.session, subst (λ items. items ≡ []) (sym nothing) c.self.invariant.3)
 
-pub returns-in_err-answer-clause-err : goal.returns-in_err-answer-clause-err
-returns-in_err-answer-clause-err g c =
+pub returns-in_err-answer-clause-refusals : goal.returns-in_err-answer-clause-refusals
+returns-in_err-answer-clause-refusals g c =
     let failed = err_from_is_err_and c.from_residual.result c.from_residual.ensures.1 in
     rw (← c.self.view_is, failed.1, failed.2)
     (text_refused c.self.inside.hub c.offer.new.self (length c.self.inside.stock.items) c.self.inside.woken c.self.inside.has_begun c.self.invariant.2 c.in_err-answer.field-0.0 c.in_err-answer.ensures.sound (refused g c))

@@ -16,7 +16,7 @@ returns-in_default g c = publication_no_memory publication_refusal retried_reply
 pub returns-in_err-answer : goal.returns-in_err-answer
 returns-in_err-answer g c =
     let failed = err_from_is_err_and c.from_residual-in_err-answer.result c.from_residual-in_err-answer.ensures.1 in
-    rw (failed.1, failed.2) (replies_refused retried_reply c.args.self.now c.offer_text.new.self c.args.text.now c.in_ok-text.text c.in_err-answer.field-0.0 c.in_ok-text.ensures c.in_err-answer.ensures.err)
+    rw (failed.1, failed.2) (replies_refused retried_reply c.args.self.now c.offer_text.new.self c.args.text.now c.in_ok-text.text c.in_err-answer.field-0.0 c.in_ok-text.ensures c.in_err-answer.ensures.refusals)
 
 pub returns : goal.returns
 returns g c =

@@ -1,4 +1,4 @@
-use Rattle.std.proofs.Common.{◌≡◌, ◌<◌, length, inl, inr, refl, subst, arith}
+use Rattle.std.proofs.Common.{◌≡◌, ◌<◌, Err, ap, length, inl, inr, refl, subst, arith}
 use Rattle.std.proofs.lemmas.Result.{err_from_is_err_and}
 use Rattle.lines_demo.specs.Prelude.{Refusal}
 use Rattle.lines_demo.proofs.Replying.{above_0, cap_done, cap_late, cap_no_memory, cap_zero}
@@ -20,8 +20,8 @@ pub returns-in_err-self-inside : goal.returns-in_err-self-inside
 returns-in_err-self-inside g c =
     let failed = err_from_is_err_and c.from_residual-in_err-self-inside.result c.from_residual-in_err-self-inside.ensures.1 in
     let some : 0 < c.args.asked = above_0 c.args.asked (λ none. let odd = c.in_ok-enforced.ensures.refused.1 none in cc) in
-    let why : c.in_err-self-inside.field-0.0 ≡ Refusal.NoMemory = elim c.in_err-self-inside.ensures.other.1 [
-      | inl bad ↦ (let zero = c.in_err-self-inside.ensures.other.0 bad in absurd (omega arith))
+    let why : c.in_err-self-inside.field-0.0 ≡ Refusal.NoMemory = elim c.in_err-self-inside.ensures.refusals [
+      | inl bad ↦ (let zero = c.in_err-self-inside.ensures.bad_capacity.0 (ap Err bad) in absurd (omega arith))
       | inr memory ↦ memory
     ] in
     rw (← c.self.view_is, failed.1, failed.2, why) (cap_no_memory (state_inside c.self.inside) c.args.asked c.if-self.false some)

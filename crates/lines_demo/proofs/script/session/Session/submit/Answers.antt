@@ -59,7 +59,7 @@ returns-in-Ok g c =
 refused : (g : Over) (c : goal.In-Err-Refused g) → SubmitRefused c.self.inside.hub c.publish.new.self c.in-Err-Refused.refusal
 refused g c =
     submit_refused c.in_ok-text.text c.self.inside.hub c.publish.new.self c.in-Err-Refused.refusal c.self.invariant.2.publisher
-    (subst (λ why. RefusesItem end_of DoesCall c.in_ok-text.text c.self.inside.hub c.publish.new.self why) c.in-Err-Refused.field-0-is c.in-Err-Refused.ensures.err)
+    (subst (λ why. RefusesItem end_of DoesCall c.in_ok-text.text c.self.inside.hub c.publish.new.self why) c.in-Err-Refused.field-0-is c.in-Err-Refused.ensures.refusals)
 
 pub invariant_of-self-in-Err-Refused : goal.invariant_of-self-in-Err-Refused
 invariant_of-self-in-Err-Refused g c =
@@ -77,7 +77,7 @@ returns-in-Err-Refused g c =
 waits : (g : Over) (c : goal.In-Err-NoRoom g) → SubmitRefused c.self.inside.hub c.publish.new.self Refusal.WouldWait
 waits g c =
     submit_waits c.in_ok-text.text c.in-Err-NoRoom.field-0-0 c.self.inside.hub c.publish.new.self c.self.invariant.2.publisher
-    (subst (λ why. RefusesItem end_of DoesCall c.in_ok-text.text c.self.inside.hub c.publish.new.self why) c.in-Err-NoRoom.field-0-is c.in-Err-NoRoom.ensures.err)
+    (subst (λ why. RefusesItem end_of DoesCall c.in_ok-text.text c.self.inside.hub c.publish.new.self why) c.in-Err-NoRoom.field-0-is c.in-Err-NoRoom.ensures.refusals)
 
 pub invariant_of-self-in-Err-NoRoom : goal.invariant_of-self-in-Err-NoRoom
 invariant_of-self-in-Err-NoRoom g c =
@@ -89,6 +89,6 @@ invariant_of-self-in-Err-NoRoom g c =
 pub returns : goal.returns
 returns g c =
     let against = submit_waits c.in_ok-text.text c.in-Err-NoRoom.field-0-0 c.self.inside.hub c.publish.new.self c.self.invariant.2.publisher
-    (subst (λ why. RefusesItem end_of DoesCall c.in_ok-text.text c.self.inside.hub c.publish.new.self why) c.in-Err-NoRoom.field-0-is c.in-Err-NoRoom.ensures.err) in
+    (subst (λ why. RefusesItem end_of DoesCall c.in_ok-text.text c.self.inside.hub c.publish.new.self why) c.in-Err-NoRoom.field-0-is c.in-Err-NoRoom.ensures.refusals) in
     not_submitted_replies c.self.inside.hub c.publish.new.self (length c.self.inside.stock.items) c.self.inside.woken c.self.inside.has_begun c.self.invariant.2 c.args.text.now c.in_ok-text.text Refusal.WouldWait
     c.in_ok-text.ensures c.in-Err-NoRoom.ensures.sound against c.args.self.now c.self.view_is

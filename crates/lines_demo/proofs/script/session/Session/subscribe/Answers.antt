@@ -21,7 +21,7 @@ refused_then : (g : Over) (c : goal.After-push_all-arg-in-Err-1 g)
 refused_then g c =
     refused c.self.inside.hub (length c.self.inside.stock.items) c.self.inside.woken c.self.inside.has_begun c.args.name c.args.number c.self.invariant.2
     (ap (λ (s : SessionState). s.has_begun) c.self.view_is ∙ c.requires.begun) c.may_subscribe.new.self c.may_subscribe.new.due.items c.in-Err.refusal c.may_subscribe.ensures.sound
-    (subst (λ (d : List (Work Unit)). Refuses end_of DoesCall c.args.name c.in-Err.refusal d c.may_subscribe.new.due.items c.self.inside.hub c.may_subscribe.new.self) c.self.invariant.3 c.in-Err.ensures.err)
+    (subst (λ (d : List (Work Unit)). Refuses end_of DoesCall c.args.name c.in-Err.refusal d c.may_subscribe.new.due.items c.self.inside.hub c.may_subscribe.new.self) c.self.invariant.3 c.in-Err.ensures.refusals)
 
 pub push_all-requires : goal.push_all-requires
 push_all-requires g c = record { room = room_after (state_inside c.self.inside) c.args.name c.args.number (Refused c.in-Err.refusal) c.may_subscribe.new.self (length c.self.inside.stock.items) c.self.inside.woken c.may_subscribe.new.due.items (refused_then g c) }
@@ -32,7 +32,7 @@ refused_at_last : (g : Over) (c : goal.After-push_all g)
 refused_at_last g c = rw c.push_all.ensures.woken (
     refused c.self.inside.hub (length c.self.inside.stock.items) c.self.inside.woken c.self.inside.has_begun c.args.name c.args.number c.self.invariant.2
     (ap (λ (s : SessionState). s.has_begun) c.self.view_is ∙ c.requires.begun) c.may_subscribe.new.self c.may_subscribe.new.due.items c.in-Err.refusal c.may_subscribe.ensures.sound
-    (subst (λ (d : List (Work Unit)). Refuses end_of DoesCall c.args.name c.in-Err.refusal d c.may_subscribe.new.due.items c.self.inside.hub c.may_subscribe.new.self) c.self.invariant.3 c.in-Err.ensures.err))
+    (subst (λ (d : List (Work Unit)). Refuses end_of DoesCall c.args.name c.in-Err.refusal d c.may_subscribe.new.due.items c.self.inside.hub c.may_subscribe.new.self) c.self.invariant.3 c.in-Err.ensures.refusals))
 
 pub invariant_of-self : goal.invariant_of-self
 invariant_of-self g c = (c.self.invariant.0, c.self.invariant.1, (refused_at_last g c).session, c.push_all.ensures.nothing_due)
@@ -120,7 +120,7 @@ no_buffer g c =
 pub invariant_of-self-in-Err-new_desk : goal.invariant_of-self-in-Err-new_desk
 invariant_of-self-in-Err-new_desk g c =
     let back = λ (P : g.row.B.Denot → Type 0).
-    all_back P c.in-Some.subscriber c.in-Err-new_desk.subscriber c.self.inside.stock.items c.pop_front.new.self.items c.push_back_reserved.new.self.items c.in-Some.ensures.items c.in-Err-new_desk.ensures.err c.push_back_reserved.ensures.items in (
+    all_back P c.in-Some.subscriber c.in-Err-new_desk.subscriber c.self.inside.stock.items c.pop_front.new.self.items c.push_back_reserved.new.self.items c.in-Some.ensures.items c.in-Err-new_desk.ensures.back c.push_back_reserved.ensures.items in (
       back (λ b. g.B.Listener.told b ≡ []) c.self.invariant.0,
       back (λ b. g.B.Listener.is_steady b ≡ true) c.self.invariant.1,
       (no_buffer g c).session,

@@ -9,12 +9,12 @@ use Rattle.lines_demo.proofs.threads.input.Input.read.Goals as goal
 pub returns-in_err-publications : goal.returns-in_err-publications
 returns-in_err-publications c =
     let failed = err_from_is_err_and c.from_residual.result c.from_residual.ensures.1 in
-    rw (failed.1, failed.2) (line_refused c.args.plan.now c.args.bytes.now c.in_err-publications.field-0.0 c.in_err-publications.ensures.err)
+    rw (failed.1, failed.2) (line_refused c.args.plan.now c.args.bytes.now c.in_err-publications.field-0.0 c.in_err-publications.ensures.refusals)
 
 pub returns-in_err-sources : goal.returns-in_err-sources
 returns-in_err-sources c =
     let failed = err_from_is_err_and c.from_residual-in_err-sources.result c.from_residual-in_err-sources.ensures.1 in
-    let refused = rw c.as_slice.ensures.value at c.in_err-sources.ensures.err in
+    let refused = rw c.as_slice.ensures.value at c.in_err-sources.ensures.refusals in
     rw (failed.1, failed.2) (sources_refused c.args.plan.now c.args.bytes.now c.in_ok-publications.publications.items c.in_err-sources.field-0.0 c.in_ok-publications.ensures.ok refused)
 
 pub returns-then-would_block : goal.returns-then-would_block

@@ -1,0 +1,4 @@
+-- Lists of subscriptions and of what they answered.
+pub mod Gathering
+pub mod Places
+pub mod Updates
