@@ -56,7 +56,8 @@ impl<J: Drop> Crew<J> {
         ensures open { IfOk result (λ made. made.0.shut ≡ false) }
         ensures placed { IfOk result (λ made. AreThievesOf made.0.queues.items made.1.items) }
         ensures thieves { IfOk result (λ made. vec_len made.1 ≡ workers) }
-        ensures nobody { IfOk result (λ made. (made.0.sleepers.asleep ≡ 0) × (made.0.sleepers.called ≡ 0)) }
+        ensures nobody { IfOk result (λ made. (made.0.sleepers.asleep ≡ 0)
+            × (made.0.sleepers.called ≡ 0)) }
     {
         let (queues, thieves) = new_queues(alloc, workers)?;
         let crew = Crew {
@@ -106,7 +107,8 @@ impl<J: Drop> Crew<J> {
     pub fn lie_down(&mut self, searched: &Searched<J>) -> Sleeper
         requires open { self.old.shut ≡ false }
         requires searched { searched.now.at.value ≡ self.old }
-        ensures asleep { self.new.sleepers.asleep ≡ min (self.old.sleepers.asleep + 1) 18446744073709551615 }
+        ensures asleep { self.new.sleepers.asleep
+            ≡ min (self.old.sleepers.asleep + 1) 18446744073709551615 }
         ensures called { self.new.sleepers.called ≡ self.old.sleepers.called }
         ensures others { self.new ≡ record self.old { sleepers = self.new.sleepers } }
     {
@@ -147,7 +149,8 @@ fn new_queues<J: Drop>(
     workers: usize,
 ) -> Result<(Vec<Option<Queue<J>>>, Vec<Thief<J>>), AllocError>
     ensures placed { IfOk result (λ made. AreThievesOf made.0.items made.1.items) }
-    ensures one_each { IfOk result (λ made. (vec_len made.0 ≡ workers) × (vec_len made.1 ≡ workers)) }
+    ensures one_each { IfOk result (λ made. (vec_len made.0 ≡ workers)
+        × (vec_len made.1 ≡ workers)) }
 {
     let mut queues = Vec::with_capacity(alloc, MOST_WORKERS)?;
     let mut thieves = Vec::with_capacity(alloc, workers)?;
@@ -165,7 +168,8 @@ fn with_places<J: Drop>(
 ) -> Result<Vec<Option<Queue<J>>>, AllocError>
     requires { vec_len queues ≤ MOST_WORKERS }
     ensures all { IfOk result (λ places. vec_len places ≡ MOST_WORKERS) }
-    ensures empty { IfOk result (λ places. places.items ≡ queues.items ++ replicate (MOST_WORKERS - vec_len queues) None) }
+    ensures empty { IfOk result (λ places. places.items
+        ≡ queues.items ++ replicate (MOST_WORKERS - vec_len queues) None) }
 {
     while queues.len() < MOST_WORKERS {
         queues.push(None)?;

@@ -29,7 +29,8 @@ impl<J: Drop> Jobs<J> {
     /// Puts a job into the inbox, behind all others there, and answers with the pass that put it. The job comes back if
     /// the inbox was full at one moment of the call.
     pub fn enqueue<R: Wait>(&self, rt: &R, job: J) -> Result<InboxPass<J>, J>
-        ensures put { IfOk result (λ pass. IsPassOf self.now.inbox.queue pass × (view pass ≡ log (job ∷ []) [])) }
+        ensures put { IfOk result (λ pass. IsPassOf self.now.inbox.queue pass
+            × (view pass ≡ log (job ∷ []) [])) }
         ensures same_job { IfErr result (λ back. back ≡ job) }
         ensures full { OnErr result (Held CAPACITY (Moment (log {J = J} [] []))) }
     {
@@ -90,7 +91,8 @@ impl<J: Drop> Jobs<J> {
         ensures of { IsPassOf self.now.inbox.queue result }
         ensures put { (view result).put ≡ [] }
         ensures inbox { (vec_capacity left.new ≤ vec_len left.new) ⊎ Held 0 (Moment (view result)) }
-        ensures queues { Drains (vec_len self.now.thieves) (left.old.items ++ (view result).taken) left.new }
+        ensures queues { Drains (vec_len self.now.thieves) (left.old.items ++ (view result).taken)
+            left.new }
         ensures room { vec_capacity left.new ≡ vec_capacity left.old }
     {
         let pass = self.inbox.drain_into(rt, left);

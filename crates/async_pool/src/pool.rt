@@ -62,7 +62,8 @@ impl<J: Job> Pool<J> {
     pub fn new(alloc: Global, workers: usize) -> Result<Pool<J>, Refusal>
         ensures workers { IfOk result (λ pool. pool_workers pool ≡ workers) }
         ensures bad_workers { (result ≡ Err Refusal.BadWorkers) ↔ (¬ IsWorkerCount workers) }
-        ensures refusals { IfErr result (λ refusal. (refusal ≡ Refusal.BadWorkers) ⊎ (refusal ≡ Refusal.NoMemory)) }
+        ensures refusals { IfErr result (λ refusal. (refusal ≡ Refusal.BadWorkers)
+            ⊎ (refusal ≡ Refusal.NoMemory)) }
     {
         if workers == 0 || workers > MOST_WORKERS {
             return Err(Refusal::BadWorkers);

@@ -53,7 +53,8 @@ impl<J: Drop> Queue<J> {
 
     /// Takes the first job, if there is one.
     pub fn pop(&mut self) -> Option<J>
-        ensures first { IfSome result (λ job. queue_view self.new ≡ after_take (queue_view self.old) job) }
+        ensures first { IfSome result (λ job. queue_view self.new
+            ≡ after_take (queue_view self.old) job) }
         ensures none { IfNone result (queue_view self.new ≡ queue_view self.old) }
         ensures empty { IfNone result (Moment (queue_view self.old) []) }
         ensures same_queue { IsSameQueue self.old self.new }

@@ -43,7 +43,8 @@ pub fn run_bus<
 ) -> Result<Outcome<B>, (Refusal, Option<Outcome<B>>)>
     requires publications { IsBlankOf publications L.name L.parts }
     requires drops { IsBlankOf drops D.name D.parts }
-    requires untold { (B.told bus.file ≡ []) × ((B.told bus.counter ≡ []) × (B.told bus.slow ≡ [])) }
+    requires untold { (B.told bus.file ≡ [])
+        × ((B.told bus.counter ≡ []) × (B.told bus.slow ≡ [])) }
 {
     let made = Publisher::with_options(rt, alloc, publications, drops, options);
     let publisher: Publisher<L, D, B> = match made {
@@ -80,7 +81,8 @@ fn publish_on<
     bus: Bus<B>,
     handed_in: &mut HandedIn<L, D, B>,
 ) -> Result<(), Refusal>
-    requires untold { (B.told bus.file ≡ []) × ((B.told bus.counter ≡ []) × (B.told bus.slow ≡ [])) }
+    requires untold { (B.told bus.file ≡ [])
+        × ((B.told bus.counter ≡ []) × (B.told bus.slow ≡ [])) }
 {
     let Bus {
         file,
@@ -137,11 +139,7 @@ fn publish_each<
     D: Ledger + Send + Sync + 'static,
     B: Listener + Send + 'static,
     R: Threads + Wait + Sync,
->(
-    rt: &R,
-    alloc: Global,
-    submitters: &mut [Submitter<L, D, B>],
-) {
+>(rt: &R, alloc: Global, submitters: &mut [Submitter<L, D, B>]) {
     let publish = |source: usize, submitter: &mut Submitter<L, D, B>| {
         publish_lines(rt, alloc, source, submitter)
     };

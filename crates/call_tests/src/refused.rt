@@ -16,13 +16,21 @@ impl<B: Listener> Model for Refused<B> {
 
     ghost Value = { Refusing };
 
-    ghost view = { λ r. record { told = B.told r.listener; is_steady = B.is_steady r.listener; callbacks_before = r.callbacks_before } };
+    ghost view = { λ r. record {
+      told = B.told r.listener;
+      is_steady = B.is_steady r.listener;
+      callbacks_before = r.callbacks_before;
+    } };
 }
 
 impl<B: Listener> Refused<B> {
     /// One that is refused memory after so many callbacks.
     pub fn after(listener: B, callbacks: u32) -> Refused<B>
-        ensures { result ≡ record { told = B.told listener; is_steady = B.is_steady listener; callbacks_before = callbacks } }
+        ensures { result ≡ record {
+          told = B.told listener;
+          is_steady = B.is_steady listener;
+          callbacks_before = callbacks;
+        } }
     {
         Refused {
             listener,

@@ -40,7 +40,8 @@ pub fn none_open(spent: Spent, opening: Opening)
 
 /// Of an opening and all tickets that it made, each of them spent, exactly one was the last.
 pub fn one_of_all_is_last(opening: Spent, tickets: Vec<Spent>)
-    requires same_count { All (λ ticket. count_of_spent ticket ≡ count_of_spent opening) tickets.items }
+    requires same_count { All (λ ticket. count_of_spent ticket ≡ count_of_spent opening)
+        tickets.items }
     requires all { total_of_spent opening ≡ length (opening ∷ tickets.items) }
     ensures { count_by was_last (opening ∷ tickets.items) ≡ 1 }
 {
@@ -55,7 +56,8 @@ pub fn one_of_all_is_last(opening: Spent, tickets: Vec<Spent>)
 
 /// What two seats of one table can know together.
 fn compare(counter: Arc<Counter, Global>, mut seat: Seat<(), View>, other: Seat<(), View>)
-    requires table { (seat.table_id ≡ (arc_value counter).shared.table_id) × ((arc_value counter).shared.table_id.words ≡ 1) }
+    requires table { (seat.table_id ≡ (arc_value counter).shared.table_id)
+        × ((arc_value counter).shared.table_id.words ≡ 1) }
     requires other { (other.table_id ≡ seat.table_id) × (other.me.1 ≡ []) }
     ensures { (seat.me.0.last + other.me.0.last) + min 1 (seat.me.0.held + other.me.0.held) ≤ 1 }
 {

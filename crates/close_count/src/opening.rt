@@ -44,11 +44,14 @@ impl Opening {
     /// `Exhausted` once [`MOST_TICKETS`](crate::MOST_TICKETS) were made, and else `NoMemory` where one more owner of the shared
     /// count is refused. After either the opening is as it was.
     pub fn add(&mut self) -> Result<Ticket, Refusal>
-        ensures ticket { IfOk result (λ ticket. count_of_ticket ticket ≡ count_of_opening self.old) }
+        ensures ticket { IfOk result (λ ticket. count_of_ticket ticket
+            ≡ count_of_opening self.old) }
         ensures made { OnOk result (tickets_made self.new ≡ tickets_made self.old + 1) }
         ensures same_count { count_of_opening self.new ≡ count_of_opening self.old }
-        ensures exhausted { (result ≡ Err Refusal.Exhausted) ↔ (tickets_made self.old ≡ MOST_TICKETS) }
-        ensures refusals { IfErr result (λ refusal. (refusal ≡ Refusal.Exhausted) ⊎ (refusal ≡ Refusal.NoMemory)) }
+        ensures exhausted { (result ≡ Err Refusal.Exhausted)
+            ↔ (tickets_made self.old ≡ MOST_TICKETS) }
+        ensures refusals { IfErr result (λ refusal. (refusal ≡ Refusal.Exhausted)
+            ⊎ (refusal ≡ Refusal.NoMemory)) }
         ensures unchanged { OnErr result (self.new ≡ self.old) }
     {
         if self.made == MOST_TICKETS {

@@ -36,8 +36,10 @@ impl Spent {
 
     /// Spends the ticket of a seat.
     pub(crate) fn of_seat(counter: Arc<Counter, Global>, mut seat: Seat<(), View>) -> Spent
-        requires table { (seat.table_id ≡ (arc_value counter).shared.table_id) × ((arc_value counter).shared.table_id.words ≡ 1) }
-        requires ticket { (1 ≤ seat.me.0.held) × (seat.me.0.earlier ≡ 0) × (seat.me.0.last ≡ 0) × (seat.me.1 ≡ []) }
+        requires table { (seat.table_id ≡ (arc_value counter).shared.table_id)
+            × ((arc_value counter).shared.table_id.words ≡ 1) }
+        requires ticket { (1 ≤ seat.me.0.held) × (seat.me.0.earlier ≡ 0) × (seat.me.0.last ≡ 0)
+            × (seat.me.1 ≡ []) }
         requires maker { 1 ≤ seat.me.0.made → HasAllRoom seat.me.0 }
         ensures count { count_of_spent result ≡ seat.table_id }
         ensures total { total_of_spent result ≡ seat.me.0.made }

@@ -53,7 +53,8 @@ impl Collector {
     /// Keeps one more signal, and answers `Request(n)` to `onSubscribe` where it asks for n items, and `Go` otherwise. Where the
     /// growth is refused, it keeps nothing.
     fn hear(&mut self, signal: Signal) -> Result<Answer, NoMemory>
-        ensures ok { OnOk result (self.new ≡ record self.old { told = self.old.told ++ signal ∷ [] }) }
+        ensures ok { OnOk result (self.new ≡ record self.old
+            { told = self.old.told ++ signal ∷ [] }) }
         ensures answer { IfOk result (λ answer. answer ≡ answer_to signal self.old.requests) }
         ensures err { OnErr result (self.new ≡ self.old) }
     {

@@ -39,7 +39,8 @@ impl<W: Write> Model for Printer<W> {
       has_failed = p.has_failed;
     } };
 
-    ghost invariant = { λ p. IsPrinted p.told (contents_of p.before.numbers) (W.contents p.writer) p.has_failed };
+    ghost invariant = { λ p. IsPrinted p.told (contents_of p.before.numbers) (W.contents p.writer)
+        p.has_failed };
 }
 
 /// Reads off a writer what it holds.
@@ -148,7 +149,8 @@ impl<W: Write + Send + Drop> Listener for Printer<W> {
 
 /// Writes a text on a line of its own, and answers whether that failed.
 fn fails_to_print<W: Write>(writer: &mut W, text: &Text) -> bool
-    ensures { result ≡ false → Appends (W.contents writer.old) (W.contents writer.new) (text.now ++ 10 ∷ []) }
+    ensures { result ≡ false → Appends (W.contents writer.old) (W.contents writer.new)
+        (text.now ++ 10 ∷ []) }
 {
     writer.write_all(text.as_bytes()).is_err() || writer.write_all(b"\n").is_err()
 }

@@ -69,7 +69,8 @@ impl<L: Ledger + Send, D: Ledger + Send, B: Listener + Send> Caller<L, D, B> {
         due: &mut Vec<Work<Task<B>>>,
     ) -> Result<u64, Unpublished>
         ensures reasons { IfErr result (λ why. IsHubReason why) }
-        ensures one_more { OnOk result (own.new.publications.amount ≡ own.old.publications.amount + 1) }
+        ensures one_more { OnOk result (own.new.publications.amount
+            ≡ own.old.publications.amount + 1) }
         ensures none { OnErr result (own.new.publications.amount ≡ own.old.publications.amount) }
         ensures source { own.new.source ≡ own.old.source }
         ensures drops { own.new.drops.amount ≡ own.old.drops.amount }
@@ -89,9 +90,11 @@ impl<L: Ledger + Send, D: Ledger + Send, B: Listener + Send> Caller<L, D, B> {
         due: &mut Vec<Work<Task<B>>>,
     ) -> Result<i64, Refusal>
         ensures reasons { IfErr result (λ refusal. IsHubRefusal refusal) }
-        ensures one_more { OnOk result (own.new.publications.amount ≡ own.old.publications.amount + 1) }
+        ensures one_more { OnOk result (own.new.publications.amount
+            ≡ own.old.publications.amount + 1) }
         ensures none { OnErr result (own.new.publications.amount ≡ own.old.publications.amount) }
-        ensures dropped { IfOk result (λ answer. own.new.drops.amount ≡ own.old.drops.amount + drop_of answer) }
+        ensures dropped { IfOk result (λ answer. own.new.drops.amount
+            ≡ own.old.drops.amount + drop_of answer) }
         ensures none_dropped { OnErr result (own.new.drops.amount ≡ own.old.drops.amount) }
         ensures source { own.new.source ≡ own.old.source }
     {

@@ -52,13 +52,15 @@ mod the_end;
 pub use async_pool::MOST_WORKERS;
 pub use feed_core::Lane;
 pub use flow_rules::{
-    DropHandler, Ending, Fault, How, LARGEST_CAPACITY, Listener, Name, NoMemory, Refusal, Text,
+    DropHandler, Ending, Fault, How, LARGEST_CAPACITY, Listener, MOST_PUBLICATIONS, Name, NoMemory,
+    Refusal, Text,
 };
 pub use handed_in::HandedIn;
 pub use note::Note;
 pub use options::PublisherOptions;
 pub use outcome::{NamedLane, Outcome};
 pub use publisher::Publisher;
+pub use publisher_hub::{MOST_ENTRIES, MOST_LIVE, MOST_SOURCES};
 pub use state::PARTS;
 pub use submitter::Submitter;
 pub use subscription::Subscription;

@@ -50,7 +50,13 @@ impl<L: Ledger + Send, D: Ledger + Send, B: Listener + Send> Model for Submitter
 
     ghost invariant = { λ s. s.note.cell ≡ cell_name (arc_value s.closing) };
 
-    ghost view = { λ s. record { source = s.own.source; closing = s.note.cell; known = s.note.known; published = s.own.publications.amount; dropping = s.own.drops.amount } };
+    ghost view = { λ s. record {
+      source = s.own.source;
+      closing = s.note.cell;
+      known = s.note.known;
+      published = s.own.publications.amount;
+      dropping = s.own.drops.amount;
+    } };
 }
 
 impl<L: Ledger + Send, D: Ledger + Send, B: Listener + Send> Submitter<L, D, B> {
@@ -63,7 +69,13 @@ impl<L: Ledger + Send, D: Ledger + Send, B: Listener + Send> Submitter<L, D, B> 
         note: Note,
     ) -> Submitter<L, D, B>
         requires { note.cell ≡ cell_name (arc_value closing) }
-        ensures { result ≡ record { source = own.source; closing = note.cell; known = note.known; published = own.publications.amount; dropping = own.drops.amount } }
+        ensures { result ≡ record {
+          source = own.source;
+          closing = note.cell;
+          known = note.known;
+          published = own.publications.amount;
+          dropping = own.drops.amount;
+        } }
     {
         Submitter {
             caller,
@@ -80,9 +92,12 @@ impl<L: Ledger + Send, D: Ledger + Send, B: Listener + Send> Submitter<L, D, B> 
     /// Refused 2 if it knows of the close; 6 if the text has more than [`Text::LONGEST`] bytes; 5 if a growth is refused; 2 if the
     /// publisher is closed, and from then on it knows; and 13 once as many publications were made as may be.
     pub fn submit<R: Wait>(&mut self, rt: &R, alloc: Global, text: &[u8]) -> Result<u64, Refusal>
-        ensures known { IfSome self.old.known (λ ending. (result ≡ Err (Refusal.Closed ending)) × (self.new ≡ self.old)) }
-        ensures long { self.old.known ≡ None → (result ≡ Err Refusal.LineTooLong) ↔ (LONGEST < length text.now) }
-        ensures ok { OnOk result (self.new ≡ record self.old { published = self.old.published + 1 }) }
+        ensures known { IfSome self.old.known
+            (λ ending. (result ≡ Err (Refusal.Closed ending)) × (self.new ≡ self.old)) }
+        ensures long { self.old.known ≡ None → (result ≡ Err Refusal.LineTooLong)
+            ↔ (LONGEST < length text.now) }
+        ensures ok { OnOk result (self.new ≡ record self.old
+            { published = self.old.published + 1 }) }
         ensures err { IfErr result (λ refusal. self.new ≡ told_by refusal self.old) }
         ensures refusals { IfErr result (λ refusal. RefusesPublication refusal self.new.known) }
     {
@@ -109,9 +124,16 @@ impl<L: Ledger + Send, D: Ledger + Send, B: Listener + Send> Submitter<L, D, B> 
         text: &[u8],
         handler: Option<&mut Box<dyn DropHandler>>,
     ) -> Result<i64, Refusal>
-        ensures known { IfSome self.old.known (λ ending. (result ≡ Err (Refusal.Closed ending)) × (self.new ≡ self.old)) }
-        ensures long { self.old.known ≡ None → (result ≡ Err Refusal.LineTooLong) ↔ (LONGEST < length text.now) }
-        ensures ok { IfOk result (λ answer. self.new ≡ record self.old { published = self.old.published + 1; dropping = self.old.dropping + drop_of answer }) }
+        ensures known { IfSome self.old.known
+            (λ ending. (result ≡ Err (Refusal.Closed ending)) × (self.new ≡ self.old)) }
+        ensures long { self.old.known ≡ None → (result ≡ Err Refusal.LineTooLong)
+            ↔ (LONGEST < length text.now) }
+        ensures ok { IfOk result (λ answer. self.new
+            ≡ record self.old {
+              published = self.old.published + 1;
+              dropping = self.old.dropping
+                  + drop_of answer;
+            }) }
         ensures err { IfErr result (λ refusal. self.new ≡ told_by refusal self.old) }
         ensures refusals { IfErr result (λ refusal. RefusesPublication refusal self.new.known) }
     {
@@ -128,9 +150,16 @@ impl<L: Ledger + Send, D: Ledger + Send, B: Listener + Send> Submitter<L, D, B> 
         text: &[u8],
         handler: &mut H,
     ) -> Result<i64, Refusal>
-        ensures known { IfSome self.old.known (λ ending. (result ≡ Err (Refusal.Closed ending)) × (self.new ≡ self.old)) }
-        ensures long { self.old.known ≡ None → (result ≡ Err Refusal.LineTooLong) ↔ (LONGEST < length text.now) }
-        ensures ok { IfOk result (λ answer. self.new ≡ record self.old { published = self.old.published + 1; dropping = self.old.dropping + drop_of answer }) }
+        ensures known { IfSome self.old.known
+            (λ ending. (result ≡ Err (Refusal.Closed ending)) × (self.new ≡ self.old)) }
+        ensures long { self.old.known ≡ None → (result ≡ Err Refusal.LineTooLong)
+            ↔ (LONGEST < length text.now) }
+        ensures ok { IfOk result (λ answer. self.new
+            ≡ record self.old {
+              published = self.old.published + 1;
+              dropping = self.old.dropping
+                  + drop_of answer;
+            }) }
         ensures err { IfErr result (λ refusal. self.new ≡ told_by refusal self.old) }
         ensures refusals { IfErr result (λ refusal. RefusesPublication refusal self.new.known) }
     {
@@ -145,9 +174,16 @@ impl<L: Ledger + Send, D: Ledger + Send, B: Listener + Send> Submitter<L, D, B> 
         text: &[u8],
         handler: Option<&mut H>,
     ) -> Result<i64, Refusal>
-        ensures known { IfSome self.old.known (λ ending. (result ≡ Err (Refusal.Closed ending)) × (self.new ≡ self.old)) }
-        ensures long { self.old.known ≡ None → (result ≡ Err Refusal.LineTooLong) ↔ (LONGEST < length text.now) }
-        ensures ok { IfOk result (λ answer. self.new ≡ record self.old { published = self.old.published + 1; dropping = self.old.dropping + drop_of answer }) }
+        ensures known { IfSome self.old.known
+            (λ ending. (result ≡ Err (Refusal.Closed ending)) × (self.new ≡ self.old)) }
+        ensures long { self.old.known ≡ None → (result ≡ Err Refusal.LineTooLong)
+            ↔ (LONGEST < length text.now) }
+        ensures ok { IfOk result (λ answer. self.new
+            ≡ record self.old {
+              published = self.old.published + 1;
+              dropping = self.old.dropping
+                  + drop_of answer;
+            }) }
         ensures err { IfErr result (λ refusal. self.new ≡ told_by refusal self.old) }
         ensures refusals { IfErr result (λ refusal. RefusesPublication refusal self.new.known) }
     {
@@ -171,7 +207,8 @@ impl<L: Ledger + Send, D: Ledger + Send, B: Listener + Send> Submitter<L, D, B> 
         ensures fits { OnOk result (length text.now ≤ LONGEST) }
         ensures text { IfOk result (λ it. it ≡ text.now) }
         ensures known { IfSome self.old.known (λ ending. result ≡ Err (Refusal.Closed ending)) }
-        ensures long { self.old.known ≡ None → (result ≡ Err Refusal.LineTooLong) ↔ (LONGEST < length text.now) }
+        ensures long { self.old.known ≡ None → (result ≡ Err Refusal.LineTooLong)
+            ↔ (LONGEST < length text.now) }
         ensures err { IfErr result (λ refusal. self.new ≡ told_by refusal self.old) }
         ensures refusals { IfErr result (λ refusal. RefusesPublication refusal self.new.known) }
     {
@@ -186,7 +223,8 @@ impl<L: Ledger + Send, D: Ledger + Send, B: Listener + Send> Submitter<L, D, B> 
 
     /// Publishes a text, and waits as long as there is no room.
     fn publish<R: Wait>(&mut self, rt: &R, text: Text) -> Result<u64, Refusal>
-        ensures ok { OnOk result (self.new ≡ record self.old { published = self.old.published + 1 }) }
+        ensures ok { OnOk result (self.new ≡ record self.old
+            { published = self.old.published + 1 }) }
         ensures err { OnErr result (self.new ≡ self.old) }
         ensures reasons { IfErr result (λ refusal. IsHubRefusal refusal) }
     {

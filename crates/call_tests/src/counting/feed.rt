@@ -33,7 +33,8 @@ impl Counting {
     /// Looks before a put. One that is refused the place of an item has ended.
     fn look(&mut self)
         ensures looked { Looked (end_of_counting self.old) (end_of_counting self.new) }
-        ensures place { self.new.over ≡ false → vec_len self.new.accepted < vec_capacity self.new.accepted }
+        ensures place { self.new.over ≡ false
+            → vec_len self.new.accepted < vec_capacity self.new.accepted }
     {
         self.looks.add_one();
         if self.puts == self.frees_at {
@@ -47,7 +48,8 @@ impl Counting {
     /// Takes an item, where there is room.
     fn take(&mut self, item: Item) -> Put<()>
         requires unclosed { self.old.closing ≡ None }
-        requires place { self.old.over ≡ false → vec_len self.old.accepted < vec_capacity self.old.accepted }
+        requires place { self.old.over ≡ false
+            → vec_len self.old.accepted < vec_capacity self.old.accepted }
         ensures { Answers (end_of_counting self.old) item result (end_of_counting self.new) }
     {
         if self.over {

@@ -30,7 +30,8 @@ pub fn answers<B: Listener>(
     desk: &mut Desk<B>,
     row: Row<'_>,
 ) -> Result<bool, NoMemory>
-    ensures fits { IfOk result (λ is_answered. is_answered ≡ true → Fits row.entry desk.old desk.new) }
+    ensures fits { IfOk result (λ is_answered. is_answered ≡ true
+        → Fits row.entry desk.old desk.new) }
     ensures flow { IsFlow desk.new.lane }
     ensures err { OnErr result (desk.new ≡ desk.old) }
 {
@@ -72,7 +73,8 @@ fn is_accepted<B: Listener>(
     letter: u8,
     want: (u64, bool),
 ) -> Result<bool, NoMemory>
-    ensures fits { IfOk result (λ is_answered. is_answered ≡ true → Fits (Row.Accepted letter want.0 want.1) desk.old desk.new) }
+    ensures fits { IfOk result (λ is_answered. is_answered ≡ true
+        → Fits (Row.Accepted letter want.0 want.1) desk.old desk.new) }
     ensures flow { IsFlow desk.old.lane → IsFlow desk.new.lane }
     ensures err { OnErr result (desk.new ≡ desk.old) }
 {
@@ -95,8 +97,10 @@ fn comes_back<B: Listener>(
     letter: u8,
     from_gone: bool,
 ) -> Result<bool, NoMemory>
-    ensures full { IfOk result (λ is_answered. is_answered ≡ true → from_gone ≡ false → Fits (Row.Full letter) desk.old desk.new) }
-    ensures gone { IfOk result (λ is_answered. is_answered ≡ true → from_gone ≡ true → Fits (Row.Gone letter) desk.old desk.new) }
+    ensures full { IfOk result (λ is_answered. is_answered ≡ true → from_gone ≡ false
+        → Fits (Row.Full letter) desk.old desk.new) }
+    ensures gone { IfOk result (λ is_answered. is_answered ≡ true → from_gone ≡ true
+        → Fits (Row.Gone letter) desk.old desk.new) }
     ensures flow { IsFlow desk.old.lane → IsFlow desk.new.lane }
     ensures err { OnErr result (desk.new ≡ desk.old) }
 {

@@ -52,7 +52,8 @@ pub(crate) fn signal<B: Listener>(party: &mut Seated<B>, mask: u64) -> Option<Ce
 /// Hands the task over that the signal that found this word has started, if it has.
 fn hand_over<B: Listener>(party: &mut Seated<B>, found: u64) -> Option<CellSeat<B>>
     requires hands { bit_at found RUNNING ≡ 0 → MustHandOver party.old.seat.me.0 }
-    ensures handed { StepsTo party.old.seat (IsHanded found result party.old.seat.me) party.new.seat }
+    ensures handed { StepsTo party.old.seat (IsHanded found result party.old.seat.me)
+        party.new.seat }
     ensures starts { IfSome result (IsReadySeat party.old.seat.table_id party.old.capacity) }
 {
     let table = &party.table.shared;

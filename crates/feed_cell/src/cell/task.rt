@@ -76,5 +76,10 @@ impl<B: Listener> Model for Spent<B> {
 
     ghost Value = { SpentState };
 
-    ghost view = { λ s. record { table = s.seat.table_id; seat = s.seat.id; knows = known_by_task s.seat.me.0 } };
+    ghost view = { λ s. record {
+      table = s.seat.table_id;
+      seat = s.seat.id;
+      knows = known_by_task
+          s.seat.me.0;
+    } };
 }

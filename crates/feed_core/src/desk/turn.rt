@@ -24,16 +24,21 @@ impl<B: Listener> Desk<B> {
         requires owed { Owes self.old }
 
         // What it tells, and what it changes: the lane as its callbacks came back, the mark of the task, and nothing else.
-        ensures turned { (replies : List Reply) × TurnsAs self.old self.new seen.new.signals result replies }
+        ensures turned { (replies : List Reply)
+            × TurnsAs self.old self.new seen.new.signals result replies }
 
         // On a subscriber that only goes on: the plain turn, and the lane by what was told of that.
-        ensures plain { self.old.is_steady ≡ true → MeetsPlainTurn (plain_turn_of self.old.lane) seen.new.signals result }
-        ensures after { self.old.is_steady ≡ true → self.new ≡ desk_after_turn self.old seen.new.signals result }
+        ensures plain { self.old.is_steady ≡ true
+            → MeetsPlainTurn (plain_turn_of self.old.lane) seen.new.signals result }
+        ensures after { self.old.is_steady ≡ true
+            → self.new ≡ desk_after_turn self.old seen.new.signals result }
 
         // The Flow rules: the next items that were accepted, in order, none where something ends the subscription at once; a demand
         // that only grows; and the lane as a whole.
-        ensures in_order { IsPrefix (items_of seen.new.signals) (drop self.old.lane.given self.old.lane.accepted) }
-        ensures stopped { IsSome (stops self.old.lane.causes) → self.new.lane.given ≡ self.old.lane.given }
+        ensures in_order { IsPrefix (items_of seen.new.signals)
+            (drop self.old.lane.given self.old.lane.accepted) }
+        ensures stopped { IsSome (stops self.old.lane.causes)
+            → self.new.lane.given ≡ self.old.lane.given }
         ensures demand { self.old.lane.asked ≤ self.new.lane.asked }
         ensures flow { IsFlow self.new.lane }
 
@@ -45,7 +50,8 @@ impl<B: Listener> Desk<B> {
         // What it answers.
         ensures again { result ≡ Again → length (items_of seen.new.signals) ≡ ITEMS_IN_A_TURN }
         ensures completed { EndsIn seen.new.signals Complete ↔ (result ≡ Ended How.Completed) }
-        ensures errored { (fault : Fault) → EndsIn seen.new.signals (Error fault) ↔ (result ≡ Ended (How.Errored fault)) }
+        ensures errored { (fault : Fault) → EndsIn seen.new.signals (Error fault)
+            ↔ (result ≡ Ended (How.Errored fault)) }
     {
         seen.clear();
         match self.greet(seen) {
@@ -140,8 +146,10 @@ impl<B: Listener> Desk<B> {
     fn rest(&mut self) -> Outlook
         requires mid_turn { IsMidTurn self.old }
         requires unstopped { stops self.old.lane.causes ≡ None }
-        requires all_given { self.old.lane.given ≡ min (length self.old.lane.accepted) self.old.lane.asked }
-        requires waits { IsSome (closes self.old.lane.causes) → self.old.lane.given < length self.old.lane.accepted }
+        requires all_given { self.old.lane.given
+            ≡ min (length self.old.lane.accepted) self.old.lane.asked }
+        requires waits { IsSome (closes self.old.lane.causes)
+            → self.old.lane.given < length self.old.lane.accepted }
         ensures { (seen : List Signal) → Looks self.old self.new seen seen result }
     {
         self.started = false;
@@ -152,7 +160,8 @@ impl<B: Listener> Desk<B> {
 /// Does what an answer asks for: it adds to the demand, or ends the subscription.
 fn obey(answer: Answer, asked: &mut Demand, causes: &mut Causes, ended: &mut Option<How>) -> Outlook
     ensures grows { asked.old ≤ asked.new }
-    ensures obeys { Obeys answer asked.old asked.new causes.old causes.new ended.old ended.new result }
+    ensures obeys { Obeys answer asked.old asked.new causes.old causes.new ended.old ended.new
+        result }
 {
     match answer {
         Answer::Go => Outlook::Again,

@@ -21,7 +21,8 @@ impl Model for Seen {
 
     ghost view = { λ s. record { signals = s.signals.items; room = vec_capacity s.signals } };
 
-    ghost invariant = { λ s. (SIGNALS_IN_A_TURN ≤ vec_capacity s.signals) × (length s.signals.items ≤ SIGNALS_IN_A_TURN) };
+    ghost invariant = { λ s. (SIGNALS_IN_A_TURN ≤ vec_capacity s.signals)
+        × (length s.signals.items ≤ SIGNALS_IN_A_TURN) };
 }
 
 impl Seen {

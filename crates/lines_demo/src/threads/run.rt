@@ -1,7 +1,7 @@
 //! A run: a publisher, its subscribers, and the sources of its lines.
 ghost use Rattle.std.specs.Prelude.{◌≡◌, [], All, IfOk};
 ghost use Rattle.publisher.specs.Outcome.{IsOutcome, outcome_of};
-ghost use Rattle.publisher.specs.declared.state.TheConstants.{PARTS};
+ghost use Rattle.publisher.specs.Blanks.{IsBlankOf};
 
 use super::fault::LinesFault;
 use super::input::Input;
@@ -68,9 +68,8 @@ fn report_lines<
     publications: Blank,
     drops: Blank,
 ) -> Result<u8, LinesFault>
-    requires publications { (publications.name ≡ L.name)
-        × ((publications.parts ≡ L.parts) × (L.parts ≡ PARTS)) }
-    requires drops { (drops.name ≡ D.name) × ((drops.parts ≡ D.parts) × (D.parts ≡ PARTS)) }
+    requires publications { IsBlankOf publications L.name L.parts }
+    requires drops { IsBlankOf drops D.name D.parts }
     requires untold { All (λ s. S.told s ≡ []) subscribers.items }
 {
     let outcome = publish_lines::<L, D, S, R>(
@@ -104,9 +103,8 @@ fn publish_lines<
     publications: Blank,
     drops: Blank,
 ) -> Result<Outcome<Shown<S>>, Refusal>
-    requires publications { (publications.name ≡ L.name)
-        × ((publications.parts ≡ L.parts) × (L.parts ≡ PARTS)) }
-    requires drops { (drops.name ≡ D.name) × ((drops.parts ≡ D.parts) × (D.parts ≡ PARTS)) }
+    requires publications { IsBlankOf publications L.name L.parts }
+    requires drops { IsBlankOf drops D.name D.parts }
     requires untold { All (λ s. S.told s ≡ []) subscribers.items }
     ensures { IfOk result (λ outcome. IsOutcome (λ shown. S.told shown.0) outcome) }
 {

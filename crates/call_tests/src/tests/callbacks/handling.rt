@@ -1,6 +1,5 @@
 //! A handler of drops for whom room is made while it is asked.
-ghost use Rattle.std.specs.Prelude.{◌≡◌};
-ghost use Rattle.publisher.specs.declared.state.TheConstants.{PARTS};
+ghost use Rattle.publisher.specs.Blanks.{IsBlankOf};
 
 use super::acting::{Act, Acting};
 use super::stand::Stand;
@@ -45,8 +44,8 @@ pub fn offer_twice<
     D: Ledger + Send + Sync + 'static,
     R: Threads + Wait + Copy + Send + 'static,
 >(rt: R, alloc: Global, publications: Blank, drops: Blank) -> Result<i64, Fail>
-    requires publications { (publications.name ≡ L.name) × ((publications.parts ≡ L.parts) × (L.parts ≡ PARTS)) }
-    requires drops { (drops.name ≡ D.name) × ((drops.parts ≡ D.parts) × (D.parts ≡ PARTS)) }
+    requires publications { IsBlankOf publications L.name L.parts }
+    requires drops { IsBlankOf drops D.name D.parts }
 {
     let told = Arc::new(alloc, AtomicU64::new(0))?;
     let is_asked = Arc::new(alloc, AtomicBool::new(false))?;

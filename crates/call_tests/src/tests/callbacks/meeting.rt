@@ -1,6 +1,6 @@
 //! Two callbacks that wait for one another.
 ghost use Rattle.std.specs.Prelude.{◌≡◌, [], IfOk};
-ghost use Rattle.publisher.specs.declared.state.TheConstants.{PARTS};
+ghost use Rattle.publisher.specs.Blanks.{IsBlankOf};
 
 use super::acting::{Act, Acting};
 use super::stand::Stand;
@@ -47,8 +47,8 @@ pub fn meet<
     D: Ledger + Send + Sync + 'static,
     R: Threads + Wait + Copy + Send + 'static,
 >(rt: R, alloc: Global, publications: Blank, drops: Blank) -> Result<u64, Fail>
-    requires publications { (publications.name ≡ L.name) × ((publications.parts ≡ L.parts) × (L.parts ≡ PARTS)) }
-    requires drops { (drops.name ≡ D.name) × ((drops.parts ≡ D.parts) × (D.parts ≡ PARTS)) }
+    requires publications { IsBlankOf publications L.name L.parts }
+    requires drops { IsBlankOf drops D.name D.parts }
 {
     let one = Arc::new(alloc, AtomicBool::new(false))?;
     let other = Arc::new(alloc, AtomicBool::new(false))?;

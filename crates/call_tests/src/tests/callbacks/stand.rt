@@ -1,5 +1,6 @@
 //! A publisher with one submitter and its subscriptions.
 ghost use Rattle.std.specs.Prelude.{◌≡◌, []};
+ghost use Rattle.publisher.specs.Blanks.{IsBlankOf};
 ghost use Rattle.publisher.specs.declared.state.TheConstants.{PARTS};
 
 use flow_rules::{Listener, Name, Refusal};
@@ -37,8 +38,8 @@ impl<
         workers: usize,
         capacity: usize,
     ) -> Result<Stand<L, D, B>, Fail>
-        requires publications { (publications.name ≡ L.name) × ((publications.parts ≡ L.parts) × (L.parts ≡ PARTS)) }
-        requires drops { (drops.name ≡ D.name) × ((drops.parts ≡ D.parts) × (D.parts ≡ PARTS)) }
+        requires publications { IsBlankOf publications L.name L.parts }
+        requires drops { IsBlankOf drops D.name D.parts }
     {
         let publisher = Publisher::new(rt, alloc, publications, drops, workers, capacity)?;
         let mut note = publisher.note();

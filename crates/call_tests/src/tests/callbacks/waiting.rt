@@ -1,6 +1,6 @@
 //! What others do while a callback runs.
 ghost use Rattle.std.specs.Prelude.{◌≡◌, []};
-ghost use Rattle.publisher.specs.declared.state.TheConstants.{PARTS};
+ghost use Rattle.publisher.specs.Blanks.{IsBlankOf};
 
 use super::acting::{Act, Acting};
 use super::stand::{Stand, name_of};
@@ -48,8 +48,8 @@ pub fn call_all<
     D: Ledger + Send + Sync + 'static,
     R: Threads + Wait + Copy + Send + 'static,
 >(rt: R, alloc: Global, publications: Blank, drops: Blank) -> Result<String, Fail>
-    requires publications { (publications.name ≡ L.name) × ((publications.parts ≡ L.parts) × (L.parts ≡ PARTS)) }
-    requires drops { (drops.name ≡ D.name) × ((drops.parts ≡ D.parts) × (D.parts ≡ PARTS)) }
+    requires publications { IsBlankOf publications L.name L.parts }
+    requires drops { IsBlankOf drops D.name D.parts }
 {
     let waits = new_waits(alloc)?;
     let mut stand: Stand<L, D, Acting<Waits>> = Stand::new(rt, alloc, publications, drops, 1, 8)?;

@@ -1,5 +1,6 @@
 //! A publisher with its owners, on which steps are played.
 ghost use Rattle.std.specs.Prelude.{◌≡◌};
+ghost use Rattle.publisher.specs.Blanks.{IsBlankOf};
 ghost use Rattle.publisher.specs.declared.state.TheConstants.{PARTS};
 
 mod publishing;
@@ -54,8 +55,8 @@ pub fn report<
     round: u64,
     day: &Day,
 ) -> Result<String, Fail>
-    requires publications { (publications.name ≡ L.name) × ((publications.parts ≡ L.parts) × (L.parts ≡ PARTS)) }
-    requires drops { (drops.name ≡ D.name) × ((drops.parts ≡ D.parts) × (D.parts ≡ PARTS)) }
+    requires publications { IsBlankOf publications L.name L.parts }
+    requires drops { IsBlankOf drops D.name D.parts }
 {
     let publisher: Publisher<L, D, Heard> = Publisher::new(
         rt,
