@@ -106,6 +106,7 @@ def sweep(hook, script):
         return "no request was refused: the hook has no effect"
     if (status, output, said) != (0, script.full, b""):
         return f"with ample memory it gives another output than the definition: {difference(output, script.full)}"
+    outputs.add(output)
     wanted = os.path.splitext(script.file)[0] + ".expected"
     if os.path.isfile(wanted):
         with open(wanted, "rb") as it:
