@@ -1,9 +1,8 @@
 """Runs `lines_demo threads` with the Nth request for memory refused, for N from 1 up to a run that meets no refusal, and judges each.
 
-usage: threads.py PROGRAM REFUSE.so [--whole]
+usage: threads.py PROGRAM REFUSE.so
 
-Two sources with 2 workers, and three with 4 workers and with 1; with --whole three sources of 200 lines, which takes minutes. A run has to
-end by itself within ten seconds, in one of these ways:
+Two sources with 2 workers, and three with 4 workers and with 1. A run has to end by itself within ten seconds, in one of these ways:
 
 - with status 1, `lines_demo: refused 5 memory` or `lines_demo: memory` on standard error, and nothing on standard output;
 - with status 1, `lines_demo: refused 5 memory` and a beginning of a report, where the report could not be written;
@@ -93,8 +92,8 @@ def split(output):
     return [it for it in lines if it[:2] == b"a "], [it for it in lines if it[:2] == b"b "], lines[-1:]
 
 
-def main(program, hook, *words):
-    runs = [Run(4, 16, 3, 200), Run(1, 16, 3, 200)] if words else [Run(2, 4, 2, 20), Run(4, 16, 3, 10), Run(1, 16, 3, 10)]
+def main(program, hook):
+    runs = [Run(2, 4, 2, 20), Run(4, 16, 3, 200), Run(1, 16, 3, 200)]
     faults = [f"{it.name}: {why}" for it in runs for why in [it.sweep(program, hook)] if why]
     print("\n".join(faults or ["each refusal is told as it is"]))
     return 1 if faults else 0
