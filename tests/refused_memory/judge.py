@@ -19,6 +19,7 @@ With --forget the subscriber keeps nothing, so no callback may be refused memory
 import os
 import subprocess
 import sys
+from concurrent.futures import ThreadPoolExecutor
 
 sys.dont_write_bytecode = True
 from definition import play
@@ -106,6 +107,7 @@ def sweep(hook, script):
         return "no request was refused: the hook has no effect"
     if (status, output, said) != (0, script.full, b""):
         return f"with ample memory it gives another output than the definition: {difference(output, script.full)}"
+    outputs.add(output)
     wanted = os.path.splitext(script.file)[0] + ".expected"
     if os.path.isfile(wanted):
         with open(wanted, "rb") as it:
@@ -130,7 +132,10 @@ def main(program, hook, *words):
     files = [it for it in words if it != "--forget"]
     forgets = len(files) < len(words)
     scripts = [Script(program, forgets, it) for it in files]
-    faults = [f"{it.file}: {why}" for it in scripts for why in [sweep(hook, it)] if why]
+    # A run is a process of its own, so several scripts are swept at once.
+    with ThreadPoolExecutor(os.cpu_count()) as pool:
+        answers = list(pool.map(lambda it: sweep(hook, it), scripts))
+    faults = [f"{it.file}: {why}" for it, why in zip(scripts, answers) if why]
     if not forgets and never_told(scripts):
         faults.append(f"no run was refused memory at: {', '.join(never_told(scripts))}")
     print("\n".join(faults or ["each refusal is told as it is"]))

@@ -1,5 +1,5 @@
 #!/bin/sh
-# Runs native tests of counts, pools, cells and publishers with the Nth request for memory refused, for N from 1 up to a run
+# Runs native tests of counts, pools, Hubs, cells and publishers with the Nth request for memory refused, for N from 1 up to a run
 # that meets none. Each run has to end by itself, within a minute, either well or with the error that a refusal gives.
 #
 # It fails, too, where a run does not say that its test was run, and where no request of a test was refused, as when the
@@ -80,7 +80,9 @@ for name in alone::a_refusal_is_answered alone::a_full_pool_gives_the_job_back a
     threads::a_job_need_not_be_sync sleepers::a_shut_ends_both_that_sleep; do
     each "$tests" "tests::pool::$name"
 done
+each "$tests" tests::hub::the_last_serial_number_is_given_once
+each "$tests" tests::hub::a_hub_serves_three_subscriptions_until_it_is_closed
 each "$tests" tests::cells::a_life_is_whole_or_is_refused_memory
-each "$tests" tests::publishers::a_day_drains_also_where_memory_was_refused
+each "$tests" tests::publishers::a_refusal_changes_nothing_else
 echo "$tried tests, $failures failed"
 [ "$tried" -gt 0 ] && [ "$failures" -eq 0 ]

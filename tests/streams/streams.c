@@ -2,6 +2,7 @@
    `write` takes one byte at a time. What else they do is in the environment, each a number of bytes:
      READ_FAILS=K    after K bytes `read` fails, with EIO
      WRITE_FAILS=K   after K bytes `write` fails, with EIO
+     WRITE_FAILS_ONCE=K  after K bytes one call of `write` fails, with EIO, and the later ones do not
      WRITE_STOPS=K   after K bytes `write` takes nothing more, and answers 0
      INTERRUPTED=1   each call is interrupted once before it does anything, with EINTR
    In the file that STREAMS_LOG names it writes a letter for each call: r or w, and R or W where the call was interrupted. */
@@ -15,6 +16,7 @@
 struct stream {
     long passed;
     int is_interrupted;
+    int has_failed;
 };
 
 static struct stream input, output;
@@ -65,6 +67,10 @@ ssize_t write(int file, const void *buffer, size_t size) {
     }
     note('w');
     if (output.passed == limit("WRITE_FAILS")) return failed(EIO);
+    if (output.passed == limit("WRITE_FAILS_ONCE") && !output.has_failed) {
+        output.has_failed = 1;
+        return failed(EIO);
+    }
     if (output.passed == limit("WRITE_STOPS")) return 0;
     ssize_t count = syscall(SYS_write, file, buffer, 1);
     if (count > 0) output.passed += count;

@@ -2,6 +2,7 @@
 mod callbacks;
 mod cells;
 mod closing;
+mod coming;
 mod count;
 mod desks;
 mod endings;

@@ -103,8 +103,8 @@ impl<F: Feed> Trial<F> {
     {
         match ask {
             Ask::MaySubscribe(letter, number) => Ok(self.may_subscribe(letter)? == number),
-            Ask::Publishes(want) => Ok(self.publish() == want),
-            Ask::Offers(want) => Ok(self.offer(None) == want),
+            Ask::Publishes(want) => Ok(self.publish_again() == want),
+            Ask::Offers(want) => Ok(self.offer_again() == want),
             Ask::Shows(many, lag, room) => Ok(self.show() == (many, lag, room)),
             Ask::Names(letters) => self.are_names(letters),
             Ask::Subscribed(letter, want) => Ok(self.hub.is_subscribed(name_of(letter)?) == want),
@@ -122,7 +122,30 @@ impl<F: Feed> Trial<F> {
     {
         match self.hub.may_subscribe(name_of(letter)?, &mut self.due) {
             Ok(()) => Ok(None),
+            Err(Refusal::NoMemory) => Err(Refusal::NoMemory),
             Err(refusal) => Ok(Some(refusal.number())),
+        }
+    }
+
+    /// What a publication answers, or its second call where memory was refused to the first, which has changed nothing.
+    fn publish_again(&mut self) -> Result<u64, Why>
+        requires sound { IsSound (hub_of F.meaning self.old.hub) }
+        ensures sound { IsSound (hub_of F.meaning self.new.hub) }
+    {
+        match self.publish() {
+            Err(Why::Number(5)) => self.publish(),
+            answer => answer,
+        }
+    }
+
+    /// What an offer without a handler answers, or its second call where memory was refused to the first.
+    fn offer_again(&mut self) -> Result<i64, Why>
+        requires sound { IsSound (hub_of F.meaning self.old.hub) }
+        ensures sound { IsSound (hub_of F.meaning self.new.hub) }
+    {
+        match self.offer(None) {
+            Err(Why::Number(5)) => self.offer(None),
+            answer => answer,
         }
     }
 

@@ -102,16 +102,20 @@ fn a_refused_one_keeps_what_it_answered(rt: HostRuntime) -> Result<(), Fail> {
     Ok(())
 }
 
-/// A writer that takes so many writes, and fails then.
+/// A writer that takes so many writes, and fails then: at the next one alone, or at each.
 #[derive(Drop)]
 struct Failing {
     taken: Vec<u8>,
     writes: u32,
+    recovers: bool,
 }
 
 impl Write for Failing {
     fn write(&mut self, bytes: &[u8]) -> io::Result<usize> {
         if self.writes == 0 {
+            if self.recovers {
+                self.writes = u32::MAX;
+            }
             return Err(Error::from(ErrorKind::BrokenPipe));
         }
         self.writes -= 1;
@@ -124,10 +128,14 @@ impl Write for Failing {
     }
 }
 
-/// Whether a printer whose writer takes so many writes answers `Go` to the first so many callbacks and then `Cancel`, and writes this.
-fn prints(alloc: Global, writes: u32, callbacks: usize, written: &[u8]) -> Result<bool, NoMemory> {
-    let taken = Vec::new(alloc);
-    let mut printer = Printer::new(Failing { taken, writes });
+/// Whether a printer with this writer answers `Go` to the first so many callbacks and then `Cancel`, and writes this.
+fn prints(
+    alloc: Global,
+    writer: Failing,
+    callbacks: usize,
+    written: &[u8],
+) -> Result<bool, NoMemory> {
+    let mut printer = Printer::new(writer);
     let is_answered = call_each(alloc, &mut printer)? == going(callbacks, Ok(Answer::Cancel));
     let has_failed = printer.has_failed();
     let is_written = printer.into_writer().taken.as_slice() == written;
@@ -145,11 +153,19 @@ const PRINTED: [(u32, usize, &[u8]); 5] = [
 
 #[test]
 fn a_printer_writes_lines_until_a_write_fails(rt: HostRuntime) -> Result<(), Fail> {
+    let alloc = rt.alloc();
     for (writes, callbacks, written) in PRINTED {
-        assert!(rt;
-            prints(rt.alloc(), writes, callbacks, written)?,
-            "{writes} writes"
-        );
+        for recovers in [false, true] {
+            let writer = Failing {
+                taken: Vec::new(alloc),
+                writes,
+                recovers,
+            };
+            assert!(rt;
+                prints(alloc, writer, callbacks, written)?,
+                "{writes} writes, recovers {recovers}"
+            );
+        }
     }
     Ok(())
 }

@@ -1,4 +1,5 @@
 -- What a run leaves, and why it stops.
+use Rattle.std.specs.Prelude.{◌≡◌, ◌⊎◌, ℕ, Option, List, Result, Err}
 use Rattle.lines_demo.specs.Prelude.{Refusal}
 use Rattle.lines_demo.specs.declared.reader.InputFault.{InputFault}
 use Rattle.lines_demo.specs.declared.writing.OutputFault.{OutputFault}
@@ -14,3 +15,8 @@ fault_of_input InputFault.Memory = Refused Refusal.NoMemory
 abbrev pub fault_of_output : OutputFault → LinesFault
 fault_of_output OutputFault.Write = Write
 fault_of_output OutputFault.Memory = Refused Refusal.NoMemory
+
+-- a run stops for this refusal of its input, or since reading or memory failed before, and its writer holds what it held
+abbrev pub StopsFor : Refusal → Result ℕ LinesFault → Option (List ℕ) → Option (List ℕ) → Type 0
+StopsFor refusal result old new =
+    (new ≡ old) × ((result ≡ Err (Refused refusal)) ⊎ ((result ≡ Err Read) ⊎ (result ≡ Err (Refused Refusal.NoMemory))))

@@ -1,5 +1,7 @@
 //! A run: a publisher, its subscribers, and the sources of its lines.
-ghost use Rattle.std.specs.Prelude.{◌≡◌, [], All, IfOk};
+ghost use Rattle.std.specs.Prelude.{◌≡◌, ◌⊎◌, [], All, IfOk, IfErr, IfSome};
+ghost use Rattle.lines_demo.specs.Threads.Input.{input_of};
+ghost use Rattle.lines_demo.specs.Threads.Run.{StopsFor};
 ghost use Rattle.publisher.specs.Outcome.{IsOutcome, outcome_of};
 ghost use Rattle.publisher.specs.Blanks.{IsBlankOf};
 
@@ -26,7 +28,7 @@ const INCOMPLETE: u8 = 3;
 
 /// Publishes the lines that the reader gives by a plan, and writes the report of what the subscribers were told. There is one subscriber for
 /// each name of the plan, in its order, and each was told nothing. The answer is the exit status: 0 where every subscriber completed, and
-/// else 3.
+/// else 3. Where the input is refused, nothing is written.
 pub fn run_lines<R: Threads + Wait + Copy + Send + Sync + 'static, I: Read, W: Write>(
     rt: R,
     alloc: Global,
@@ -36,6 +38,8 @@ pub fn run_lines<R: Threads + Wait + Copy + Send + Sync + 'static, I: Read, W: W
     subscribers: Vec<Box<dyn Subscriber>>,
 ) -> Result<u8, LinesFault>
     requires { All (λ b. told b ≡ []) subscribers.items }
+    ensures status { IfOk result (λ status. (status ≡ 0) ⊎ (status ≡ 3)) }
+    ensures input { IfSome (I.remaining reader.old) (λ known. IfErr (input_of plan.now known) (λ refusal. StopsFor refusal result (W.contents writer.old) (W.contents writer.new))) }
 {
     let bytes = read_whole(alloc, reader)?;
     let input = Input::read(alloc, plan, bytes.as_slice())?;
@@ -71,6 +75,7 @@ fn report_lines<
     requires publications { IsBlankOf publications L.name L.parts }
     requires drops { IsBlankOf drops D.name D.parts }
     requires untold { All (λ s. S.told s ≡ []) subscribers.items }
+    ensures { IfOk result (λ status. (status ≡ 0) ⊎ (status ≡ 3)) }
 {
     let outcome = publish_lines::<L, D, S, R>(
         rt,

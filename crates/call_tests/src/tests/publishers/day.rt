@@ -5,6 +5,10 @@
 pub enum Step {
     // One more subscription of this name, which requests so many items, if any.
     Subscribe(&'static str, i64),
+    // The next subscriber is refused memory after so many callbacks.
+    Refuse(u32),
+    // Any callback may be refused memory.
+    MayRefuse,
     // The subscription of this place requests so many items more, or is cancelled.
     Request(usize, i64),
     Cancel(usize),
@@ -39,7 +43,7 @@ pub enum Step {
     Rest(u64, usize),
     // What is asked of all subscriptions.
     Looks,
-    // The subscription, or the submitter, of this place is not handed in at the end.
+    // The subscription, or the submitter, of this place is not handed in at the end. After the end such a subscription requests one item.
     KeepSubscription(usize),
     KeepSubmitter(usize),
 }

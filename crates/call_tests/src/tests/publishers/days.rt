@@ -2,10 +2,10 @@
 use super::day::Day;
 use super::day::Step::{
     Ask, Cancel, CancelAmid, Close, Closing, Fail, Join, KeepSubmitter, KeepSubscription, Looks,
-    Nap, Offer, Request, Rest, Send, Serve, Source, Stir, Submit, Subscribe, Turns,
+    Nap, Offer, Refuse, Request, Rest, Send, Serve, Source, Stir, Submit, Subscribe, Turns,
 };
 
-pub const DAYS: [Day; 28] = [
+pub const DAYS: [Day; 31] = [
     // All that was accepted is told, also where a submitter had to wait, and the last ticket is spent.
     Day {
         capacity: 1,
@@ -32,7 +32,55 @@ pub const DAYS: [Day; 28] = [
             Close,
             KeepSubscription(1),
         ],
-        report: "sub a; sub b; lag 1; ok; StillHeld(b), published 1, drained; a Some(Completed) 1 + 0 of 9: s 0.0.1 c",
+        report: "sub a; sub b; lag 1; ok; StillHeld(b), published 1, drained; a Some(Completed) 1 + 0 of 9: s 0.0.1 c; later 0",
+    },
+    // What is requested by a subscription that was not handed in is told in the thread that requests it.
+    Day {
+        capacity: 1,
+        steps: &[
+            Subscribe("a", 9),
+            Subscribe("b", 0),
+            Source,
+            Submit(0, 1),
+            KeepSubscription(1),
+        ],
+        report: "sub a; sub b; lag 1; StillHeld(b), published 1, open; a None 1 + 0 of 9: s 0.0.1; later 1",
+    },
+    // One whose own memory is refused at its third item is told no more, and the other is told all five.
+    Day {
+        capacity: 1,
+        steps: &[
+            Refuse(3),
+            Subscribe("a", 5),
+            Subscribe("b", 5),
+            Source,
+            Submit(0, 1),
+            Submit(0, 2),
+            Submit(0, 3),
+            Rest(7, 1),
+            Submit(0, 4),
+            Submit(0, 5),
+            Rest(9, 1),
+            Close,
+            Rest(10, 0),
+        ],
+        report: "sub a; sub b; lag 1; lag 1; lag 1; lag 1; lag 1; ok; done, published 5, drained; a Some(OutOfMemory) 3 + 0 of 5: s 0.0.1 0.1.2 of 3 given; b Some(Completed) 5 + 0 of 5: s 0.0.1 0.1.2 0.2.3 0.3.4 0.4.5 c",
+    },
+    // The first of two submitters is not handed in, and all else is given.
+    Day {
+        capacity: 1,
+        steps: &[
+            Subscribe("a", 9),
+            Subscribe("b", 0),
+            Source,
+            Source,
+            Submit(1, 1),
+            Cancel(1),
+            Submit(0, 2),
+            Close,
+            KeepSubmitter(0),
+        ],
+        report: "sub a; sub b; lag 1; lag 1; ok; StillHeld(source-0), published 2, drained; a Some(Completed) 2 + 0 of 9: s 1.0.1 0.0.2 c; b Some(Cancelled) 1 + 0 of 0: s",
     },
     // One of four submitters is not handed in.
     Day {
@@ -480,17 +528,3 @@ pub const RACES: [Day; 4] = [
         report: "sub a; sent 100; done, published 100, open; a Some(Cancelled) amid",
     },
 ];
-
-// A day on which memory may be refused, and what its report has in it then.
-pub const MEMORY: Day = Day {
-    capacity: 1,
-    steps: &[
-        Subscribe("a", 9),
-        Subscribe("b", 0),
-        Source,
-        Submit(0, 1),
-        Close,
-        Request(1, 1),
-    ],
-    report: ", drained",
-};

@@ -1,6 +1,7 @@
 //! A subscriber whose signals are counted where others see it.
 ghost use Rattle.std.specs.Prelude.{◌≡◌, [], IfOk};
 
+use crate::Refused;
 use flow_rules::{Answer, Collector, Fault, Item, Listener, NoMemory, Signal, Subscriber};
 use std::alloc::Global;
 use std::sync::Arc;
@@ -10,27 +11,27 @@ use std::sync::atomic::Ordering::SeqCst;
 // How many signals all subscribers of a publisher were told.
 pub type Count = Arc<AtomicU64, Global>;
 
-// A collector that counts what it is told, once it keeps it.
+// A collector that counts what it is told, once it keeps it, and that is refused memory from some callback on.
 #[derive(Drop)]
 pub struct Heard {
-    subscriber: Collector,
+    subscriber: Refused<Collector>,
     count: Count,
 }
 
 impl Heard {
-    // One that was told nothing.
-    pub fn new(alloc: Global, count: &Count) -> Result<Heard, NoMemory>
+    // One that was told nothing, and is refused memory after so many callbacks.
+    pub fn new(alloc: Global, count: &Count, callbacks: u32) -> Result<Heard, NoMemory>
         ensures { IfOk result (λ heard. heard.subscriber.told ≡ []) }
     {
         Ok(Heard {
-            subscriber: Collector::new(alloc),
+            subscriber: Refused::after(Collector::new(alloc), callbacks),
             count: Arc::try_clone(count)?,
         })
     }
 
     // What it was told, in order.
     pub fn told(&self) -> &[Signal] {
-        self.subscriber.told()
+        self.subscriber.listener().told()
     }
 
     // Counts a signal that was kept.
@@ -45,11 +46,9 @@ impl Heard {
 }
 
 impl Listener for Heard {
-    ghost use Rattle.std.specs.Prelude.{is_none};
-
     ghost told = { λ h. h.subscriber.told };
 
-    ghost is_steady = { λ h. is_none h.subscriber.requests };
+    ghost is_steady = { λ h. h.subscriber.is_steady };
 
     fn on_subscribe(&mut self) -> Result<Answer, NoMemory> {
         let kept = Listener::on_subscribe(&mut self.subscriber);

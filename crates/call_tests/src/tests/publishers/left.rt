@@ -1,5 +1,6 @@
 //! What is left of a publisher, as a line.
 use super::heard::Heard;
+use crate::tests::cells::items_in;
 use flow_rules::{How, Signal, audit};
 use publisher::{NamedLane, Outcome};
 use std::alloc::{AllocError, Global};
@@ -9,18 +10,21 @@ use std::test::Fail;
 const LISTED: usize = 8;
 
 // What is left, after the answer of `finish`. Where subscriptions were cancelled amid signals, it has how many were told when the cancel
-// was made.
+// was made; and it says no more of a subscriber that was refused memory, where any callback may be.
 pub fn outcome_line(
     alloc: Global,
     answer: &str,
     outcome: &Outcome<Heard>,
     amid: Option<u64>,
+    may_be_refused: bool,
 ) -> Result<String, Fail> {
     let count = if outcome.drained { "drained" } else { "open" };
     let mut line = format!(in alloc; "{answer}, published {}, {count}", outcome.published)?;
     for left in outcome.lanes.iter() {
         if amid.is_some_and(|told| is_cancelled_amid(left, told)) {
             line.push_str(&format!(in alloc; "; {} {:?} amid", left.name, left.lane.ending)?)?;
+        } else if may_be_refused && was_refused(left) {
+            line.push_str(&format!(in alloc; "; {} refused", left.name)?)?;
         } else {
             add_lane(alloc, &mut line, left)?;
         }
@@ -42,6 +46,21 @@ fn is_cancelled_amid(left: &NamedLane<Heard>, told: u64) -> bool {
         && signals.len() as u64 <= told.saturating_add(1)
 }
 
+// Whether one that was refused memory at a callback was told in order, and all that it was given but for the last item at most.
+fn was_refused(left: &NamedLane<Heard>) -> bool {
+    let lane = &left.lane;
+    let Some(heard) = &lane.subscriber else {
+        return false;
+    };
+    let Some(items) = items_in_order(heard.told()) else {
+        return false;
+    };
+    lane.ending == Some(How::OutOfMemory)
+        && audit(heard.told())
+        && lane.given <= lane.accepted
+        && (items == lane.given || items.saturating_add(1) == lane.given)
+}
+
 // How many items are told, if they are the first publications in order.
 fn items_in_order(signals: &[Signal]) -> Option<u64> {
     let mut items: u64 = 0;
@@ -56,16 +75,22 @@ fn items_in_order(signals: &[Signal]) -> Option<u64> {
     Some(items)
 }
 
-// One lane: its name, how it ended, how many items it accepted, dropped and requested, and what was told, or how much that is.
+// One lane: its name, how it ended, how many items it accepted, dropped and requested, whether it runs, and what was told, or how much that
+// is; and how many items were given, where that is another number than were told.
 fn add_lane(alloc: Global, line: &mut String, left: &NamedLane<Heard>) -> Result<(), Fail> {
     let lane = &left.lane;
+    let runs = if lane.running { " runs" } else { "" };
     let numbers = format!(in alloc;
-        "; {} {:?} {} + {} of {}:",
+        "; {} {:?} {} + {} of {}{runs}:",
         left.name, lane.ending, lane.accepted, left.dropped, lane.asked
     )?;
     line.push_str(&numbers)?;
-    if let Some(heard) = &lane.subscriber {
-        add_signals(alloc, line, heard.told())?;
+    let Some(heard) = &lane.subscriber else {
+        return Ok(());
+    };
+    add_signals(alloc, line, heard.told())?;
+    if items_in(heard.told()) != lane.given {
+        line.push_str(&format!(in alloc; " of {} given", lane.given)?)?;
     }
     Ok(())
 }

@@ -3,15 +3,16 @@ ghost use Rattle.std.specs.Prelude.{◌≡◌};
 ghost use Rattle.publisher.specs.Blanks.{IsBlankOf};
 ghost use Rattle.publisher.specs.declared.state.TheConstants.{PARTS};
 
+mod ending;
 mod publishing;
 mod senders;
 mod waiting;
 
 use super::day::{Day, Step};
 use super::heard::{Count, Heard};
-use super::left::outcome_line;
+use ending::request_of;
 use flow_rules::{Name, Refusal};
-use publisher::{Note, Publisher, Submitter, Subscription, finish};
+use publisher::{Note, Publisher, Submitter, Subscription};
 use senders::{Senders, Sent};
 use std::alloc::Global;
 use std::fmt::Debug;
@@ -39,6 +40,9 @@ struct Site<L: Ledger + Send + Sync + 'static, D: Ledger + Send + Sync + 'static
     is_stuck: bool,
     // How many signals were told when a subscription was cancelled amid these.
     amid: Option<u64>,
+    // How many callbacks the next subscriber answers, and whether any callback may be refused memory.
+    callbacks: u32,
+    may_be_refused: bool,
 }
 
 // What the steps of a day answer in a round of it, and what is left at its end.
@@ -95,6 +99,8 @@ fn new_site<L: Ledger + Send + Sync + 'static, D: Ledger + Send + Sync + 'static
         round,
         is_stuck: false,
         amid: None,
+        callbacks: u32::MAX,
+        may_be_refused: false,
     })
 }
 
@@ -107,6 +113,7 @@ impl<L: Ledger + Send + Sync + 'static, D: Ledger + Send + Sync + 'static> Site<
     ) -> Result<String, Fail> {
         match step {
             Step::Subscribe(name, demand) => self.subscribe(&rt, name, demand),
+            Step::Refuse(_) | Step::MayRefuse => Ok(self.refuse(step)),
             Step::Request(place, n) => self.request(&rt, place, n),
             Step::Cancel(place) => self.cancel(&rt, place),
             Step::Source => self.add_source(&rt),
@@ -126,7 +133,8 @@ impl<L: Ledger + Send + Sync + 'static, D: Ledger + Send + Sync + 'static> Site<
     fn subscribe<R: Wait>(&mut self, rt: &R, name: &str, demand: i64) -> Result<String, Fail> {
         let alloc = self.alloc;
         let named = name_of(name)?;
-        let subscriber = Heard::new(alloc, &self.told)?;
+        let subscriber = Heard::new(alloc, &self.told, self.callbacks)?;
+        self.callbacks = u32::MAX;
         let subscribed = match self.publisher.subscribe(rt, alloc, named, subscriber) {
             Err((Refusal::NoMemory, back)) => self.publisher.subscribe(rt, alloc, named, back),
             other => other,
@@ -134,7 +142,7 @@ impl<L: Ledger + Send + Sync + 'static, D: Ledger + Send + Sync + 'static> Site<
         match subscribed {
             Ok(mut subscription) => {
                 if demand != 0 {
-                    subscription.request(rt, demand)?;
+                    request_of(rt, &mut subscription, demand)?;
                 }
                 self.subscriptions.push(subscription)?;
                 Ok(format!(in alloc; "sub {name}; ")?)
@@ -143,37 +151,58 @@ impl<L: Ledger + Send + Sync + 'static, D: Ledger + Send + Sync + 'static> Site<
         }
     }
 
+    fn refuse(&mut self, step: Step) -> String {
+        match step {
+            Step::Refuse(callbacks) => self.callbacks = callbacks,
+            _ => self.may_be_refused = true,
+        }
+        String::new(self.alloc)
+    }
+
     fn request<R: Wait>(&mut self, rt: &R, place: usize, n: i64) -> Result<String, Fail> {
         if let Some(subscription) = self.subscriptions.get_mut(place) {
-            subscription.request(rt, n)?;
+            request_of(rt, subscription, n)?;
         }
         Ok(String::new(self.alloc))
     }
 
+    // Cancels, a second time where memory was refused.
     fn cancel<R: Wait>(&mut self, rt: &R, place: usize) -> Result<String, Fail> {
         if let Some(subscription) = self.subscriptions.get_mut(place) {
-            subscription.cancel(rt)?;
+            if subscription.cancel(rt).is_err() {
+                subscription.cancel(rt)?;
+            }
         }
         Ok(String::new(self.alloc))
     }
 
+    // Adds a submitter, at the second call where memory was refused.
     fn add_source<R: Wait>(&mut self, rt: &R) -> Result<String, Fail> {
         let mut note = self.note();
-        let submitter = self.publisher.submitter(rt, self.alloc, &mut note)?;
+        let submitter = match self.publisher.submitter(rt, self.alloc, &mut note) {
+            Err(Refusal::NoMemory) => self.publisher.submitter(rt, self.alloc, &mut note)?,
+            other => other?,
+        };
         self.submitters.push(submitter)?;
         Ok(String::new(self.alloc))
     }
 
-    // Closes the publisher, with a code where the step has one.
+    // Closes the publisher, with a code where the step has one, a second time where memory was refused.
     fn close<R: Wait>(&mut self, rt: &R, step: Step) -> Result<String, Fail> {
-        let mut note = self.publisher.note();
-        if let Step::Fail(code) = step {
-            self.publisher
-                .close_exceptionally(rt, self.alloc, &mut note, code)?;
-        } else {
-            self.publisher.close(rt, self.alloc, &mut note)?;
+        if self.close_once(rt, step).is_err() {
+            self.close_once(rt, step)?;
         }
         Ok(format!(in self.alloc; "ok; ")?)
+    }
+
+    fn close_once<R: Wait>(&mut self, rt: &R, step: Step) -> Result<(), Refusal> {
+        let mut note = self.publisher.note();
+        match step {
+            Step::Fail(code) => self
+                .publisher
+                .close_exceptionally(rt, self.alloc, &mut note, code),
+            _ => self.publisher.close(rt, self.alloc, &mut note),
+        }
     }
 
     // A note that knows of the close, if there was one.
@@ -219,32 +248,6 @@ impl<L: Ledger + Send + Sync + 'static, D: Ledger + Send + Sync + 'static> Site<
             _ => (),
         }
         Ok(String::new(self.alloc))
-    }
-
-    // What is left. What was kept lives on until then.
-    fn end<R: Wait>(self, rt: &R) -> Result<String, Fail>
-        requires { (L.parts ≡ PARTS) × (D.parts ≡ PARTS) }
-    {
-        let Site {
-            alloc,
-            publisher,
-            submitters,
-            subscriptions,
-            kept_submitters,
-            kept_subscriptions,
-            amid,
-            ..
-        } = self;
-        let line = match finish(rt, alloc, publisher, submitters, subscriptions) {
-            Ok(outcome) => outcome_line(alloc, "done", &outcome, amid),
-            Err((refusal, outcome)) => {
-                let why = format!(in alloc; "{refusal:?}")?;
-                outcome_line(alloc, &why, &outcome, amid)
-            }
-        };
-        drop(kept_submitters);
-        drop(kept_subscriptions);
-        line
     }
 }
 

@@ -2,32 +2,42 @@
 use super::senders::Sent;
 use super::{Site, refused_line};
 use crate::Notes;
-use flow_rules::DropHandler;
+use flow_rules::{DropHandler, Refusal};
 use std::sync::Wait;
 use std::sync::ledger::Ledger;
 use std::test::Fail;
 use std::thread::Threads;
 
 impl<L: Ledger + Send + Sync + 'static, D: Ledger + Send + Sync + 'static> Site<L, D> {
+    // Submits a text of so many bytes, a second time where memory was refused.
     pub fn submit<R: Wait>(&mut self, rt: &R, place: usize, bytes: usize) -> Result<String, Fail> {
         let alloc = self.alloc;
         let text = vec![in alloc; b'x'; bytes]?;
         let Some(submitter) = self.submitters.get_mut(place) else {
             return Ok(String::new(alloc));
         };
-        match submitter.submit(rt, alloc, &text) {
+        let answer = match submitter.submit(rt, alloc, &text) {
+            Err(Refusal::NoMemory) => submitter.submit(rt, alloc, &text),
+            other => other,
+        };
+        match answer {
             Ok(lag) => Ok(format!(in alloc; "lag {lag}; ")?),
             Err(refusal) => refused_line(alloc, &refusal),
         }
     }
 
+    // Offers a text of so many bytes, a second time where memory was refused.
     pub fn offer<R: Wait>(&mut self, rt: &R, place: usize, bytes: usize) -> Result<String, Fail> {
         let alloc = self.alloc;
         let text = vec![in alloc; b'x'; bytes]?;
         let Some(submitter) = self.submitters.get_mut(place) else {
             return Ok(String::new(alloc));
         };
-        match submitter.offer(rt, alloc, &text, None) {
+        let answer = match submitter.offer(rt, alloc, &text, None) {
+            Err(Refusal::NoMemory) => submitter.offer(rt, alloc, &text, None),
+            other => other,
+        };
+        match answer {
             Ok(answer) => Ok(format!(in alloc; "answer {answer}; ")?),
             Err(refusal) => refused_line(alloc, &refusal),
         }
