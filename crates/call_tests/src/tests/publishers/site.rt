@@ -1,7 +1,6 @@
 //! A publisher with its owners, on which steps are played.
 ghost use Rattle.std.specs.Prelude.{◌≡◌};
 ghost use Rattle.publisher.specs.Blanks.{IsBlankOf};
-ghost use Rattle.publisher.specs.declared.state.TheConstants.{PARTS};
 
 mod ending;
 mod publishing;
