@@ -2,7 +2,7 @@
 
 usage: tests/promises/promises.sh [FILE..]
 
-The files are docs/PROMISES.md and those of docs/promises/, if that is there.
+The files are docs/PROMISES.md and those of docs/promises/.
 
 The form of the file. The section `## Thirty promises` has the rows to read first, whose second column names the crate in backticks; each
 stands once more in the section of that crate:
