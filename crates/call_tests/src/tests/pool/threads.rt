@@ -128,19 +128,21 @@ impl Gate for Held {
 
 #[test]
 fn a_second_loop_of_a_number_returns_at_once(rt: HostRuntime) -> Result<(), Fail> {
-    let site = new_site::<Numbered, Held>(rt.alloc(), 2, new_held())?;
-    let gate = Keeping(no_runs(rt.alloc(), 2)?);
-    let mut ran = 0;
-    site.pool.shut(&rt);
-    let first = start_worker(rt, &site, 0)?;
-    assert!(rt; wait_for(&site.gate.reached));
-    site.pool.worker_loop(&rt, 0, &gate, &mut ran);
-    assert!(rt; gate.passes_of(0) == Some(0));
-    // Once the first loop has ended, another of its number runs.
-    site.gate.open.store(true, SeqCst);
-    first.join(&rt);
-    site.pool.worker_loop(&rt, 0, &gate, &mut ran);
-    assert!(rt; gate.passes_of(0) == Some(1));
+    for worker in 0..2 {
+        let site = new_site::<Numbered, Held>(rt.alloc(), 2, new_held())?;
+        let gate = Keeping(no_runs(rt.alloc(), 2)?);
+        let mut ran = 0;
+        site.pool.shut(&rt);
+        let first = start_worker(rt, &site, worker)?;
+        assert!(rt; wait_for(&site.gate.reached));
+        site.pool.worker_loop(&rt, worker, &gate, &mut ran);
+        assert!(rt; gate.passes_of(worker) == Some(0));
+        // Once the first loop has ended, another of its number runs.
+        site.gate.open.store(true, SeqCst);
+        first.join(&rt);
+        site.pool.worker_loop(&rt, worker, &gate, &mut ran);
+        assert!(rt; gate.passes_of(worker) == Some(1));
+    }
     Ok(())
 }
 
