@@ -104,7 +104,7 @@ closed_entry ending k (AtClose.Ended start) x y is retired unclosed closes = rec
   started_desks : DeskState → DeskState → Bool
   started_desks a b = owes a && not (owes b)
 
-  wakes : numbers_of (started_by_end k (Some start)) ≡ (if starts x y then k ∷ [] else [])
+  wakes : numbers_of (started_by_end k (AtClose.Ended start)) ≡ (if starts x y then k ∷ [] else [])
   wakes =
       signal_wakes before lane_after k start refl ((λ some. (closes.exact.starts.0 some).1), (λ rests. closes.exact.starts.1 (free, rests)))
       ∙ ap (λ b. if b then k ∷ [] else []) (sym (λ i. started_desks (sees_now i).desk (seen i).desk))

@@ -36,10 +36,10 @@ pub(crate) struct Entry<F> {
     pub ticket: Option<Ticket>,
 }
 
-/// What a close did at one subscription.
+/// What a close did at one subscription; the clauses of [`Hub::end`](crate::Hub::end) name it.
 #[must_use]
 #[derive(Drop)]
-pub(crate) enum AtClose<T> {
+pub enum AtClose<T> {
     /// The subscription was retired before, and is left alone.
     Retired,
     /// Its producer's end was closed, which answered this task.

@@ -19,6 +19,7 @@ mod laws;
 mod rounds;
 mod work;
 
+pub use entry::AtClose;
 pub use hub::{Hub, MOST_ENTRIES, MOST_LIVE, MOST_SOURCES, Unpublished};
 pub use laws::lent_feeds_keep_hubs_sound;
 pub use work::Work;
