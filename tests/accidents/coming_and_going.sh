@@ -12,7 +12,7 @@ trap 'rm -rf "$work"' EXIT
 gcc -O1 -Wall -Wextra -Werror -o "$work/peak" tests/ship/peak.c
 
 # How many bytes may stay of a subscription of capacity 1: docs/GUIDE.md has what they are.
-MOST=4096
+MOST=5120
 
 # peak TEST: the KiB at the peak of this test.
 peak() {

@@ -39,7 +39,8 @@ pub fn run_lines<R: Threads + Wait + Copy + Send + Sync + 'static, I: Read, W: W
 ) -> Result<u8, LinesFault>
     requires { All (λ b. told b ≡ []) subscribers.items }
     ensures status { IfOk result (λ status. (status ≡ 0) ⊎ (status ≡ 3)) }
-    ensures input { IfSome (I.remaining reader.old) (λ known. IfErr (input_of plan.now known) (λ refusal. StopsFor refusal result (W.contents writer.old) (W.contents writer.new))) }
+    ensures input { IfSome (I.remaining reader.old) (λ known. IfErr (input_of plan.now known)
+        (λ refusal. StopsFor refusal result (W.contents writer.old) (W.contents writer.new))) }
 {
     let bytes = read_whole(alloc, reader)?;
     let input = Input::read(alloc, plan, bytes.as_slice())?;
