@@ -1,6 +1,6 @@
-//! What a Hub stores, how it is made and what it shows of itself: the subscriptions of one publisher, each held by its producer's end, and
-//! the numbers of its publications. It runs no subscriber, waits for nobody and takes no lock: whoever calls it sees to that one call comes
-//! after the other, and that the tasks that calls start are run.
+//! What a Hub stores, how it is made and what it shows of itself: the subscriptions of one publisher, each held by its producer's end,
+//! and the numbers of its publications. It runs no subscriber, waits for nobody and takes no lock: whoever calls it sees to it that the
+//! calls come one after the other, and that the tasks they start are run.
 mod admitting;
 mod closing;
 mod ended;
