@@ -249,7 +249,7 @@ def try_crates(crates, root, jobs, proved):
 def may_be_tried(crates, root, log):
     """Whether `rt ci`, by what it printed, has proved and built those of the crates that are libraries, or has ended."""
     libraries = [it.name for it in crates if os.path.exists(f"{root}/crates/{it.name}/src/lib.rt")]
-    proved = re.findall(r"^rt: (\w+) proved$", log, re.M)
+    proved = re.findall(r"^rt: (\w+) (?:proved$|is kept:)", log, re.M)
     return bool(END_OF_CI.search(log)) or all(it in proved for it in libraries)
 
 
