@@ -5,6 +5,7 @@ usage: accidents.py PROGRAM NO_THREAD.so
 Each run has 20 seconds.
 """
 
+import contextlib
 import glob
 import io
 import os
@@ -22,7 +23,7 @@ sys.path.insert(0, f"{HERE}/../refused_memory")
 from definition import play
 
 SECONDS = 20
-# What one step, `limited`, lowers: the stack in bytes, and the descriptors, which are the three streams and one more to load libraries by.
+# The stack of each thread in bytes, and the descriptors: the three streams, and one more to load libraries by.
 STACK, DESCRIPTORS = 256 * 1024, 4
 THREADS = ["threads", "--workers", "4", "--cap", "4", "a:3", "b:3"]
 LINES = b"1 p\n2 q\n3 r\n"
@@ -136,7 +137,11 @@ def terminated(accidents):
 
 def others(session):
     """The processes of a session that has ended."""
-    return subprocess.run(["ps", "-o", "pid=", "-s", str(session)], capture_output=True).stdout.split()
+    left = []
+    for word in filter(str.isdigit, os.listdir("/proc")):
+        with contextlib.suppress(ProcessLookupError):
+            left += [word] if os.getsid(int(word)) == session else []
+    return left
 
 
 def small_stack(accidents):

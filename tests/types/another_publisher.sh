@@ -69,10 +69,4 @@ if [ "$status" -ne 1 ] || ! cmp "$work/want" "$work/errors"; then
     cat "$work/said"
     exit 1
 fi
-# Without these two it compiles.
-sed -i 's/<M, D, Tally>/<L, D, Tally>/' "$crate/src/main.rt"
-(cd "$crate" && rt try </dev/null >"$work/said" 2>&1) || {
-    cat "$work/said"
-    exit 1
-}
 echo 'a publisher is ended with what is its own'
