@@ -1,4 +1,4 @@
-use Rattle.std.proofs.Common.{◌<◌, length, arith, rules}
+use Rattle.std.proofs.Common.{◌<◌, length, arith}
 use Rattle.lines_demo.proofs.Reading.{all_read}
 use Rattle.lines_demo.proofs.reader.read_whole.Goals as goal
 
