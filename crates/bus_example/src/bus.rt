@@ -94,14 +94,14 @@ fn publish_on<
     handed_in.subscriptions.push(file)?;
     let counter = publisher.subscribe(rt, alloc, name_of("counter")?, counter)?;
     handed_in.subscriptions.push(counter)?;
-    let slow = publisher.subscribe(rt, alloc, name_of("slow")?, slow)?;
+    let mut slow = publisher.subscribe(rt, alloc, name_of("slow")?, slow)?;
     // A submitter for each source. A new note knows of no close, and so the submitter doesn't either, until it is told.
     for _ in 0..SOURCES {
         let submitter = publisher.submitter(rt, alloc, &mut publisher.note())?;
         handed_in.submitters.push(submitter)?;
     }
     // Publish from three threads, while a fourth requests for the slow subscriber; all are joined.
-    let slow = publish_all(rt, alloc, &mut handed_in.submitters, slow);
+    publish_all(rt, alloc, &mut handed_in.submitters, &mut slow);
     handed_in.subscriptions.push(slow)?;
     // Close: each subscriber completes after its last line. The publisher is finished afterwards, in any case.
     publisher.close(rt, alloc, &mut publisher.note())?;
@@ -119,18 +119,12 @@ fn publish_all<
     D: Ledger + Send + Sync + 'static,
     B: Listener + Send + 'static,
     R: Threads + Wait + Sync,
->(
-    rt: &R,
-    alloc: Global,
-    submitters: &mut [Submitter<L, D, B>],
-    slow: Subscription<L, D, B>,
-) -> Subscription<L, D, B> {
-    let ((), slow) = thread::join(
+>(rt: &R, alloc: Global, submitters: &mut [Submitter<L, D, B>], slow: &mut Subscription<L, D, B>) {
+    thread::join(
         rt,
         || publish_each(rt, alloc, submitters),
         || request_all(rt, slow),
     );
-    slow
 }
 
 /// Publishes the lines of each source from a thread of its own.
@@ -146,17 +140,16 @@ fn publish_each<
     thread::for_each_mut(rt, submitters, SOURCES, &publish);
 }
 
-/// Requests all lines for a slow subscriber, a portion at a time, and gives its subscription back.
+/// Requests all lines for a slow subscriber, a portion at a time.
 fn request_all<L: Ledger + Send, D: Ledger + Send, B: Listener + Send, R: Wait>(
     rt: &R,
-    mut slow: Subscription<L, D, B>,
-) -> Subscription<L, D, B> {
+    slow: &mut Subscription<L, D, B>,
+) {
     for _ in 0..LINES {
         // Refused only if memory is: nothing has changed then, and the next portion is requested all the same.
         let _ = slow.request(rt, PORTION);
         thread::yield_now();
     }
-    slow
 }
 
 /// Publishes the lines of a source: the first by offers, which drop a line where there is no room, and the others by `submit`, which
