@@ -4,7 +4,7 @@
 //! `onSubscribe`, where nothing was told yet. Then it looks at the causes, again and again. A look obeys, in this order: an end at
 //! once (a cancel, a bad request, a second subscribing, a closing error: [`Causes::stops`]); the next item, where one waits and was
 //! requested; the end that waits for the items ([`Causes::closes`]), where none is left. Where a look finds nothing of these, the
-//! subscription rests. After 64 items the turn answers `Again`, so that the other subscriptions get theirs. What `onSubscribe` or
+//! subscription rests. After 64 items the turn answers `Again`, so that whoever runs turns can give others theirs. What `onSubscribe` or
 //! `onNext` answers is done at once: a request, a cancel, or the end where the callback failed or was refused memory.
 //!
 //! **Waking.** `put`, `end`, `duplicate`, `request` and `cancel` change what there is to tell, so each signals: it marks the task as

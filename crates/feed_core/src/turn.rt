@@ -7,7 +7,7 @@ pub use outlook::Outlook;
 pub use seen::Seen;
 pub use telling::{tell_next, tell_subscribed, tell_terminal};
 
-/// The number of items that one turn gives at most, so that one subscriber with many can't keep the others waiting.
+/// The number of items that one turn gives at most. Whoever runs turns can look to other subscriptions after that.
 pub const ITEMS_IN_A_TURN: usize = 64;
 
 /// The number of signals that one turn tells at most: `Subscribed`, the items, and a terminal signal.

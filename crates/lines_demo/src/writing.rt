@@ -35,6 +35,7 @@ pub fn write_whole<W: Write>(writer: &mut W, bytes: &[u8]) -> Result<(), OutputF
     ensures { Writes (is_ok result) (W.contents writer.old) (W.contents writer.new) bytes.now }
 {
     let mut rest = bytes;
+    // The bound is there to show that the loop ends. No writer is called that often.
     for _ in 0..u64::MAX {
         if rest.is_empty() {
             return Ok(());

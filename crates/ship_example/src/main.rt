@@ -39,6 +39,7 @@ fn subscribed<B: Listener>(
 
 /// Runs the turns that a subscription owes, until it rests or has ended.
 fn serve<B: Listener>(desk: &mut Desk<B>, seen: &mut Seen) {
+    // The bound is there to show that the loop ends. Nobody owes that many turns.
     for _ in 0..u64::MAX {
         if !desk.owes() {
             return;

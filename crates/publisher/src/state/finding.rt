@@ -59,6 +59,7 @@ pub(super) fn place_all<L: Ledger + Send, D: Ledger + Send, B: Listener + Send>(
     let mut all = true;
     while let Some(subscription) = subscriptions.pop() {
         let (entry, handle) = subscription.into_parts();
+        // Not `&&`: the others are laid down, also after one that has no place.
         all &= place(handles, entry as usize, handle);
     }
     all
@@ -94,6 +95,7 @@ pub(super) fn find_all<B: Listener>(
         let handle = take_at(handles, number);
         let is_handed = handle.is_some();
         let found = find_one(hub, counted, number as u32, handle);
+        // Two Bools that are there already, so `&` leaves nothing out.
         gone |= is_handed & found.is_missing();
         founds.push_reserved(found);
     }

@@ -29,6 +29,7 @@ pub(crate) fn prepare_all<F: Feed>(
 {
     let mut room = true;
     for number in live {
+        // The others are made ready, also after one without room.
         let glance = entries[*number as usize].prepare(next)?;
         room &= has_room(&glance, capacity);
     }
