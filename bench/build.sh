@@ -18,6 +18,23 @@ room() {
     done
 }
 
+# soak_room FOLDER: copies the sources of bench/soak, and of the crates of this checkout that it is made from.
+soak_room() {
+    local file crate
+    mkdir -p "$1/crates/soak/src"
+    cp HANDLES "$1/"
+    for file in bench/soak/*.rt.txt; do
+        cp "$file" "$1/crates/soak/src/$(basename "$file" .txt)"
+    done
+    echo 'soak: flow_rules publisher' >"$1/crates.txt"
+    for crate in $(below publisher | sort -u); do
+        mkdir "$1/crates/$crate"
+        cp -r "crates/$crate/src" "crates/$crate/specs" "$1/crates/$crate/"
+        [ ! -d "crates/$crate/proofs" ] || cp -r "crates/$crate/proofs" "$1/crates/$crate/"
+        sed -n "/^${crate}[ :]/p" crates.txt >>"$1/crates.txt"
+    done
+}
+
 # build PROGRAM CHECKOUT FILE WORD..: proves and builds a program over the libraries of a checkout, as FILE, and runs it once with these words.
 build() {
     local program="$1" file="$3" at="$work/of_$(basename "$3")"

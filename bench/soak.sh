@@ -1,5 +1,5 @@
 #!/bin/sh
-# Publishes from 8 threads to 8 subscribers at a time until this many deliveries were made, and checks each of them (crates/soak). A
+# Publishes from 8 threads to 8 subscribers at a time until this many deliveries were made, and checks each of them (bench/soak). A
 # delivery is an item that one subscriber is told. Six sources submit, two offer. Eight more threads own the subscriptions, one slot each. The
 # first subscriber requests everything; the second requests one item more in each callback; the owners of the next three request 1,000 or 64
 # items whenever these were told, or 1 to 4,096 while some are left. The last three come and go: one cancels in its callback; one is
@@ -7,11 +7,10 @@
 # It prints what was checked, how much, and the rate, and ends with status 1 if anything was not as it should be, or if the run has not
 # ended after LIMIT seconds.
 # Usage: bench/soak.sh [DELIVERIES [WORKERS [CAPACITY [LIMIT]]]]; 1,000,000, 4, 16 and 3,600. DELIVERIES are 4,000,000,000 at most.
-# The program is proved and built in a temporary folder, in some eight minutes of a processor over what this checkout has proved already
-# (what is in crates/*/out), and else in half an hour more. PROGRAM names one that was built before, and KEEP a file in which this one is kept.
+# The program (bench/soak) is compiled in a temporary folder by `rt try`, with a check of each access to memory, and is not proved: the closures
+# of its owners' threads are stated of all that a publisher and a subscription are made of, and the prover meets its limit of steps there.
+# So its files don't end in .rt, since the gate has each such file proved. It takes a minute or two to compile.
 set -eu
-[ -z "${PROGRAM-}" ] || PROGRAM=$(realpath -e "$PROGRAM")
-[ -z "${KEEP-}" ] || KEEP=$(realpath "$KEEP")
 cd "$(dirname "$0")/.."
 deliveries=${1:-1000000}
 workers=${2:-4}
@@ -21,16 +20,12 @@ work=$(mktemp -d)
 trap 'rm -rf "$work"' EXIT
 . bench/build.sh
 
-program=${PROGRAM-}
-if [ -z "$program" ]; then
-    program=$work/soak
-    build soak . "$program"
-fi
-[ -z "${KEEP-}" ] || cp "$program" "$KEEP"
+soak_room "$work/room"
 status=0
-timeout "$limit" "$program" "$workers" "$capacity" "$deliveries" >"$work/sums" || status=$?
+(cd "$work/room/crates/soak" && timeout "$limit" rt try soak --seconds "$limit" --steps 1000000000000000 -- \
+    "$workers" "$capacity" "$deliveries") >"$work/sums" 2>"$work/said" </dev/null || status=$?
 if [ "$status" -eq 124 ]; then
-    echo "it had not ended after $limit seconds"
+    echo "it had not ended after $limit seconds, the minute or two of the compiler among them"
     exit 1
 elif [ "$status" -ne 0 ] || [ "$(wc -w <"$work/sums")" -ne 9 ]; then
     echo "the program gave no sums, with status $status: is it the number of workers (1 to 8), the capacity, or the deliveries?"

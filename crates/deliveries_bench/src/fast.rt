@@ -4,7 +4,7 @@ ghost use Rattle.publisher.specs.Blanks.{IsBlankOf};
 ghost use Rattle.publisher.specs.declared.state.TheConstants.{PARTS};
 
 use super::ends::{NAMES, end_all, make_submitters, send_all};
-use flow_rules::{Name, Tally};
+use flow_rules::{Listener, Name, Tally};
 use publisher::{Publisher, Submitter, Subscription};
 use std::alloc::Global;
 use std::sync::Wait;
@@ -112,9 +112,10 @@ fn time_fast<
 fn send_each<
     L: Ledger + Send + Sync + 'static,
     D: Ledger + Send + Sync + 'static,
+    B: Listener + Send + 'static,
     R: Threads + Wait + Sync,
->(rt: &R, alloc: Global, text: &[u8], each: usize, submitters: &mut [Submitter<L, D, Tally>]) {
-    let send = |_: usize, submitter: &mut Submitter<L, D, Tally>| {
+>(rt: &R, alloc: Global, text: &[u8], each: usize, submitters: &mut [Submitter<L, D, B>]) {
+    let send = |_: usize, submitter: &mut Submitter<L, D, B>| {
         send_all(rt, alloc, submitter, text, each)
     };
     let threads = submitters.len().max(1);

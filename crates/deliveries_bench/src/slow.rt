@@ -94,11 +94,12 @@ fn publish_slept<L: Ledger + Send, D: Ledger + Send, B: Listener + Send, R: Wait
 fn time_slow<
     L: Ledger + Send + Sync + 'static,
     D: Ledger + Send + Sync + 'static,
-    R: Threads + Wait + Clock + Copy + Send + Sync + 'static,
+    B: Listener + Send + 'static,
+    R: Threads + Wait + Clock + Sync,
 >(
     rt: &R,
-    publisher: &Publisher<L, D, Sleeper<R>>,
-    subscriptions: &mut [Subscription<L, D, Sleeper<R>>],
+    publisher: &Publisher<L, D, B>,
+    subscriptions: &mut [Subscription<L, D, B>],
     slept: &AtomicU64,
 ) -> Option<(u128, u128)> {
     let start = Instant::now(rt).ok()?;
