@@ -8,8 +8,8 @@
 # ended after LIMIT seconds.
 # Usage: bench/soak.sh [DELIVERIES [WORKERS [CAPACITY [LIMIT]]]]; 1,000,000, 4, 16 and 3,600. DELIVERIES are 4,000,000,000 at most.
 # The program (bench/soak) is compiled in a temporary folder by `rt try`, with a check of each access to memory, and is not proved: the closures
-# of its owners' threads are stated of all that a publisher and a subscription are made of, and the prover meets its limit of steps there.
-# So its files don't end in .rt, since the gate has each such file proved. It takes a minute or two to compile.
+# of its owners' threads are stated of all that a publisher and a subscription are made of, which is at the prover's limit of steps. So its
+# files don't end in .rt, since the gate has each such file proved. It takes a minute or two to compile.
 set -eu
 cd "$(dirname "$0")/.."
 deliveries=${1:-1000000}

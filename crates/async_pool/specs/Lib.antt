@@ -1,8 +1,6 @@
 pub mod Bag
 pub mod Crew
-pub mod Jobs
-pub mod Looks
+pub mod Inbox
 pub mod Pool
-pub mod Queue
 pub mod Sleepers
-pub mod Thief
+pub mod Yard
