@@ -3,7 +3,8 @@
 # delivery is an item that one subscriber is told. Six sources submit, two offer. Eight more threads own the subscriptions, one slot each. The
 # first subscriber requests everything; the second requests one item more in each callback; the owners of the next three request 1,000 or 64
 # items whenever these were told, or 1 to 4,096 while some are left. The last three come and go: one cancels in its callback; one is
-# cancelled by its owner, or gets a bad request, while items come; and one is cancelled by its owner once its demand is used up.
+# cancelled by its owner, or gets a bad request, while items come, and is reclaimed then; and one is cancelled by its owner once its demand is
+# used up.
 # It prints what was checked, how much, and the rate, and ends with status 1 if anything was not as it should be, or if the run has not
 # ended after LIMIT seconds.
 # Usage: bench/soak.sh [DELIVERIES [WORKERS [CAPACITY [LIMIT]]]]; 1,000,000, 4, 16 and 3,600. DELIVERIES are 4,000,000,000 at most.

@@ -1,6 +1,7 @@
 #!/bin/sh
-# Has 64 subscriptions at a time come and go, 6,400 and then 19,200 in all, and compares the memory at the peak: what stays of each until the
-# publisher is finished is bounded, and nothing else grows.
+# Has 64 subscriptions at a time come and go, 6,400 and then 102,400 in all, and compares the memory at the peak: what stays of each until the
+# publisher is finished is bounded, and nothing else grows. Then it has 1,024 and 102,400 come, be told ten items by two threads, end in
+# one way after the other, and be reclaimed: what stays of each is its entry, and a place in the lists of `finish`, whatever its capacity.
 # It needs the native tests, which `rt test` leaves in crates/call_tests/out, and gcc. TESTS names another program.
 set -eu
 cd "$(dirname "$0")/../.."
@@ -14,9 +15,12 @@ gcc -O1 -Wall -Wextra -Werror -o "$work/peak" tests/ship/peak.c
 # How many bytes may stay of a subscription of capacity 1: docs/GUIDE.md has what they are.
 MOST=5120
 
-# peak TEST: the KiB at the peak of this test.
+# How many bytes may stay of one that was reclaimed, with a capacity of 16.
+MOST_RECLAIMED=1024
+
+# peak TEST ROUNDS: the KiB at the peak of so many rounds of 64 subscriptions.
 peak() {
-    timeout 60 "$work/peak" "$work/KiB" "$tests" "tests::coming::$1" >"$work/out" 2>&1 || {
+    ROUNDS="$2" timeout 600 "$work/peak" "$work/KiB" "$tests" "tests::$1" >"$work/out" 2>&1 || {
         cat "$work/out" >&2
         exit 1
     }
@@ -27,8 +31,14 @@ peak() {
     cat "$work/KiB"
 }
 
-few=$(peak thousands_come_and_go)
-many=$(peak three_times_as_many_come_and_go)
-each=$(((many - few) * 1024 / 12800))
+few=$(peak coming::thousands_come_and_go 100)
+many=$(peak coming::thousands_come_and_go 1600)
+each=$(((many - few) * 1024 / 96000))
 echo "$few KiB at the peak, and $many KiB: $each bytes stay of each subscription"
 [ "$each" -gt 0 ] && [ "$each" -le "$MOST" ]
+
+few=$(peak reclaiming::a_thousand_are_reclaimed 16)
+many=$(peak reclaiming::a_thousand_are_reclaimed 1600)
+each=$(((many - few) * 1024 / 101376))
+echo "$few KiB at the peak, and $many KiB: $each bytes stay of each that was reclaimed"
+[ "$each" -gt 0 ] && [ "$each" -le "$MOST_RECLAIMED" ]

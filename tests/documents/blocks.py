@@ -9,6 +9,9 @@ A block stands between lines of three backticks. The first of these says what it
 - `console`: a line `$ COMMAND` is run, and prints the lines below it, on either stream. The command is ./play, with the program PROGRAM.
 - `script PATH`: on the left is all of that script, and on the right all that the program prints of it, parted by two blanks or more.
   What follows in a third column is a remark.
+- `session console WORD..`: on the left are lines that are typed to the program console, started with these words, and on the right, parted by
+  two blanks or more, what it prints then, in any order before the next line is typed. Where nothing stands on the right nothing is printed.
+  What follows in a third column is a remark.
 - `sh`: commands that are not run, since they take long. The first word of each is in the repository or a command of this machine, and so is
   each path in a command. `#` begins a remark; a word in capitals, as NAME, stands for what a reader puts there.
 
@@ -24,8 +27,13 @@ import shutil
 import subprocess
 import sys
 
+sys.dont_write_bytecode = True
 SECONDS = 20
 TOP = os.path.realpath(f"{os.path.dirname(os.path.realpath(__file__))}/../..")
+CONSOLE = f"{TOP}/crates/console/out/console"
+sys.path.insert(0, f"{TOP}/tests/console")
+from drive import Console, Stopped
+
 FILES = ("README.md", "docs/GUIDE.md", "docs/SCRIPTS.md")
 DOCUMENTS = ("README.md", "docs/*.md", "tests/*.md", "bench/*.md", "crates/*/wrong-bodies/*.md")
 LINK = re.compile(r"\]\(([^)\s]+)\)")
@@ -44,6 +52,10 @@ FLAWS = (
     ("console", ["$ rm -rf crates"]),
     ("script examples/first.script", ["cap 3   cap 4"]),
     ("script examples/none.script", ["cap 3   cap 4"]),
+    ("session console", ["lag   = lag 1"]),
+    ("session console", ["lag   = lag 0", "lag"]),
+    ("session console", []),
+    ("session none", ["lag   = lag 0"]),
     ("sh", ["no_such_command examples"]),
     ("sh", ["./play examples/none.script"]),
     ("sh", ["# nothing"]),
@@ -149,8 +161,10 @@ class Documents:
             self.console(block)
         elif words == ["sh"]:
             self.commands(block)
+        elif words[:1] == ["session"]:
+            self.session(words[1:], block)
         elif len(words) != 2:
-            self.fault(f"a block is `LANGUAGE PATH`, `console`, `script PATH` or `sh`, and not `{mark}`")
+            self.fault(f"a block is `LANGUAGE PATH`, `console`, `script PATH`, `session console WORD..` or `sh`, and not `{mark}`")
         elif not os.path.isfile(f"{TOP}/{words[1]}"):
             self.fault(f"there is no file {words[1]}")
         elif words[0] == "script":
@@ -202,6 +216,26 @@ class Documents:
             self.fault(f"the left is not {file}")
         elif self.output_of(f"./play {file}") != wanted:
             self.fault(f"the right is not the output of {file}")
+
+    def session(self, words, block):
+        steps = []
+        for row in (re.split(r" {2,}", line.rstrip()) for line in block):
+            if row[0]:
+                steps.append((row[0], row[1:2]))
+            elif steps:
+                steps[-1][1].extend(row[1:2])
+        if words[:1] != ["console"] or not steps:
+            self.fault(f"a session is of the program console, and has lines: {' '.join(words)}")
+            return
+        try:
+            with Console(CONSOLE, words[1:]) as it:
+                for typed, wanted in steps:
+                    it.say(typed.encode(), *(line.encode() for line in wanted))
+                    if not wanted:
+                        it.quiet()
+                it.quiet()
+        except Stopped as stopped:
+            self.fault(f"the session goes another way: {stopped}")
 
     def commands(self, block):
         commands = [it.split() for it in (line.partition("#")[0] for line in block) if it.strip()]

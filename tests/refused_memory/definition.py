@@ -14,8 +14,8 @@ MEMORY = b"refused 5 memory"
 class Subscription:
     """A subscription: what its buffer has, what was requested, and why it may end."""
 
-    def __init__(self, name, number, closing):
-        self.name, self.asked, self.closing = name, number, closing
+    def __init__(self, name, number, closing, is_late):
+        self.name, self.asked, self.closing, self.is_late = name, number, closing, is_late
         self.waiting, self.given, self.dropped = [], 0, 0
         self.is_cancelled = self.is_bad = self.is_double = False
         self.is_greeted = self.has_ended = False
@@ -36,7 +36,7 @@ class Subscription:
             return [*told, b"error argument"], "ended"
         if self.is_double:
             return [*told, b"error state"], "ended"
-        if self.closing and self.closing != b"complete":
+        if self.closing and self.closing != b"complete" and not self.is_late:
             return [*told, self.closing], "ended"
         items = self.waiting[: min(self.asked - self.given, ITEMS_IN_A_TURN)]
         told += [b"next " + it for it in items]
@@ -52,7 +52,7 @@ class Script:
 
     def __init__(self, refused):
         self.refused, self.points, self.line = refused, [], 0
-        self.capacity, self.has_begun, self.closing, self.stock = 256, False, None, STOCK
+        self.capacity, self.has_begun, self.is_late, self.closing, self.stock = 256, False, False, None, STOCK
         self.subscriptions, self.woken, self.output = [], [], []
 
     def is_refused(self, kind):
@@ -75,6 +75,8 @@ class Script:
             call = [self.publish, word, rest]
         elif word == b"cap" and number_of(rest) is not None:
             return self.cap(number_of(rest))
+        elif line == b"late":
+            return self.late()
         elif word == b"sub" and is_named and number_of(digits) is not None:
             call = [self.subscribe, name, number_of(digits)]
         elif word == b"request" and is_named and number_of(digits, -UNBOUNDED - 1) is not None:
@@ -101,6 +103,12 @@ class Script:
         self.capacity = min(1 << (number - 1).bit_length(), LARGEST_CAPACITY)
         return b"cap %d" % self.capacity
 
+    def late(self):
+        if self.has_begun:
+            return b"refused 12 command"
+        self.is_late = True
+        return b"late"
+
     def subscribe(self, name, number):
         if self.is_refused("places"):
             return MEMORY
@@ -114,7 +122,7 @@ class Script:
         if self.is_refused("sub"):
             return MEMORY
         self.stock -= 1
-        self.subscriptions.append(Subscription(name, number, self.closing))
+        self.subscriptions.append(Subscription(name, number, self.closing, self.is_late))
         return b"sub " + name
 
     def publish(self, word, text):

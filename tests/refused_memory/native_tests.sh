@@ -33,6 +33,8 @@ one() {
         grep -qE '^error: (NoMemory|AllocError|AllocFailed|SpawnError)' "$work/err"; }; then
         echo "status $status"
         return
+    else
+        grep '^error: ' "$work/err" >>"$work/errors"
     fi
     if grep -q '^request refused' "$work/err"; then
         echo met
@@ -84,5 +86,11 @@ each "$tests" tests::hub::the_last_serial_number_is_given_once
 each "$tests" tests::hub::a_hub_serves_three_subscriptions_until_it_is_closed
 each "$tests" tests::cells::a_life_is_whole_or_is_refused_memory
 each "$tests" tests::publishers::a_refusal_changes_nothing_else
+each "$tests" tests::submitters::one_submitter_more_than_there_may_be_is_refused
+# Whoever asks for one submitter too many is refused memory first, if that is short.
+if ! grep -q ', of one submitter more$' "$work/errors"; then
+    echo "no request of the last submitter was refused"
+    failures=$((failures + 1))
+fi
 echo "$tried tests, $failures failed"
 [ "$tried" -gt 0 ] && [ "$failures" -eq 0 ]

@@ -15,9 +15,16 @@ BAD = """        if self.is_bad:
 DOUBLE = """        if self.is_double:
             return [*told, b"error state"], "ended"
 """
-ERROR = """        if self.closing and self.closing != b"complete":
+ERROR = """        if self.closing and self.closing != b"complete" and not self.is_late:
             return [*told, self.closing], "ended"
 """
+NOT_LATE = ' and self.closing != b"complete" and not self.is_late:'
+LAST = "        if self.closing and len(items) == len(self.waiting):\n"
+LATE = """        if self.has_begun:
+            return b"refused 12 command"
+        self.is_late = True
+"""
+IS_LATE = 'elif line == b"late":'
 CANCELLED = """        if latest.is_cancelled:
             return b"ok"
 """
@@ -52,6 +59,16 @@ ERRORS = {
     "a second subscribing overtakes a bad request": [(BAD + DOUBLE, DOUBLE + BAD)],
     "an error overtakes a bad request": [(BAD + DOUBLE + ERROR, ERROR + BAD + DOUBLE)],
     "an error overtakes a second subscribing": [(DOUBLE + ERROR, ERROR + DOUBLE)],
+    "an error overtakes the items under `late`": [(NOT_LATE, NOT_LATE.replace(" and not self.is_late", ""))],
+    "an error waits for the items without `late`": [(NOT_LATE, NOT_LATE.replace("not self.is_late", "False"))],
+    "an error under `late` is never told": [(LAST, LAST[:-2] + ' and (self.closing == b"complete" or not self.is_late):\n')],
+    "an error under `late` comes with items left": [(LAST, LAST[:-2] + ' or self.closing and self.is_late and self.closing != b"complete":\n')],
+    "an error under `late` is told as completion": [(LAST + "            return [*told, self.closing]", LAST + '            return [*told, b"complete"]')],
+    "`late` is accepted at any time": [(LATE, "        self.is_late = True\n")],
+    "`late` ends the time of `cap`": [(LATE, LATE + "        self.has_begun = True\n")],
+    "`cap` ends the time of `late`": [(LATE, LATE.replace("self.has_begun:", "self.has_begun or self.capacity != 256:"))],
+    "a second `late` undoes it": [(LATE, LATE.replace("is_late = True", "is_late = not self.is_late"))],
+    "`late` takes a word": [(IS_LATE, 'elif word == b"late":')],
     "an ending is told with the 64th item": [(IS_64, IS_64[:-1] + " and not (self.closing and items == self.waiting):")],
     "after just 64 items nothing wakes it": [(AGAIN, 'return told, "again" if self.closing or items != self.waiting else "lost"')],
     "a turn has 65 items": [("LARGEST_CAPACITY, ITEMS_IN_A_TURN = 4200, 4096, 65536, 64", "LARGEST_CAPACITY, ITEMS_IN_A_TURN = 4200, 4096, 65536, 65")],

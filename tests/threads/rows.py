@@ -92,6 +92,22 @@ def worked(rows):
     rows.row("the largest numbers", options(1, "9" * 19) + ["a:1"], b"4294967295 x\n", b"a 4294967295 x\na complete 1\ndrained 1\n")
 
 
+def failures(rows):
+    """A subscriber that fails, and the handler that hears of it."""
+    given = b"1 p\n1 q\n1 r\n"
+    first, second = b"a 1 p\na 1 q\n", b"b 1 p\nb 1 q\nb 1 r\nb complete 3\n"
+    both = ["a:3", "b:3"]
+    failed = first + b"a failed 9 2\n" + second + b"handled a 9\ndrained 1\n"
+    rows.row("a subscriber fails at its second item", OPTIONS + ["--fail", "a:2:9"] + both, given, failed, 3)
+    whole = first + b"a 1 r\na complete 3\n" + second + b"drained 1\n"
+    rows.row("a subscriber is told fewer items", OPTIONS + ["--fail", "a:4:9"] + both, given, whole)
+    largest = b"a 1 p\na failed 4294967295 1\n" + second + b"handled a 4294967295\ndrained 1\n"
+    rows.row("the largest code", OPTIONS + ["--fail", "a:1:4294967295"] + both, given, largest, 3)
+    none = b"a complete 0\ndrained 1\n"
+    rows.row("the largest item", OPTIONS + ["--fail", "a:9223372036854775807:0", "a:1"], b"", none)
+    rows.row("one that fails requests nothing", OPTIONS + ["--fail", "a:1:9", "a:0"], b"1 p\n", b"a open 0\ndrained 0\n", 3)
+
+
 def lines(rows):
     """The forms of a line."""
     one = b"a 7 x\na complete 1\ndrained 1\n"
@@ -168,6 +184,15 @@ def command_lines(rows):
         ("a wrong form before wrong workers", options(0, 0) + ["a"], b"12 command"),
         ("wrong workers before a capacity of 0", options(0, 0) + ["a:1", "a:1"], b"7 workers"),
         ("a capacity of 0 before a name twice", options(1, 0) + ["a:1", "a:1"], b"1 capacity"),
+        ("an unknown name fails", OPTIONS + ["--fail", "z:1:1", "a:3", "b:3"], b"10 unknown"),
+        ("65 subscribers before an unknown name", OPTIONS + ["--fail", "z:1:1"] + ["n%d:1" % k for k in range(65)], b"4 many"),
+        ("a failure without a code", OPTIONS + ["--fail", "a:1", "a:1"], b"12 command"),
+        ("a failure with three numbers", OPTIONS + ["--fail", "a:1:2:3", "a:1"], b"12 command"),
+        ("a failure at item 0", OPTIONS + ["--fail", "a:0:1", "a:1"], b"12 command"),
+        ("a failure at an item too large", OPTIONS + ["--fail", "a:9223372036854775808:1", "a:1"], b"12 command"),
+        ("a code too large", OPTIONS + ["--fail", "a:1:4294967296", "a:1"], b"12 command"),
+        ("a failure of no name", OPTIONS + ["--fail", ":1:1", "a:1"], b"12 command"),
+        ("a wrong failure before wrong workers", options(0, 0) + ["--fail", "a:0:1", "a:1"], b"12 command"),
         ("a name twice before 65", OPTIONS + ["n%d:1" % (k % 64) for k in range(65)], b"3 duplicate"),
     ):
         rows.refused(name, words, nothing, refusal)
@@ -177,6 +202,7 @@ def command_lines(rows):
         ("no capacity", ["--workers", "1", "a:1"]),
         ("no subscriber", OPTIONS),
         ("an option twice", OPTIONS + OPTIONS + ["a:1"]),
+        ("two failures", OPTIONS + ["--fail", "a:1:1", "--fail", "a:1:1", "a:1"]),
         ("an unknown option", OPTIONS + ["--more", "a:1"]),
     ):
         rows.wrong(name, words)
@@ -193,7 +219,7 @@ def writers(rows):
 
 def main(program):
     rows = Rows(program)
-    for part in (worked, lines, command_lines, writers):
+    for part in (worked, failures, lines, command_lines, writers):
         part(rows)
     print("\n".join(rows.faults or [f"all {rows.count} rows are as they should be"]))
     return 1 if rows.faults else 0

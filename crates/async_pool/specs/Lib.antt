@@ -1,6 +1,8 @@
 pub mod Bag
 pub mod Crew
-pub mod Inbox
+pub mod Jobs
+pub mod Looks
 pub mod Pool
+pub mod Queue
 pub mod Sleepers
-pub mod Yard
+pub mod Thief

@@ -1,83 +1,90 @@
-//! The bounded list of jobs.
-ghost use Rattle.std.specs.Prelude.{◌≡◌, ◌+◌, ◌≤◌, ◌∷◌, ◌++◌, [], length, vec_len, IfOk, OnOk, IfErr, OnErr, IsErr, IsNone, IfSome, IfNone, OnSome, ◌↔◌};
-ghost use Rattle.std.specs.VecDeque.{deque_len, deque_capacity};
-ghost use Rattle.std.specs.Vec.{vec_capacity};
-ghost use Rattle.flow_rules.specs.Amount.{amount_of};
-ghost use Rattle.async_pool.specs.Bag.{IsBag};
+//! The inbox: the bounded queue of the jobs that were handed in. Jobs that are to be run again are not its business.
+ghost use Rattle.std.specs.Prelude.{◌≡◌};
+ghost use Rattle.crossbeam_queue.specs.Passes.{ruled_capacity};
 ghost use Rattle.async_pool.specs.declared.inbox.TheConstants.{CAPACITY};
 
-use flow_rules::Amount;
+use crate::order::{InOrder, Log, Puts, Takes};
+use crossbeam_queue::{Pass, RuledArrayQueue};
 use std::alloc::{AllocError, Global};
-use std::collections::VecDeque;
+use std::sync::Wait;
 
-/// The most jobs that wait at a pool.
+/// The most jobs that wait in the inbox of a pool.
 pub const CAPACITY: usize = 1024;
 
-/// Jobs in the order in which they came, with how many were pushed and taken. Its room is made once.
+/// What a call knows of its own steps on an inbox. It has no bytes.
+pub(crate) type InboxPass<J> = Pass<J, Log<J>>;
+
+/// Jobs in the order in which they were handed in. All its room is made by `new`, and no call takes a lock.
 #[derive(Drop)]
 pub(crate) struct Inbox<J> {
-    jobs: VecDeque<J>,
-    pushed: Amount,
-    taken: Amount,
-    ghost counted: { IsBag (amount_of pushed) (amount_of taken) (deque_len jobs) },
-    ghost bounded: { deque_len jobs ≤ CAPACITY },
-    ghost room: { CAPACITY ≤ deque_capacity jobs },
+    queue: RuledArrayQueue<J, Log<J>, InOrder>,
+    ghost bounded: { ruled_capacity queue ≡ CAPACITY },
 }
 
 impl<J: Drop> Inbox<J> {
-    ghost use Rattle.async_pool.specs.Inbox.{jobs_of, push_count, take_count};
+    ghost use Rattle.std.specs.Prelude.{[], ◌∷◌, ◌++◌, ◌≤◌, ◌⊎◌, IfOk, IfErr, OnErr, IfSome, IfNone, vec_len};
+    ghost use Rattle.std.specs.Vec.{vec_capacity};
+    ghost use Rattle.crossbeam_queue.specs.Fifo.{Held};
+    ghost use Rattle.crossbeam_queue.specs.Passes.{view, IsPassOf};
+    ghost use Rattle.async_pool.specs.Bag.{Moment, after_take, log};
 
-    /// An empty list with all its room.
-    pub fn new(alloc: Global) -> Result<Inbox<J>, AllocError>
-        ensures { IfOk result (λ inbox. (jobs_of inbox ≡ []) × (push_count inbox ≡ 0) × (take_count inbox ≡ 0)) }
-    {
-        Ok(Inbox {
-            jobs: VecDeque::with_capacity(alloc, CAPACITY)?,
-            pushed: Amount::zero(),
-            taken: Amount::zero(),
-        })
+    /// Makes an empty inbox with all its room.
+    pub fn new(alloc: Global) -> Result<Inbox<J>, AllocError> {
+        let (queue, _) = RuledArrayQueue::ruled(alloc, CAPACITY)?;
+        Ok(Inbox { queue })
     }
 
-    /// Puts a job at the back. A full list gives it back, and stays as it was.
-    pub fn push(&mut self, job: J) -> Result<(), J>
-        ensures full { IsErr result ↔ (length (jobs_of self.old) ≡ CAPACITY) }
-        ensures back { OnOk result (jobs_of self.new ≡ jobs_of self.old ++ job ∷ []) }
-        ensures pushed { OnOk result (push_count self.new ≡ push_count self.old + 1) }
-        ensures taken { take_count self.new ≡ take_count self.old }
+    /// Puts a job at the back, and answers with the pass that put it. The job comes back if the inbox was full at one
+    /// moment of the call.
+    pub fn enqueue<R: Wait>(&self, rt: &R, job: J) -> Result<InboxPass<J>, J>
+        ensures of { IfOk result (λ pass. IsPassOf self.now.queue pass) }
+        ensures put { IfOk result (λ pass. view pass ≡ log (job ∷ []) []) }
         ensures same_job { IfErr result (λ back. back ≡ job) }
-        ensures unchanged { OnErr result (self.new ≡ self.old) }
+        ensures full { OnErr result (Held CAPACITY (Moment (log {J = J} [] []))) }
     {
-        if self.jobs.len() == CAPACITY {
-            return Err(job);
-        }
-        self.jobs.push_back_reserved(job);
-        self.pushed.add_one();
-        Ok(())
+        let mut pass = self.pass();
+        self.queue.push_as::<Puts, R>(rt, &mut pass, job)?;
+        Ok(pass)
     }
 
-    /// Takes the first job, if there is one.
-    pub fn take(&mut self) -> Option<J>
-        ensures first { IfSome result (λ job. jobs_of self.old ≡ job ∷ jobs_of self.new) }
-        ensures taken { OnSome result (take_count self.new ≡ take_count self.old + 1) }
-        ensures pushed { push_count self.new ≡ push_count self.old }
-        ensures empty { IsNone result ↔ (jobs_of self.old ≡ []) }
-        ensures unchanged { IfNone result ((jobs_of self.new ≡ []) × (take_count self.new ≡ take_count self.old)) }
+    /// Makes a pass, which put nothing and took nothing.
+    pub fn pass(&self) -> InboxPass<J>
+        ensures of { IsPassOf self.now.queue result }
+        ensures nothing { view result ≡ log [] [] }
     {
-        let job = self.jobs.pop_front()?;
-        self.taken.add_one();
-        Some(job)
+        self.queue.pass()
     }
 
-    /// Takes all jobs, and puts them behind those of `left`, in their order.
-    pub fn drain_into(&mut self, left: &mut Vec<J>)
-        requires room { vec_len left.old + length (jobs_of self.old) ≤ vec_capacity left.old }
-        ensures order { left.new.items ≡ left.old.items ++ jobs_of self.old }
-        ensures empty { jobs_of self.new ≡ [] }
-        ensures taken { take_count self.new ≡ take_count self.old + length (jobs_of self.old) }
-        ensures pushed { push_count self.new ≡ push_count self.old }
+    /// Takes the first job, if there is one, by this pass.
+    pub fn take<R: Wait>(&self, rt: &R, pass: &mut InboxPass<J>) -> Option<J>
+        requires { IsPassOf self.now.queue pass.old }
+        ensures of { IsPassOf self.now.queue pass.new }
+        ensures first { IfSome result (λ job. view pass.new ≡ after_take (view pass.old) job) }
+        ensures none { IfNone result (view pass.new ≡ view pass.old) }
+        ensures empty { IfNone result (Held 0 (Moment (view pass.old))) }
     {
-        while let Some(job) = self.take() {
+        self.queue.pop_as::<Takes, R>(rt, pass)
+    }
+
+    /// Takes jobs from the front and appends them to `left`, until the inbox was empty at one moment or `left` has no more
+    /// room. The answer is the pass that took them.
+    pub fn drain_into<R: Wait>(&self, rt: &R, left: &mut Vec<J>) -> InboxPass<J>
+        ensures of { IsPassOf self.now.queue result }
+        ensures put { (view result).put ≡ [] }
+        ensures order { left.new.items ≡ left.old.items ++ (view result).taken }
+        ensures room { vec_capacity left.new ≡ vec_capacity left.old }
+        ensures all { (vec_capacity left.new ≤ vec_len left.new) ⊎ Held 0 (Moment (view result)) }
+    {
+        let mut pass = self.pass();
+        for _ in rt.forever() {
+            if left.len() == left.capacity() {
+                break;
+            }
+            let Some(job) = self.take(rt, &mut pass) else {
+                break;
+            };
             left.push_reserved(job);
         }
+        pass
     }
 }

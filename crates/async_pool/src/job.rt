@@ -17,7 +17,7 @@ pub trait Gate: Sync {
 }
 
 /// The gate that does nothing.
-#[derive(Clone, Copy)]
+#[derive(Clone, Copy, Debug)]
 pub struct Wide;
 
 impl Gate for Wide {

@@ -3,14 +3,18 @@
 //!
 //! A [`Job`] is run with the context of the thread that runs it, and answers whether it is to be run again. The
 //! pool starts no threads: each of its workers is a thread of the caller's that runs [`Pool::worker_loop`] with a
-//! number of its own. [`Pool::execute`] hands a job in, from any thread, and gives it back where there is no room.
+//! number of its own. [`Pool::execute`] hands a job in, from any thread, and gives it back if there is no room.
 //! [`Pool::shut`] ends the loops once no job is left, and [`Pool::stop`] gives the jobs that are left then.
 //!
-//! All jobs stand in one list of at most [`CAPACITY`], behind one lock. A worker passes its [`Gate`], looks for a job a
-//! bounded number of times, and then sleeps until one comes or the pool is shut. The lock also keeps how many sleep,
-//! so that nobody is woken where nobody sleeps. Whom to wake, and that a loop may end, is said behind the lock, by
-//! values that can't be dropped. Each job that was handed in was taken once, or is held still: the list behind the
-//! lock keeps that as numbers. All room is made by [`Pool::new`], so no other call takes memory.
+//! Jobs that are handed in wait in the inbox, a bounded queue of at most [`CAPACITY`]. Each worker has a queue of its own for
+//! jobs that are to be run again. A worker passes its [`Gate`] and takes the first job of its own queue, else of the inbox,
+//! else it steals one of another worker's queue. None of this takes a lock. What was put into the inbox, and into each queue,
+//! is what was taken from it, followed by what it holds, in the order in which that happened: the rule of both.
+//!
+//! A worker that found no job a bounded number of times sleeps until one comes or the pool is shut. One lock keeps who sleeps,
+//! whose loop runs, and whether the pool was shut. Whom to wake, and that a loop may end, is said by values that can't be
+//! dropped, and a worker lies down only after it looked while it held the lock. All room is made by [`Pool::new`], but that a
+//! worker's queue may have to grow while a thief is stopped in the middle of a steal.
 //!
 //! ```
 //! let pool = Pool::new(alloc, 1)?;
@@ -26,9 +30,14 @@
 mod crew;
 mod inbox;
 mod job;
+mod jobs;
+mod left;
+mod order;
 mod pool;
+mod queue;
 mod sleepers;
-mod yard;
+mod taker;
+mod thief;
 
 pub use crew::MOST_WORKERS;
 pub use inbox::CAPACITY;

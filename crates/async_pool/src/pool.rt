@@ -1,17 +1,24 @@
-//! The pool: its threads take the lock, call what stands behind it, and let go.
+//! The pool: how jobs are handed in, and what the loop of a worker does. It starts no threads, and takes its lock only for
+//! workers that have nothing to do.
 ghost use Rattle.std.specs.Prelude.{◌≡◌, ◌<◌, ◌↔◌, ◌⊎◌, IfOk, IfErr, Err};
 ghost use Rattle.flow_rules.specs.declared.refusal.Refusal.TheVariants as Refusal;
 ghost use Rattle.async_pool.specs.Crew.{IsWorkerCount};
 
-use crate::crew::MOST_WORKERS;
+use crate::crew::{Crew, Look, MOST_WORKERS, Over};
+use crate::inbox::Inbox;
 use crate::job::{Gate, Job};
+use crate::jobs::Jobs;
+use crate::left::Left;
+use crate::queue::Queue;
 use crate::sleepers::Wake;
-use crate::yard::{Look, Over, Yard};
+use crate::taker::Taker;
 use crossbeam_utils::Backoff;
 use flow_rules::{NoMemory, Refusal};
 use std::alloc::Global;
-use std::fmt;
+use std::sync::atomic::Ordering::SeqCst;
+use std::sync::atomic::{AtomicBool, AtomicU64};
 use std::sync::{Condvar, Mutex, MutexGuard, Wait};
+use std::{fmt, thread};
 
 /// How often a worker looks for a job before it sleeps. From the eighth look on it yields to other threads in between.
 const LOOKS: u32 = 12;
@@ -20,9 +27,18 @@ const LOOKS: u32 = 12;
 #[derive(Drop)]
 pub struct Pool<J: Job> {
     workers: usize,
-    yard: Mutex<Yard<J>>,
+    jobs: Jobs<J>,
+    crew: Mutex<Crew<J>>,
     /// A job came, or the pool was shut.
     moved: Condvar,
+    /// How many workers sleep, or are about to. Only if there are any, whoever puts a job somewhere takes the lock.
+    idle: AtomicU64,
+    /// Whether the pool was shut, as `execute` sees it without the lock.
+    shut: AtomicBool,
+    /// How many calls of `execute` may put a job in still. Each is counted before it sees whether the pool was shut: so once that was
+    /// done and none is counted, no job comes any more.
+    entering: AtomicU64,
+    left: Mutex<Left<J>>,
     ghost allowed: { IsWorkerCount workers },
 }
 
@@ -33,42 +49,78 @@ impl<J: Job> fmt::Debug for Pool<J> {
 }
 
 impl<J: Job> Pool<J> {
+    ghost use Rattle.std.specs.Prelude.{OnOk, OnErr};
+    ghost use Rattle.async_pool.specs.Bag.{after_put};
+    ghost use Rattle.async_pool.specs.Jobs.{IsTakerOf};
+    ghost use Rattle.async_pool.specs.Looks.{Looks};
+    ghost use Rattle.async_pool.specs.Queue.{queue_view};
     ghost use Rattle.async_pool.specs.Pool.{pool_workers};
 
-    /// A pool with no job, for 1 to [`MOST_WORKERS`] workers.
+    /// Makes a pool with no job, for 1 to [`MOST_WORKERS`] workers.
     ///
-    /// `BadWorkers` for any other number, and `NoMemory` where room for the jobs is refused.
+    /// Refused `BadWorkers` for any other number, and `NoMemory` if room for the jobs is refused.
     pub fn new(alloc: Global, workers: usize) -> Result<Pool<J>, Refusal>
         ensures workers { IfOk result (λ pool. pool_workers pool ≡ workers) }
         ensures bad_workers { (result ≡ Err Refusal.BadWorkers) ↔ (¬ IsWorkerCount workers) }
-        ensures refusals { IfErr result (λ refusal. (refusal ≡ Refusal.BadWorkers) ⊎ (refusal ≡ Refusal.NoMemory)) }
+        ensures refusals { IfErr result (λ refusal. (refusal ≡ Refusal.BadWorkers)
+            ⊎ (refusal ≡ Refusal.NoMemory)) }
     {
         if workers == 0 || workers > MOST_WORKERS {
             return Err(Refusal::BadWorkers);
         }
+        Ok(Pool::with(alloc, workers)?)
+    }
+
+    /// Makes a pool for this many workers.
+    fn with(alloc: Global, workers: usize) -> Result<Pool<J>, NoMemory>
+        requires { IsWorkerCount workers }
+        ensures { IfOk result (λ pool. pool_workers pool ≡ workers) }
+    {
+        let inbox = Inbox::new(alloc)?;
+        let (crew, thieves) = Crew::new(alloc, workers)?;
         Ok(Pool {
             workers,
-            yard: Mutex::new(new_yard(alloc)?),
+            jobs: Jobs::new(inbox, thieves),
+            crew: Mutex::new(crew),
             moved: Condvar::new(),
+            idle: AtomicU64::new(0),
+            shut: AtomicBool::new(false),
+            entering: AtomicU64::new(0),
+            left: Mutex::new(Left::new(alloc)?),
         })
     }
 
-    /// Hands a job in, behind all others (`ForkJoinPool.execute`). It comes back where [`CAPACITY`](crate::CAPACITY)
-    /// jobs wait, or the pool was shut.
+    /// Hands a job in, behind all others of the inbox (`ForkJoinPool.execute`). It comes back, the same, if the inbox was full
+    /// at one moment of the call, with [`CAPACITY`](crate::CAPACITY) jobs, or if the pool was shut.
+    ///
+    /// A job that is handed in while another thread shuts the pool comes back or is run: no loop ends before such a call has.
     pub fn execute<R: Wait>(&self, rt: &R, job: J) -> Result<(), J>
         ensures same_job { IfErr result (λ back. back ≡ job) }
     {
-        let mut yard = self.yard.lock(rt);
-        let wake = yard.admit(job)?;
-        self.wake(yard, wake);
+        self.entering.fetch_add(1, SeqCst);
+        let entered = self.enter(rt, job);
+        self.entering.fetch_sub(1, SeqCst);
+        entered?;
+        self.call_one(rt);
         Ok(())
     }
 
-    /// Runs jobs until the pool was shut and none is left. Where a loop with this number is running it returns at
-    /// once.
+    /// Puts a job into the inbox, if the pool was not shut.
+    fn enter<R: Wait>(&self, rt: &R, job: J) -> Result<(), J>
+        ensures same_job { IfErr result (λ back. back ≡ job) }
+    {
+        if self.shut.load(SeqCst) {
+            return Err(job);
+        }
+        self.jobs.enqueue(rt, job)?;
+        Ok(())
+    }
+
+    /// Runs jobs until the pool was shut and none is left. It returns at once if a loop with this number is running.
     ///
-    /// The gate is passed once for each job, before the loop looks for it. A job to be run again goes behind all
-    /// others, and is run on at once where the list is full.
+    /// The gate is passed once for each job, before the loop looks for it. The loop takes the first job of its own queue, else
+    /// of the inbox, else it steals the first job of another worker's queue, in the order of the workers. A job that is to be
+    /// run again goes to the back of the loop's own queue, and is run on at once if that has to grow and memory is refused.
     pub fn worker_loop<R: Wait, G: Gate>(
         &self,
         rt: &R,
@@ -78,122 +130,171 @@ impl<J: Job> Pool<J> {
     )
         requires { worker < pool_workers self.now }
     {
-        if !self.yard.lock(rt).start(worker) {
+        let started = self.crew.lock(rt).start(worker);
+        let Some(own) = started else {
             return;
-        }
-        let over = self.work(rt, worker, gate, context);
-        self.yard.lock(rt).end(worker, over);
+        };
+        let mut taker = Taker {
+            worker,
+            own,
+            pass: self.jobs.pass(),
+        };
+        let over = self.work(rt, &mut taker, gate, context);
+        self.crew.lock(rt).end(worker, taker.own, over);
     }
 
-    /// Takes the first job out, for the caller to run (`ForkJoinPool.pollSubmission`).
+    /// Takes a job out, for the caller to run (`ForkJoinPool.pollSubmission`): the first of the inbox, else of a
+    /// worker's queue, in the order of the workers.
     pub fn run_one<R: Wait>(&self, rt: &R) -> Option<J> {
-        self.yard.lock(rt).take()
+        self.jobs.take(rt)
     }
 
-    /// From now on `execute` gives its job back, and each loop ends once no job is left (`ForkJoinPool.shutdown`).
-    /// It takes no memory.
+    /// Shuts the pool: from now on `execute` gives its job back, and each loop ends once no job is left
+    /// (`ForkJoinPool.shutdown`). It takes no memory.
     pub fn shut<R: Wait>(&self, rt: &R) {
-        let mut yard = self.yard.lock(rt);
-        let wake = yard.shut();
-        self.wake(yard, wake);
+        self.shut.store(true, SeqCst);
+        let mut crew = self.crew.lock(rt);
+        let wake = crew.shut();
+        self.wake(crew, wake);
     }
 
-    /// The jobs that are left, in their order (`ExecutorService.shutdownNow` gives such a list). It is called once the
-    /// loops have ended, and takes no memory.
-    pub fn stop<R: Wait>(self, _rt: &R) -> Vec<J> {
+    /// Gives the jobs that are left: those of the inbox, and then those of each worker's queue, each in their order
+    /// (`ExecutorService.shutdownNow` gives such a list). It is called once the loops have ended, and takes no memory.
+    pub fn stop<R: Wait>(self, rt: &R) -> Vec<J> {
         let Pool {
             workers: _,
-            yard,
+            jobs,
+            crew: _,
             moved: _,
+            idle: _,
+            shut: _,
+            entering: _,
+            left,
         } = self;
-        yard.into_inner().into_left()
+        let mut left = left.into_inner().into_room();
+        jobs.drain_into(rt, &mut left);
+        left
     }
 
     /// Runs jobs until the pool is over.
     fn work<R: Wait, G: Gate>(
         &self,
         rt: &R,
-        worker: usize,
+        taker: &mut Taker<J>,
         gate: &G,
         context: &mut J::Context,
-    ) -> Over {
+    ) -> Over
+        requires { IsTakerOf self.now.jobs taker.old }
+    {
         for _ in rt.forever() {
-            gate.pass(worker);
-            match self.next_job(rt) {
-                Ok(job) => self.run(rt, job, context),
+            gate.pass(taker.worker);
+            match self.next_job(rt, taker) {
+                Ok(job) => self.run(rt, &mut taker.own, job, context),
                 Err(over) => return over,
             }
         }
         unreachable!()
     }
 
-    /// Runs a job, and again where it can't go back into the list.
-    pub(crate) fn run<R: Wait>(&self, rt: &R, job: J, context: &mut J::Context) {
+    /// Runs a job, and again if it can't go back into its worker's queue.
+    fn run<R: Wait>(&self, rt: &R, own: &mut Queue<J>, job: J, context: &mut J::Context) {
         let mut next = job;
         for _ in rt.forever() {
             let Some(again) = next.run(rt, context) else {
                 return;
             };
-            match self.put_back(rt, again) {
+            match self.put_back(rt, own, again) {
                 Ok(()) => return,
                 Err(again) => next = again,
             }
         }
     }
 
-    /// A job that is to be run again goes behind all others, also where the pool was shut.
-    fn put_back<R: Wait>(&self, rt: &R, job: J) -> Result<(), J>
+    /// Puts a job that is to be run again at the back of its worker's own queue, also if the pool was shut.
+    fn put_back<R: Wait>(&self, rt: &R, own: &mut Queue<J>, job: J) -> Result<(), J>
+        ensures back { OnOk result (queue_view own.new ≡ after_put (queue_view own.old) job) }
         ensures same_job { IfErr result (λ back. back ≡ job) }
+        ensures unchanged { OnErr result (queue_view own.new ≡ queue_view own.old) }
     {
-        let mut yard = self.yard.lock(rt);
-        let wake = yard.put_back(job)?;
-        self.wake(yard, wake);
+        own.push(job)?;
+        self.call_one(rt);
         Ok(())
     }
 
-    /// The next job, or that the pool is over.
-    fn next_job<R: Wait>(&self, rt: &R) -> Result<J, Over> {
+    /// Takes the next job, or says that the pool is over. It takes the lock only after it found no job several times.
+    fn next_job<R: Wait>(&self, rt: &R, taker: &mut Taker<J>) -> Result<J, Over>
+        requires { IsTakerOf self.now.jobs taker.old }
+        ensures { IsTakerOf self.now.jobs taker.new }
+    {
         let backoff = Backoff::new();
         for _ in 0..LOOKS {
-            let look = self.yard.lock(rt).look();
-            match look {
-                Look::Found(job) => return Ok(job),
-                Look::Over(over) => return Err(over),
-                Look::Nothing => backoff.snooze(),
+            if let Some(job) = self.jobs.next(rt, taker) {
+                return Ok(job);
             }
+            backoff.snooze();
         }
-        self.wait_for_job(rt)
+        self.idle.fetch_add(1, SeqCst);
+        let next = self.wait_for_job(rt, taker);
+        self.idle.fetch_sub(1, SeqCst);
+        next
     }
 
     /// Sleeps until there is a job, or the pool is over.
-    fn wait_for_job<R: Wait>(&self, rt: &R) -> Result<J, Over> {
-        let mut yard = self.yard.lock(rt);
+    ///
+    /// The worker was counted as idle, and then looks while it holds the lock. So whoever puts a job somewhere after that look
+    /// finds it counted, and takes the lock to call it; and the lock is free only once the worker sleeps.
+    fn wait_for_job<R: Wait>(&self, rt: &R, taker: &mut Taker<J>) -> Result<J, Over>
+        requires { IsTakerOf self.now.jobs taker.old }
+        ensures { IsTakerOf self.now.jobs taker.new }
+    {
+        let mut crew = self.crew.lock(rt);
         for _ in rt.forever() {
-            match yard.look() {
+            match self.look(rt, taker, &*crew) {
                 Look::Found(job) => return Ok(job),
                 Look::Over(over) => return Err(over),
-                Look::Nothing => {
-                    let sleeper = yard.lie_down();
-                    yard = self.moved.wait(rt, yard);
-                    yard.get_up(sleeper);
+                Look::Nothing(searched) => {
+                    let sleeper = crew.lie_down(&searched);
+                    crew = self.moved.wait(rt, crew);
+                    crew.get_up(sleeper);
+                }
+                Look::OnItsWay => {
+                    drop(crew);
+                    thread::yield_now();
+                    crew = self.crew.lock(rt);
                 }
             }
         }
         unreachable!()
     }
 
+    /// Looks once for a job, of a worker that holds the lock.
+    fn look<R: Wait>(&self, rt: &R, taker: &mut Taker<J>, crew: &Crew<J>) -> Look<J>
+        requires { IsTakerOf self.now.jobs taker.old }
+        ensures of { IsTakerOf self.now.jobs taker.new }
+        ensures looks { Looks crew.now result }
+    {
+        // Read before the search, which then finds what a call has put in that is counted no more.
+        let comes = self.entering.load(SeqCst) > 0;
+        crew.look(self.jobs.next(rt, taker), comes)
+    }
+
+    /// Wakes a worker that sleeps, if there is one, since a job came.
+    fn call_one<R: Wait>(&self, rt: &R) {
+        if self.idle.load(SeqCst) == 0 {
+            return;
+        }
+        let mut crew = self.crew.lock(rt);
+        let wake = crew.call_one();
+        self.wake(crew, wake);
+    }
+
     /// Lets go of the lock, and wakes whom the lock said.
-    fn wake(&self, yard: MutexGuard<'_, Yard<J>>, wake: Wake) {
-        drop(yard);
+    fn wake(&self, crew: MutexGuard<'_, Crew<J>>, wake: Wake) {
+        drop(crew);
         match wake {
             Wake::Nobody => {}
             Wake::One => self.moved.notify_one(),
             Wake::All => self.moved.notify_all(),
         }
     }
-}
-
-/// What a new pool's threads share.
-fn new_yard<J: Job>(alloc: Global) -> Result<Yard<J>, NoMemory> {
-    Ok(Yard::new(alloc)?)
 }

@@ -55,7 +55,7 @@ impl Sleepers {
         self.asleep = self.asleep.saturating_sub(1);
     }
 
-    /// Calls one more, and nobody where each that sleeps was called.
+    /// Calls one more, or nobody if each that sleeps was called.
     pub fn call_one(&mut self) -> Wake
         ensures { CallsOne self.old result self.new }
     {

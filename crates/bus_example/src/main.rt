@@ -10,7 +10,7 @@ mod watches;
 
 use anyhow::bail;
 use bus::{Bus, run_bus};
-use flow_rules::{Listener, Watching};
+use flow_rules::{ErrorOrder, Listener, Watching};
 use publisher::{PARTS, PublisherOptions};
 use std::fs;
 use std::io::BufWriter;
@@ -46,6 +46,7 @@ fn main(rt: HostRuntime) -> anyhow::Result<()> {
     let options = PublisherOptions {
         workers: 2,
         capacity: 64,
+        order: ErrorOrder::Overtake,
     };
     let (publications, drops) = (Blank::new(PARTS), Blank::new(PARTS));
     let finished = run_bus::<Brand, Brand, Subscriber, _>(

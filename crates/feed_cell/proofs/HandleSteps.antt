@@ -37,7 +37,7 @@ module _ {B : Type 0} (told : B → List Signal) where
           lies = c.lies;
           lodges = c.lodges;
           producers = other has_put c.cell.producer _ _ s.views id w c.producers is.0 (λ d k. k);
-          handles = mine has_ask c.cell.handle _ _ s.views id v w c.handles at is.1 (record { sized = k.sized; total = total; cancels = k.cancels; bad = k.bad; leaves = k.leaves; stands = refl });
+          handles = mine has_ask c.cell.handle _ _ s.views id v w c.handles at is.1 (record { sized = k.sized; ordered = k.ordered; total = total; cancels = k.cancels; bad = k.bad; leaves = k.leaves; stands = refl });
           runners = other has_run c.cell.runner _ _ s.views id w c.runners is.2 (λ d k. k);
         },
         refl,
@@ -64,7 +64,7 @@ module _ {B : Type 0} (told : B → List Signal) where
           lies = c.lies;
           lodges = c.lodges;
           producers = other has_put c.cell.producer _ _ s.views id w c.producers is.0 (λ d k. k);
-          handles = mine has_ask c.cell.handle _ _ s.views id v w c.handles at is.1 (record { sized = k.sized; total = k.total; cancels = k.cancels; bad = k.bad; leaves = refl; stands = k.stands });
+          handles = mine has_ask c.cell.handle _ _ s.views id v w c.handles at is.1 (record { sized = k.sized; ordered = k.ordered; total = k.total; cancels = k.cancels; bad = k.bad; leaves = refl; stands = k.stands });
           runners = other has_run c.cell.runner _ _ s.views id w c.runners is.2 (λ d k. k);
         },
         refl,

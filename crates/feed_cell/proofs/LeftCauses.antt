@@ -1,7 +1,7 @@
 -- What an end of the subscription, or none, says of its causes.
 use Rattle.std.proofs.Common.{◌≡◌, ℕ, true, false, length, Some, None, is_some, sym, refl, ap, ◌∙◌}
 use Rattle.feed_core.specs.Lane.{LaneState}
-use Rattle.feed_core.specs.Prelude.{Fault, Published, IllegalArgument, IllegalState, Ending, How}
+use Rattle.feed_core.specs.Prelude.{Fault, Published, IllegalArgument, IllegalState, Ending, AfterItems, How}
 use Rattle.feed_core.specs.Sound.{HasCause}
 use Rattle.feed_core.specs.World.Kept.{EndHasCause}
 use Rattle.feed_core.specs.World.Table.{is_over}
@@ -14,6 +14,7 @@ caused w How.Completed lane causes given accepted is e = record {
   completed = λ _. ap (λ z. z.closing) causes ∙ e.0;
   whole = λ _. given ∙ e.1 ∙ sym accepted;
   published = λ code h. (let s = sym is ∙ h in cc);
+  last = λ code h. (let s = sym is ∙ h in cc);
   argument = λ h. (let s = sym is ∙ h in cc);
   state = λ h. (let s = sym is ∙ h in cc);
   cancelled = λ h. (let s = sym is ∙ h in cc);
@@ -24,6 +25,7 @@ caused w (How.Errored fault) lane causes given accepted is e = record {
   completed = λ h. (let s = sym is ∙ h in cc);
   whole = λ h. (let s = sym is ∙ h in cc);
   published = λ code h. ap (λ z. z.closing) causes ∙ of_code fault code e (sym is ∙ h);
+  last = λ code h order. given ∙ of_order fault code e (sym is ∙ h) (sym (ap (λ z. z.order) causes) ∙ order) ∙ sym accepted;
   argument = λ h. ap (λ z. z.argument) causes ∙ of_argument fault e (sym is ∙ h);
   state = λ h. ap (λ z. z.state) causes ∙ of_state fault e (sym is ∙ h);
   cancelled = λ h. (let s = sym is ∙ h in cc);
@@ -31,23 +33,29 @@ caused w (How.Errored fault) lane causes given accepted is e = record {
   refused = λ h. (let s = sym is ∙ h in cc);
 } where
   of_code : (fault : Fault) (code : ℕ) → EndHasCause (How.Errored fault) w → Some (How.Errored fault) ≡ Some (How.Errored (Published code)) → w.causes.closing ≡ Some (Ending.Failed code)
-  of_code (Published other) code e same = e ∙ ap (λ (m : ℕ). Some (Ending.Failed m)) (cc)
+  of_code (Published other) code e same = e.0 ∙ ap (λ (m : ℕ). Some (Ending.Failed m)) (cc)
   of_code IllegalArgument code e same = cc
   of_code IllegalState code e same = cc
 
+  of_order : (fault : Fault) (code : ℕ) → EndHasCause (How.Errored fault) w → Some (How.Errored fault) ≡ Some (How.Errored (Published code)) → w.causes.order ≡ AfterItems → w.given ≡ w.accepted
+  of_order (Published other) code e same = e.1
+  of_order IllegalArgument code e same = cc
+  of_order IllegalState code e same = cc
+
   of_argument : (fault : Fault) → EndHasCause (How.Errored fault) w → Some (How.Errored fault) ≡ Some (How.Errored IllegalArgument) → w.causes.argument ≡ true
   of_argument (Published other) e same = cc
-  of_argument IllegalArgument e same = e
+  of_argument IllegalArgument e same = e.0
   of_argument IllegalState e same = cc
 
   of_state : (fault : Fault) → EndHasCause (How.Errored fault) w → Some (How.Errored fault) ≡ Some (How.Errored IllegalState) → w.causes.state ≡ true
   of_state (Published other) e same = cc
   of_state IllegalArgument e same = cc
-  of_state IllegalState e same = e
+  of_state IllegalState e same = e.0
 caused w How.Cancelled lane causes given accepted is e = record {
   completed = λ h. (let s = sym is ∙ h in cc);
   whole = λ h. (let s = sym is ∙ h in cc);
   published = λ code h. (let s = sym is ∙ h in cc);
+  last = λ code h. (let s = sym is ∙ h in cc);
   argument = λ h. (let s = sym is ∙ h in cc);
   state = λ h. (let s = sym is ∙ h in cc);
   cancelled = λ _. ap (λ z. z.cancel) causes ∙ e;
@@ -58,6 +66,7 @@ caused w (How.Failed n) lane causes given accepted is e = record {
   completed = λ h. (let s = sym is ∙ h in cc);
   whole = λ h. (let s = sym is ∙ h in cc);
   published = λ code h. (let s = sym is ∙ h in cc);
+  last = λ code h. (let s = sym is ∙ h in cc);
   argument = λ h. (let s = sym is ∙ h in cc);
   state = λ h. (let s = sym is ∙ h in cc);
   cancelled = λ h. (let s = sym is ∙ h in cc);
@@ -68,6 +77,7 @@ caused w How.OutOfMemory lane causes given accepted is e = record {
   completed = λ h. (let s = sym is ∙ h in cc);
   whole = λ h. (let s = sym is ∙ h in cc);
   published = λ code h. (let s = sym is ∙ h in cc);
+  last = λ code h. (let s = sym is ∙ h in cc);
   argument = λ h. (let s = sym is ∙ h in cc);
   state = λ h. (let s = sym is ∙ h in cc);
   cancelled = λ h. (let s = sym is ∙ h in cc);

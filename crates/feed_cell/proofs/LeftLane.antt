@@ -23,13 +23,10 @@ use Rattle.feed_cell.specs.declared.cell.Held.{Held}
 use Rattle.feed_cell.specs.declared.cell.View.{View}
 
 -- the causes by the flags, where those say what the publisher and the handle did
-flagged : (f : Flags) (answers : Causes) (handle : HandleState) (end : End) → f.cancel ≡ handle.cancelled → f.argument ≡ handle.argument → f.state ≡ end.state → f.closing ≡ end.closing
+flagged : (f : Flags) (answers : Causes) (handle : HandleState) (end : End) → answers.order ≡ handle.order → f.cancel ≡ handle.cancelled → f.argument ≡ handle.argument → f.state ≡ end.state → f.closing ≡ end.closing
     → causes_of f answers ≡ causes_left end handle answers
-flagged f answers handle end cancel argument state closing =
-    ap (λ z. record { cancel = z || answers.cancel; argument = f.argument || answers.argument; state = f.state; closing = f.closing; failed = answers.failed; memory = answers.memory }) cancel
-    ∙ ap (λ z. record { cancel = handle.cancelled || answers.cancel; argument = z || answers.argument; state = f.state; closing = f.closing; failed = answers.failed; memory = answers.memory }) argument
-    ∙ ap (λ z. record { cancel = handle.cancelled || answers.cancel; argument = handle.argument || answers.argument; state = z; closing = f.closing; failed = answers.failed; memory = answers.memory }) state
-    ∙ ap (λ z. record { cancel = handle.cancelled || answers.cancel; argument = handle.argument || answers.argument; state = end.state; closing = z; failed = answers.failed; memory = answers.memory }) closing
+flagged f answers handle end order cancel argument state closing =
+    λ k. record { order = order k; cancel = cancel k || answers.cancel; argument = argument k || answers.argument; state = state k; closing = closing k; failed = answers.failed; memory = answers.memory }
 
 not_over : (r : Runner) → (is_over r ≡ true → ⊥) → is_over r ≡ false
 not_over r never = by (is_over r) never where
@@ -144,7 +141,7 @@ module _ {B : Type 0} (told : B → List Signal) (cap : ℕ) (s : State (Held B)
         own = own;
         answers = c.cell.answers;
         total_is = is ∙ ap (λ a. total_after a own) (sym k.total ∙ knows.asked);
-        causes_are = c.shows.causes ∙ flagged c.cell.flags c.cell.answers handle end (sym k.cancels ∙ knows.cancelled) (sym k.bad ∙ knows.argument) (sym state) (sym closing);
+        causes_are = c.shows.causes ∙ flagged c.cell.flags c.cell.answers handle end (sym k.ordered ∙ knows.order) (sym k.cancels ∙ knows.cancelled) (sym k.bad ∙ knows.argument) (sym state) (sym closing);
       }
 
   module _ (id : ℕ) (v : View) (at : get_elem? s.views id ≡ some v) (puts : v.puts ≡ true) (begins : MayBegin v.producing) (end : End) (end_is : end ≡ known_end v end.ready)
@@ -195,6 +192,7 @@ module _ {B : Type 0} (told : B → List Signal) (cap : ℕ) (s : State (Held B)
             given = refl;
             taken = omega arith;
             ending = g.how_is;
+            order = ap (λ (z : Causes). Some z.order) g.answers_are ∙ sym (ap (λ (z : Causes). Some z.order) c.shows.causes);
             flow = (refl, ap (total_after c.cell.world.asked) g.own_is, flow_kept sound);
             settled = λ rests. (refl, settles_by (settles rests) safe);
             unended = λ runs. g.how_is ∙ goes_on c.cell.world.runner (not_over c.cell.world.runner (goes runs));
@@ -226,6 +224,7 @@ module _ {B : Type 0} (told : B → List Signal) (cap : ℕ) (s : State (Held B)
             given = refl;
             taken = omega arith;
             ending = sym (goes_on c.cell.world.runner goes);
+            order = tt;
             flow = tt;
             settled = λ e. cc;
             unended = λ _. refl;

@@ -35,6 +35,7 @@ module _ {B : Type 0} (told : B → List Signal) where
   gathers cap id from v w puts runs asks s c at apart later =
       let p = (c.producers id v at puts).1 in
       let was : get_elem? s.views from ≡ some w = ⊎_elim (λ here. absurd (apart here.0)) (λ else. else.1) (at_set s.views id from (with_asking v w) w later) in
+      let asked = (c.handles from w was asks).1 in
       record {
         cell = record c.cell { handle = id };
         reached = reached_joined id from v (with_asking v w) w no_part c.reached at (inl puts) later (c.reached.goes from w was (inr (inl asks))) refl refl refl refl refl refl;
@@ -45,9 +46,9 @@ module _ {B : Type 0} (told : B → List Signal) where
         lies = c.lies;
         lodges = c.lodges;
         producers = other has_put c.cell.producer _ _ (set s.views id (with_asking v w)) from no_part
-            (mine has_put c.cell.producer _ _ s.views id v (with_asking v w) c.producers at puts (record { sized = p.sized; put = p.put; seen = p.seen; places = p.places; over = p.over; closed = p.closed; doubled = p.doubled; stands = p.stands }))
+            (mine has_put c.cell.producer _ _ s.views id v (with_asking v w) c.producers at puts (record { sized = p.sized; ordered = asked.ordered; put = p.put; seen = p.seen; places = p.places; over = p.over; closed = p.closed; doubled = p.doubled; stands = p.stands }))
             refl (λ d k. k);
         handles = taken_in has_ask c.cell.handle _ _ s.views id from (with_asking v w) w no_part c.handles was asks refl
-            (λ h. record { sized = p.sized; total = h.total; cancels = h.cancels; bad = h.bad; leaves = h.leaves; stands = h.stands });
+            (λ h. record { sized = p.sized; ordered = h.ordered; total = h.total; cancels = h.cancels; bad = h.bad; leaves = h.leaves; stands = h.stands });
         runners = other has_run c.cell.runner _ _ (set s.views id (with_asking v w)) from no_part (other has_run c.cell.runner _ _ s.views id (with_asking v w) c.runners runs (λ d k. k)) refl (λ d k. k);
       }

@@ -4,7 +4,7 @@ use mathlib.Core.Option.{some, some-injective, some-ne-none}
 use lib.ListN.{get_elem?}
 use Rattle.atomic_table.proofs.Lists.{at_set}
 use Rattle.feed_core.specs.LaneCalls.{IsCapacity}
-use Rattle.feed_core.specs.Prelude.{How}
+use Rattle.feed_core.specs.Prelude.{ErrorOrder, How}
 use Rattle.feed_core.specs.declared.turn.outlook.Outlook.TheVariants.{Again, Resting, Ended}
 use Rattle.feed_core.specs.World.Table.{is_started, is_over, IsPossible, after}
 use Rattle.feed_core.specs.World.Runs.{nothing, world_of, made, cut_after}
@@ -19,15 +19,15 @@ use Rattle.feed_cell.specs.Views.{first_view}
 use Rattle.feed_cell.specs.declared.cell.View.{View}
 
 -- at first
-pub reached_made : (n : ℕ) → IsCapacity n → IsReachedBy (first_view n ∷ []) (made n)
-reached_made n sized = record { events = Make n ∷ []; cut = None; leads = (world_of (made n) None, inl (sized, refl), refl); rests = refl; misses = refl; hands = refl; ends = none_ends; goes = all_go }
+pub reached_made : (n : ℕ) (order : ErrorOrder) → IsCapacity n → IsReachedBy (first_view n order ∷ []) (made n order)
+reached_made n order sized = record { events = Make n order ∷ []; cut = None; leads = (world_of (made n order) None, inl (sized, refl), refl); rests = refl; misses = refl; hands = refl; ends = none_ends; goes = all_go }
   where
-    none_ends : (j : ℕ) (d : View) (how : How) → get_elem? (first_view n ∷ []) j ≡ some d → d.outlook ≡ Ended how → (made n).runner ≡ Over how
-    none_ends zero d how at shows = let clash : Again ≡ Ended how = ap (λ (v : View). v.outlook) (some-injective (first_view n) d at) ∙ shows in cc
+    none_ends : (j : ℕ) (d : View) (how : How) → get_elem? (first_view n order ∷ []) j ≡ some d → d.outlook ≡ Ended how → (made n order).runner ≡ Over how
+    none_ends zero d how at shows = let clash : Again ≡ Ended how = ap (λ (v : View). v.outlook) (some-injective (first_view n order) d at) ∙ shows in cc
     none_ends (suc j) d how at shows = absurd (some-ne-none d (sym at))
 
-    all_go : (j : ℕ) (d : View) → get_elem? (first_view n ∷ []) j ≡ some d → HasPart d → d.outlook ≡ Again
-    all_go zero d at part = ap (λ (v : View). v.outlook) (some-injective d (first_view n) (sym at))
+    all_go : (j : ℕ) (d : View) → get_elem? (first_view n order ∷ []) j ≡ some d → HasPart d → d.outlook ≡ Again
+    all_go zero d at part = ap (λ (v : View). v.outlook) (some-injective d (first_view n order) (sym at))
     all_go (suc j) d at part = absurd (some-ne-none d (sym at))
 
 -- a seat shows what it showed before

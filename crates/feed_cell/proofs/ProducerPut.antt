@@ -52,7 +52,7 @@ module _ {B : Type 0} (told : B → List Signal) where
               (subst (λ (m : ℕ). Lies cap c.cell.log (length c.cell.taken) (length c.cell.taken + length c.cell.item) m s.homes) free_is c.lies);
           lodges = λ e. lodges_else told cap p.runner c.cell.taken p.own c.cell.answers s.homes (set s.homes i (some (Held.Item x))) (λ y at. stays_home cap c.cell.log s.homes i (length c.cell.log) (some (Held.Item x)) y c.lists.sized slot_is at) (c.lodges e);
           producers = mine has_put c.cell.producer _ _ s.views id v w c.producers at is.0
-              (record { sized = k.sized; put = ap (λ (l : List Item). l ++ x ∷ []) k.put; seen = k.seen; places = omega arith; over = k.over; closed = k.closed; doubled = k.doubled; stands = refl });
+              (record { sized = k.sized; ordered = k.ordered; put = ap (λ (l : List Item). l ++ x ∷ []) k.put; seen = k.seen; places = omega arith; over = k.over; closed = k.closed; doubled = k.doubled; stands = refl });
           handles = other has_ask c.cell.handle _ _ s.views id w c.handles is.1 (λ d k. k);
           runners = other has_run c.cell.runner _ _ s.views id w c.runners is.2 (λ d k. k);
         },

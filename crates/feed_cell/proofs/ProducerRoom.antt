@@ -28,7 +28,7 @@ module _ {B : Type 0} (told : B → List Signal) (cap : ℕ) where
   room_kept : (s : State (Held B) View) (c : CellRule told cap s) (id : ℕ) (v w : View) (free : ℕ) (homes : List (slot.Option (Held B))) → get_elem? s.views id ≡ some v → IsProducer v → MayBegin c.cell.world.producer
       → has_ask w ≡ false → has_run w ≡ false → ShowsSame v w → Lists cap c.cell.log c.cell.taken c.cell.item free → Lies cap c.cell.log (length c.cell.taken) (length c.cell.taken + length c.cell.item) free homes
       → (c.cell.away ≡ false → LodgesAt told cap c.cell.world.runner c.cell.taken c.cell.world.own c.cell.answers homes)
-      → AsProducer cap c.cell.log c.cell.world.given free (is_over c.cell.world.runner) c.cell.flags.closing c.cell.flags.state (shown_room (has_room c.cell.world)) w
+      → AsProducer cap c.cell.answers.order c.cell.log c.cell.world.given free (is_over c.cell.world.runner) c.cell.flags.closing c.cell.flags.state (shown_room (has_room c.cell.world)) w
       → CellRule told cap (record { words = set s.words 0 (slice_index s.words 0); homes = homes; views = set s.views id w })
   room_kept s c id v w free homes at is may asks runs same lists lies lodges knows = record {
     cell = record c.cell { world = after Room c.cell.world; free = free };
@@ -86,10 +86,10 @@ module _ {B : Type 0} (told : B → List Signal) (cap : ℕ) (s : State (Held B)
   looked producing places = after_look v c.cell.world.given (is_over c.cell.world.runner) producing places
 
   knows : (p : Producing) (places free : ℕ) → shown_room (has_room c.cell.world) ≡ p → free ≡ length c.cell.log + places
-      → AsProducer cap c.cell.log c.cell.world.given free (is_over c.cell.world.runner) c.cell.flags.closing c.cell.flags.state (shown_room (has_room c.cell.world)) (looked p places)
+      → AsProducer cap c.cell.answers.order c.cell.log c.cell.world.given free (is_over c.cell.world.runner) c.cell.flags.closing c.cell.flags.state (shown_room (has_room c.cell.world)) (looked p places)
   knows p places free shown is_free =
       let k = (c.producers id v at is.0).1 in
-      record { sized = k.sized; put = k.put; seen = omega arith; places = is_free; over = λ e. e; closed = k.closed; doubled = k.doubled; stands = sym shown }
+      record { sized = k.sized; ordered = k.ordered; put = k.put; seen = omega arith; places = is_free; over = λ e. e; closed = k.closed; doubled = k.doubled; stands = sym shown }
 
   may : MayBegin c.cell.world.producer
   may = subst MayBegin (c.producers id v at is.0).1.stands begins
@@ -127,7 +127,7 @@ module _ {B : Type 0} (told : B → List Signal) (cap : ℕ) (s : State (Held B)
         keeps,
         tt,
         stays Free (room_of_ended c.cell.world e),
-        record { head = c.cell.world.given; ended = is_over c.cell.world.runner; found_is = f.found_is; small = f.small; grows = f.grows; put = f.put; fits = f.fits; stays = f.stays; gone = λ _. refl; full = λ goes. absurd (true≢false (sym e ∙ goes)); room = λ goes. absurd (true≢false (sym e ∙ goes)); sized = refl },
+        record { head = c.cell.world.given; ended = is_over c.cell.world.runner; found_is = f.found_is; small = f.small; grows = f.grows; put = f.put; fits = f.fits; stays = f.stays; gone = λ _. refl; full = λ goes. absurd (true≢false (sym e ∙ goes)); room = λ goes. absurd (true≢false (sym e ∙ goes)); sized = refl; ordered = refl },
       )
   decides false e =
       let f = finds told cap s c id v at is.0 in
@@ -145,14 +145,14 @@ module _ {B : Type 0} (told : B → List Signal) (cap : ℕ) (s : State (Held B)
         takes (length v.put % v.capacity) Held.Empty,
         ap (λ (j : ℕ). get_elem? s.homes j) slot_is ∙ c.lies.places (length c.cell.log) (let free : c.cell.free ≡ length c.cell.log = free_is in omega arith) room,
         takes_place room (room_there told cap c.cell.world e (omega arith) below),
-        record { head = c.cell.world.given; ended = is_over c.cell.world.runner; found_is = f.found_is; small = f.small; grows = f.grows; put = f.put; fits = f.fits; stays = f.stays; gone = λ ends. absurd (true≢false (sym ends ∙ e)); full = λ _ all. absurd (omega arith); room = λ _ _. refl; sized = refl },
+        record { head = c.cell.world.given; ended = is_over c.cell.world.runner; found_is = f.found_is; small = f.small; grows = f.grows; put = f.put; fits = f.fits; stays = f.stays; gone = λ ends. absurd (true≢false (sym ends ∙ e)); full = λ _ all. absurd (omega arith); room = λ _ _. refl; sized = refl; ordered = refl },
       ))
       (λ more_put. (
         looked Free 0,
         keeps,
         tt,
         stays Free (none_there told cap c.cell.world (omega (arith, more_put))),
-        record { head = c.cell.world.given; ended = is_over c.cell.world.runner; found_is = f.found_is; small = f.small; grows = f.grows; put = f.put; fits = f.fits; stays = f.stays; gone = λ _. refl; full = λ _ _. refl; room = λ _ low. absurd (omega (arith, more_put)); sized = refl },
+        record { head = c.cell.world.given; ended = is_over c.cell.world.runner; found_is = f.found_is; small = f.small; grows = f.grows; put = f.put; fits = f.fits; stays = f.stays; gone = λ _. refl; full = λ _ _. refl; room = λ _ low. absurd (omega (arith, more_put)); sized = refl; ordered = refl },
       ))
 
   begun : (b : Bool) → (shown_room b ≡ Free) ⊎ (shown_room b ≡ HasRoom)

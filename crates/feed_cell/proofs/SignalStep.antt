@@ -2,7 +2,7 @@
 use Rattle.std.proofs.Common.{◌≡◌, ℕ, ◌⊎◌, Bool, true, false, true≢false, List, [], ◌∷◌, slice_index, set, bit_or, Option, Some, None, sym, refl, ap, ◌∙◌, subst, inl, inr}
 use Rattle.std.specs.Int.{bit_at}
 use Rattle.atomic_table.specs.Table.{State, keeps, Allows}
-use Rattle.feed_core.specs.Prelude.{Item, Ending, Signal}
+use Rattle.feed_core.specs.Prelude.{Item, Ending, ErrorOrder, Signal}
 use Rattle.feed_core.specs.World.Table.{ProducerMay, HandleMay, joined, is_started, is_over, producing_after, requesting_after, started}
 use Rattle.feed_cell.specs.Types.{Cause, Cancel, Argument, State as Doubled, Closing, Event, Producer, Handle, Producing, Requesting, Idle}
 use Rattle.feed_cell.proofs.Outlooks.{ShowsSame, reached_more}
@@ -40,8 +40,8 @@ module _ {B : Type 0} (told : B → List Signal) (cap : ℕ) where
   signal_kept : (s : State (Held B) View) (c : CellRule told cap s) (cause : Option Cause) (mask : ℕ) (producer : Producing) (handle : Requesting) (id : ℕ) (w : View) → Reads mask (signal_of cause) → (c.cell.flags.closing ≡ None) ⊎ ((signal_of cause).closing ≡ None)
       → IsReachedBy (set s.views id w) (record c.cell.world { causes = joined cause c.cell.world.causes; active = true; producer = producer; handle = handle; runner = started c.cell.world.runner })
       → (c.cell.left ≡ true → handle ≡ Idle) → has_run w ≡ false
-      → Only has_put c.cell.producer (AsProducer cap c.cell.log c.cell.world.given c.cell.free (is_over (started c.cell.world.runner)) (both (signal_of cause) c.cell.flags).closing (both (signal_of cause) c.cell.flags).state producer) (set s.views id w)
-      → Only has_ask c.cell.handle (AsHandle cap c.cell.world.asked (both (signal_of cause) c.cell.flags).cancel (both (signal_of cause) c.cell.flags).argument c.cell.left handle) (set s.views id w)
+      → Only has_put c.cell.producer (AsProducer cap c.cell.answers.order c.cell.log c.cell.world.given c.cell.free (is_over (started c.cell.world.runner)) (both (signal_of cause) c.cell.flags).closing (both (signal_of cause) c.cell.flags).state producer) (set s.views id w)
+      → Only has_ask c.cell.handle (AsHandle cap c.cell.answers.order c.cell.world.asked (both (signal_of cause) c.cell.flags).cancel (both (signal_of cause) c.cell.flags).argument c.cell.left handle) (set s.views id w)
       → CellRule told cap (record { words = set s.words 3 (bit_or (slice_index s.words 3) mask); homes = s.homes; views = set s.views id w })
   signal_kept s c cause mask producer handle id w sets one reached settled runs producers handles =
       let p = c.cell.world in
@@ -64,51 +64,51 @@ module _ {B : Type 0} (told : B → List Signal) (cap : ℕ) where
         handles = handles;
         runners = other has_run c.cell.runner _ _ s.views id w c.runners runs (λ d k. (
             let same = st.same k.seated in
-            record { sized = k.sized; seated = st.seat ∙ k.seated; stands = k.stands ∙ sym same; out = k.out; knows = k.knows; fresh = λ e. k.fresh (sym same ∙ e); item_is = k.item_is; latest = λ _ e. cc }));
+            record { sized = k.sized; ordered = k.ordered; seated = st.seat ∙ k.seated; stands = k.stands ∙ sym same; out = k.out; knows = k.knows; fresh = λ e. k.fresh (sym same ∙ e); item_is = k.item_is; latest = λ _ e. cc }));
       }
 
 -- a signal changes no part of a party, and nothing of what its seat shows of tasks
-pub sent_stays : (cause : Option Cause) (b : Bool) (v : View) → ((sent cause b v).puts ≡ v.puts) × ((sent cause b v).asks ≡ v.asks) × ((sent cause b v).runs ≡ v.runs) × ((sent cause b v).capacity ≡ v.capacity) × ShowsSame v (sent cause b v)
-sent_stays None b v = (refl, refl, refl, refl, (refl, refl, refl))
-sent_stays (Some Cancel) b v = (refl, refl, refl, refl, (refl, refl, refl))
-sent_stays (Some Argument) b v = (refl, refl, refl, refl, (refl, refl, refl))
-sent_stays (Some Doubled) b v = (refl, refl, refl, refl, (refl, refl, refl))
-sent_stays (Some (Closing ending)) b v = (refl, refl, refl, refl, (refl, refl, refl))
+pub sent_stays : (cause : Option Cause) (b : Bool) (v : View) → ((sent cause b v).puts ≡ v.puts) × ((sent cause b v).asks ≡ v.asks) × ((sent cause b v).runs ≡ v.runs) × ((sent cause b v).capacity ≡ v.capacity) × ShowsSame v (sent cause b v) × ((sent cause b v).order ≡ v.order)
+sent_stays None b v = (refl, refl, refl, refl, (refl, refl, refl), refl)
+sent_stays (Some Cancel) b v = (refl, refl, refl, refl, (refl, refl, refl), refl)
+sent_stays (Some Argument) b v = (refl, refl, refl, refl, (refl, refl, refl), refl)
+sent_stays (Some Doubled) b v = (refl, refl, refl, refl, (refl, refl, refl), refl)
+sent_stays (Some (Closing ending)) b v = (refl, refl, refl, refl, (refl, refl, refl), refl)
 
 -- what the producer knows after a signal of its own
-sent_knows : (cap : ℕ) (log : List Item) (given free : ℕ) (over : Bool) (f : Flags) (before : Producing) (b : Bool) (closing : Option Ending) (cause : Option Cause) (v : View) → ProducerMay cause before closing → AsProducer cap log given free over f.closing f.state before v
-    → AsProducer cap log given free over (both (signal_of cause) f).closing (both (signal_of cause) f).state (producing_after b) (sent cause b v)
-sent_knows cap log given free over f before b closing None v may k = record { sized = k.sized; put = k.put; seen = k.seen; places = k.places; over = k.over; closed = k.closed; doubled = k.doubled; stands = refl }
-sent_knows cap log given free over f before b closing (Some Cancel) v may k = absurd may
-sent_knows cap log given free over f before b closing (Some Argument) v may k = absurd may
-sent_knows cap log given free over f before b closing (Some Doubled) v may k = record { sized = k.sized; put = k.put; seen = k.seen; places = k.places; over = k.over; closed = k.closed; doubled = refl; stands = refl }
-sent_knows cap log given free over f before b closing (Some (Closing ending)) v may k = record { sized = k.sized; put = k.put; seen = k.seen; places = k.places; over = k.over; closed = refl; doubled = k.doubled; stands = refl }
+sent_knows : (cap : ℕ) (order : ErrorOrder) (log : List Item) (given free : ℕ) (over : Bool) (f : Flags) (before : Producing) (b : Bool) (closing : Option Ending) (cause : Option Cause) (v : View) → ProducerMay cause before closing → AsProducer cap order log given free over f.closing f.state before v
+    → AsProducer cap order log given free over (both (signal_of cause) f).closing (both (signal_of cause) f).state (producing_after b) (sent cause b v)
+sent_knows cap order log given free over f before b closing None v may k = record { sized = k.sized; ordered = k.ordered; put = k.put; seen = k.seen; places = k.places; over = k.over; closed = k.closed; doubled = k.doubled; stands = refl }
+sent_knows cap order log given free over f before b closing (Some Cancel) v may k = absurd may
+sent_knows cap order log given free over f before b closing (Some Argument) v may k = absurd may
+sent_knows cap order log given free over f before b closing (Some Doubled) v may k = record { sized = k.sized; ordered = k.ordered; put = k.put; seen = k.seen; places = k.places; over = k.over; closed = k.closed; doubled = refl; stands = refl }
+sent_knows cap order log given free over f before b closing (Some (Closing ending)) v may k = record { sized = k.sized; ordered = k.ordered; put = k.put; seen = k.seen; places = k.places; over = k.over; closed = refl; doubled = k.doubled; stands = refl }
 
 -- what the handle knows after it
-handle_knows : (cap asked : ℕ) (f : Flags) (left : Bool) (handle : Requesting) (p : Producing) (closing : Option Ending) (cause : Option Cause) (d : View) → ProducerMay cause p closing → AsHandle cap asked f.cancel f.argument left handle d
-    → AsHandle cap asked (both (signal_of cause) f).cancel (both (signal_of cause) f).argument left handle d
-handle_knows cap asked f left handle p closing None d may k = k
-handle_knows cap asked f left handle p closing (Some Cancel) d may k = absurd may
-handle_knows cap asked f left handle p closing (Some Argument) d may k = absurd may
-handle_knows cap asked f left handle p closing (Some Doubled) d may k = k
-handle_knows cap asked f left handle p closing (Some (Closing ending)) d may k = k
+handle_knows : (cap : ℕ) (order : ErrorOrder) (asked : ℕ) (f : Flags) (left : Bool) (handle : Requesting) (p : Producing) (closing : Option Ending) (cause : Option Cause) (d : View) → ProducerMay cause p closing → AsHandle cap order asked f.cancel f.argument left handle d
+    → AsHandle cap order asked (both (signal_of cause) f).cancel (both (signal_of cause) f).argument left handle d
+handle_knows cap order asked f left handle p closing None d may k = k
+handle_knows cap order asked f left handle p closing (Some Cancel) d may k = absurd may
+handle_knows cap order asked f left handle p closing (Some Argument) d may k = absurd may
+handle_knows cap order asked f left handle p closing (Some Doubled) d may k = k
+handle_knows cap order asked f left handle p closing (Some (Closing ending)) d may k = k
 
-sent_handle_knows : (cap asked : ℕ) (f : Flags) (left : Bool) (before : Requesting) (b : Bool) (cause : Option Cause) (v : View) → HandleMay cause before → AsHandle cap asked f.cancel f.argument left before v
-    → AsHandle cap asked (both (signal_of cause) f).cancel (both (signal_of cause) f).argument left (requesting_after b) (sent cause b v)
-sent_handle_knows cap asked f left before b None v may k = record { sized = k.sized; total = k.total; cancels = k.cancels; bad = k.bad; leaves = k.leaves; stands = refl }
-sent_handle_knows cap asked f left before b (Some Cancel) v may k = record { sized = k.sized; total = k.total; cancels = refl; bad = k.bad; leaves = k.leaves; stands = refl }
-sent_handle_knows cap asked f left before b (Some Argument) v may k = record { sized = k.sized; total = k.total; cancels = k.cancels; bad = refl; leaves = k.leaves; stands = refl }
-sent_handle_knows cap asked f left before b (Some Doubled) v may k = absurd may
-sent_handle_knows cap asked f left before b (Some (Closing ending)) v may k = absurd may
+sent_handle_knows : (cap : ℕ) (order : ErrorOrder) (asked : ℕ) (f : Flags) (left : Bool) (before : Requesting) (b : Bool) (cause : Option Cause) (v : View) → HandleMay cause before → AsHandle cap order asked f.cancel f.argument left before v
+    → AsHandle cap order asked (both (signal_of cause) f).cancel (both (signal_of cause) f).argument left (requesting_after b) (sent cause b v)
+sent_handle_knows cap order asked f left before b None v may k = record { sized = k.sized; ordered = k.ordered; total = k.total; cancels = k.cancels; bad = k.bad; leaves = k.leaves; stands = refl }
+sent_handle_knows cap order asked f left before b (Some Cancel) v may k = record { sized = k.sized; ordered = k.ordered; total = k.total; cancels = refl; bad = k.bad; leaves = k.leaves; stands = refl }
+sent_handle_knows cap order asked f left before b (Some Argument) v may k = record { sized = k.sized; ordered = k.ordered; total = k.total; cancels = k.cancels; bad = refl; leaves = k.leaves; stands = refl }
+sent_handle_knows cap order asked f left before b (Some Doubled) v may k = absurd may
+sent_handle_knows cap order asked f left before b (Some (Closing ending)) v may k = absurd may
 
 -- what the producer knows after it
-producer_knows : (cap : ℕ) (log : List Item) (given free : ℕ) (over : Bool) (f : Flags) (p : Producing) (h : Requesting) (cause : Option Cause) (d : View) → HandleMay cause h → AsProducer cap log given free over f.closing f.state p d
-    → AsProducer cap log given free over (both (signal_of cause) f).closing (both (signal_of cause) f).state p d
-producer_knows cap log given free over f p h None d may k = k
-producer_knows cap log given free over f p h (Some Cancel) d may k = k
-producer_knows cap log given free over f p h (Some Argument) d may k = k
-producer_knows cap log given free over f p h (Some Doubled) d may k = absurd may
-producer_knows cap log given free over f p h (Some (Closing ending)) d may k = absurd may
+producer_knows : (cap : ℕ) (order : ErrorOrder) (log : List Item) (given free : ℕ) (over : Bool) (f : Flags) (p : Producing) (h : Requesting) (cause : Option Cause) (d : View) → HandleMay cause h → AsProducer cap order log given free over f.closing f.state p d
+    → AsProducer cap order log given free over (both (signal_of cause) f).closing (both (signal_of cause) f).state p d
+producer_knows cap order log given free over f p h None d may k = k
+producer_knows cap order log given free over f p h (Some Cancel) d may k = k
+producer_knows cap order log given free over f p h (Some Argument) d may k = k
+producer_knows cap order log given free over f p h (Some Doubled) d may k = absurd may
+producer_knows cap order log given free over f p h (Some (Closing ending)) d may k = absurd may
 
 module _ {B : Type 0} (told : B → List Signal) where
   -- the mark of the task, in the word that is found
@@ -134,10 +134,10 @@ module _ {B : Type 0} (told : B → List Signal) where
         signal_kept told cap s c cause mask (producing_after before) p.handle id w sets (one_closing cause p.producer c.cell.flags.closing here)
             (reached_more (Event.Signal Producer cause) id v w c.reached there at (inl is.0) stays.4 (stays_started p.runner)) c.shows.settled (stays.2 ∙ is.2)
             (mine has_put c.cell.producer _ _ s.views id v w c.producers at is.0
-            (sent_knows cap c.cell.log p.given c.cell.free (is_over (started p.runner)) c.cell.flags p.producer before c.cell.flags.closing cause v here
-            (subst (λ b. AsProducer cap c.cell.log p.given c.cell.free b c.cell.flags.closing c.cell.flags.state p.producer v) (sym st.over) k)))
-            (other has_ask c.cell.handle _ _ s.views id w c.handles (stays.1 ∙ is.1) (λ d k. handle_knows cap p.asked c.cell.flags c.cell.left p.handle p.producer c.cell.flags.closing cause d here k)),
-        record { started = before; found_is = mark_found c; signalled = refl; sized = stays.3 },
+            (sent_knows cap c.cell.answers.order c.cell.log p.given c.cell.free (is_over (started p.runner)) c.cell.flags p.producer before c.cell.flags.closing cause v here
+            (subst (λ b. AsProducer cap c.cell.answers.order c.cell.log p.given c.cell.free b c.cell.flags.closing c.cell.flags.state p.producer v) (sym st.over) k)))
+            (other has_ask c.cell.handle _ _ s.views id w c.handles (stays.1 ∙ is.1) (λ d k. handle_knows cap c.cell.answers.order p.asked c.cell.flags c.cell.left p.handle p.producer c.cell.flags.closing cause d here k)),
+        record { started = before; found_is = mark_found c; signalled = refl; sized = stays.3; ordered = stays.5 },
       )
 
   -- and with the handle's
@@ -157,10 +157,10 @@ module _ {B : Type 0} (told : B → List Signal) where
         tt,
         signal_kept told cap s c cause mask p.producer (requesting_after before) id w sets (inr (no_closing cause p.handle here))
             (reached_more (Event.Signal Handle cause) id v w c.reached here at (inr (inl is.1)) stays.4 (stays_started p.runner)) (λ e. absurd (true≢false (sym e ∙ sym k.leaves ∙ stays_on))) (stays.2 ∙ is.2)
-            (other has_put c.cell.producer _ _ s.views id w c.producers (stays.0 ∙ is.0) (λ d o. producer_knows cap c.cell.log p.given c.cell.free (is_over (started p.runner)) c.cell.flags p.producer p.handle cause d here
-            (subst (λ b. AsProducer cap c.cell.log p.given c.cell.free b c.cell.flags.closing c.cell.flags.state p.producer d) (sym st.over) o)))
-            (mine has_ask c.cell.handle _ _ s.views id v w c.handles at is.1 (sent_handle_knows cap p.asked c.cell.flags c.cell.left p.handle before cause v here k)),
-        record { started = before; found_is = mark_found c; signalled = refl; sized = stays.3 },
+            (other has_put c.cell.producer _ _ s.views id w c.producers (stays.0 ∙ is.0) (λ d o. producer_knows cap c.cell.answers.order c.cell.log p.given c.cell.free (is_over (started p.runner)) c.cell.flags p.producer p.handle cause d here
+            (subst (λ b. AsProducer cap c.cell.answers.order c.cell.log p.given c.cell.free b c.cell.flags.closing c.cell.flags.state p.producer d) (sym st.over) o)))
+            (mine has_ask c.cell.handle _ _ s.views id v w c.handles at is.1 (sent_handle_knows cap c.cell.answers.order p.asked c.cell.flags c.cell.left p.handle before cause v here k)),
+        record { started = before; found_is = mark_found c; signalled = refl; sized = stays.3; ordered = stays.5 },
       )
 
   -- of either

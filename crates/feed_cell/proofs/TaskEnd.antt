@@ -28,6 +28,14 @@ ends_causes How.Cancelled f answers = ap (λ b. record (causes_of f answers) { c
 ends_causes (How.Failed code) f answers = refl
 ends_causes How.OutOfMemory f answers = refl
 
+-- and no end changes the order of errors
+ends_order : (how : How) (answers : Causes) → (with_cause_of how answers).order ≡ answers.order
+ends_order How.Completed answers = refl
+ends_order (How.Errored fault) answers = refl
+ends_order How.Cancelled answers = refl
+ends_order (How.Failed code) answers = refl
+ends_order How.OutOfMemory answers = refl
+
 module _ {B : Type 0} (told : B → List Signal) where
   -- a store of head with its mark gives the subscriber's slot back
   pub ends : (cap n id : ℕ) (v : View) (g : Lodger B) (more : List (ℕ × Held B)) (new : ℕ) (how : How) → IsRunner v → v.away ≡ true → MayEnd how (length v.taken) v.runner → v.item ≡ [] → new ≡ length v.taken + MARK
@@ -42,6 +50,7 @@ module _ {B : Type 0} (told : B → List Signal) where
       let here : MayEnd how p.given p.runner = subst (MayEnd how p.given) k.stands (subst (λ (m : ℕ). MayEnd how m v.runner) same may) in
       let item_is : c.cell.item ≡ [] = sym k.item_is ∙ none_out in
       let answers_there : with_cause_of how c.cell.answers ≡ g.answers = ap (with_cause_of how) (sym know.answers_are) ∙ sym answers_are in
+      let order_there : c.cell.answers.order ≡ g.answers.order = sym (ends_order how c.cell.answers) ∙ ap (λ (z : Causes). z.order) answers_there in
       let w : View = record v { runs = false; away = false; outlook = outlook_by g.how } in (
         w,
         gives,
@@ -56,8 +65,9 @@ module _ {B : Type 0} (told : B → List Signal) where
           lies = subst (λ (j : ℕ). Lies cap c.cell.log (length c.cell.taken) (length c.cell.taken + length c.cell.item) c.cell.free (set s.homes j (some (Held.Guest g)))) (sym k.sized)
               (lies_guest cap c.cell.log s.homes (length c.cell.taken) (length c.cell.taken + length c.cell.item) c.cell.free (some (Held.Guest g)) c.lists.sized c.lies);
           lodges = λ _. record { guest = g; at = changed s.homes v.capacity cap (some (Held.Guest g)) (sym k.sized) (let wide = c.lies.wide in let sized : v.capacity ≡ cap = k.sized in omega arith); given_is = given_is ∙ ap length know.taken_is; own_is = own_is ∙ know.own_is; answers_are = refl; how_is = how_is; told_is = subst (λ (l : List Item). IsToldAtEnd how l (told g.subscriber)) know.taken_is told_is };
-          producers = other has_put c.cell.producer _ _ s.views id w c.producers is.0 (λ d o. record { sized = o.sized; put = o.put; seen = o.seen; places = o.places; over = λ _. refl; closed = o.closed; doubled = o.doubled; stands = o.stands });
-          handles = other has_ask c.cell.handle _ _ s.views id w c.handles is.1 (λ d h. h);
+          producers = other has_put c.cell.producer _ _ s.views id w c.producers is.0 (λ d o. record { sized = o.sized; ordered = o.ordered ∙ order_there; put = o.put; seen = o.seen; places = o.places; over = λ _. refl; closed = o.closed; doubled = o.doubled; stands = o.stands });
+          handles = other has_ask c.cell.handle _ _ s.views id w c.handles is.1
+              (λ d h. record { sized = h.sized; ordered = h.ordered ∙ order_there; total = h.total; cancels = h.cancels; bad = h.bad; leaves = h.leaves; stands = h.stands });
           runners = spent has_run c.cell.runner _ _ s.views id v w c.runners at is.2 refl;
         },
         refl,

@@ -4,7 +4,7 @@ use mathlib.Core.Option as slot
 use mathlib.Core.Option.{some, none}
 use lib.ListN.{get_elem?}
 use Rattle.atomic_table.specs.Table.{State, keeps, takes, Allows}
-use Rattle.feed_core.specs.Prelude.{Answer, Item, Signal, UNBOUNDED, total_after}
+use Rattle.feed_core.specs.Prelude.{Answer, ErrorOrder, Item, Signal, UNBOUNDED, total_after}
 use Rattle.feed_core.specs.World.Table.{MayLook, total_of, after}
 use Rattle.feed_cell.specs.Types.{Causes, Look, Runner, Ready, Looked, Parts}
 use Rattle.feed_cell.proofs.Outlooks.{reached_more, reached_kept}
@@ -36,6 +36,15 @@ effect (Answer.Request (pos (suc n))) p f answers e = ap (λ z. looked_with (tot
 effect (Answer.Request (pos zero)) p f answers e = ap (λ z. looked_with p.own z p) (ap (λ (z : Causes). record z { argument = true }) e ∙ ap (λ b. record (causes_of f answers) { argument = b }) (sym (or_true f.argument)))
 effect (Answer.Request (negsuc n)) p f answers e = ap (λ z. looked_with p.own z p) (ap (λ (z : Causes). record z { argument = true }) e ∙ ap (λ b. record (causes_of f answers) { argument = b }) (sym (or_true f.argument)))
 
+-- no answer changes the order of errors
+answered_order : (answer : Answer) (answers : Causes) → (answers_after answer answers).order ≡ answers.order
+answered_order Answer.Go answers = refl
+answered_order Answer.Cancel answers = refl
+answered_order (Answer.Fail code) answers = refl
+answered_order (Answer.Request (pos (suc n))) answers = refl
+answered_order (Answer.Request (pos zero)) answers = refl
+answered_order (Answer.Request (negsuc n)) answers = refl
+
 -- where a look is possible no item is out
 none_held : (answer : Answer) (r : Runner) → MayLook answer r → may_hold r ≡ false
 none_held Answer.Go r (inl e) = ap may_hold e
@@ -48,11 +57,11 @@ none_held (Answer.Fail code) r may = absurd may
 
 module _ {B : Type 0} (told : B → List Signal) (cap : ℕ) where
   -- the rule after a look, with its subscriber or for the first time
-  look_kept : (s : State (Held B) View) (c : CellRule told cap s) (id : ℕ) (v w : View) (own : ℕ) (answers : Causes) (homes : List (slot.Option (Held B))) → get_elem? s.views id ≡ some v → IsRunner v → has_put w ≡ false → has_ask w ≡ false
+  look_kept : (s : State (Held B) View) (c : CellRule told cap s) (id : ℕ) (v w : View) (own : ℕ) (answers : Causes) (homes : List (slot.Option (Held B))) → c.cell.answers.order ≡ answers.order → get_elem? s.views id ≡ some v → IsRunner v → has_put w ≡ false → has_ask w ≡ false
       → slice_index s.words 3 < 18446744073709551616 → may_hold c.cell.world.runner ≡ false → IsReachedBy (set s.views id w) (looked_with own (causes_of c.cell.flags answers) c.cell.world) → Lies cap c.cell.log (length c.cell.taken) (length c.cell.taken + length c.cell.item) c.cell.free homes
       → AsRunner cap (Looked (causes_of c.cell.flags answers)) false (bit_and c.cell.control QUIET) true c.cell.taken c.cell.item own answers w
       → CellRule told cap (record { words = set s.words 3 (bit_and (slice_index s.words 3) QUIET); homes = homes; views = set s.views id w })
-  look_kept s c id v w own answers homes at is puts asks small held reached lies knows =
+  look_kept s c id v w own answers homes same_order at is puts asks small held reached lies knows =
       let p = c.cell.world in
       let k = (c.runners id v at is.2).1 in
       let seat = seated p.runner k.seated in
@@ -72,8 +81,9 @@ module _ {B : Type 0} (told : B → List Signal) (cap : ℕ) where
         words = ap (λ (ws : List ℕ). set ws 3 (bit_and (slice_index ws 3) QUIET)) c.words ∙ ap (λ b. marked b p.given ∷ p.accepted ∷ marked c.cell.left p.asked ∷ bit_and c.cell.control QUIET ∷ []) seat.over;
         lies = lies;
         lodges = λ e. cc;
-        producers = other has_put c.cell.producer _ _ s.views id w c.producers puts (λ d o. subst (λ b. AsProducer cap c.cell.log p.given c.cell.free b c.cell.flags.closing c.cell.flags.state p.producer d) seat.over o);
-        handles = other has_ask c.cell.handle _ _ s.views id w c.handles asks (λ d h. h);
+        producers = other has_put c.cell.producer _ _ s.views id w c.producers puts (λ d o. subst (λ (order : ErrorOrder). AsProducer cap order c.cell.log p.given c.cell.free false c.cell.flags.closing c.cell.flags.state p.producer d) same_order (subst (λ b. AsProducer cap c.cell.answers.order c.cell.log p.given c.cell.free b c.cell.flags.closing c.cell.flags.state p.producer d) seat.over o));
+        handles = other has_ask c.cell.handle _ _ s.views id w c.handles asks
+            (λ d h. record { sized = h.sized; ordered = h.ordered ∙ same_order; total = h.total; cancels = h.cancels; bad = h.bad; leaves = h.leaves; stands = h.stands });
         runners = mine has_run c.cell.runner _ _ s.views id v w c.runners at is.2 knows;
       }
 
@@ -100,6 +110,7 @@ module _ {B : Type 0} (told : B → List Signal) where
       let answers_there : answers_after answer c.cell.answers ≡ g.answers = ap (answers_after answer) (sym know.answers_are) ∙ sym answers_are in
       let found : ℕ = slice_index s.words 3 in
       let found_is : found ≡ c.cell.control = ap (λ ws. slice_index ws 3) c.words in
+      let same_order : c.cell.answers.order ≡ g.answers.order = sym (answered_order answer c.cell.answers) ∙ ap (λ (z : Causes). z.order) answers_there in
       let w : View = after_causes v found c.cell.flags g.own g.answers v.taken in
       let reached : IsReachedBy (set s.views id w) (looked_with g.own (causes_of c.cell.flags g.answers) p) =
       subst (IsReachedBy (set s.views id w)) (effect answer p c.cell.flags c.cell.answers c.shows.causes ∙ ap₂ (λ (a : ℕ) (b : Causes). looked_with a (causes_of c.cell.flags b) p) own_there answers_there)
@@ -107,9 +118,9 @@ module _ {B : Type 0} (told : B → List Signal) where
         w,
         keeps,
         tt,
-        look_kept told cap s c id v w g.own g.answers s.homes at is is.0 is.1 small held reached c.lies
-            (record { sized = k.sized; seated = refl; stands = refl; out = refl; knows = λ _. record { taken_is = know.taken_is; own_is = refl; answers_are = refl }; fresh = λ e. cc; item_is = k.item_is; latest = λ _ _. ap (λ (m : ℕ). bit_and m QUIET) (sym found_is) }),
-        record { flags = c.cell.flags; reads = subst (λ (m : ℕ). Reads m c.cell.flags) (sym found_is) c.reads; started = c.shows.started ∙ (seated p.runner k.seated).runs; few = few_taken told cap s c know.taken_is; looked = refl },
+        look_kept told cap s c id v w g.own g.answers s.homes same_order at is is.0 is.1 small held reached c.lies
+            (record { sized = k.sized; ordered = k.ordered ∙ same_order; seated = refl; stands = refl; out = refl; knows = λ _. record { taken_is = know.taken_is; own_is = refl; answers_are = refl }; fresh = λ e. cc; item_is = k.item_is; latest = λ _ _. ap (λ (m : ℕ). bit_and m QUIET) (sym found_is) }),
+        record { flags = c.cell.flags; reads = subst (λ (m : ℕ). Reads m c.cell.flags) (sym found_is) c.reads; started = c.shows.started ∙ (seated p.runner k.seated).runs; few = few_taken told cap s c know.taken_is; ordered = sym (k.ordered ∙ same_order); looked = refl },
       )
 
   -- the first look of a task that was handed over takes the subscriber's slot out
@@ -126,6 +137,7 @@ module _ {B : Type 0} (told : B → List Signal) where
       let held = none_held Answer.Go p.runner here in
       let found : ℕ = slice_index s.words 3 in
       let found_is : found ≡ c.cell.control = ap (λ ws. slice_index ws 3) c.words in
+      let same_order : c.cell.answers.order ≡ g.answers.order = ap (λ (z : Causes). z.order) (sym lodge.answers_are) in
       let w : View = after_causes v found c.cell.flags g.own g.answers c.cell.taken in
       let reached : IsReachedBy (set s.views id w) (looked_with g.own (causes_of c.cell.flags g.answers) p) =
       subst (IsReachedBy (set s.views id w)) (effect Answer.Go p c.cell.flags c.cell.answers c.shows.causes ∙ ap₂ (λ (a : ℕ) (b : Causes). looked_with a (causes_of c.cell.flags b) p) (sym lodge.own_is) (sym lodge.answers_are))
@@ -133,9 +145,9 @@ module _ {B : Type 0} (told : B → List Signal) where
         w,
         takes v.capacity (Held.Guest g),
         ap (λ (j : ℕ). get_elem? s.homes j) k.sized ∙ lodge.at,
-        look_kept told cap s c id v w g.own g.answers (set s.homes v.capacity none) at is is.0 is.1 small held reached
+        look_kept told cap s c id v w g.own g.answers (set s.homes v.capacity none) same_order at is is.0 is.1 small held reached
             (subst (λ (j : ℕ). Lies cap c.cell.log (length c.cell.taken) (length c.cell.taken + length c.cell.item) c.cell.free (set s.homes j none)) (sym k.sized)
             (lies_guest cap c.cell.log s.homes (length c.cell.taken) (length c.cell.taken + length c.cell.item) c.cell.free none c.lists.sized c.lies))
-            (record { sized = k.sized; seated = refl; stands = refl; out = refl; knows = λ _. record { taken_is = refl; own_is = refl; answers_are = refl }; fresh = λ e. cc; item_is = k.item_is; latest = λ _ _. ap (λ (m : ℕ). bit_and m QUIET) (sym found_is) }),
-        record { flags = c.cell.flags; reads = subst (λ (m : ℕ). Reads m c.cell.flags) (sym found_is) c.reads; started = c.shows.started ∙ (seated p.runner k.seated).runs; guest = g; taken = c.cell.taken; told_is = lodge.told_is; given = lodge.given_is; how = lodge.how_is; few = few_taken told cap s c refl; looked = refl },
+            (record { sized = k.sized; ordered = k.ordered ∙ same_order; seated = refl; stands = refl; out = refl; knows = λ _. record { taken_is = refl; own_is = refl; answers_are = refl }; fresh = λ e. cc; item_is = k.item_is; latest = λ _ _. ap (λ (m : ℕ). bit_and m QUIET) (sym found_is) }),
+        record { flags = c.cell.flags; reads = subst (λ (m : ℕ). Reads m c.cell.flags) (sym found_is) c.reads; started = c.shows.started ∙ (seated p.runner k.seated).runs; guest = g; taken = c.cell.taken; told_is = lodge.told_is; given = lodge.given_is; how = lodge.how_is; few = few_taken told cap s c refl; ordered = sym (k.ordered ∙ same_order); looked = refl },
       )

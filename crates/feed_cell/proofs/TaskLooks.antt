@@ -1,5 +1,9 @@
 -- What the task does after a look: its steps, put together.
-use Rattle.std.proofs.Common.{◌≡◌, ℕ, ◌+◌, false, List, [], ◌∷◌, ◌++◌, length, sym, refl, ap, ◌∙◌, subst, inl, inr, append-nil, arith}
+use Rattle.std.proofs.Common.{◌≡◌, ◌⊎◌, Some, ℕ, ◌+◌, false, List, [], ◌∷◌, ◌++◌, length, sym, refl, ap, ◌∙◌, subst, inl, inr, append-nil, arith}
+use Rattle.feed_core.specs.Cause.{IsNoFailure}
+use Rattle.feed_core.specs.PlainTurn.{terminal_of}
+use Rattle.feed_core.specs.Steps.{HasTerminal}
+use Rattle.feed_core.specs.Turn.{EndsInObeyed}
 use Rattle.feed_core.specs.Prelude.{Answer, How, Item, Signal, Next}
 use Rattle.feed_core.specs.Seen.{SeenState}
 use Rattle.feed_core.specs.World.Table.{MayEnd}
@@ -9,11 +13,21 @@ use Rattle.feed_cell.specs.Cell.{greeted, IsToldAtEnd}
 use Rattle.feed_cell.specs.TaskPauses.{told_out}
 use Rattle.feed_cell.specs.Seats.{SeatOf, how_out}
 use Rattle.feed_cell.specs.TaskPlays.{outlook_by}
-use Rattle.feed_cell.specs.TaskSteps.{Carries, IsEnding, HasTaken, FindsNone, TakesNext, grant_of}
+use Rattle.feed_cell.specs.TaskSteps.{Carries, IsEnding, IsInOrder, IsQuietEnd, HasTaken, FindsNone, KeepsOrder, TakesNext, grant_of}
 use Rattle.feed_cell.specs.TaskLooks.{MissesRest, RestsNow, Serves, GivesAs, FinishesAs, EndsOrRests}
 use Rattle.feed_cell.specs.Views.{IsRunner}
 use Rattle.feed_cell.specs.declared.cell.task.looks.Served.{Served}
 use Rattle.feed_cell.specs.declared.cell.View.{View}
+
+-- an item's callback that failed told that item
+failed_item : (item : Item) (how : How) (last : List Signal) → ((how ≡ How.OutOfMemory) × (last ≡ [])) ⊎ (IsQuietEnd how × (last ≡ Next item ∷ [])) → (code : ℕ) → how ≡ How.Failed code → EndsInObeyed last
+failed_item item how last (inl h) code e = let none = h.0 in cc
+failed_item item how last (inr h) code e = inr (item, ([], h.1))
+
+-- an end that is due is no failure
+failed_finish : (due how : How) (last : List Signal) → IsNoFailure (Some due) → ((how ≡ due) × (last ≡ terminal_of due)) ⊎ ((how ≡ How.OutOfMemory) × HasTerminal due × (last ≡ [])) → (code : ℕ) → how ≡ How.Failed code → EndsInObeyed last
+failed_finish due how last is_other (inl h) code e = absurd (subst (λ (d : How). IsNoFailure (Some d)) (sym h.0 ∙ e) is_other)
+failed_finish due how last is_other (inr h) code e = let none = h.0 in cc
 
 module _ {B : Type 0} (told : B → List Signal) where
   -- a rest that was missed
@@ -27,6 +41,7 @@ module _ {B : Type 0} (told : B → List Signal) where
     misses = refl;
     grants = refl;
     sized = refl;
+    ordered = refl;
   })
 
   -- a rest
@@ -36,6 +51,7 @@ module _ {B : Type 0} (told : B → List Signal) where
     taken = ap (λ (m : SeatOf B). m.0.taken) e;
     misses = ap (λ (m : SeatOf B). m.0.misses) e;
     grants = ap (λ (m : SeatOf B). m.0.grants) e;
+    ordered = ap (λ (m : SeatOf B). m.0.order) e;
     runs = ap (λ (m : SeatOf B). m.0.runs) e;
     shown = ap (λ (m : SeatOf B). m.0.outlook) e;
     stage = ap (λ (m : SeatOf B). m.0.runner) e;
@@ -75,6 +91,7 @@ module _ {B : Type 0} (told : B → List Signal) where
         saw = g.tells.saw;
         misses = ap (λ (v : View). v.misses) view;
         sized = ap (λ (v : View). v.capacity) view;
+        ordered = ap (λ (v : View). v.order) view;
       }
   serves_give x Served.Rested before middle after seen later c t g = absurd g
   serves_give x Served.Missed before middle after seen later c t g = absurd g
@@ -91,17 +108,22 @@ module _ {B : Type 0} (told : B → List Signal) where
         saw = e.tells.saw;
         taken = ap (λ (m : SeatOf B). m.0.taken) g.2 ∙ taken;
         misses = ap (λ (m : SeatOf B). m.0.misses) g.2 ∙ ap (λ (v : View). v.misses) e.tells.view ∙ ap (λ (m : SeatOf B). m.0.misses) t.took;
+        ordered = (
+          ap (λ (m : SeatOf B). m.0.order) g.2 ∙ ap (λ (v : View). v.order) e.tells.view ∙ ap (λ (m : SeatOf B). m.0.order) t.took,
+          λ _. subst (IsInOrder before.0.order) (sym (ap (λ (m : SeatOf B). m.0.runner) g.2 ∙ ap (λ (v : View). v.runner) e.tells.view ∙ ap (λ (m : SeatOf B). m.0.runner) t.took)) tt,
+        );
         runs = ap (λ (m : SeatOf B). m.0.runs) g.2;
         shown = ap (λ (m : SeatOf B). m.0.outlook) g.2 ∙ ending_outlook how g.0 e.ending;
         may = subst (λ (m : SeatOf B). MayEnd how (length m.0.taken) m.0.runner) (sym g.2) e.ending.may;
+        failed = failed_item x how e.last e.shape;
       }
 
   -- an end was told
-  pub serves_finish : (due : How) (result : Served) (before middle after : SeatOf B) (seen later : SeenState) → middle.1 ≡ before.1 → middle.0.taken ≡ before.0.taken → middle.0.misses ≡ before.0.misses → middle.0.grants ≡ before.0.grants → FinishesAs told due result middle after seen later → Serves told result before after seen later
-  serves_finish due Served.Gave before middle after seen later slots items same still f = absurd f
-  serves_finish due Served.Rested before middle after seen later slots items same still f = absurd f
-  serves_finish due Served.Missed before middle after seen later slots items same still f = absurd f
-  serves_finish due (Served.Ended how) before middle after seen later slots items same still f =
+  pub serves_finish : (due : How) (result : Served) (before middle after : SeatOf B) (seen later : SeenState) → middle.1 ≡ before.1 → middle.0.taken ≡ before.0.taken → middle.0.misses ≡ before.0.misses → middle.0.grants ≡ before.0.grants → KeepsOrder before.0 middle.0 → IsNoFailure (Some due) → FinishesAs told due result middle after seen later → Serves told result before after seen later
+  serves_finish due Served.Gave before middle after seen later slots items same still kept is_other f = absurd f
+  serves_finish due Served.Rested before middle after seen later slots items same still kept is_other f = absurd f
+  serves_finish due Served.Missed before middle after seen later slots items same still kept is_other f = absurd f
+  serves_finish due (Served.Ended how) before middle after seen later slots items same still kept is_other f =
       let e = f.1 in
       let taken : f.0.0.taken ≡ before.0.taken ++ [] = ap (λ (v : View). v.taken) e.tells.view ∙ items ∙ sym (append-nil before.0.taken) in
       let text : told_out told f.0.1 ≡ told_out told before.1 ++ e.last = e.tells.text ∙ ap (λ l. told_out told l ++ e.last) slots in
@@ -114,10 +136,22 @@ module _ {B : Type 0} (told : B → List Signal) where
         saw = e.tells.saw;
         taken = ap (λ (m : SeatOf B). m.0.taken) f.2 ∙ taken;
         misses = ap (λ (m : SeatOf B). m.0.misses) f.2 ∙ ap (λ (v : View). v.misses) e.tells.view ∙ same;
+        ordered = (
+          ap (λ (m : SeatOf B). m.0.order) f.2 ∙ ap (λ (v : View). v.order) e.tells.view ∙ kept.0,
+          λ stood. subst (IsInOrder before.0.order) (sym (ap (λ (m : SeatOf B). m.0.runner) f.2 ∙ ap (λ (v : View). v.runner) e.tells.view)) (kept.1 stood),
+        );
         runs = ap (λ (m : SeatOf B). m.0.runs) f.2;
         shown = ap (λ (m : SeatOf B). m.0.outlook) f.2 ∙ ending_outlook how f.0 e.ending;
         may = subst (λ (m : SeatOf B). MayEnd how (length m.0.taken) m.0.runner) (sym f.2) e.ending.may;
+        failed = failed_finish due how e.last is_other e.shape;
       }
+
+  -- a measure keeps the causes of the look
+  measured_order : (tail : ℕ) (before middle : SeatOf B) → FindsNone tail before middle → KeepsOrder before.0 middle.0
+  measured_order tail before middle f = (
+    ap (λ (m : SeatOf B). m.0.order) f.found,
+    λ stood. (let looked : f.causes.order ≡ before.0.order = subst (IsInOrder before.0.order) f.stage stood in subst (IsInOrder before.0.order) (sym (ap (λ (m : SeatOf B). m.0.runner) f.found)) looked),
+  )
 
   -- there was no item to give
   pub serves_none : (tail : ℕ) (result : Served) (before middle after : SeatOf B) (seen later : SeenState) → FindsNone tail before middle → EndsOrRests told result middle after seen later → Serves told result before after seen later
@@ -128,6 +162,7 @@ module _ {B : Type 0} (told : B → List Signal) where
       taken = t.0.taken ∙ ap (λ (m : SeatOf B). m.0.taken) f.found;
       misses = t.0.misses ∙ ap (λ (m : SeatOf B). m.0.misses) f.found;
       grants = t.0.grants ∙ ap (λ (m : SeatOf B). m.0.grants) f.found;
+      ordered = t.0.ordered ∙ ap (λ (m : SeatOf B). m.0.order) f.found;
       runs = t.0.runs;
       shown = t.0.shown;
       stage = t.0.stage;
@@ -144,7 +179,8 @@ module _ {B : Type 0} (told : B → List Signal) where
       misses = t.0.misses ∙ ap (λ (m : SeatOf B). m.0.misses + 1) f.found;
       grants = t.0.grants ∙ ap (λ (m : SeatOf B). m.0.grants) f.found;
       sized = t.0.sized ∙ ap (λ (m : SeatOf B). m.0.capacity) f.found;
+      ordered = t.0.ordered ∙ ap (λ (m : SeatOf B). m.0.order) f.found;
     },
     t.1,
   )
-  serves_none tail (Served.Ended how) before middle after seen later f t = serves_finish t.0 (Served.Ended how) before middle after seen later (ap (λ (m : SeatOf B). m.1) f.found) (ap (λ (m : SeatOf B). m.0.taken) f.found) (ap (λ (m : SeatOf B). m.0.misses) f.found) (ap (λ (m : SeatOf B). m.0.grants) f.found) t.1
+  serves_none tail (Served.Ended how) before middle after seen later f t = serves_finish t.0 (Served.Ended how) before middle after seen later (ap (λ (m : SeatOf B). m.1) f.found) (ap (λ (m : SeatOf B). m.0.taken) f.found) (ap (λ (m : SeatOf B). m.0.misses) f.found) (ap (λ (m : SeatOf B). m.0.grants) f.found) (measured_order tail before middle f) t.1 t.2

@@ -43,7 +43,7 @@ module _ {B : Type 0} (told : B → List Signal) (cap : ℕ) where
         words = words_are ∙ ap (λ b. marked b p.given ∷ p.accepted ∷ marked c.cell.left p.asked ∷ c.cell.control ∷ []) over;
         lies = lies;
         lodges = λ e. cc;
-        producers = other has_put c.cell.producer _ _ s.views id w c.producers puts (λ d o. subst (λ b. AsProducer cap c.cell.log p.given c.cell.free b c.cell.flags.closing c.cell.flags.state p.producer d) over o);
+        producers = other has_put c.cell.producer _ _ s.views id w c.producers puts (λ d o. subst (λ b. AsProducer cap c.cell.answers.order c.cell.log p.given c.cell.free b c.cell.flags.closing c.cell.flags.state p.producer d) over o);
         handles = other has_ask c.cell.handle _ _ s.views id w c.handles asks (λ d h. h);
         runners = mine has_run c.cell.runner _ _ s.views id v w c.runners at is.2 knows;
       }

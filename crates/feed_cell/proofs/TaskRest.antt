@@ -72,7 +72,7 @@ module _ {B : Type 0} (told : B → List Signal) (cap : ℕ) (s : State (Held B)
           lies = subst (λ (j : ℕ). Lies cap c.cell.log (length c.cell.taken) (length c.cell.taken + length c.cell.item) c.cell.free (set s.homes j (some (Held.Guest g)))) (sym k.sized)
               (lies_guest cap c.cell.log s.homes (length c.cell.taken) (length c.cell.taken + length c.cell.item) c.cell.free (some (Held.Guest g)) c.lists.sized c.lies);
           lodges = λ _. record { guest = g; at = changed s.homes v.capacity cap (some (Held.Guest g)) (sym k.sized) (let wide = c.lies.wide in let sized : v.capacity ≡ cap = k.sized in omega arith); given_is = given_is ∙ ap length know.taken_is; own_is = own_is ∙ know.own_is; answers_are = answers_are ∙ know.answers_are; how_is = how_is; told_is = told_is ∙ ap greeted know.taken_is };
-          producers = other has_put c.cell.producer _ _ s.views id w c.producers is.0 (λ d o. subst (λ b. AsProducer cap c.cell.log p.given c.cell.free b c.cell.flags.closing c.cell.flags.state p.producer d) seat.over o);
+          producers = other has_put c.cell.producer _ _ s.views id w c.producers is.0 (λ d o. subst (λ b. AsProducer cap c.cell.answers.order c.cell.log p.given c.cell.free b c.cell.flags.closing c.cell.flags.state p.producer d) seat.over o);
           handles = other has_ask c.cell.handle _ _ s.views id w c.handles is.1 (λ d h. h);
           runners = spent has_run c.cell.runner _ _ s.views id v w c.runners at is.2 refl;
         },
@@ -96,7 +96,7 @@ module _ {B : Type 0} (told : B → List Signal) (cap : ℕ) (s : State (Held B)
         keeps,
         tt,
         move_kept told cap s c id v w Ready c.cell.item _ s.homes at is is.0 is.1 refl reached (λ _. item_is) c.lists c.lies (ap (λ (ws : List ℕ). set ws 3 (slice_index ws 3)) c.words)
-            (record { sized = k.sized; seated = refl; stands = refl; out = out; knows = λ _. knows_too c.cell.taken p.own c.cell.answers v w refl refl refl know; fresh = λ e. cc; item_is = k.item_is; latest = λ e. cc }),
+            (record { sized = k.sized; ordered = k.ordered; seated = refl; stands = refl; out = out; knows = λ _. knows_too c.cell.taken p.own c.cell.answers v w refl refl refl know; fresh = λ e. cc; item_is = k.item_is; latest = λ e. cc }),
         record { rested = λ same. absurd (differs same); missed = λ _. refl; sized = refl },
       )
     where

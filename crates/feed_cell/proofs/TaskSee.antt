@@ -71,7 +71,7 @@ module _ {B : Type 0} (told : B → List Signal) where
             })
             (lies_out cap c.cell.log s.homes (length c.cell.taken) c.cell.free (length v.taken % v.capacity) c.lists.sized (omega arith) (omega arith) slot_is lies)
             words_are
-            (record { sized = k.sized; seated = refl; stands = stands; out = out; knows = λ _. knows_too c.cell.taken p.own c.cell.answers v w refl refl refl know; fresh = λ e. cc; item_is = refl; latest = λ _ quiet. k.latest (ap has_looked stage) quiet }),
+            (record { sized = k.sized; ordered = k.ordered; seated = refl; stands = stands; out = out; knows = λ _. knows_too c.cell.taken p.own c.cell.answers v w refl refl refl know; fresh = λ e. cc; item_is = refl; latest = λ _ quiet. k.latest (ap has_looked stage) quiet }),
         record { put = omega arith; waits = λ _. (x, refl); empty = λ none_there. absurd (omega arith); sized = refl },
       ))
       (λ none_more.
@@ -80,7 +80,7 @@ module _ {B : Type 0} (told : B → List Signal) where
         keeps,
         tt,
         move_kept told cap s c id v w (Saw may.0 p.accepted) c.cell.item _ s.homes at is is.0 is.1 refl (reached w (refl, refl, refl)) (λ e. cc) c.lists c.lies words_are
-            (record { sized = k.sized; seated = refl; stands = stands; out = out; knows = λ _. knows_too c.cell.taken p.own c.cell.answers v w refl refl refl know; fresh = λ e. cc; item_is = k.item_is; latest = λ _ quiet. k.latest (ap has_looked stage) quiet }),
+            (record { sized = k.sized; ordered = k.ordered; seated = refl; stands = stands; out = out; knows = λ _. knows_too c.cell.taken p.own c.cell.answers v w refl refl refl know; fresh = λ e. cc; item_is = k.item_is; latest = λ _ quiet. k.latest (ap has_looked stage) quiet }),
         record { put = omega arith; waits = λ more. absurd (omega (arith, none_more)); empty = λ _. refl; sized = refl },
       ))
 
@@ -106,7 +106,7 @@ module _ {B : Type 0} (told : B → List Signal) where
         keeps,
         tt,
         move_kept told cap s c id v w (Measured may.0 may.1 (total_of p)) c.cell.item _ s.homes at is is.0 is.1 refl (reached w (refl, refl, refl)) (λ e. cc) c.lists c.lies (ap (λ (ws : List ℕ). set ws 2 (slice_index ws 2)) c.words)
-            (record { sized = k.sized; seated = refl; stands = stands; out = out; knows = λ _. knows_too c.cell.taken p.own c.cell.answers v w refl refl refl know; fresh = λ e. cc; item_is = k.item_is; latest = λ _ quiet. k.latest (ap has_looked stage) quiet }),
+            (record { sized = k.sized; ordered = k.ordered; seated = refl; stands = stands; out = out; knows = λ _. knows_too c.cell.taken p.own c.cell.answers v w refl refl refl know; fresh = λ e. cc; item_is = k.item_is; latest = λ _ quiet. k.latest (ap has_looked stage) quiet }),
         record { asked = p.asked; left = c.cell.left; found_is = ap (λ ws. slice_index ws 2) c.words; bounded = kept.asked_bounded; met = omega arith; measured = refl },
       )
 
@@ -141,7 +141,7 @@ module _ {B : Type 0} (told : B → List Signal) where
         keeps,
         tt,
         move_kept told cap s c id v w (Measured may.0 may.1 (total_of p)) c.cell.item _ s.homes at is is.0 is.1 refl (reached w (refl, refl, refl)) (λ e. cc) c.lists c.lies words_are
-            (record { sized = k.sized; seated = refl; stands = stands; out = out; knows = λ _. knows_too c.cell.taken p.own c.cell.answers v w refl refl refl know; fresh = λ e. cc; item_is = k.item_is; latest = λ _ quiet. k.latest (ap has_looked stage) quiet }),
+            (record { sized = k.sized; ordered = k.ordered; seated = refl; stands = stands; out = out; knows = λ _. knows_too c.cell.taken p.own c.cell.answers v w refl refl refl know; fresh = λ e. cc; item_is = k.item_is; latest = λ _ quiet. k.latest (ap has_looked stage) quiet }),
         record { asked = p.asked; left = c.cell.left; found_is = ap (λ ws. slice_index ws 2) c.words; bounded = kept.asked_bounded; met = omega arith; wanted = λ _. refl; enough = λ e. absurd (omega arith); sized = refl },
       ))
       (λ met.
@@ -159,6 +159,6 @@ module _ {B : Type 0} (told : B → List Signal) where
             (lies_back cap c.cell.log s.homes (length c.cell.taken) c.cell.free i x c.lists.sized (omega arith) (omega arith) slot_is (next.1 ∙ ap (λ (y : Item). some y) (sym parts.1))
             (lies_at cap c.cell.log (length c.cell.taken) (length c.cell.taken + length c.cell.item) (length c.cell.taken + 1) c.cell.free s.homes (omega arith) c.lies)))
             words_are
-            (record { sized = k.sized; seated = refl; stands = stands; out = out; knows = λ _. knows_too c.cell.taken p.own c.cell.answers v w refl refl refl know; fresh = λ e. cc; item_is = refl; latest = λ _ quiet. k.latest (ap has_looked stage) quiet }),
+            (record { sized = k.sized; ordered = k.ordered; seated = refl; stands = stands; out = out; knows = λ _. knows_too c.cell.taken p.own c.cell.answers v w refl refl refl know; fresh = λ e. cc; item_is = refl; latest = λ _ quiet. k.latest (ap has_looked stage) quiet }),
         record { asked = p.asked; left = c.cell.left; found_is = ap (λ ws. slice_index ws 2) c.words; bounded = kept.asked_bounded; met = omega arith; wanted = λ e. absurd (omega (arith, met)); enough = λ _. refl; sized = refl },
       ))

@@ -35,6 +35,7 @@ module _ {B : Type 0} (told : B → List Signal) where
         flags = look.flags;
         reads = look.reads;
         stage = refl;
+        ordered = look.ordered;
         look = refl;
         few = look.few;
       })
@@ -46,6 +47,7 @@ module _ {B : Type 0} (told : B → List Signal) where
     flags = look.flags;
     reads = look.reads;
     stage = refl;
+    ordered = look.ordered;
     look = refl;
     few = look.few;
   })

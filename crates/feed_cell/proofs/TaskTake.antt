@@ -57,10 +57,10 @@ module _ {B : Type 0} (told : B → List Signal) where
           lodges = λ e. cc;
           producers = other has_put c.cell.producer _ _ s.views id w c.producers is.0 (λ d o. (
               let seen : d.seen ≤ p.given = o.seen in
-              record { sized = o.sized; put = o.put; seen = omega arith; places = o.places; over = λ e. (let never : true ≡ false = sym (o.over e) ∙ seat.over in cc); closed = o.closed; doubled = o.doubled; stands = o.stands }));
+              record { sized = o.sized; ordered = o.ordered; put = o.put; seen = omega arith; places = o.places; over = λ e. (let never : true ≡ false = sym (o.over e) ∙ seat.over in cc); closed = o.closed; doubled = o.doubled; stands = o.stands }));
           handles = other has_ask c.cell.handle _ _ s.views id w c.handles is.1 (λ d h. h);
           runners = mine has_run c.cell.runner _ _ s.views id v w c.runners at is.2
-              (record { sized = k.sized; seated = refl; stands = refl; out = out; knows = λ _. knows; fresh = λ e. cc; item_is = refl; latest = λ e. cc });
+              (record { sized = k.sized; ordered = k.ordered; seated = refl; stands = refl; out = out; knows = λ _. knows; fresh = λ e. cc; item_is = refl; latest = λ e. cc });
         },
         refl,
       )

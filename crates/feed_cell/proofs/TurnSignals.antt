@@ -3,7 +3,7 @@ use Rattle.std.proofs.Common.{◌↔◌, ◌≡◌, ℕ, suc, ◌+◌, ◌≤◌
 use Rattle.std.proofs.lemmas.List.{append_cancel_left, length-map, map-append}
 use Rattle.flow_rules.proofs.Items.{items_of_append}
 use Rattle.feed_core.specs.PlainTurn.{terminal_of}
-use Rattle.feed_core.specs.Prelude.{Complete, Error, Fault, How, IsFlowText, IsTerminalPart, Item, Next, Signal, Subscribed, items_of}
+use Rattle.feed_core.specs.Prelude.{Complete, Error, ErrorOrder, Fault, How, IsFlowText, IsTerminalPart, Item, Next, Signal, Subscribed, items_of}
 use Rattle.feed_core.specs.declared.turn.outlook.Outlook.{Outlook}
 use Rattle.feed_core.specs.declared.turn.outlook.Outlook.TheVariants.{Again, Resting, Ended}
 use Rattle.feed_core.specs.Turn.{EndsIn}
@@ -137,14 +137,14 @@ given_by outlook base took given (inl e) = inl (append_cancel_left base given to
 given_by outlook base took given (inr h) = inr (h.0, (h.1.0, append_cancel_left base took (given ++ h.1.0 ∷ []) (h.1.1 ∙ append_assoc base given (h.1.0 ∷ []))))
 
 -- more items that were taken after these
-pub granted_more : (given : ℕ) (first second : List Grant) → AreGranted given first → AreGranted (given + length first) second → AreGranted given (first ++ second)
-granted_more given [] second a b = subst (λ (n : ℕ). AreGranted n second) (omega arith) b
-granted_more given (x ∷ first) second a b = (a.0, a.1, granted_more (given + 1) first second a.2 (subst (λ (n : ℕ). AreGranted n second) (omega arith) b))
+pub granted_more : (order : ErrorOrder) (given : ℕ) (first second : List Grant) → AreGranted order given first → AreGranted order (given + length first) second → AreGranted order given (first ++ second)
+granted_more order given [] second a b = subst (λ (n : ℕ). AreGranted order n second) (omega arith) b
+granted_more order given (x ∷ first) second a b = (a.0, a.1, a.2, granted_more order (given + 1) first second a.3 (subst (λ (n : ℕ). AreGranted order n second) (omega arith) b))
 
 -- the whole of a turn
 abbrev pub whole_turn : (old : TaskKnows) (known seen start : List Signal) (base took : List Item) (outlook : Outlook)
     → (old.away ≡ true → (start ≡ known) × (base ≡ old.taken)) → (old.away ≡ false → start ≡ greeted base) → IsToldBefore base start → length took ≤ 64
-    → (grants : List Grant) → length grants ≡ length took → AreGranted (length base) grants
+    → (grants : List Grant) → length grants ≡ length took → AreGranted old.order (length base) grants
     → IsTextAfter outlook (base ++ took) (start ++ seen) → IsTurnOf old known seen outlook
 whole_turn old known seen start base took outlook knew met before at_most grants one_each granted text =
     let shape = shaped outlook (base ++ took) (start ++ seen) text in

@@ -4,7 +4,7 @@ use mathlib.Core.Option as slot
 use mathlib.Core.Option.{some}
 use lib.ListN.{get_elem?}
 use Rattle.atomic_table.specs.Table.{State}
-use Rattle.feed_core.specs.Prelude.{Item, Ending, How, Signal, Subscribed, Next, Complete, Error}
+use Rattle.feed_core.specs.Prelude.{Item, Ending, ErrorOrder, How, Signal, Subscribed, Next, Complete, Error}
 use Rattle.feed_core.specs.World.Table.{is_started, is_over}
 use Rattle.feed_cell.specs.Types.{Causes, Producing, Requesting, Idle, Runner, Nobody, Coming, Fresh, Looked, Saw, Measured, Over, Parts}
 use Rattle.feed_cell.specs.declared.cell.Held.{Held}
@@ -111,8 +111,9 @@ LodgesAt told capacity Fresh taken own answers homes = get_elem? homes capacity 
 LodgesAt told capacity runner taken own answers homes = Lodges told capacity runner taken own answers homes
 
 -- what the producer knows
-pub record AsProducer (capacity : ℕ) (log : List Item) (given free : ℕ) (ended : Bool) (closing : Option Ending) (state : Bool) (producing : Producing) (d : View) : Type 0 where
+pub record AsProducer (capacity : ℕ) (order : ErrorOrder) (log : List Item) (given free : ℕ) (ended : Bool) (closing : Option Ending) (state : Bool) (producing : Producing) (d : View) : Type 0 where
   pub sized : d.capacity ≡ capacity
+  pub ordered : d.order ≡ order
   pub put : d.put ≡ log
   pub seen : d.seen ≤ given
   pub places : free ≡ length log + d.places
@@ -122,8 +123,9 @@ pub record AsProducer (capacity : ℕ) (log : List Item) (given free : ℕ) (end
   pub stands : d.producing ≡ producing
 
 -- what the handle knows
-pub record AsHandle (capacity : ℕ) (asked : ℕ) (cancel argument left : Bool) (requesting : Requesting) (d : View) : Type 0 where
+pub record AsHandle (capacity : ℕ) (order : ErrorOrder) (asked : ℕ) (cancel argument left : Bool) (requesting : Requesting) (d : View) : Type 0 where
   pub sized : d.capacity ≡ capacity
+  pub ordered : d.order ≡ order
   pub total : d.asked ≡ asked
   pub cancels : d.cancel ≡ cancel
   pub bad : d.argument ≡ argument
@@ -139,6 +141,7 @@ pub record KnowsAway (taken : List Item) (own : ℕ) (answers : Causes) (d : Vie
 -- what the task knows
 pub record AsRunner (capacity : ℕ) (runner : Runner) (active : Bool) (control : ℕ) (away : Bool) (taken item : List Item) (own : ℕ) (answers : Causes) (d : View) : Type 0 where
   pub sized : d.capacity ≡ capacity
+  pub ordered : d.order ≡ answers.order
   pub seated : has_seat runner ≡ true
   pub stands : d.runner ≡ runner
   pub out : d.away ≡ away
@@ -159,7 +162,7 @@ pub record CellData : Type 0 where
   -- the control word, and what that says
   pub control : ℕ
   pub flags : Flags
-  -- the causes that answers of callbacks have brought about, as far as looks brought them in
+  -- the causes that answers of callbacks have brought about, as far as looks brought them in, and the order of errors, which never changes
   pub answers : Causes
   -- whether the subscriber's slot is out, and whether the handle has left
   pub away : Bool
@@ -171,10 +174,10 @@ pub record CellData : Type 0 where
 
 -- what each party knows of it
 abbrev pub KnownByProducer : ℕ → CellData → View → Type 0
-KnownByProducer capacity cell = AsProducer capacity cell.log cell.world.given cell.free (is_over cell.world.runner) cell.flags.closing cell.flags.state cell.world.producer
+KnownByProducer capacity cell = AsProducer capacity cell.answers.order cell.log cell.world.given cell.free (is_over cell.world.runner) cell.flags.closing cell.flags.state cell.world.producer
 
 abbrev pub KnownByHandle : ℕ → CellData → View → Type 0
-KnownByHandle capacity cell = AsHandle capacity cell.world.asked cell.flags.cancel cell.flags.argument cell.left cell.world.handle
+KnownByHandle capacity cell = AsHandle capacity cell.answers.order cell.world.asked cell.flags.cancel cell.flags.argument cell.left cell.world.handle
 
 abbrev pub KnownByRunner : ℕ → CellData → View → Type 0
 KnownByRunner capacity cell = AsRunner capacity cell.world.runner cell.world.active cell.control cell.away cell.taken cell.item cell.world.own cell.answers

@@ -72,9 +72,9 @@ closing_of (Some ending) other = Some ending
 abbrev pub both : Flags → Flags → Flags
 both m f = record { run = m.run || f.run; active = m.active || f.active; cancel = m.cancel || f.cancel; argument = m.argument || f.argument; state = m.state || f.state; closing = closing_of m.closing f.closing }
 
--- the causes that the word and the answers of callbacks tell
+-- the causes that the word and the answers of callbacks tell; the order of errors lies with the latter
 abbrev pub causes_of : Flags → Causes → Causes
-causes_of f answers = record { cancel = f.cancel || answers.cancel; argument = f.argument || answers.argument; state = f.state; closing = f.closing; failed = answers.failed; memory = answers.memory }
+causes_of f answers = record { order = answers.order; cancel = f.cancel || answers.cancel; argument = f.argument || answers.argument; state = f.state; closing = f.closing; failed = answers.failed; memory = answers.memory }
 
 -- a number, with its mark, which is bit 63
 abbrev pub marked : Bool → ℕ → ℕ

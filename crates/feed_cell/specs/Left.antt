@@ -14,11 +14,11 @@ use Rattle.feed_cell.specs.Parties.{HandleState}
 
 -- what is left where the subscriber is at home
 abbrev pub lane_with : {B : Type 0} → Lodger B → ℕ → ℕ → ℕ → Bool → Lane B
-lane_with g given accepted asked running = record { subscriber = Some g.subscriber; accepted = accepted; given = given; asked = total_after asked g.own; ending = g.how; running = running }
+lane_with g given accepted asked running = record { subscriber = Some g.subscriber; accepted = accepted; given = given; asked = total_after asked g.own; ending = g.how; order = Some g.answers.order; running = running }
 
 -- what is left where a task was lost with it
 abbrev pub lane_without : {B : Type 0} → ℕ → ℕ → ℕ → Lane B
-lane_without given accepted asked = record { subscriber = None; accepted = accepted; given = given; asked = asked; ending = None; running = true }
+lane_without given accepted asked = record { subscriber = None; accepted = accepted; given = given; asked = asked; ending = None; order = None; running = true }
 
 -- the subscriber is at home, by head and control
 abbrev pub IsHomeBy : ℕ → ℕ → Type 0
@@ -32,10 +32,11 @@ IsLaneWith head tail asked lane guest =
     × (running ≡ true → (head < MARK) × (asked < MARK))
     × (lane ≡ lane_with guest (head % MARK) tail (asked % MARK) running)
 
--- the causes of a subscription: its publisher's, its handle's, and those that the answers of callbacks brought about
+-- the causes of a subscription: its publisher's, its handle's, and those that the answers of callbacks brought about; and the order of errors
+-- that the handle knows
 abbrev pub causes_left : End → HandleState → Causes → Causes
 causes_left end handle answers =
-    record { cancel = handle.cancelled || answers.cancel; argument = handle.argument || answers.argument; state = end.state; closing = end.closing; failed = answers.failed; memory = answers.memory }
+    record { order = handle.order; cancel = handle.cancelled || answers.cancel; argument = handle.argument || answers.argument; state = end.state; closing = end.closing; failed = answers.failed; memory = answers.memory }
 
 -- what its own handle did is in the total and in the causes
 pub record CountsHandle (end : End) (handle : HandleState) (total : ℕ) (causes : Causes) : Type 0 where

@@ -32,6 +32,7 @@ started_in (Call.Looks standing) = None
 -- it is one of the same subscription, and what was there for it is spent; a call answers a task exactly if its signal has started one
 pub record DoesCall (old : ProducerState) (call : Call TaskState) (new : ProducerState) : Type 0 where
   pub table : new.table ≡ old.table
-  pub starts : IfSome (started_in call) (IsStarted old.table old.end.capacity)
+  pub order : new.order ≡ old.order
+  pub starts : IfSome (started_in call) (IsStarted old.table old.end.capacity old.order)
   pub spent : IsSome (started_in call) → new.end.ready ≡ false
   pub counts : new.started ≡ starts_after (started_in call) old.started

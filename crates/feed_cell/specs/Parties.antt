@@ -2,8 +2,8 @@
 use Rattle.std.specs.Prelude.{◌≡◌, ℕ, zero, suc, ℤ, pos, negsuc, Bool, true, false, ◌||◌, None, List, [], ◌∷◌, length}
 use Rattle.atomic_table.specs.Seated.{TableId}
 use Rattle.flow_rules.specs.Feed.{End}
-use Rattle.feed_core.specs.Cause.{no_causes}
-use Rattle.feed_core.specs.Prelude.{Answer, Item, Signal, total_after}
+use Rattle.feed_core.specs.Cause.{no_causes_in}
+use Rattle.feed_core.specs.Prelude.{Answer, ErrorOrder, Overtake, Item, Signal, total_after}
 use Rattle.feed_core.specs.World.Table.{MayLook}
 use Rattle.feed_cell.specs.Types.{Causes, Runner, Fresh, Ready}
 use Rattle.feed_cell.specs.Cell.{greeted}
@@ -15,9 +15,11 @@ use Rattle.feed_cell.specs.declared.cell.View.{View}
 use Rattle.feed_cell.specs.Seats.{SeatOf}
 use Rattle.feed_cell.specs.TaskAnswers.{own_after, answers_after}
 
--- the producer: whose subscription it is, what its publisher knows of that, and how many tasks its calls have started
+-- the producer: whose subscription it is, in which order a closing error is told, what its publisher knows of that, and how many tasks
+-- its calls have started
 pub record ProducerState : Type 0 where
   pub table : TableId
+  pub order : ErrorOrder
   pub end : End
   pub started : ℕ
 
@@ -33,22 +35,24 @@ KnowsEnd end v = end ≡ known_end v end.ready
 abbrev pub not_ready : ProducerState → ProducerState
 not_ready producer = record producer { end = record producer.end { ready = false } }
 
--- the handle: how many items it requested in all, whether it cancelled, whether it requested a number that is not positive, whether
+-- the handle: in which order a closing error is told, how many items it requested in all, whether it cancelled, whether it requested a number that is not positive, whether
 -- it has what one started task needs, and how many tasks its calls have started
 pub record HandleState : Type 0 where
   pub table : TableId
   pub capacity : ℕ
+  pub order : ErrorOrder
   pub asked : ℕ
   pub cancelled : Bool
   pub argument : Bool
   pub ready : Bool
   pub started : ℕ
 
--- what a task knows of its subscription: its capacity, where the task stands, whether its subscriber is with it, all that was taken and
+-- what a task knows of its subscription: its capacity, in which order a closing error is told, where the task stands, whether its subscriber is with it, all that was taken and
 -- by what, what the answers requested and the causes that they brought about, by what it brought to its last look, how often it could not
 -- rest, whether it runs still, and what became of it
 pub record TaskKnows : Type 0 where
   pub capacity : ℕ
+  pub order : ErrorOrder
   pub runner : Runner
   pub away : Bool
   pub taken : List Item
@@ -63,6 +67,7 @@ pub record TaskKnows : Type 0 where
 abbrev pub known_by_task : View → TaskKnows
 known_by_task v = record {
   capacity = v.capacity;
+  order = v.order;
   runner = v.runner;
   away = v.away;
   taken = v.taken;
@@ -88,28 +93,40 @@ pub record SpentState : Type 0 where
   pub knows : TaskKnows
 
 -- a new subscription's parties
-abbrev pub new_producer : ℕ → TableId → ProducerState
-new_producer capacity table = record { table = table; end = record { capacity = capacity; accepted = []; seen = 0; looks = 0; over = false; closing = None; state = false; ready = true }; started = 0 }
+abbrev pub new_producer_in : ErrorOrder → ℕ → TableId → ProducerState
+new_producer_in order capacity table = record { table = table; order = order; end = record { capacity = capacity; accepted = []; seen = 0; looks = 0; over = false; closing = None; state = false; ready = true }; started = 0 }
 
-abbrev pub new_handle : ℕ → TableId → HandleState
-new_handle capacity table = record { table = table; capacity = capacity; asked = 0; cancelled = false; argument = false; ready = true; started = 0 }
+abbrev pub new_handle_in : ErrorOrder → ℕ → TableId → HandleState
+new_handle_in order capacity table = record { table = table; capacity = capacity; order = order; asked = 0; cancelled = false; argument = false; ready = true; started = 0 }
 
 -- its task was never run, and has its subscriber with it, which was told nothing
-pub record IsNewTask (table : TableId) (capacity : ℕ) (task : TaskState) : Type 0 where
+pub record IsNewTaskIn (order : ErrorOrder) (table : TableId) (capacity : ℕ) (task : TaskState) : Type 0 where
   pub table_is : task.table ≡ table
   pub sized : task.knows.capacity ≡ capacity
+  pub ordered : task.knows.order ≡ order
   pub stage : task.knows.runner ≡ Fresh
   pub taken : task.knows.taken ≡ []
   pub own : task.knows.own ≡ 0
-  pub answers : task.knows.answers ≡ no_causes
+  pub answers : task.knows.answers ≡ no_causes_in order
   pub misses : task.knows.misses ≡ 0
   pub away : task.knows.away ≡ true
   pub untold : task.told ≡ []
 
+-- the parties of a new subscription in which a closing error overtakes the items
+abbrev pub new_producer : ℕ → TableId → ProducerState
+new_producer capacity table = new_producer_in Overtake capacity table
+
+abbrev pub new_handle : ℕ → TableId → HandleState
+new_handle capacity table = new_handle_in Overtake capacity table
+
+abbrev pub IsNewTask : TableId → ℕ → TaskState → Type 0
+IsNewTask table capacity task = IsNewTaskIn Overtake table capacity task
+
 -- a task that a signal started: its subscriber is at home
-pub record IsStarted (table : TableId) (capacity : ℕ) (task : TaskState) : Type 0 where
+pub record IsStarted (table : TableId) (capacity : ℕ) (order : ErrorOrder) (task : TaskState) : Type 0 where
   pub table_is : task.table ≡ table
   pub sized : task.knows.capacity ≡ capacity
+  pub ordered : task.knows.order ≡ order
   pub stage : task.knows.runner ≡ Ready
   pub home : task.knows.away ≡ false
 
@@ -117,6 +134,7 @@ pub record IsStarted (table : TableId) (capacity : ℕ) (task : TaskState) : Typ
 pub record KnowsHandle (handle : HandleState) (v : View) : Type 0 where
   pub is : v.asks ≡ true
   pub left : v.left ≡ true
+  pub order : v.order ≡ handle.order
   pub asked : v.asked ≡ handle.asked
   pub cancelled : v.cancel ≡ handle.cancelled
   pub argument : v.argument ≡ handle.argument

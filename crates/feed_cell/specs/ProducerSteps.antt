@@ -30,6 +30,7 @@ pub record FindsRoom {B : Type 0} (before : SeatOf B) (found : ℕ) (after : Sea
   pub room : ended ≡ false → length before.0.put < head + before.0.capacity
       → after ≡ (after_look before.0 head ended HasRoom 1, (length before.0.put % before.0.capacity, Held.Empty) ∷ before.1)
   pub sized : after.0.capacity ≡ before.0.capacity
+  pub ordered : after.0.order ≡ before.0.order
 
 -- the producer looks how things stand: it finds this in head, and takes no slot
 pub record FindsHead {B : Type 0} (before : SeatOf B) (found : ℕ) (after : SeatOf B) : Type 0 where

@@ -1,6 +1,7 @@
 -- Signals of both ends, and the hand-over of the task that one has started: what they ask of a seat, and what they tell it.
 use Rattle.std.specs.Prelude.{◌≡◌, ◌⊎◌, ℕ, Bool, true, false, [], Option, Some, None}
 use Rattle.std.specs.Int.{bit_at}
+use Rattle.feed_core.specs.Prelude.{ErrorOrder}
 use Rattle.feed_core.specs.World.Table.{producing_after, requesting_after, ProducerMay, HandleMay}
 use Rattle.feed_cell.specs.Types.{Cause, Cancel, Argument, State, Closing, Free, Idle, Hands, HandsOver}
 use Rattle.feed_cell.specs.declared.cell.View.{View}
@@ -31,6 +32,7 @@ pub record Signals {B : Type 0} (cause : Option Cause) (before : SeatOf B) (foun
   pub found_is : bit_at found RUNNING ≡ number started
   pub signalled : after ≡ (sent cause started before.0, before.1)
   pub sized : after.0.capacity ≡ before.0.capacity
+  pub ordered : after.0.order ≡ before.0.order
 
 -- a party may signal this cause
 abbrev pub MaySignal : Option Cause → View → Type 0
@@ -50,5 +52,5 @@ IsHanded found None before after = (bit_at found 0 ≡ 1) × (after ≡ before)
 IsHanded found (Some task) before after = (bit_at found 0 ≡ 0) × (after ≡ (handed before.0, before.1))
 
 -- the seat of a task that was handed over, at this table
-abbrev pub IsReadySeat : {B : Type 0} → TableId → ℕ → CellSeat B → Type 0
-IsReadySeat table capacity task = (task.table_id ≡ table) × (task.me ≡ (ready_view capacity, []))
+abbrev pub IsReadySeat : {B : Type 0} → TableId → ℕ → ErrorOrder → CellSeat B → Type 0
+IsReadySeat table capacity order task = (task.table_id ≡ table) × (task.me ≡ (ready_view capacity order, []))

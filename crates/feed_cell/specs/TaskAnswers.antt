@@ -1,7 +1,7 @@
 -- What the task brings to its next look, by what a callback answered.
 use Rattle.std.specs.Prelude.{ℕ, zero, suc, pos, negsuc, true, None, Some}
-use Rattle.feed_core.specs.Cause.{no_causes, with_cause_of}
-use Rattle.feed_core.specs.Prelude.{Answer, How, total_after}
+use Rattle.feed_core.specs.Cause.{no_causes_in, with_cause_of}
+use Rattle.feed_core.specs.Prelude.{Answer, ErrorOrder, How, total_after}
 use Rattle.feed_cell.specs.Types.{Causes}
 use Rattle.feed_cell.specs.declared.cell.Lodger.{Lodger}
 
@@ -24,6 +24,6 @@ after_answer answer guest = record guest { own = own_after answer guest.own; ans
 abbrev pub after_end : {B : Type 0} → How → Lodger B → Lodger B
 after_end how guest = record guest { answers = with_cause_of how guest.answers; how = Some how }
 
--- a subscriber that was told nothing, with what lies beside it
-abbrev pub new_lodger : {B : Type 0} → B → Lodger B
-new_lodger subscriber = record { subscriber = subscriber; given = 0; own = 0; answers = no_causes; how = None }
+-- a subscriber that was told nothing, with what lies beside it: a closing error is told in this order
+abbrev pub new_lodger : {B : Type 0} → ErrorOrder → B → Lodger B
+new_lodger order subscriber = record { subscriber = subscriber; given = 0; own = 0; answers = no_causes_in order; how = None }

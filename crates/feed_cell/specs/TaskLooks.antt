@@ -1,7 +1,9 @@
 -- What the task does after a look.
-use Rattle.std.specs.Prelude.{◌≡◌, ◌+◌, ◌≤◌, ◌⊎◌, false, List, [], ◌∷◌, ◌++◌, length}
+use Rattle.std.specs.Prelude.{◌≡◌, ℕ, Some, ◌+◌, ◌≤◌, ◌⊎◌, false, List, [], ◌∷◌, ◌++◌, length}
+use Rattle.feed_core.specs.Cause.{IsNoFailure}
 use Rattle.feed_core.specs.Prelude.{How, Item, Signal, Next}
 use Rattle.feed_core.specs.Seen.{SeenState, seen_with}
+use Rattle.feed_core.specs.Turn.{EndsInObeyed}
 use Rattle.feed_core.specs.World.Table.{MayEnd}
 use Rattle.feed_core.specs.declared.turn.outlook.Outlook.TheVariants.{Resting, Ended}
 use Rattle.feed_cell.specs.Types.{Nobody}
@@ -10,7 +12,7 @@ use Rattle.feed_cell.specs.Cell.{greeted, IsToldAtEnd}
 use Rattle.feed_cell.specs.Parties.{IsGoing}
 use Rattle.feed_cell.specs.TaskPauses.{told_out}
 use Rattle.feed_cell.specs.Seats.{SeatOf}
-use Rattle.feed_cell.specs.TaskSteps.{HasLeft, IsGranted, grant_of, EndsThere, FinishesThere, GoesOnThere}
+use Rattle.feed_cell.specs.TaskSteps.{HasLeft, IsGranted, KeepsOrder, grant_of, EndsThere, FinishesThere, GoesOnThere}
 use Rattle.feed_cell.specs.Views.{IsRunner}
 
 -- the last item, if one was taken, and by what
@@ -33,6 +35,7 @@ module _ {B : Type 0} (told : B → List Signal) where
     pub saw : later ≡ seen_with (Next item ∷ []) seen
     pub misses : after.0.misses ≡ before.0.misses
     pub sized : after.0.capacity ≡ before.0.capacity
+    pub ordered : after.0.order ≡ before.0.order
 
   -- it could not rest, and goes on
   pub record MissesRest (before after : SeatOf B) : Type 0 where
@@ -44,6 +47,7 @@ module _ {B : Type 0} (told : B → List Signal) where
     pub misses : after.0.misses ≡ before.0.misses + 1
     pub grants : after.0.grants ≡ before.0.grants
     pub sized : after.0.capacity ≡ before.0.capacity
+    pub ordered : after.0.order ≡ before.0.order
 
   -- it rests, and was told all that was taken
   pub record RestsNow (before after : SeatOf B) : Type 0 where
@@ -51,6 +55,7 @@ module _ {B : Type 0} (told : B → List Signal) where
     pub taken : after.0.taken ≡ before.0.taken
     pub misses : after.0.misses ≡ before.0.misses
     pub grants : after.0.grants ≡ before.0.grants
+    pub ordered : after.0.order ≡ before.0.order
     pub runs : after.0.runs ≡ false
     pub shown : after.0.outlook ≡ Resting
     pub stage : after.0.runner ≡ Nobody
@@ -65,9 +70,11 @@ module _ {B : Type 0} (told : B → List Signal) where
     pub saw : later ≡ seen_with last seen
     pub taken : after.0.taken ≡ before.0.taken ++ took
     pub misses : after.0.misses ≡ before.0.misses
+    pub ordered : KeepsOrder before.0 after.0
     pub runs : after.0.runs ≡ false
     pub shown : after.0.outlook ≡ Ended how
     pub may : MayEnd how (length after.0.taken) after.0.runner
+    pub failed : (code : ℕ) → how ≡ How.Failed code → EndsInObeyed last
 
   -- what it did after a look
   abbrev pub Serves : Served → SeatOf B → SeatOf B → SeenState → SeenState → Type 0
@@ -99,4 +106,6 @@ module _ {B : Type 0} (told : B → List Signal) where
   EndsOrRests Served.Gave before after seen later = ⊥
   EndsOrRests Served.Rested before after seen later = TriesRest Served.Rested before after × (later ≡ seen)
   EndsOrRests Served.Missed before after seen later = TriesRest Served.Missed before after × (later ≡ seen)
-  EndsOrRests (Served.Ended how) before after seen later = (due : How) × FinishesAs due (Served.Ended how) before after seen later
+  EndsOrRests (Served.Ended how) before after seen later = (due : How)
+      × IsNoFailure (Some due)
+      × FinishesAs due (Served.Ended how) before after seen later

@@ -30,6 +30,7 @@ pub record LooksOut {B : Type 0} (before : SeatOf B) (found : ℕ) (after : Seat
   pub reads : Reads found flags
   pub started : flags.run ≡ true
   pub few : length before.0.taken ≤ UNBOUNDED
+  pub ordered : (answers_out before.1).order ≡ before.0.order
   pub looked : after ≡ (after_causes before.0 found flags (own_out before.1) (answers_out before.1) before.0.taken, before.1)
 
 -- a task that was handed over looks for the first time, and takes its subscriber with it
@@ -43,6 +44,7 @@ pub record LooksFirst {B : Type 0} (told : B → List Signal) (before : SeatOf B
   pub given : guest.given ≡ length taken
   pub how : guest.how ≡ None
   pub few : length taken ≤ UNBOUNDED
+  pub ordered : guest.answers.order ≡ before.0.order
   pub looked : after ≡ (after_causes before.0 found flags guest.own guest.answers taken, (before.0.capacity, Held.Guest guest) ∷ before.1)
 
 -- the task found this number of items put: where there is one that it did not take, the next slot is out with it

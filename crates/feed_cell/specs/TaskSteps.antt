@@ -3,12 +3,12 @@ use Rattle.std.specs.Prelude.{◌≡◌, ℕ, ◌+◌, ◌%◌, ◌<◌, ◌≤�
 use Rattle.atomic_table.specs.Table.{rest}
 use Rattle.feed_core.specs.Cause.{stops, closes, with_cause_of}
 use Rattle.feed_core.specs.PlainTurn.{terminal_of}
-use Rattle.feed_core.specs.Prelude.{Answer, How, Item, Signal, UNBOUNDED}
+use Rattle.feed_core.specs.Prelude.{Answer, ErrorOrder, How, Item, Signal, UNBOUNDED}
 use Rattle.feed_core.specs.Seen.{SeenState, seen_with}
 use Rattle.feed_core.specs.Steps.{HasTerminal}
 use Rattle.feed_core.specs.World.Table.{MayEnd}
 use Rattle.feed_core.specs.declared.turn.outlook.Outlook.TheVariants.{Resting}
-use Rattle.feed_cell.specs.Types.{Causes, Nobody, Ready, Looked, Measured, Taken}
+use Rattle.feed_cell.specs.Types.{Causes, Runner, Nobody, Ready, Looked, Saw, Measured, Taken}
 use Rattle.feed_cell.specs.declared.cell.Grant.{Grant}
 use Rattle.feed_cell.specs.declared.cell.Held.{Held}
 use Rattle.feed_cell.specs.declared.cell.Lodger.{Lodger}
@@ -49,9 +49,20 @@ ComesToRest before after = after ≡ (record before.0 { runner = Nobody; runs = 
 abbrev pub HasMissed : {B : Type 0} → SeatOf B → SeatOf B → Type 0
 HasMissed before after = after ≡ (record before.0 { runner = Ready; misses = before.0.misses + 1 }, before.1)
 
--- it tried no rest, and took nothing
+-- it tried no rest, and took nothing; the order of errors is the same
 abbrev pub KeepsCounts : View → View → Type 0
-KeepsCounts before after = (after.misses ≡ before.misses) × (after.grants ≡ before.grants)
+KeepsCounts before after = (after.misses ≡ before.misses) × (after.grants ≡ before.grants) × (after.order ≡ before.order)
+
+-- by what a task looked last, if it stands after a look: a closing error is told in this order
+abbrev pub IsInOrder : ErrorOrder → Runner → Type 0
+IsInOrder order (Looked causes) = causes.order ≡ order
+IsInOrder order (Saw causes tail) = causes.order ≡ order
+IsInOrder order (Measured causes tail asked) = causes.order ≡ order
+IsInOrder order _ = Unit {0}
+
+-- a step between two looks keeps that
+abbrev pub KeepsOrder : View → View → Type 0
+KeepsOrder before after = (after.order ≡ before.order) × (IsInOrder before.order before.runner → IsInOrder before.order after.runner)
 
 -- it has its subscriber with it as before, and has taken what it had
 abbrev pub KeepsSubscriber : {B : Type 0} → SeatOf B → SeatOf B → Type 0
@@ -95,6 +106,7 @@ module _ {B : Type 0} (told : B → List Signal) where
     pub flags : Flags
     pub reads : Reads word flags
     pub stage : me.0.runner ≡ Looked (causes_of flags me.0.answers)
+    pub ordered : me.0.answers.order ≡ me.0.order
     pub look : me.0.look ≡ bit_and word QUIET
     pub few : length me.0.taken ≤ UNBOUNDED
 

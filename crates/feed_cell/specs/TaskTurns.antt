@@ -2,16 +2,16 @@
 use Rattle.std.specs.Prelude.{◌≡◌, ℕ, ◌+◌, ◌<◌, ◌≤◌, ◌⊎◌, true, false, None, List, [], ◌∷◌, ◌++◌, length}
 use Rattle.feed_core.specs.Cause.{stops}
 use Rattle.feed_core.specs.World.Table.{MayEnd}
-use Rattle.feed_core.specs.Prelude.{How, IsFlowText, Item, Signal, items_of}
+use Rattle.feed_core.specs.Prelude.{ErrorOrder, How, IsFlowText, Item, Signal, items_of}
 use Rattle.feed_core.specs.declared.turn.TheConstants.{ITEMS_IN_A_TURN}
 use Rattle.feed_core.specs.declared.turn.outlook.Outlook.{Outlook}
 use Rattle.feed_core.specs.declared.turn.outlook.Outlook.TheVariants.{Again, Resting, Ended}
-use Rattle.feed_cell.specs.Types.{Nobody}
+use Rattle.feed_cell.specs.Types.{Runner, Nobody}
 use Rattle.feed_cell.specs.Cell.{greeted, IsToldAtEnd}
 use Rattle.feed_cell.specs.Parties.{TaskKnows, TaskState, known_by_task, IsGoing, IsHome}
 use Rattle.feed_cell.specs.TaskPauses.{told_out}
 use Rattle.feed_cell.specs.Seats.{SeatOf}
-use Rattle.feed_cell.specs.TaskSteps.{KeepsSubscriber}
+use Rattle.feed_cell.specs.TaskSteps.{IsInOrder, KeepsSubscriber}
 use Rattle.feed_cell.specs.declared.cell.Grant.{Grant}
 use Rattle.feed_cell.specs.declared.cell.task.Stage.{Stage}
 use Rattle.feed_cell.specs.declared.cell.task.turns.Turn.{Turn}
@@ -30,11 +30,12 @@ AreGivenOf outlook given took = (given ≡ took) ⊎ ((outlook ≡ Ended How.Out
 abbrev pub IsToldBefore : List Item → List Signal → Type 0
 IsToldBefore base start = ((start ≡ []) × (base ≡ [])) ⊎ (start ≡ greeted base)
 
--- each of these items was taken by a look that showed no end at once (no cancel, bad request, second subscribing or error), and by a
--- measure that showed more items requested than were taken before it
-abbrev pub AreGranted : ℕ → List Grant → Type 0
-AreGranted given [] = Unit {0}
-AreGranted given (grant ∷ more) = (stops grant.causes ≡ None) × (given < grant.asked) × AreGranted (given + 1) more
+-- each of these items was taken by a look that showed no end at once (no cancel, bad request or second subscribing, and no error that
+-- overtakes the items), and by a measure that showed more items requested than were taken before it
+abbrev pub AreGranted : ErrorOrder → ℕ → List Grant → Type 0
+AreGranted order given [] = Unit {0}
+AreGranted order given (grant ∷ more) = (grant.causes.order ≡ order) × (stops grant.causes ≡ None) × (given < grant.asked)
+    × AreGranted order (given + 1) more
 
 -- a turn that saw these signals, of a task that knew this, and whose subscriber was known to have been told that
 pub record IsTurnOf (old : TaskKnows) (known seen : List Signal) (outlook : Outlook) : Type 0 where
@@ -51,7 +52,7 @@ pub record IsTurnOf (old : TaskKnows) (known seen : List Signal) (outlook : Outl
   -- by what it took each
   pub grants : List Grant
   pub one_each : length grants ≡ length took
-  pub granted : AreGranted (length base) grants
+  pub granted : AreGranted old.order (length base) grants
   -- its subscriber was told what this turn saw, after what it was told before
   pub text : IsTextAfter outlook (base ++ took) (start ++ seen)
   pub allowed : IsFlowText (start ++ seen)
@@ -61,9 +62,14 @@ pub record IsTurnOf (old : TaskKnows) (known seen : List Signal) (outlook : Outl
 abbrev pub MayGoOn : TaskKnows → TaskKnows → List Signal → Type 0
 MayGoOn old new seen = ((length (items_of seen) ≡ ITEMS_IN_A_TURN) × (new.misses ≡ old.misses)) ⊎ (new.misses ≡ old.misses + 1)
 
+-- a task may end the subscription so where it stands, by what its last look saw, if that saw an end: a closing error is told in this order
+abbrev pub MayEndIn : ErrorOrder → How → ℕ → Runner → Type 0
+MayEndIn order how given runner = MayEnd how given runner × IsInOrder order runner
+
 -- another turn is owed
 pub record GoesOnAs (old new : TaskKnows) (known later seen : List Signal) : Type 0 where
   pub turned : IsTurnOf old known seen Again
+  pub order : new.order ≡ old.order
   pub taken : new.taken ≡ turned.base ++ turned.took
   pub grants : new.grants ≡ old.grants ++ turned.grants
   -- its subscriber stays with it, so that it knows what that was told
@@ -74,6 +80,7 @@ pub record GoesOnAs (old new : TaskKnows) (known later seen : List Signal) : Typ
 -- rule of the table counts that among the rests of its events, or has it as the end that is among them
 pub record StopsAs (old new : TaskKnows) (known seen : List Signal) (outlook : Outlook) : Type 0 where
   pub turned : IsTurnOf old known seen outlook
+  pub order : new.order ≡ old.order
   pub taken : new.taken ≡ turned.base ++ turned.took
   pub grants : new.grants ≡ old.grants ++ turned.grants
   pub misses : new.misses ≡ old.misses
@@ -91,25 +98,26 @@ module _ {B : Type 0} (told : B → List Signal) where
     pub took : List Item
     pub counted : length took ≡ count
     pub text : start ++ seen ≡ greeted (base ++ took)
+    pub ordered : me.0.order ≡ before.0.order
     pub taken : me.0.taken ≡ base ++ took
     pub told_is : told_out told me.1 ≡ start ++ seen
     pub grants : List Grant
     pub one_each : length grants ≡ count
-    pub granted : AreGranted (length base) grants
+    pub granted : AreGranted before.0.order (length base) grants
     pub grants_are : me.0.grants ≡ before.0.grants ++ grants
     pub misses : me.0.misses ≡ before.0.misses
 
   -- before each look of a turn, by where its task stands
   abbrev pub IsBeforeLook : Stage → ℕ → SeatOf B → SeatOf B → List Signal → Type 0
   IsBeforeLook Stage.Fresh count before me seen = ⊥
-  IsBeforeLook Stage.Home count before me seen = (count ≡ 0) × (seen ≡ []) × IsHome me × (before.0.away ≡ me.0.away) × (me.0.misses ≡ before.0.misses) × (me.0.grants ≡ before.0.grants)
+  IsBeforeLook Stage.Home count before me seen = (count ≡ 0) × (seen ≡ []) × IsHome me × (before.0.away ≡ me.0.away) × (me.0.misses ≡ before.0.misses) × (me.0.grants ≡ before.0.grants) × (me.0.order ≡ before.0.order)
   IsBeforeLook Stage.Going count before me seen = IsGoing told me × TellsSoFar count before me seen
 
   -- a turn that ran on a seat, by its outlook
   abbrev pub RunsAs : Outlook → SeatOf B → SeatOf B → List Signal → Type 0
   RunsAs Again before after seen = IsGoing told after × GoesOnAs (known_by_task before.0) (known_by_task after.0) (told_out told before.1) (told_out told after.1) seen × MayGoOn (known_by_task before.0) (known_by_task after.0) seen
   RunsAs Resting before after seen = StopsAs (known_by_task before.0) (known_by_task after.0) (told_out told before.1) seen Resting × (after.0.runner ≡ Nobody)
-  RunsAs (Ended how) before after seen = StopsAs (known_by_task before.0) (known_by_task after.0) (told_out told before.1) seen (Ended how) × MayEnd how (length after.0.taken) after.0.runner
+  RunsAs (Ended how) before after seen = StopsAs (known_by_task before.0) (known_by_task after.0) (told_out told before.1) seen (Ended how) × MayEndIn before.0.order how (length after.0.taken) after.0.runner
 
   -- a task may look, once its subscriber was greeted
   abbrev pub MayLookNext : Stage → SeatOf B → Type 0
@@ -139,4 +147,4 @@ OnAgain _ P = Unit {0}
 abbrev pub TurnsInto : {B : Type 0} → TaskState → List Signal → Turn B → Type 0
 TurnsInto task seen (Turn.Again next) = (next.table ≡ task.table) × (next.seat ≡ task.seat) × GoesOnAs task.knows next.knows task.told next.told seen
 TurnsInto task seen (Turn.Resting spent) = (spent.table ≡ task.table) × (spent.seat ≡ task.seat) × StopsAs task.knows spent.knows task.told seen Resting × (spent.knows.runner ≡ Nobody)
-TurnsInto task seen (Turn.Ended how spent) = (spent.table ≡ task.table) × (spent.seat ≡ task.seat) × StopsAs task.knows spent.knows task.told seen (Ended how) × MayEnd how (length spent.knows.taken) spent.knows.runner
+TurnsInto task seen (Turn.Ended how spent) = (spent.table ≡ task.table) × (spent.seat ≡ task.seat) × StopsAs task.knows spent.knows task.told seen (Ended how) × MayEndIn task.knows.order how (length spent.knows.taken) spent.knows.runner

@@ -1,13 +1,14 @@
 -- What the parties of a subscription know: at first, and when seats are split.
 use Rattle.std.specs.Prelude.{◌≡◌, ℕ, ◌+◌, Bool, true, false, Option, None, Some, []}
-use Rattle.feed_core.specs.Cause.{no_causes}
+use Rattle.feed_core.specs.Cause.{no_causes_in}
+use Rattle.feed_core.specs.Prelude.{ErrorOrder, Overtake}
 use Rattle.feed_core.specs.declared.turn.outlook.Outlook.TheVariants.{Again}
 use Rattle.feed_cell.specs.Types.{Free, Idle, Fresh, Ready}
 use Rattle.feed_cell.specs.declared.cell.View.{View}
 
--- the maker of a subscription of this capacity has all three parts
-abbrev pub first_view : ℕ → View
-first_view capacity = record {
+-- the maker of a subscription of this capacity, which is told a closing error in this order, has all three parts
+abbrev pub first_view : ℕ → ErrorOrder → View
+first_view capacity order = record {
   capacity = capacity;
   started = 0;
   puts = true;
@@ -20,6 +21,7 @@ first_view capacity = record {
   closing = None;
   state = false;
   asks = true;
+  order = order;
   asked = 0;
   requesting = Idle;
   cancel = false;
@@ -33,7 +35,7 @@ first_view capacity = record {
   item = [];
   grants = [];
   own = 0;
-  answers = no_causes;
+  answers = no_causes_in order;
   misses = 0;
   outlook = Again;
 }
@@ -72,18 +74,18 @@ starts_after None started = started
 starts_after (Some task) started = started + 1
 
 -- a task that was handed over is ready, and its subscriber is at home
-abbrev pub ready_view : ℕ → View
-ready_view capacity = record (first_view capacity) { puts = false; asks = false; runner = Ready }
+abbrev pub ready_view : ℕ → ErrorOrder → View
+ready_view capacity order = record (first_view capacity order) { puts = false; asks = false; runner = Ready }
 
 abbrev pub running_handed : View → View
-running_handed v = ready_view v.capacity
+running_handed v = ready_view v.capacity v.order
 
 -- the producer's seat takes in what the handle's knows, and that has no part any more
 abbrev pub with_asking : View → View → View
-with_asking v h = record v { asks = h.asks; asked = h.asked; requesting = h.requesting; cancel = h.cancel; argument = h.argument; left = h.left; misses = v.misses + h.misses; started = v.started + h.started }
+with_asking v h = record v { asks = h.asks; order = h.order; asked = h.asked; requesting = h.requesting; cancel = h.cancel; argument = h.argument; left = h.left; misses = v.misses + h.misses; started = v.started + h.started }
 
 abbrev pub no_part : View
-no_part = record (first_view 0) { puts = false; asks = false; runs = false }
+no_part = record (first_view 0 Overtake) { puts = false; asks = false; runs = false }
 
 -- a seat of one kind
 abbrev pub IsProducer : View → Type 0

@@ -13,7 +13,7 @@ use atomic_table::{Seat, Table, TableRule};
 use crossbeam_utils::CachePadded;
 use feed_core::world::{Producing, Requesting, Runner};
 use feed_core::{Causes, Outlook};
-use flow_rules::{Ending, How, Item, Listener};
+use flow_rules::{Ending, ErrorOrder, How, Item, Listener};
 use std::alloc::Global;
 use std::collections::LinkedList;
 use std::marker::{Model, PhantomData};
@@ -97,7 +97,7 @@ pub struct Lodger<B> {
     pub given: u64,
     /// How many items its answers have requested, at most [`UNBOUNDED`](flow_rules::UNBOUNDED).
     pub own: u64,
-    /// The causes that its answers brought about.
+    /// The causes that its answers brought about, and the order of errors.
     pub answers: Causes,
     /// How the subscription has ended, if it has.
     pub how: Option<How>,
@@ -173,6 +173,8 @@ pub struct View {
     pub state: bool,
     /// Whether it is the handle.
     pub asks: bool,
+    /// In which order a closing error is told.
+    pub order: ErrorOrder,
     /// How many items it requested.
     pub asked: u64,
     /// What it is in the middle of.
@@ -207,8 +209,17 @@ pub struct View {
     pub outlook: Outlook,
 }
 
+/// What a subscription is made with.
+#[derive(Drop)]
+pub struct Terms {
+    /// How many items the buffer has room for.
+    pub capacity: u64,
+    /// In which order a closing error is told.
+    pub order: ErrorOrder,
+}
+
 /// The table of a subscription: the four words, a slot for each place, and a slot for the subscriber.
-pub type CellTable<B> = Table<Held<B>, View, u64, InCell<B>, Global>;
+pub type CellTable<B> = Table<Held<B>, View, Terms, InCell<B>, Global>;
 
 /// The table, as its parties share it. How many share it changes with each task, so that number stands in a cache line of its
 /// own.
@@ -217,17 +228,17 @@ pub(crate) type SharedTable<B> = Arc<CachePadded<CellTable<B>>, Global>;
 /// A party's seat at that table.
 pub type CellSeat<B> = Seat<Held<B>, View>;
 
-/// The rule: the words, slots and views show a subscription that some list of possible events leads to. The capacity is told
-/// when the table is made.
+/// The rule: the words, slots and views show a subscription that some list of possible events leads to. The capacity and the
+/// order of errors are told when the table is made.
 pub struct InCell<B> {
     marker: PhantomData<B>,
 }
 
-impl<B: Listener> TableRule<Held<B>, View, u64> for InCell<B> {
+impl<B: Listener> TableRule<Held<B>, View, Terms> for InCell<B> {
     ghost use Rattle.feed_cell.specs.Cell.{CellRule};
     ghost use Rattle.feed_cell.specs.Views.{first_view};
 
-    ghost holds = { CellRule B.told };
+    ghost holds = { λ terms. CellRule B.told terms.capacity };
 
-    ghost first = { first_view };
+    ghost first = { λ terms. first_view terms.capacity terms.order };
 }

@@ -3,8 +3,9 @@
 //!
 //! Three parties share a subscription, each in a thread of its own. The [`Producer`] is its publisher's end: it puts items, closes,
 //! and looks how things stand. The [`Handle`] is its owner's end: it requests and cancels. The [`Task`] calls the subscriber;
-//! whoever has it runs it. [`Cell::new`] makes the three, and [`close`] takes the two ends back and tells what is left. No call
-//! waits, and none but [`Cell::new`] and the two calls named `ready` takes memory.
+//! whoever has it runs it. [`Cell::new`] makes the three, as [`Cell::new_with`] does where a closing error may wait for the items, and
+//! [`close`] takes the two ends back and tells what is left. No call waits, and none but these two and the calls named `ready` takes
+//! memory.
 //!
 //! # The words
 //!
@@ -39,7 +40,8 @@
 //!   follows: if no more are requested, it gives the slot back as it was. Otherwise the task moves the item out, and the store of
 //!   head + 1 gives the slot back, free.
 //! - The subscriber's slot is out with the task from its first look until it rests or ends the subscription. What the answers of
-//!   callbacks have requested, and the causes that they brought about, lie beside the subscriber there.
+//!   callbacks have requested, the causes that they brought about, and whether a closing error waits for the items lie beside the
+//!   subscriber there.
 //!
 //! # Signals and rest
 //!
@@ -101,6 +103,7 @@
 
 mod cell;
 
+pub use cell::close::again::{close_again, is_shared};
 pub use cell::close::close;
 pub use cell::handle::Handle;
 pub use cell::maker::Cell;

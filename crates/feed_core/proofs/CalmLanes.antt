@@ -1,9 +1,9 @@
 -- A lane that nothing ends at once, and that the calls of its subscription keep it so.
 use Rattle.std.proofs.Common.{◌≡◌, ℕ, ◌+◌, ◌≤◌, Bool, true, false, [], ◌∷◌, length, refl, length-append, arith, None, Some}
-use Rattle.feed_core.specs.Prelude.{Item, Causes, IllegalArgument, IllegalState, Ending, How, UNBOUNDED, total_after}
-use Rattle.feed_core.specs.Cause.{stops, end_where, closing_error}
+use Rattle.feed_core.specs.Prelude.{Item, Causes, IllegalArgument, IllegalState, Ending, ErrorOrder, How, UNBOUNDED, total_after}
+use Rattle.feed_core.specs.Cause.{stops, end_where, error_at_once}
 use Rattle.feed_core.specs.Lane.{LaneState}
-use Rattle.feed_core.specs.LaneCalls.{lag_of, empty_lane, lane_with_item, lane_with_closing, lane_with_demand}
+use Rattle.feed_core.specs.LaneCalls.{lag_of, empty_lane_in, lane_with_item, lane_with_closing, lane_with_demand}
 use Rattle.feed_core.specs.Sound.{IsSoundLane}
 use Rattle.feed_core.proofs.DeskSteps.{no_cause}
 use Rattle.feed_core.proofs.SoundLanes.{sound_asked, sound_lane_with_item, sound_lane_with_closing}
@@ -40,7 +40,7 @@ calm_lane_with_demand lane capacity owed owed' n calm lives =
 -- a normal close ends nothing at once
 stops_closed : (causes : Causes) → stops causes ≡ None → stops (record causes { closing = Some Ending.Normal }) ≡ None
 stops_closed causes calm = by causes.cancel causes.argument causes.state calm where
-  by : (cancel argument state : Bool) → end_where cancel How.Cancelled (end_where argument (How.Errored IllegalArgument) (end_where state (How.Errored IllegalState) (closing_error causes.closing))) ≡ None
+  by : (cancel argument state : Bool) → end_where cancel How.Cancelled (end_where argument (How.Errored IllegalArgument) (end_where state (How.Errored IllegalState) (error_at_once causes.closing causes.order))) ≡ None
       → end_where cancel How.Cancelled (end_where argument (How.Errored IllegalArgument) (end_where state (How.Errored IllegalState) None)) ≡ None
   by true argument state e = e
   by false true state e = e
@@ -59,13 +59,13 @@ calm_lane_with_closing lane capacity owed owed' calm unclosed lives = record {
 }
 
 -- a new lane is calm
-pub calm_empty_lane : (capacity : ℕ) → IsCalm empty_lane capacity true
-calm_empty_lane capacity = record {
+pub calm_empty_lane : (order : ErrorOrder) (capacity : ℕ) → IsCalm (empty_lane_in order) capacity true
+calm_empty_lane order capacity = record {
   sound = record {
     told_is = refl;
     in_order = ([], refl);
     counts = record { tells = omega arith; loses = omega arith; taken = omega arith; requested = omega arith };
-    cause = no_cause empty_lane refl;
+    cause = no_cause (empty_lane_in order) refl;
     unfailed = λ e. refl;
     remembered = λ e. refl;
   };

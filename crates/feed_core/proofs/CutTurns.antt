@@ -4,10 +4,11 @@ use Rattle.std.proofs.lemmas.List.{append-nil}
 use Rattle.feed_core.specs.Prelude.{Item, Signal, Subscribed, Next, Complete, Error, How, Causes, Ended, items_of}
 use Rattle.feed_core.specs.Cause.{with_cause_of}
 use Rattle.feed_core.specs.Lane.{LaneState}
-use Rattle.feed_core.specs.PlainTurn.{PlainTurn, greeting, plain_turn_of}
+use Rattle.feed_core.specs.PlainTurn.{PlainTurn, greeting, plain_turn_of, terminal_of}
 use Rattle.feed_core.specs.Sound.{is_begun, signals_of}
 use Rattle.feed_core.specs.Turn.{lane_after_turn, taken_in}
 use Rattle.feed_core.proofs.CalmLanes.{IsCalm}
+use Rattle.feed_core.proofs.DeskSteps.{items_of_terminal}
 use Rattle.flow_rules.proofs.Items.{items_of_append}
 use Rattle.feed_core.proofs.WholeTurns.{IsOpenList, EndsSo, told_is_open, grown_told, items_of_greeted, sound_after, turn_parts}
 
@@ -105,10 +106,20 @@ missed_told before told items next m begins = elim m.is [
       subst (λ t. t ≡ signals_of (is_begun t) (items_of t) (Some How.OutOfMemory)) (sym none) refl)
 ]
 
+-- an end has at most one signal
+terminal_short : (how : How) → length (terminal_of how) ≤ 1
+terminal_short How.Completed = omega arith
+terminal_short (How.Errored _) = omega arith
+terminal_short How.Cancelled = omega arith
+terminal_short (How.Failed _) = omega arith
+terminal_short How.OutOfMemory = omega arith
+
 -- an end of a turn has at most one signal, and no item
 ends_short : (causes : Causes) (left : List Item) (turn : PlainTurn) → EndsSo causes left turn → (length turn.told ≤ 1) × (items_of turn.told ≡ [])
 ends_short causes left turn (inl going) = (let none = ap length going.0 in omega (arith, none), ap items_of going.0)
-ends_short causes left turn (inr done) = (let one = ap length done.0 in omega (arith, one), ap items_of done.0)
+ends_short causes left turn (inr done) = (
+    let told = ap (λ (t : PlainTurn). t.told) done.2 in
+    let one = ap length told in let few = terminal_short done.0 in (omega (arith, one), ap items_of told ∙ items_of_terminal done.0))
 
 -- a lane stays calm after a turn that was cut at a callback that met want of memory, which ends it
 pub calm_cut_turn : (lane : LaneState) (capacity : ℕ) (told : List Signal) (next : Signal) (rest : List Signal) → IsCalm lane capacity true → (plain_turn_of lane).told ≡ told ++ (next ∷ rest)
@@ -133,7 +144,7 @@ calm_cut_turn lane capacity told next rest calm plain =
       sound = sound_after lane m.told_items (m.left ++ t.left) told (lane.given + taken_in (plain_turn_of lane) told) (with_cause_of How.OutOfMemory lane.causes) (Some How.OutOfMemory) calm.sound unended parts
           (missed_items lane.told told t.items next m) (missed_told lane.told told t.items next m (told_is_open lane calm.sound unended))
           (omega (arith, taken)) (omega (arith, taken)) (omega (arith, taken)) (omega (arith, taken))
-          (record { completed = λ e. cc; whole = λ e. cc; published = λ code e. cc; argument = λ e. cc; state = λ e. cc; cancelled = λ e. cc; failed = λ code e. cc; refused = λ e. refl })
+          (record { completed = λ e. cc; whole = λ e. cc; published = λ code e. cc; last = λ code e. cc; argument = λ e. cc; state = λ e. cc; cancelled = λ e. cc; failed = λ code e. cc; refused = λ e. refl })
           (λ e. cc) (λ e. cc);
       fits = omega arith;
       bounded = calm.bounded;

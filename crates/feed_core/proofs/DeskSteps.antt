@@ -2,9 +2,9 @@
 use Rattle.std.proofs.Common.{◌≡◌, ℕ, ◌+◌, ◌<◌, Bool, true, false, List, [], ◌∷◌, ◌++◌, map, length, drop, Option, None, Some, refl, ap, sym, ◌∙◌, subst, inl, inr, arith, append_assoc}
 use Rattle.std.proofs.lemmas.List.{append-nil, length-append, map-append}
 use Rattle.std.proofs.Math.Seq.{drop-append_seam}
-use Rattle.feed_core.specs.Prelude.{Item, Signal, Subscribed, Next, Published, IllegalArgument, IllegalState, Ending, How, items_of}
+use Rattle.feed_core.specs.Prelude.{Item, Signal, Subscribed, Next, Fault, Published, IllegalArgument, IllegalState, Ending, ErrorOrder, Overtake, AfterItems, How, items_of}
 use Rattle.feed_core.specs.declared.cause.Causes.{Causes}
-use Rattle.feed_core.specs.Cause.{IsFaultOf, stops, closes, end_where, closing_error, completion, with_cause_of}
+use Rattle.feed_core.specs.Cause.{IsFaultOf, stops, closes, end_where, error_at_once, end_at_last, with_cause_of}
 use Rattle.feed_core.specs.Lane.{LaneState}
 use Rattle.feed_core.specs.PlainTurn.{terminal_of}
 use Rattle.feed_core.specs.Sound.{is_begun, opening, terminal_part, signals_of, lane_of, HasCause, IsInOrder}
@@ -34,35 +34,43 @@ pub ended_items : (told told' : List Signal) (end : How) → told' ≡ told ++ t
 ended_items told told' end grows =
     ap items_of grows ∙ items_of_append told (terminal_of end) ∙ ap (λ items. items_of told ++ items) (items_of_terminal end) ∙ append-nil (items_of told)
 
+-- a closing error that waits for the items comes once every one of them was given
+abbrev ComesLast : LaneState → Fault → Type 0
+ComesLast lane (Published code) = lane.causes.order ≡ AfterItems → lane.given ≡ length lane.accepted
+ComesLast lane IllegalArgument = Unit {0}
+ComesLast lane IllegalState = Unit {0}
+
 -- what has to hold before a lane may end so
 abbrev pub MayEnd : LaneState → How → Type 0
 MayEnd lane How.Completed = (lane.causes.closing ≡ Some Ending.Normal) × (lane.given ≡ length lane.accepted)
-MayEnd lane (How.Errored fault) = IsFaultOf lane.causes fault
+MayEnd lane (How.Errored fault) = IsFaultOf lane.causes fault × ComesLast lane fault
 MayEnd lane How.Cancelled = Unit {0}
 MayEnd lane (How.Failed _) = Unit {0}
 MayEnd lane How.OutOfMemory = Unit {0}
 
 -- an end at once has its cause
 pub stops_may : (lane : LaneState) (how : How) → stops lane.causes ≡ Some how → MayEnd lane how
-stops_may lane how e = by lane.causes.cancel lane.causes.argument lane.causes.state lane.causes.closing refl refl refl refl e where
-  by : (cancel argument state : Bool) (closing : Option Ending) → lane.causes.cancel ≡ cancel
-      → lane.causes.argument ≡ argument → lane.causes.state ≡ state → lane.causes.closing ≡ closing
-      → end_where cancel How.Cancelled (end_where argument (How.Errored IllegalArgument) (end_where state (How.Errored IllegalState) (closing_error closing))) ≡ Some how
+stops_may lane how e = by lane.causes.cancel lane.causes.argument lane.causes.state lane.causes.closing lane.causes.order refl refl refl refl refl e where
+  by : (cancel argument state : Bool) (closing : Option Ending) (order : ErrorOrder) → lane.causes.cancel ≡ cancel
+      → lane.causes.argument ≡ argument → lane.causes.state ≡ state → lane.causes.closing ≡ closing → lane.causes.order ≡ order
+      → end_where cancel How.Cancelled (end_where argument (How.Errored IllegalArgument) (end_where state (How.Errored IllegalState) (error_at_once closing order))) ≡ Some how
       → MayEnd lane how
-  by true argument state closing c a s l e = let is : How.Cancelled ≡ how = cc in subst (MayEnd lane) is tt
-  by false true state closing c a s l e = let is : How.Errored IllegalArgument ≡ how = cc in subst (MayEnd lane) is a
-  by false false true closing c a s l e = let is : How.Errored IllegalState ≡ how = cc in subst (MayEnd lane) is s
-  by false false false None c a s l e = cc
-  by false false false (Some Ending.Normal) c a s l e = cc
-  by false false false (Some (Ending.Failed code)) c a s l e = let is : How.Errored (Published code) ≡ how = cc in subst (MayEnd lane) is l
+  by true argument state closing order c a s l o e = let is : How.Cancelled ≡ how = cc in subst (MayEnd lane) is tt
+  by false true state closing order c a s l o e = let is : How.Errored IllegalArgument ≡ how = cc in subst (MayEnd lane) is (a, tt)
+  by false false true closing order c a s l o e = let is : How.Errored IllegalState ≡ how = cc in subst (MayEnd lane) is (s, tt)
+  by false false false None order c a s l o e = cc
+  by false false false (Some Ending.Normal) order c a s l o e = cc
+  by false false false (Some (Ending.Failed code)) Overtake c a s l o e = let is : How.Errored (Published code) ≡ how = cc in subst (MayEnd lane) is (l, λ waits. cc)
+  by false false false (Some (Ending.Failed code)) AfterItems c a s l o e = cc
 
--- completion is asked for, and comes after every item
-closes_may : (lane : LaneState) (how : How) → closes lane.causes ≡ Some how → lane.given ≡ length lane.accepted → MayEnd lane how
-closes_may lane how e all = by lane.causes.closing refl e where
-  by : (closing : Option Ending) → lane.causes.closing ≡ closing → completion closing ≡ Some how → MayEnd lane how
-  by None l e = cc
-  by (Some Ending.Normal) l e = let is : How.Completed ≡ how = cc in subst (MayEnd lane) is (l, all)
-  by (Some (Ending.Failed code)) l e = cc
+-- an end that waits for the items has its cause, and comes after every item
+pub closes_may : (lane : LaneState) (how : How) → closes lane.causes ≡ Some how → lane.given ≡ length lane.accepted → MayEnd lane how
+closes_may lane how e all = by lane.causes.closing lane.causes.order refl e where
+  by : (closing : Option Ending) (order : ErrorOrder) → lane.causes.closing ≡ closing → end_at_last closing order ≡ Some how → MayEnd lane how
+  by None order l e = cc
+  by (Some Ending.Normal) order l e = let is : How.Completed ≡ how = cc in subst (MayEnd lane) is (l, all)
+  by (Some (Ending.Failed code)) Overtake l e = cc
+  by (Some (Ending.Failed code)) AfterItems l e = let is : How.Errored (Published code) ≡ how = cc in subst (MayEnd lane) is (l, λ waits. all)
 
 -- a lane may end as is owed
 owed_may : (lane : LaneState) (how : How) → OwesEnd lane how → MayEnd lane how
@@ -75,9 +83,11 @@ pub has_cause : (lane : LaneState) (how : How) (told : List Signal) (accepted : 
 has_cause lane how told accepted long may = record {
   completed = λ e. let is : How.Completed ≡ how = cc in subst (λ h. MayEnd lane h → (with_cause_of h lane.causes).closing ≡ Some Ending.Normal) is (λ m. m.0) may;
   whole = λ e. let is : How.Completed ≡ how = cc in subst (λ h. MayEnd lane h → lane.given ≡ length lane.accepted) is (λ m. m.1) may ∙ sym long;
-  published = λ code e. let is : How.Errored (Published code) ≡ how = cc in subst (λ h. MayEnd lane h → (with_cause_of h lane.causes).closing ≡ Some (Ending.Failed code)) is (λ m. m) may;
-  argument = λ e. let is : How.Errored IllegalArgument ≡ how = cc in subst (λ h. MayEnd lane h → (with_cause_of h lane.causes).argument ≡ true) is (λ m. m) may;
-  state = λ e. let is : How.Errored IllegalState ≡ how = cc in subst (λ h. MayEnd lane h → (with_cause_of h lane.causes).state ≡ true) is (λ m. m) may;
+  published = λ code e. let is : How.Errored (Published code) ≡ how = cc in subst (λ h. MayEnd lane h → (with_cause_of h lane.causes).closing ≡ Some (Ending.Failed code)) is (λ m. m.0) may;
+  last = λ code e order. let is : How.Errored (Published code) ≡ how = cc in
+      subst (λ h. MayEnd lane h → (with_cause_of h lane.causes).order ≡ AfterItems → lane.given ≡ length lane.accepted) is (λ m. m.1) may order ∙ sym long;
+  argument = λ e. let is : How.Errored IllegalArgument ≡ how = cc in subst (λ h. MayEnd lane h → (with_cause_of h lane.causes).argument ≡ true) is (λ m. m.0) may;
+  state = λ e. let is : How.Errored IllegalState ≡ how = cc in subst (λ h. MayEnd lane h → (with_cause_of h lane.causes).state ≡ true) is (λ m. m.0) may;
   cancelled = λ e. let is : How.Cancelled ≡ how = cc in subst (λ h. (with_cause_of h lane.causes).cancel ≡ true) is refl;
   failed = λ code e. let is : How.Failed code ≡ how = cc in subst (λ h. (with_cause_of h lane.causes).failed ≡ Some code) is refl;
   refused = λ e. let is : How.OutOfMemory ≡ how = cc in subst (λ h. (with_cause_of h lane.causes).memory ≡ true) is refl;
@@ -89,6 +99,7 @@ no_cause lane unended = record {
   completed = λ e. cc;
   whole = λ e. cc;
   published = λ code e. cc;
+  last = λ code e. cc;
   argument = λ e. cc;
   state = λ e. cc;
   cancelled = λ e. cc;

@@ -3,9 +3,9 @@ use Rattle.std.proofs.Common.{◌≡◌, ℕ, ◌+◌, ◌≤◌, ◌⊎◌, min
 use Rattle.std.proofs.lemmas.Bool.{cases_eq}
 use Rattle.std.proofs.lemmas.List.{append-nil, length-append, nil_from_length}
 use Rattle.std.proofs.Math.Seq.{take-append_seam, drop-append_seam}
-use Rattle.feed_core.specs.Prelude.{Item, Signal, Subscribed, Next, Complete, Error, Fault, Published, IllegalArgument, IllegalState, How, IsFlowText, items_of}
+use Rattle.feed_core.specs.Prelude.{Item, Signal, Subscribed, Next, Complete, Error, Fault, Published, IllegalArgument, IllegalState, AfterItems, How, IsFlowText, items_of}
 use Rattle.feed_core.specs.Cause.{IsFaultOf}
-use Rattle.feed_core.specs.Lane.{LaneState, IsFlow, IsIdle, IsSettled, IsSettledAs, HasNoTerminal}
+use Rattle.feed_core.specs.Lane.{LaneState, IsFlow, IsIdle, IsSettled, IsSettledAs, IsToldLast, HasNoTerminal}
 use Rattle.feed_core.specs.PlainTurn.{terminal_of}
 use Rattle.feed_core.specs.Sound.{is_begun, terminal_part, signals_of, loss_of, IsAtRest, IsSoundLane}
 use Rattle.feed_core.proofs.SignalLists.{terminal_last, complete_ending, error_ending, is_terminal_part}
@@ -49,14 +49,21 @@ module _ {lane : LaneState} (sound : IsSoundLane lane) where
       let empty : rest ≡ [] = nil_from_length rest (omega arith) in
       sym (append-nil (items_of lane.told)) ∙ ap (λ more. items_of lane.told ++ more) (sym empty) ∙ sound.in_order.1
 
-  -- a completed subscription was told every accepted item
-  completed_whole : lane.how ≡ Some How.Completed → items_of lane.told ≡ lane.accepted
-  completed_whole e =
-      let kept : lane.given ≤ length (items_of lane.told) + 0 = subst (λ how. lane.given ≤ length (items_of lane.told) + loss_of how) e sound.counts.loses in
-      let all : lane.given ≡ length lane.accepted = sound.cause.whole e in
+  -- where every accepted item was given and none was lost, all of them were told
+  all_told : lane.given ≡ length lane.accepted → loss_of lane.how ≡ 0 → items_of lane.told ≡ lane.accepted
+  all_told all none =
+      let kept = sound.counts.loses in
       let long : length lane.accepted ≡ length (items_of lane.told) + length sound.in_order.0 = ap length (sym sound.in_order.1) ∙ length-append (items_of lane.told) sound.in_order.0 in
       let tells = sound.counts.tells in
       whole (omega arith)
+
+  -- a completed subscription was told every accepted item
+  completed_whole : lane.how ≡ Some How.Completed → items_of lane.told ≡ lane.accepted
+  completed_whole e = all_told (sound.cause.whole e) (ap loss_of e)
+
+  -- so was one that ended with a closing error that waits for the items
+  pub errored_whole : (code : ℕ) → lane.how ≡ Some (How.Errored (Published code)) → lane.causes.order ≡ AfterItems → items_of lane.told ≡ lane.accepted
+  errored_whole code e order = all_told (sound.cause.last code e order) (ap loss_of e)
 
   -- an error that a lane ended with has its cause
   fault_of : (fault : Fault) → lane.how ≡ Some (How.Errored fault) → IsFaultOf lane.causes fault
@@ -73,6 +80,7 @@ module _ {lane : LaneState} (sound : IsSoundLane lane) where
     requested = sound.counts.requested;
     completed = λ h. (sound.cause.completed (complete_told h), completed_whole (complete_told h));
     errored = λ fault h. fault_of fault (error_told fault h);
+    waited = λ code h order. errored_whole code (error_told (Published code) h) order;
   }
 
   -- an end of another kind told no terminal signal
@@ -94,10 +102,16 @@ module _ {lane : LaneState} (sound : IsSoundLane lane) where
         cc
     by (x ∷ told) is text = text ∙ ap (λ ending. Subscribed ∷ (map Next (items_of lane.told) ++ ending)) last
 
+  -- a closing error that waits for the items was told after all of them
+  told_last : (fault : Fault) → lane.how ≡ Some (How.Errored fault) → IsToldLast lane fault
+  told_last (Published code) e = λ order. rw (errored_whole code e order) at (told_ended (How.Errored (Published code)) (Error (Published code)) e refl)
+  told_last IllegalArgument e = tt
+  told_last IllegalState e = tt
+
   -- what was told fits the end
   settled_as : (how : How) → lane.how ≡ Some how → IsSettledAs lane (Some how)
   settled_as How.Completed e = rw (completed_whole e) at (told_ended How.Completed Complete e refl)
-  settled_as (How.Errored fault) e = (Subscribed ∷ map Next (items_of lane.told), told_ended (How.Errored fault) (Error fault) e refl)
+  settled_as (How.Errored fault) e = ((Subscribed ∷ map Next (items_of lane.told), told_ended (How.Errored fault) (Error fault) e refl), told_last fault e)
   settled_as How.Cancelled e = (no_terminal How.Cancelled e (λ h. cc) (λ fault h. cc), sound.cause.cancelled e)
   settled_as (How.Failed code) e = (no_terminal (How.Failed code) e (λ h. cc) (λ fault h. cc), sound.cause.failed code e)
   settled_as How.OutOfMemory e = (no_terminal How.OutOfMemory e (λ h. cc) (λ fault h. cc), sound.cause.refused e)

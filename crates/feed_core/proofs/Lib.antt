@@ -1,6 +1,7 @@
 pub mod CalmLanes
 pub mod CutTurns
 pub mod DeskSteps
+pub mod FailedTurns
 pub mod FlowRules
 pub mod GreetedTurns
 pub mod Greetings

@@ -2,9 +2,9 @@
 use Rattle.std.proofs.Common.{◌≡◌, ℕ, zero, suc, ◌+◌, ◌-◌, ◌<◌, ◌≤◌, min, Bool, true, false, List, [], ◌∷◌, ◌++◌, length, drop, Option, None, Some, IsSome, Ok, refl, ap, sym, ◌∙◌, inl, inr, arith}
 use Rattle.std.proofs.lemmas.List.{append-nil, length-drop}
 use Rattle.std.proofs.Math.Seq.{drop-append_seam, drop-length}
-use Rattle.feed_core.specs.Prelude.{Answer, Item, Signal, Next, IllegalArgument, IllegalState, Ending, How, Causes, Outlook, Again, Resting, Ended, items_of}
+use Rattle.feed_core.specs.Prelude.{Answer, Item, Signal, Next, IllegalArgument, IllegalState, Ending, ErrorOrder, Overtake, AfterItems, How, Causes, Outlook, Again, Resting, Ended, items_of}
 use Rattle.feed_core.specs.AnsweredTurn.{Reply, ArePlain, refused, replies_to, first_reply, later_replies, obeyed, ended_as, lane_taken, called, finished, looked, look_of, and_then, looks_within}
-use Rattle.feed_core.specs.Cause.{stops, closes, closing_error, completion, end_where, with_cause_of}
+use Rattle.feed_core.specs.Cause.{stops, closes, error_at_once, end_at_last, end_where, with_cause_of}
 use Rattle.feed_core.specs.Desk.{DeskState, started_after}
 use Rattle.feed_core.specs.Lane.{LaneState, IsFlow}
 use Rattle.feed_core.specs.PlainTurn.{terminal_of}
@@ -62,20 +62,22 @@ told_answers How.OutOfMemory none = cc
 
 -- an end that is owed is no want of memory
 owed_loss : (lane : LaneState) (end : How) → OwesEnd lane end → loss_of (Some end) ≡ 0
-owed_loss lane end (inl e) = stops_loss lane.causes.cancel lane.causes.argument lane.causes.state lane.causes.closing e where
-  stops_loss : (cancel argument state : Bool) (closing : Option Ending)
-      → end_where cancel How.Cancelled (end_where argument (How.Errored IllegalArgument) (end_where state (How.Errored IllegalState) (closing_error closing))) ≡ Some end → loss_of (Some end) ≡ 0
-  stops_loss true argument state closing e = ap loss_of (sym e)
-  stops_loss false true state closing e = ap loss_of (sym e)
-  stops_loss false false true closing e = ap loss_of (sym e)
-  stops_loss false false false None e = cc
-  stops_loss false false false (Some Ending.Normal) e = cc
-  stops_loss false false false (Some (Ending.Failed code)) e = ap loss_of (sym e)
-owed_loss lane end (inr e) = closes_loss lane.causes.closing e.1 where
-  closes_loss : (closing : Option Ending) → completion closing ≡ Some end → loss_of (Some end) ≡ 0
-  closes_loss None e = cc
-  closes_loss (Some Ending.Normal) e = ap loss_of (sym e)
-  closes_loss (Some (Ending.Failed code)) e = cc
+owed_loss lane end (inl e) = stops_loss lane.causes.cancel lane.causes.argument lane.causes.state lane.causes.closing lane.causes.order e where
+  stops_loss : (cancel argument state : Bool) (closing : Option Ending) (order : ErrorOrder)
+      → end_where cancel How.Cancelled (end_where argument (How.Errored IllegalArgument) (end_where state (How.Errored IllegalState) (error_at_once closing order))) ≡ Some end → loss_of (Some end) ≡ 0
+  stops_loss true argument state closing order e = ap loss_of (sym e)
+  stops_loss false true state closing order e = ap loss_of (sym e)
+  stops_loss false false true closing order e = ap loss_of (sym e)
+  stops_loss false false false None order e = cc
+  stops_loss false false false (Some Ending.Normal) order e = cc
+  stops_loss false false false (Some (Ending.Failed code)) Overtake e = ap loss_of (sym e)
+  stops_loss false false false (Some (Ending.Failed code)) AfterItems e = cc
+owed_loss lane end (inr e) = closes_loss lane.causes.closing lane.causes.order e.1 where
+  closes_loss : (closing : Option Ending) (order : ErrorOrder) → end_at_last closing order ≡ Some end → loss_of (Some end) ≡ 0
+  closes_loss None order e = cc
+  closes_loss (Some Ending.Normal) order e = ap loss_of (sym e)
+  closes_loss (Some (Ending.Failed code)) Overtake e = cc
+  closes_loss (Some (Ending.Failed code)) AfterItems e = ap loss_of (sym e)
 
 -- the callback of a terminal signal counts as one that went on
 plain_end : (end : How) → ArePlain (replies_to (terminal_of end))

@@ -4,11 +4,11 @@ use Rattle.std.proofs.Common.{◌≡◌, ◌==◌, ℕ, zero, suc, ℤ, pos, neg
 use Rattle.std.specs.Prelude.{is_some}
 use Rattle.std.proofs.lemmas.Bool.Decides.{nat_tests}
 use Rattle.std.proofs.lemmas.List.{append-nil, length-append}
-use Rattle.feed_core.specs.Prelude.{Item, Signal, Ending, How, Outlook, Again, Resting, Ended, total_after}
+use Rattle.feed_core.specs.Prelude.{Item, Signal, Ending, ErrorOrder, How, Outlook, Again, Resting, Ended, total_after}
 use Rattle.feed_core.specs.Cause.{stops}
 use Rattle.feed_core.specs.Desk.{DeskState, owes, started_after, desk_after_signal, desk_after_put, desk_after_end, desk_after_duplicate, desk_after_demand, desk_after_request, desk_after_cancel, desk_after_turn}
 use Rattle.feed_core.specs.Lane.{LaneState, IsFlow, IsSettled}
-use Rattle.feed_core.specs.LaneCalls.{empty_lane, is_gone, lag_of, lane_with_item, lane_with_closing, lane_with_cancel, lane_with_request}
+use Rattle.feed_core.specs.LaneCalls.{empty_lane_in, is_gone, lag_of, lane_with_item, lane_with_closing, lane_with_cancel, lane_with_request}
 use Rattle.feed_core.specs.PlainTurn.{plain_turn_of}
 use Rattle.feed_core.specs.Sound.{IsSoundLane, IsAtRest, IsSoundDesk}
 use Rattle.feed_core.specs.Turn.{lane_after_turn, MeetsPlainTurn, IsOutlookOf}
@@ -43,10 +43,10 @@ owes_live desk owed = by desk.started desk.lane.how owed where
   by false how e = cc
 
 -- a new subscription is sound
-pub sound_new_desk : (capacity : ℕ) (started steady : Bool) (looks : ℕ) → started ≡ true
-    → IsSoundDesk (record { lane = empty_lane; capacity = capacity; started = started; is_steady = steady; looks = looks; is_cancelled = false })
-sound_new_desk capacity started steady looks runs =
-    let calm = calm_empty_lane capacity in
+pub sound_new_desk : (order : ErrorOrder) (capacity : ℕ) (started steady : Bool) (looks : ℕ) → started ≡ true
+    → IsSoundDesk (record { lane = empty_lane_in order; capacity = capacity; started = started; is_steady = steady; looks = looks; is_cancelled = false })
+sound_new_desk order capacity started steady looks runs =
+    let calm = calm_empty_lane order capacity in
     record { sound = calm.sound; fits = calm.fits; bounded = calm.bounded; rests = λ e. cc }
 
 -- ---- calls

@@ -30,7 +30,7 @@ sound_asked lane asked sound requested =
       told_is = sound.told_is;
       in_order = sound.in_order;
       counts = record { tells = counts.tells; loses = counts.loses; taken = counts.taken; requested = requested };
-      cause = record { completed = cause.completed; whole = cause.whole; published = cause.published; argument = cause.argument; state = cause.state; cancelled = cause.cancelled; failed = cause.failed; refused = cause.refused };
+      cause = record { completed = cause.completed; whole = cause.whole; published = cause.published; last = cause.last; argument = cause.argument; state = cause.state; cancelled = cause.cancelled; failed = cause.failed; refused = cause.refused };
       unfailed = sound.unfailed;
       remembered = sound.remembered;
     }
@@ -48,6 +48,7 @@ sound_lane_with_closing lane ending sound unclosed =
         completed = λ e. (let never = cause.completed e in cc);
         whole = cause.whole;
         published = λ code e. (let never = cause.published code e in cc);
+        last = cause.last;
         argument = cause.argument;
         state = cause.state;
         cancelled = cause.cancelled;
@@ -72,6 +73,7 @@ sound_lane_with_causes lane cancel argument state cancelled refused doubled soun
         completed = cause.completed;
         whole = cause.whole;
         published = cause.published;
+        last = cause.last;
         argument = λ e. refused (cause.argument e);
         state = λ e. doubled (cause.state e);
         cancelled = λ e. cancelled (cause.cancelled e);

@@ -1,14 +1,14 @@
 -- What the plain turn of a calm lane tells, and that a turn in which all of it was told keeps the lane calm.
 use Rattle.std.proofs.Common.{◌≡◌, ◌==◌, ℕ, ◌+◌, ◌-◌, ◌≤◌, Bool, true, false, if◌then◌else◌, List, [], ◌∷◌, ◌++◌, length, map, take, drop, refl, sym, ap, subst, ◌∙◌, append_assoc, length-append, arith, Option, Some, None, inl, inr, ◌⊎◌}
 use Rattle.std.proofs.lemmas.List.{append-nil, length-drop, length-take, take_all, take-append-drop, map-append}
-use Rattle.feed_core.specs.Prelude.{Item, Signal, Subscribed, Next, Complete, Ending, How, Causes, Outlook, Again, Resting, Ended, ITEMS_IN_A_TURN, items_of}
-use Rattle.feed_core.specs.Cause.{stops, closes, completion}
+use Rattle.feed_core.specs.Prelude.{Item, Signal, Subscribed, Next, Published, Ending, ErrorOrder, Overtake, AfterItems, How, Causes, Outlook, Again, Resting, Ended, ITEMS_IN_A_TURN, items_of}
+use Rattle.feed_core.specs.Cause.{stops, closes, end_at_last, with_cause_of}
 use Rattle.feed_core.specs.Lane.{LaneState}
-use Rattle.feed_core.specs.PlainTurn.{PlainTurn, another_turn, greeting, signals_then, stop_or_turn, items_turn, close_or_rest, number_to_give, plain_turn_of}
+use Rattle.feed_core.specs.PlainTurn.{PlainTurn, another_turn, end_by, greeting, signals_then, stop_or_turn, items_turn, close_or_rest, number_to_give, plain_turn_of, terminal_of}
 use Rattle.feed_core.specs.Sound.{IsSoundLane, HasCause, is_begun, terminal_part, signals_of, loss_of}
 use Rattle.feed_core.specs.Turn.{is_again, lane_after_turn, taken_in}
 use Rattle.feed_core.proofs.CalmLanes.{IsCalm}
-use Rattle.feed_core.proofs.DeskSteps.{items_of_terminal, no_cause}
+use Rattle.feed_core.proofs.DeskSteps.{items_of_terminal, has_cause, closes_may, no_cause}
 use Rattle.feed_core.proofs.FlowRules.{all_counted, told_and_waiting, told_open}
 use Rattle.flow_rules.proofs.Items.{items_of_append}
 use Rattle.feed_core.proofs.SignalLists.{items_of_nexts}
@@ -81,21 +81,29 @@ sound_after lane told_items left told given causes how sound unended parts is to
       remembered = remembered;
     }
 
--- how a turn ends after its items: it says nothing more, or it completes where no item is left
+-- how a turn ends after its items: it says nothing more, or it is the end that waited for the items, where none is left
 abbrev pub EndsSo : Causes → List Item → PlainTurn → Type 0
 EndsSo causes left turn =
     ((turn.told ≡ []) × ((turn.outlook ≡ Again) ⊎ (turn.outlook ≡ Resting)))
-    ⊎ ((turn.told ≡ Complete ∷ []) × (turn.outlook ≡ Ended How.Completed) × (causes.closing ≡ Some Ending.Normal) × (left ≡ []))
+    ⊎ ((how : How) × (closes causes ≡ Some how) × (turn ≡ end_by how) × (left ≡ []))
 
 -- a turn ends so whether it gave as many items as it may or fewer
 ends_so : (causes : Causes) (left : List Item) (full : Bool) → EndsSo causes left (if full then another_turn else close_or_rest (closes causes) left)
 ends_so causes left true = inl (refl, inl refl)
-ends_so causes left false = by causes.closing refl left where
-  by : (closing : Option Ending) → causes.closing ≡ closing → (rest : List Item) → EndsSo causes rest (close_or_rest (completion closing) rest)
+ends_so causes left false = by (closes causes) refl left where
+  by : (end : Option How) → closes causes ≡ end → (rest : List Item) → EndsSo causes rest (close_or_rest end rest)
   by None e rest = inl (refl, inr refl)
-  by (Some (Ending.Failed code)) e rest = inl (refl, inr refl)
-  by (Some Ending.Normal) e [] = inr (refl, refl, e, refl)
-  by (Some Ending.Normal) e (_ ∷ _) = inl (refl, inr refl)
+  by (Some how) e [] = inr (how, e, refl, refl)
+  by (Some how) e (_ ∷ _) = inl (refl, inr refl)
+
+-- an end that waits for the items adds no cause
+closed_causes : (causes : Causes) (how : How) → closes causes ≡ Some how → with_cause_of how causes ≡ causes
+closed_causes causes how e = by causes.closing causes.order e where
+  by : (closing : Option Ending) (order : ErrorOrder) → end_at_last closing order ≡ Some how → with_cause_of how causes ≡ causes
+  by None order e = cc
+  by (Some Ending.Normal) order e = let is : Some How.Completed ≡ Some how = e in cc
+  by (Some (Ending.Failed code)) Overtake e = cc
+  by (Some (Ending.Failed code)) AfterItems e = let is : Some (How.Errored (Published code)) ≡ Some how = e in cc
 
 -- the parts of the plain turn of a calm lane: the greeting, items, and how it ends
 pub record TurnParts (lane : LaneState) : Type 0 where
@@ -149,31 +157,33 @@ calm_items lane capacity owed calm t quiet =
       lives = λ e. refl;
     }
 
--- a lane stays calm after its last item and onComplete
-calm_completed : (lane : LaneState) (capacity : ℕ) (calm : IsCalm lane capacity true) (t : TurnParts lane) → t.end.told ≡ Complete ∷ [] → lane.causes.closing ≡ Some Ending.Normal → t.left ≡ []
-    → IsCalm (record { accepted = lane.accepted; given = lane.given + taken_in (plain_turn_of lane) (plain_turn_of lane).told; asked = lane.asked; causes = lane.causes; how = Some How.Completed; told = lane.told ++ (plain_turn_of lane).told }) capacity false
-calm_completed lane capacity calm t last closing none_left =
+-- a lane stays calm after its last item and the end that waited for it
+calm_closed : (lane : LaneState) (capacity : ℕ) (calm : IsCalm lane capacity true) (t : TurnParts lane) (how : How) → closes lane.causes ≡ Some how → t.end.told ≡ terminal_of how → t.left ≡ []
+    → IsCalm (lane_after_turn lane (plain_turn_of lane).told (Ended how)) capacity false
+calm_closed lane capacity calm t how closing last none_left =
     let unended = calm.lives refl in
     let plain = (plain_turn_of lane).told in
-    let said : plain ≡ greeting lane.told ++ (map Next t.items ++ terminal_part (Some How.Completed)) = ap (λ turn. turn.told) t.plain ∙ ap (λ more. greeting lane.told ++ (map Next t.items ++ more)) last in
-    let items : items_of plain ≡ t.items = ap items_of said ∙ items_of_greeted lane.told t.items (Complete ∷ []) refl in
+    let said : plain ≡ greeting lane.told ++ (map Next t.items ++ terminal_part (Some how)) = ap (λ turn. turn.told) t.plain ∙ ap (λ more. greeting lane.told ++ (map Next t.items ++ more)) last in
+    let items : items_of plain ≡ t.items = ap items_of said ∙ items_of_greeted lane.told t.items (terminal_of how) (items_of_terminal how) in
     let taken : taken_in (plain_turn_of lane) plain ≡ length t.items = taken_all (plain_turn_of lane) ∙ ap length items in
-    let told_is = subst (λ p. lane.told ++ p ≡ signals_of (is_begun (lane.told ++ p)) (items_of (lane.told ++ p)) (Some How.Completed)) (sym said) (grown_told lane.told t.items (Some How.Completed) (told_is_open lane calm.sound unended)) in
+    let told_is = subst (λ p. lane.told ++ p ≡ signals_of (is_begun (lane.told ++ p)) (items_of (lane.told ++ p)) (Some how)) (sym said) (grown_told lane.told t.items (Some how) (told_is_open lane calm.sound unended)) in
     let waiting : length (drop lane.given lane.accepted) ≡ length t.items + length t.left = ap length t.parts ∙ length-append t.items t.left in
     let nothing : length t.left ≡ 0 = ap length none_left in
     let dropped = length-drop lane.given lane.accepted in
     let given_few = calm.sound.counts.taken in
     let requested = t.requested in
     let fits = calm.fits in
-    let all : lane.given + taken_in (plain_turn_of lane) plain ≡ length lane.accepted = omega (arith, taken, waiting, nothing, dropped) in
+    let given : ℕ = lane.given + taken_in (plain_turn_of lane) plain in
+    let all : given ≡ length lane.accepted = omega (arith, taken, waiting, nothing, dropped) in
+    let after : LaneState = record lane { given = given } in
     record {
-      sound = sound_after lane t.items t.left plain (lane.given + taken_in (plain_turn_of lane) plain) lane.causes (Some How.Completed) calm.sound unended t.parts items told_is
+      sound = sound_after lane t.items t.left plain given (with_cause_of how lane.causes) (Some how) calm.sound unended t.parts items told_is
           (omega (arith, taken)) (omega (arith, taken)) (omega (arith, taken)) (omega (arith, taken))
-          (record { completed = λ e. closing; whole = λ e. all; published = λ code e. cc; argument = λ e. cc; state = λ e. cc; cancelled = λ e. cc; failed = λ code e. cc; refused = λ e. cc })
+          (has_cause after how (lane.told ++ plain) lane.accepted refl (closes_may after how closing all))
           (λ e. cc) (λ e. cc);
       fits = omega arith;
       bounded = calm.bounded;
-      calm = calm.calm;
+      calm = ap stops (closed_causes lane.causes how closing) ∙ calm.calm;
       lives = λ e. cc;
     }
 
@@ -189,5 +199,6 @@ calm_whole_turn lane capacity calm =
         | inl e ↦ subst P (sym (outlook ∙ e)) (calm_items lane capacity true calm t going.0)
         | inr e ↦ subst P (sym (outlook ∙ e)) (calm_items lane capacity false calm t going.0)
       ])
-      | inr done ↦ subst P (sym (outlook ∙ done.1)) (calm_completed lane capacity calm t done.0 done.2 done.3)
+      | inr done ↦ subst P (sym (outlook ∙ ap (λ (turn : PlainTurn). turn.outlook) done.2))
+          (calm_closed lane capacity calm t done.0 done.1 (ap (λ (turn : PlainTurn). turn.told) done.2) done.3)
     ]

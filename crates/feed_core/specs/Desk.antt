@@ -1,10 +1,10 @@
 -- One subscription as plain state: what its calls change, and what they answer.
 use Rattle.std.specs.Prelude.{◌≡◌, ◌↔◌, ℕ, ℤ, ◌+◌, ◌<◌, ◌≤◌, Bool, true, false, ◌&&◌, if◌then◌else◌, is_none, is_some, Option, None, IsSome, List}
-use Rattle.feed_core.specs.Prelude.{Item, Signal, Ending}
+use Rattle.feed_core.specs.Prelude.{Item, Signal, Ending, ErrorOrder, Overtake}
 use Rattle.feed_core.specs.declared.turn.outlook.Outlook.{Outlook}
 use Rattle.feed_core.specs.declared.turn.outlook.Outlook.TheVariants.{Again, Resting, Ended}
 use Rattle.feed_core.specs.Lane.{LaneState}
-use Rattle.feed_core.specs.LaneCalls.{empty_lane, lag_of, accepts, IsOpen, lane_with_item, lane_with_closing, lane_with_duplicate, lane_with_demand, lane_with_request, lane_with_cancel}
+use Rattle.feed_core.specs.LaneCalls.{empty_lane_in, lag_of, accepts, IsOpen, lane_with_item, lane_with_closing, lane_with_duplicate, lane_with_demand, lane_with_request, lane_with_cancel}
 use Rattle.feed_core.specs.Turn.{lane_after_turn}
 
 -- a subscription: its lane, the capacity of its buffer, whether its task was started and is not at rest since
@@ -18,10 +18,14 @@ pub record DeskState : Type 0 where
   pub looks : ℕ
   pub is_cancelled : Bool
 
--- a new subscription: its lane is empty, and it owes its first turn
+-- a new subscription, which is told a closing error in this order: its lane is empty, and it owes its first turn
+abbrev pub IsNewIn : ErrorOrder → ℕ → Bool → DeskState → Type 0
+IsNewIn order capacity steady desk =
+    desk ≡ record { lane = empty_lane_in order; capacity = capacity; started = true; is_steady = steady; looks = 0; is_cancelled = false }
+
+-- a new subscription, in which a closing error overtakes the items
 abbrev pub IsNew : ℕ → Bool → DeskState → Type 0
-IsNew capacity steady desk =
-    desk ≡ record { lane = empty_lane; capacity = capacity; started = true; is_steady = steady; looks = 0; is_cancelled = false }
+IsNew capacity steady desk = IsNewIn Overtake capacity steady desk
 
 -- a turn is owed: the task was started, and has not ended
 abbrev pub Owes : DeskState → Type 0

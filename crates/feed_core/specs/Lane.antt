@@ -2,7 +2,7 @@
 -- (Reactive Streams 1.0, 1.1, 1.3, 1.5, 1.7, 1.9 and 3.8; `Flow` and `SubmissionPublisher`, Java SE 17)
 use Rattle.std.specs.Prelude.{◌≡◌, ℕ, ◌+◌, ◌<◌, ◌≤◌, ◌⊎◌, min, true, false, Option, None, Some, IsSome, List, [], ◌∷◌, ◌++◌, length, map, take, Contains}
 use mathlib.Core.List.{IsPrefix}
-use Rattle.feed_core.specs.Prelude.{Item, Signal, Subscribed, Next, Complete, Error, Fault, Ending, How, IsFlowText, items_of}
+use Rattle.feed_core.specs.Prelude.{Item, Signal, Subscribed, Next, Complete, Error, Fault, Published, IllegalArgument, IllegalState, Ending, AfterItems, How, IsFlowText, items_of}
 use Rattle.feed_core.specs.declared.cause.Causes.{Causes}
 use Rattle.feed_core.specs.Cause.{stops, closes, IsFaultOf}
 
@@ -30,6 +30,7 @@ pub record IsFlow (lane : LaneState) : Type 0 where
   pub requested : lane.given ≤ lane.asked
   pub completed : Contains lane.told Complete → (lane.causes.closing ≡ Some Ending.Normal) × (items_of lane.told ≡ lane.accepted)
   pub errored : (fault : Fault) → Contains lane.told (Error fault) → IsFaultOf lane.causes fault
+  pub waited : (code : ℕ) → Contains lane.told (Error (Published code)) → lane.causes.order ≡ AfterItems → items_of lane.told ≡ lane.accepted
 
 -- no onComplete and no onError was told
 abbrev pub HasNoTerminal : List Signal → Type 0
@@ -43,11 +44,17 @@ pub record IsIdle (lane : LaneState) : Type 0 where
   pub all_told : lane.told ≡ Subscribed ∷ map Next (take (min (length lane.accepted) lane.asked) lane.accepted)
   pub open_or_short : IsSome (closes lane.causes) → lane.asked < length lane.accepted
 
+-- a closing error that waits for the items was told after all of them
+abbrev pub IsToldLast : LaneState → Fault → Type 0
+IsToldLast lane (Published code) = lane.causes.order ≡ AfterItems → lane.told ≡ Subscribed ∷ (map Next lane.accepted ++ Error (Published code) ∷ [])
+IsToldLast lane IllegalArgument = Unit {0}
+IsToldLast lane IllegalState = Unit {0}
+
 -- a lane that needs no turn, by how it ended
 abbrev pub IsSettledAs : LaneState → Option How → Type 0
 IsSettledAs lane None = IsIdle lane
 IsSettledAs lane (Some How.Completed) = lane.told ≡ Subscribed ∷ (map Next lane.accepted ++ Complete ∷ [])
-IsSettledAs lane (Some (How.Errored fault)) = (before : List Signal) × (lane.told ≡ before ++ Error fault ∷ [])
+IsSettledAs lane (Some (How.Errored fault)) = ((before : List Signal) × (lane.told ≡ before ++ Error fault ∷ [])) × IsToldLast lane fault
 IsSettledAs lane (Some How.Cancelled) = HasNoTerminal lane.told × (lane.causes.cancel ≡ true)
 IsSettledAs lane (Some (How.Failed code)) = HasNoTerminal lane.told × (lane.causes.failed ≡ Some code)
 IsSettledAs lane (Some How.OutOfMemory) = HasNoTerminal lane.told × (lane.causes.memory ≡ true)

@@ -1,16 +1,20 @@
 -- What the calls of a subscription do to its lane (`SubmissionPublisher.offer`, `close` and `subscribe`, `Flow.Subscription.request` and `cancel`, Java SE 17).
 use Rattle.std.specs.Prelude.{◌≡◌, ℕ, zero, suc, ℤ, pos, negsuc, ◌-◌, ◌<◌, ◌==◌, Bool, true, ◌||◌, ◌&&◌, not, if◌then◌else◌, is_some, None, Some, [], ◌∷◌, ◌++◌, length}
-use Rattle.feed_core.specs.Prelude.{Item, Ending, IsCapacityOf, total_after}
-use Rattle.feed_core.specs.Cause.{no_causes}
+use Rattle.feed_core.specs.Prelude.{Item, Ending, ErrorOrder, Overtake, IsCapacityOf, total_after}
+use Rattle.feed_core.specs.Cause.{no_causes_in}
 use Rattle.feed_core.specs.Lane.{LaneState}
 
 -- a value of `capacity`
 abbrev pub IsCapacity : ℕ → Type 0
 IsCapacity c = (n : ℕ) × (0 < n) × IsCapacityOf n c
 
--- nothing was accepted, requested or told yet
+-- nothing was accepted, requested or told yet, and a closing error is told in this order
+abbrev pub empty_lane_in : ErrorOrder → LaneState
+empty_lane_in order = record { accepted = []; given = 0; asked = 0; causes = no_causes_in order; how = None; told = [] }
+
+-- nothing was accepted, requested or told yet, and a closing error overtakes the items
 abbrev pub empty_lane : LaneState
-empty_lane = record { accepted = []; given = 0; asked = 0; causes = no_causes; how = None; told = [] }
+empty_lane = empty_lane_in Overtake
 
 -- how many accepted items were not taken for onNext yet
 abbrev pub lag_of : LaneState → ℕ

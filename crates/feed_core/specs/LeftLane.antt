@@ -1,5 +1,5 @@
 -- What is left of a subscription.
-use Rattle.std.specs.Prelude.{◌≡◌, ◌≤◌, true, false, None, IfSome, IsSome, List, length}
+use Rattle.std.specs.Prelude.{◌≡◌, ◌≤◌, true, false, None, Some, IfSome, IsSome, List, length}
 use Rattle.feed_core.specs.Prelude.{Signal}
 use Rattle.feed_core.specs.Lane.{LaneState, IsFlow, IsSettled}
 use Rattle.feed_core.specs.declared.lane.Lane.{Lane}
@@ -11,6 +11,8 @@ pub record IsLeftLane {B : Type 0} (told : B → List Signal) (lane : LaneState)
   pub given : left.given ≡ lane.given
   pub taken : lane.given ≤ length lane.accepted
   pub ending : left.ending ≡ lane.how
+  -- it says in which order a closing error was told
+  pub order : IfSome left.subscriber (λ b. left.order ≡ Some lane.causes.order)
   -- the Flow rules hold of a lane whose subscriber is there
   pub flow : IfSome left.subscriber (λ b. (told b ≡ lane.told) × (left.asked ≡ lane.asked) × IsFlow lane)
   -- nothing is forgotten in a lane that doesn't run

@@ -1,7 +1,7 @@
 -- What holds of a lane between any two calls, from which the Flow rules follow, and what a Desk keeps beside it.
 use Rattle.std.specs.Prelude.{◌≡◌, ℕ, ◌+◌, ◌<◌, ◌≤◌, min, Bool, true, false, Option, None, Some, IsSome, List, [], ◌∷◌, ◌++◌, length, map}
 use mathlib.Core.List.{IsPrefix}
-use Rattle.feed_core.specs.Prelude.{UNBOUNDED, Item, Signal, Subscribed, Next, Published, IllegalArgument, IllegalState, Ending, How, items_of}
+use Rattle.feed_core.specs.Prelude.{UNBOUNDED, Item, Signal, Subscribed, Next, Published, IllegalArgument, IllegalState, Ending, AfterItems, How, items_of}
 use Rattle.feed_core.specs.declared.cause.Causes.{Causes}
 use Rattle.feed_core.specs.Cause.{stops, closes}
 use Rattle.feed_core.specs.Desk.{DeskState}
@@ -36,11 +36,12 @@ loss_of (Some How.Cancelled) = 0
 loss_of (Some (How.Failed _)) = 0
 loss_of (Some How.OutOfMemory) = 1
 
--- a lane ends by a cause of its own, and completes once every item was given
+-- a lane ends by a cause of its own, and with completion, or a closing error that waits for the items, once every item was given
 pub record HasCause (lane : LaneState) : Type 0 where
   pub completed : lane.how ≡ Some How.Completed → lane.causes.closing ≡ Some Ending.Normal
   pub whole : lane.how ≡ Some How.Completed → lane.given ≡ length lane.accepted
   pub published : (code : ℕ) → lane.how ≡ Some (How.Errored (Published code)) → lane.causes.closing ≡ Some (Ending.Failed code)
+  pub last : (code : ℕ) → lane.how ≡ Some (How.Errored (Published code)) → lane.causes.order ≡ AfterItems → lane.given ≡ length lane.accepted
   pub argument : lane.how ≡ Some (How.Errored IllegalArgument) → lane.causes.argument ≡ true
   pub state : lane.how ≡ Some (How.Errored IllegalState) → lane.causes.state ≡ true
   pub cancelled : lane.how ≡ Some How.Cancelled → lane.causes.cancel ≡ true

@@ -29,7 +29,7 @@ turn_within most causes waiting unmet =
 abbrev pub rest_of_turn : ℕ → LaneState → PlainTurn
 rest_of_turn most lane = turn_within most lane.causes (drop lane.given lane.accepted) (lane.asked - lane.given)
 
--- an end is owed: one at once, or completion where every item was given
+-- an end is owed: one at once, or the one that waits for the items where every item was given
 abbrev pub OwesEnd : LaneState → How → Type 0
 OwesEnd lane how =
     (stops lane.causes ≡ Some how)

@@ -1,6 +1,6 @@
 -- What a turn changes in a lane: what was told of the plain turn, and what follows from that.
-use Rattle.std.specs.Prelude.{◌≡◌, ℕ, ◌+◌, Bool, true, false, Option, None, Some, List, [], ◌∷◌, ◌++◌, length, take}
-use Rattle.feed_core.specs.Prelude.{Signal, How, items_of}
+use Rattle.std.specs.Prelude.{◌≡◌, ◌⊎◌, ℕ, ◌+◌, Bool, true, false, Option, None, Some, List, [], ◌∷◌, ◌++◌, length, take}
+use Rattle.feed_core.specs.Prelude.{Item, Signal, Subscribed, Next, How, items_of}
 use Rattle.feed_core.specs.declared.cause.Causes.{Causes}
 use Rattle.feed_core.specs.declared.turn.outlook.Outlook.{Outlook}
 use Rattle.feed_core.specs.declared.turn.outlook.Outlook.TheVariants.{Again, Resting, Ended}
@@ -23,6 +23,10 @@ causes_after (Ended how) causes = with_cause_of how causes
 -- the list of signals ends in this one
 abbrev pub EndsIn : List Signal → Signal → Type 0
 EndsIn signals signal = (before : List Signal) × (signals ≡ before ++ signal ∷ [])
+
+-- the list of signals ends in that of a callback whose answer is obeyed: onSubscribe or onNext
+abbrev pub EndsInObeyed : List Signal → Type 0
+EndsInObeyed signals = EndsIn signals Subscribed ⊎ ((item : Item) × EndsIn signals (Next item))
 
 -- how many items were taken for onNext where this was told of the plain turn: those that were told, and the one whose
 -- onNext came next, which met want of memory

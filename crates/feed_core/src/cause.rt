@@ -1,11 +1,13 @@
 //! Why a subscription ends.
 ghost use Rattle.std.specs.Prelude.{◌≡◌, None, Some, true, false};
 
-use flow_rules::{Ending, Fault, How};
+use flow_rules::{Ending, ErrorOrder, Fault, How};
 
 /// Why a subscription may end: what its publisher, its subscription's owner and its own callbacks have asked for.
 #[derive(Clone, Copy, Debug, PartialEq, Eq)]
 pub struct Causes {
+    /// When a closing error is told, if items wait for it.
+    pub order: ErrorOrder,
     /// It was cancelled (`Flow.Subscription.cancel`).
     pub cancel: bool,
     /// A number of items was requested that is not positive.
@@ -21,13 +23,21 @@ pub struct Causes {
 }
 
 impl Causes {
-    ghost use Rattle.feed_core.specs.Cause.{no_causes, stops, closes, with_cause_of};
+    ghost use Rattle.feed_core.specs.Cause.{no_causes, no_causes_in, stops, closes, with_cause_of};
 
-    /// No cause.
+    /// No cause. A closing error overtakes the items.
     pub const fn none() -> Causes
         ensures { result ≡ no_causes }
     {
+        Causes::none_in(ErrorOrder::Overtake)
+    }
+
+    /// No cause. A closing error is told in this order.
+    pub const fn none_in(order: ErrorOrder) -> Causes
+        ensures { result ≡ no_causes_in order }
+    {
         Causes {
+            order,
             cancel: false,
             argument: false,
             state: false,
@@ -37,7 +47,8 @@ impl Causes {
         }
     }
 
-    /// The end that is due at once: by a cancel, a bad request, a second subscribing or a closing error, in this order.
+    /// The end that is due at once: by a cancel, a bad request, a second subscribing or a closing error that overtakes the
+    /// items, in this order.
     pub fn stops(&self) -> Option<How>
         ensures { result ≡ stops self.now }
     {
@@ -50,18 +61,23 @@ impl Causes {
         if self.state {
             return Some(How::Errored(Fault::IllegalState));
         }
-        match self.closing {
-            Some(Ending::Failed(code)) => Some(How::Errored(Fault::Published(code))),
+        match (self.closing, self.order) {
+            (Some(Ending::Failed(code)), ErrorOrder::Overtake) => {
+                Some(How::Errored(Fault::Published(code)))
+            }
             _ => None,
         }
     }
 
-    /// The end that is due once every item was given: completion.
+    /// The end that is due once every item was given: completion, or a closing error that waits for the items.
     pub fn closes(&self) -> Option<How>
         ensures { result ≡ closes self.now }
     {
-        match self.closing {
-            Some(Ending::Normal) => Some(How::Completed),
+        match (self.closing, self.order) {
+            (Some(Ending::Normal), _) => Some(How::Completed),
+            (Some(Ending::Failed(code)), ErrorOrder::AfterItems) => {
+                Some(How::Errored(Fault::Published(code)))
+            }
             _ => None,
         }
     }

@@ -2,8 +2,9 @@
 //!
 //! **A turn.** Whoever runs a subscription's task calls [`Desk::turn`] until that answers `Resting` or `Ended`. A turn first tells
 //! `onSubscribe`, where nothing was told yet. Then it looks at the causes, again and again. A look obeys, in this order: an end at
-//! once (a cancel, a bad request, a second subscribing, a closing error: [`Causes::stops`]); the next item, where one waits and was
-//! requested; the end that waits for the items ([`Causes::closes`]), where none is left. Where a look finds nothing of these, the
+//! once (a cancel, a bad request, a second subscribing, a closing error that overtakes the items: [`Causes::stops`]); the next item,
+//! where one waits and was requested; the end that waits for the items (completion, or a closing error after them:
+//! [`Causes::closes`]), where none is left. Where a look finds nothing of these, the
 //! subscription rests. After 64 items the turn answers `Again`, so that whoever runs turns can give others theirs. What `onSubscribe` or
 //! `onNext` answers is done at once: a request, a cancel, or the end where the callback failed or was refused memory.
 //!
@@ -19,7 +20,7 @@ mod turn;
 use crate::cause::Causes;
 use crate::lane::Lane;
 use buffer::Buffer;
-use flow_rules::{Amount, Demand, How, Listener, NoMemory};
+use flow_rules::{Amount, Demand, ErrorOrder, How, Listener, NoMemory};
 use std::alloc::Global;
 use std::marker::Model;
 
@@ -76,19 +77,35 @@ impl<B: Listener> Model for Desk<B> {
 
 impl<B: Listener> Desk<B> {
     ghost use Rattle.std.specs.Prelude.{◌≡◌, ◌≤◌, ◌+◌, ◌↔◌, [], true, length, IfOk, IfErr, IsSome, false};
-    ghost use Rattle.feed_core.specs.Desk.{IsNew, Owes};
+    ghost use Rattle.feed_core.specs.Desk.{IsNew, IsNewIn, Owes};
     ghost use Rattle.feed_core.specs.LeftLane.{IsLeftLane};
     ghost use Rattle.feed_core.specs.LaneCalls.{IsCapacity, lag_of};
     ghost use Rattle.feed_core.specs.Prelude.{UNBOUNDED};
     ghost use Rattle.feed_core.specs.Lane.{IsFlow, IsSettled};
 
     /// An empty subscription of this subscriber, with a buffer of this capacity. It owes its first turn, which tells
-    /// `onSubscribe`. Where the buffer is refused, the subscriber comes back.
+    /// `onSubscribe`. A closing error overtakes the items. Where the buffer is refused, the subscriber comes back.
     pub fn new(alloc: Global, capacity: usize, subscriber: B) -> Result<Desk<B>, (NoMemory, B)>
         requires untold { B.told subscriber ≡ [] }
         requires sized { IsCapacity capacity }
         ensures ok { IfOk result (λ desk. IsNew capacity (B.is_steady subscriber) desk) }
-        ensures err { IfErr result (λ refused. refused.1 ≡ subscriber) }
+        ensures back { IfErr result (λ refused. refused.1 ≡ subscriber) }
+    {
+        Desk::new_with(alloc, capacity, ErrorOrder::Overtake, subscriber)
+    }
+
+    /// An empty subscription, as of [`Desk::new`], in which a closing error is told in this order. Where the buffer is refused,
+    /// the subscriber comes back.
+    pub fn new_with(
+        alloc: Global,
+        capacity: usize,
+        order: ErrorOrder,
+        subscriber: B,
+    ) -> Result<Desk<B>, (NoMemory, B)>
+        requires untold { B.told subscriber ≡ [] }
+        requires sized { IsCapacity capacity }
+        ensures ok { IfOk result (λ desk. IsNewIn order capacity (B.is_steady subscriber) desk) }
+        ensures back { IfErr result (λ refused. refused.1 ≡ subscriber) }
     {
         let Ok(held) = Buffer::with_room(alloc, capacity) else {
             return Err((NoMemory, subscriber));
@@ -101,7 +118,7 @@ impl<B: Listener> Desk<B> {
             accepted: 0,
             given: 0,
             asked: Demand::none(),
-            causes: Causes::none(),
+            causes: Causes::none_in(order),
             how: None,
             started: true,
             looks: Amount::zero(),
@@ -177,6 +194,7 @@ impl<B: Listener> Desk<B> {
             given: self.given,
             asked: self.asked.total(),
             ending: self.how,
+            order: Some(self.causes.order),
             running,
         }
     }

@@ -1,5 +1,5 @@
 //! What is left of a subscription.
-use flow_rules::How;
+use flow_rules::{ErrorOrder, How};
 
 /// What is left of a subscription once its publisher is done with it: its subscriber, with what that was told, and the numbers of what
 /// was accepted, taken and requested.
@@ -15,6 +15,8 @@ pub struct Lane<B> {
     pub asked: u64,
     /// How it ended, if it did.
     pub ending: Option<How>,
+    /// In which order it was told a closing error and the items; `None` only where its subscriber isn't there.
+    pub order: Option<ErrorOrder>,
     /// Whether a turn is owed. Where none is, its subscriber was told all that its demand and its ending allow.
     pub running: bool,
 }

@@ -25,5 +25,6 @@ pub use desk::Desk;
 pub use lane::Lane;
 pub use laws::desks_keep_the_flow_rules;
 pub use turn::{
-    ITEMS_IN_A_TURN, Outlook, SIGNALS_IN_A_TURN, Seen, tell_next, tell_subscribed, tell_terminal,
+    ITEMS_IN_A_TURN, Outlook, SIGNALS_IN_A_TURN, Seen, failed_item, tell_next, tell_subscribed,
+    tell_terminal,
 };

@@ -1,8 +1,10 @@
 //! What a turn is made of, whoever runs it: what it tells, how it tells it, and what is to be done after it.
+mod failing;
 mod outlook;
 mod seen;
 mod telling;
 
+pub use failing::failed_item;
 pub use outlook::Outlook;
 pub use seen::Seen;
 pub use telling::{tell_next, tell_subscribed, tell_terminal};

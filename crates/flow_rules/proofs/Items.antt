@@ -33,6 +33,10 @@ complete_no_item told = items_of_append told (Complete ∷ []) ∙ append-nil (i
 pub error_no_item : (told : List Signal) (fault : Fault) → items_of (told ++ Error fault ∷ []) ≡ items_of told
 error_no_item told fault = items_of_append told (Error fault ∷ []) ∙ append-nil (items_of told)
 
+-- a signal that is no item
+pub other_no_item : (told : List Signal) (signal : Signal) → items_of (signal ∷ []) ≡ [] → items_of (told ++ signal ∷ []) ≡ items_of told
+other_no_item told signal none = items_of_append told (signal ∷ []) ∙ ap (λ items. items_of told ++ items) none ∙ append-nil (items_of told)
+
 -- the lines of one item more
 lines_grow : (told : List Signal) (item : Item) → printed_lines (items_of (told ++ Next item ∷ [])) ≡ printed_lines (items_of told) ++ (item.text ++ 10 ∷ [])
 lines_grow told item = ap printed_lines (items_of_append told (Next item ∷ [])) ∙ by (items_of told) where

@@ -1,5 +1,7 @@
 //! A subscriber that keeps what it is told.
 ghost use Rattle.std.specs.Prelude.{◌≡◌, ◌∷◌, ◌++◌, [], IfOk, OnOk, OnErr, Some, None};
+ghost use Rattle.flow_rules.specs.Collected.{answer_to_item};
+ghost use Rattle.flow_rules.specs.Signals.{items_of};
 
 use crate::answer::Answer;
 use crate::item::Item;
@@ -10,53 +12,89 @@ use crate::subscriber::Subscriber;
 use std::alloc::Global;
 use std::marker::Model;
 
+/// Where a collector fails.
+#[derive(Clone, Copy, Debug)]
+pub struct Failing {
+    /// Which item's callback fails, counted from 1.
+    pub item: u64,
+    /// The code that it fails with.
+    pub code: u32,
+}
+
 /// A subscriber that keeps what it is told. It grows with each signal, and a growth may be refused.
 #[derive(Debug, Drop)]
 pub struct Collector {
     told: Vec<Signal>,
+    /// How many items it was told.
+    items: u64,
     requests: Option<i64>,
+    fails: Option<Failing>,
 }
 
 impl Model for Collector {
+    ghost use Rattle.std.specs.Prelude.{◌≡◌, length, min, ◌-◌, ◌^◌};
     ghost use Rattle.flow_rules.specs.Collected.{Collected};
+    ghost use Rattle.flow_rules.specs.Signals.{items_of};
 
     ghost Value = { Collected };
 
-    ghost view = { λ c. record { told = c.told.items; requests = c.requests } };
+    ghost view = { λ c. record { told = c.told.items; requests = c.requests; fails = c.fails } };
+
+    ghost invariant = { λ c. c.items ≡ min (length (items_of c.told.items)) (2 ^ 64 - 1) };
 }
 
 impl Collector {
-    ghost use Rattle.flow_rules.specs.Collected.{answer_to};
+    ghost use Rattle.flow_rules.specs.Collected.{answer_to, positive};
+    ghost use Rattle.flow_rules.specs.declared.signal.Signal.TheVariants.{Next};
 
-    /// A collector that was told nothing, and that asks for nothing. It takes no memory until it is told something.
+    /// Makes a collector that was told nothing and requests nothing. It takes no memory until it is told something.
     pub fn new(alloc: Global) -> Collector
         ensures untold { result.told ≡ [] }
-        ensures steady { result.requests ≡ None }
+        ensures steady { (result.requests ≡ None) × (result.fails ≡ None) }
     {
-        Collector {
-            told: Vec::new(alloc),
-            requests: None,
-        }
+        Collector::with(alloc, None, None)
     }
 
-    /// A collector that was told nothing, and that requests n items when it is subscribed.
+    /// Makes a collector that was told nothing and requests n items when it is subscribed. It takes no memory until it is told something.
     pub fn asking(alloc: Global, n: i64) -> Collector
         ensures untold { result.told ≡ [] }
-        ensures asks { result.requests ≡ Some n }
+        ensures asks { (result.requests ≡ Some n) × (result.fails ≡ None) }
+    {
+        Collector::with(alloc, Some(n), None)
+    }
+
+    /// Makes a collector that was told nothing, requests n items when it is subscribed, if n is positive, and fails with this code at the
+    /// item of this number, counted from 1. With the number 0 it never fails. It takes no memory until it is told something.
+    pub fn failing(alloc: Global, n: i64, item: u64, code: u32) -> Collector
+        ensures untold { result.told ≡ [] }
+        ensures asks { result.requests ≡ positive n }
+        ensures fails { result.fails ≡ Some (record { item = item; code = code }) }
+    {
+        let requests = if n > 0 { Some(n) } else { None };
+        Collector::with(alloc, requests, Some(Failing { item, code }))
+    }
+
+    /// A collector that was told nothing, with this request and this failure.
+    fn with(alloc: Global, requests: Option<i64>, fails: Option<Failing>) -> Collector
+        ensures { result ≡ record { told = []; requests = requests; fails = fails } }
     {
         Collector {
             told: Vec::new(alloc),
-            requests: Some(n),
+            items: 0,
+            requests,
+            fails,
         }
     }
 
-    /// Keeps one more signal, and answers `Request(n)` to `onSubscribe` where it asks for n items, and `Go` otherwise. Where the
-    /// growth is refused, it keeps nothing.
+    /// Keeps one more signal that is no item. It answers `Request(n)` to `onSubscribe` if it asks for n items, and `Go` otherwise. If
+    /// the growth is refused, it keeps nothing.
+    #[tactic(auto, using(crate::proofs::Items::other_no_item))]
     fn hear(&mut self, signal: Signal) -> Result<Answer, NoMemory>
+        requires { items_of (signal ∷ []) ≡ [] }
         ensures ok { OnOk result (self.new ≡ record self.old
             { told = self.old.told ++ signal ∷ [] }) }
-        ensures answer { IfOk result (λ answer. answer ≡ answer_to signal self.old.requests) }
-        ensures err { OnErr result (self.new ≡ self.old) }
+        ensures answer { IfOk result (λ answer. answer ≡ answer_to signal self.old) }
+        ensures unchanged { OnErr result (self.new ≡ self.old) }
     {
         let answer = match (&signal, self.requests) {
             (Signal::Subscribed, Some(n)) => Answer::Request(n),
@@ -65,21 +103,47 @@ impl Collector {
         self.told.push(signal)?;
         Ok(answer)
     }
+
+    /// Keeps one more item. It answers `Fail` to the item at which it fails, and `Go` otherwise. If the growth is refused, it keeps nothing.
+    #[tactic(auto, using(crate::proofs::Items::one_item_more))]
+    fn hear_item(&mut self, item: Item) -> Result<Answer, NoMemory>
+        ensures ok { OnOk result (self.new ≡ record self.old
+            { told = self.old.told ++ Next item ∷ [] }) }
+        ensures answer { IfOk result (λ answer. answer ≡ answer_to (Next item) self.old) }
+        ensures unchanged { OnErr result (self.new ≡ self.old) }
+    {
+        let answer = answer_to_item(self.fails, self.items);
+        self.told.push(Signal::Next(item))?;
+        self.items = self.items.saturating_add(1);
+        Ok(answer)
+    }
+}
+
+/// What a collector that fails there, or never, answers to the item that comes after this many.
+fn answer_to_item(fails: Option<Failing>, before: u64) -> Answer
+    ensures { result ≡ answer_to_item fails before }
+{
+    match fails {
+        Some(failing) if before < failing.item && failing.item - before == 1 => {
+            Answer::Fail(failing.code)
+        }
+        _ => Answer::Go,
+    }
 }
 
 impl Subscriber for Collector {
-    ghost use Rattle.std.specs.Prelude.{is_none};
+    ghost use Rattle.std.specs.Prelude.{◌&&◌, is_none};
 
     ghost told = { λ c. c.told };
 
-    ghost is_steady = { λ c. is_none c.requests };
+    ghost is_steady = { λ c. is_none c.requests && is_none c.fails };
 
     fn told(&self) -> &[Signal] {
         self.told.as_slice()
     }
 
     fn steady(&self) -> bool {
-        self.requests.is_none()
+        self.requests.is_none() && self.fails.is_none()
     }
 
     fn on_subscribe(&mut self) -> Result<Answer, NoMemory> {
@@ -87,7 +151,7 @@ impl Subscriber for Collector {
     }
 
     fn on_next(&mut self, item: &Item) -> Result<Answer, NoMemory> {
-        self.hear(Signal::Next(item.share()?))
+        self.hear_item(item.share()?)
     }
 
     fn on_error(&mut self, fault: Fault) -> Result<Answer, NoMemory> {
@@ -100,11 +164,11 @@ impl Subscriber for Collector {
 }
 
 impl Listener for Collector {
-    ghost use Rattle.std.specs.Prelude.{is_none};
+    ghost use Rattle.std.specs.Prelude.{◌&&◌, is_none};
 
     ghost told = { λ c. c.told };
 
-    ghost is_steady = { λ c. is_none c.requests };
+    ghost is_steady = { λ c. is_none c.requests && is_none c.fails };
 
     fn on_subscribe(&mut self) -> Result<Answer, NoMemory> {
         Subscriber::on_subscribe(self)

@@ -37,8 +37,8 @@ pub trait Feed: Drop {
     /// Takes what one started task needs. Where that is there, it is not refused.
     fn ready(&mut self) -> Result<(), NoMemory>
         ensures ok { OnOk result (meaning self.new ≡ record (meaning self.old) { ready = true }) }
-        ensures err { OnErr result (meaning self.new ≡ meaning self.old) }
-        ensures stays { (meaning self.old).ready ≡ true → IsOk result }
+        ensures unchanged { OnErr result (meaning self.new ≡ meaning self.old) }
+        ensures not_refused { (meaning self.old).ready ≡ true → IsOk result }
         ensures exact { does self.old (Call.Readies result) self.new };
 
     /// Offers an item to the buffer, which neither waits nor takes memory (`SubmissionPublisher.offer`, one try).

@@ -6,14 +6,14 @@ use Rattle.publisher_hub.specs.declared.hub.Hub.{Hub}
 use Rattle.publisher_hub.specs.declared.work.Work.{Work}
 use Rattle.lines_demo.specs.Prelude.{DeskState}
 use Rattle.lines_demo.specs.Script.Acting.{ActsOn}
-use Rattle.lines_demo.specs.Word.{is_word}
+use Rattle.commands.specs.Word.{is_word}
 use Rattle.lines_demo.specs.Script.Obeying.{act_result, desk_after_act, subscriptions_after_act}
 use Rattle.lines_demo.specs.Script.Playing.{IsLatest, Replies}
 use Rattle.lines_demo.specs.Script.Session.{IsScriptHub, IsSession, state_of, subscription_of}
 use Rattle.lines_demo.specs.Script.State.{SessionState, SubscriptionState}
 use Rattle.lines_demo.specs.Script.Subscribing.{MOST_LIVE}
 use Rattle.lines_demo.specs.Script.Waking.{newly_woken, with_subscriptions}
-use Rattle.lines_demo.specs.declared.script.reply.Reply.TheVariants.{Done}
+use Rattle.commands.specs.declared.reply.Reply.TheVariants.{Done}
 use Rattle.lines_demo.specs.declared.script.session.acting.Act.{Act}
 use Rattle.lines_demo.specs.declared.script.session.Session.TheInside.{Inside}
 use Rattle.lines_demo.proofs.Acts.{act_becomes, act_steady, act_without_looks}
@@ -31,15 +31,15 @@ use Rattle.lines_demo.proofs.StartedNumbers.{newly_woken_one}
 pub latest_there : (hub : Hub DeskState) (name : List ℕ) (k : ℕ) → IsScriptHub hub → IsLatest name (map subscription_of hub.entries.items) (Some k) → IsSome (feed_at hub k)
 latest_there hub name k is latest = ap is_some (end_there hub k latest.0 is latest.1.0).1
 
-module _ {B : Type 0} (session : Inside B) (new : Hub DeskState) (name : List ℕ) (act : Act) (k : ℕ) (is_started : Bool) (is : IsSession session.hub (length session.stock.items) session.woken session.has_begun)
-    (begun : session.has_begun ≡ true) (latest : IsLatest name (state_inside session).subscriptions (Some k)) (acts : ActsOn act k session.hub is_started new) where
+module _ {B : Type 0} (session : Inside B) (new : Hub DeskState) (name : List ℕ) (act : Act) (k : ℕ) (is_started : Bool) (is : IsSession session.hub (length session.stock.items) session.woken session.beginning)
+    (begun : session.beginning.is_over ≡ true) (latest : IsLatest name (state_inside session).subscriptions (Some k)) (acts : ActsOn act k session.hub is_started new) where
   -- where it stood
   abbrev pub state : SessionState
   state = state_inside session
 
   -- where it stands
   abbrev pub new_state : SessionState
-  new_state = state_of new (length session.stock.items) (woken_with session.woken k is_started) session.has_begun
+  new_state = state_of new (length session.stock.items) (woken_with session.woken k is_started) session.beginning
 
   -- the subscription and its desk before and after
   abbrev pub before : DeskState
@@ -76,8 +76,8 @@ module _ {B : Type 0} (session : Inside B) (new : Hub DeskState) (name : List �
   acted_state : new_state ≡ with_subscriptions now state
   acted_state =
       let build : List SubscriptionState → List ℕ → SessionState = λ subscriptions numbers. record state { subscriptions = subscriptions; woken = numbers } in
-      ap (λ hub. state_of hub (length session.stock.items) (woken_with session.woken k is_started) session.has_begun) acts.left
-      ∙ lent_state session.hub k before after acts.stood (length session.stock.items) (woken_with session.woken k is_started) session.has_begun
+      ap (λ hub. state_of hub (length session.stock.items) (woken_with session.woken k is_started) session.beginning) acts.left
+      ∙ lent_state session.hub k before after acts.stood (length session.stock.items) (woken_with session.woken k is_started) session.beginning
       ∙ (λ i. build (sym changed i) (session.woken ++ woken_now i))
 
   acted_publisher : IsScriptHub new
@@ -87,9 +87,9 @@ module _ {B : Type 0} (session : Inside B) (new : Hub DeskState) (name : List �
   acted_replies = subst (Replies (λ refusals. act_result state refusals name act) Done) (sym acted_state) (act_done state name act (somebody_known name state.subscriptions k latest.0 latest.1.0 latest.1.1.0))
 
   -- what it leaves
-  pub acted : IsAnswered (λ refusals. act_result state refusals name act) Done new (length session.stock.items) (woken_with session.woken k is_started) session.has_begun
+  pub acted : IsAnswered (λ refusals. act_result state refusals name act) Done new (length session.stock.items) (woken_with session.woken k is_started) session.beginning
   acted =
-      answered (λ refusals. act_result state refusals name act) Done new (length session.stock.items) (woken_with session.woken k is_started) session.has_begun begun acted_publisher acted_replies
+      answered (λ refusals. act_result state refusals name act) Done new (length session.stock.items) (woken_with session.woken k is_started) session.beginning begun acted_publisher acted_replies
       (λ refusals. act_reached state refusals name act is.reached)
 
   -- and there is room for it to be woken

@@ -4,7 +4,7 @@ use Rattle.std.specs.Prelude.{◌⊎◌}
 use Rattle.std.specs.List.{list_any}
 use Rattle.std.proofs.lemmas.Bool.Decides.{nat_tests}
 use Rattle.lines_demo.specs.Prelude.{Refusal, capacity_of}
-use Rattle.lines_demo.specs.Line.{lines_of}
+use Rattle.commands.specs.Line.{lines_of}
 use Rattle.lines_demo.specs.Threads.Plan.{PlanState, IsOrLacksMemory}
 use Rattle.lines_demo.specs.Threads.Input.{input_after, input_of, sources_of, spelled_publications, would_block}
 use Rattle.lines_demo.specs.declared.threads.input.Publication.{Publication}

@@ -20,7 +20,7 @@ use Rattle.publisher_hub.proofs.AnswerLists.Updates.{get_elsewhere, get_there}
 use Rattle.publisher_hub.proofs.PartialRounds.Next.{get_mapped}
 use Rattle.publisher_hub.proofs.PartialRounds.Progress.{same_some}
 use Rattle.lines_demo.specs.Prelude.{DeskState, owes}
-use Rattle.lines_demo.specs.Word.{is_word}
+use Rattle.commands.specs.Word.{is_word}
 use Rattle.lines_demo.specs.Script.Kept.{IsReached}
 use Rattle.lines_demo.specs.Script.Session.{AreScriptEntries, IsScriptEntry, IsScriptHub, numbers_of, state_of, subscription_of}
 use Rattle.lines_demo.specs.Script.State.{SubscriptionState}
@@ -32,6 +32,7 @@ use Rattle.lines_demo.proofs.SessionStates.{state_of_is}
 use Rattle.lines_demo.proofs.Signals.{signal_wakes}
 use Rattle.lines_demo.proofs.StartedNumbers.{newly_woken_one}
 use Rattle.lines_demo.proofs.WokenLists.{bit}
+use Rattle.lines_demo.specs.declared.script.session.beginning.Beginning.{Beginning}
 
 -- ---- lists
 
@@ -199,11 +200,11 @@ module _ (old middle new : Hub DeskState) (name : List ℕ) (due : List (Work Un
       ∙ ap (λ xs. newly_woken before xs) (sym (change_one (is_live_as name) change before tells.number (subscription_of one) one_at one_named most))
 
   -- where the script stands then
-  pub told_state : (stock : ℕ) (woken : List ℕ) (has_begun : Bool) → IsReached (state_of old stock woken has_begun)
-      → state_of new stock (woken ++ numbers_of due) has_begun ≡ state_after_duplicate name (state_of old stock woken has_begun)
-  told_state stock woken has_begun reached =
+  pub told_state : (stock : ℕ) (woken : List ℕ) (beginning : Beginning) → IsReached (state_of old stock woken beginning)
+      → state_of new stock (woken ++ numbers_of due) beginning ≡ state_after_duplicate name (state_of old stock woken beginning)
+  told_state stock woken beginning reached =
       let before = map subscription_of old.entries.items in
       let most : count_by (is_live_as name) before ≤ 1 = reached.1.names name in
       let far = told_as_far in
-      state_of_is new stock (woken ++ numbers_of due) has_begun (state_after_duplicate name (state_of old stock woken has_begun)) (ap (λ (p : Progress). p.capacity) far) refl (ap (λ (p : Progress). p.ending) far)
+      state_of_is new stock (woken ++ numbers_of due) beginning (state_after_duplicate name (state_of old stock woken beginning)) (ap (λ (p : Progress). p.capacity) far) refl (ap (λ (p : Progress). p.ending) far)
       (ap (λ (p : Progress). p.next) far) refl (told_subscriptions most) (ap (λ numbers. woken ++ numbers) (told_woken most))

@@ -25,7 +25,7 @@ use Rattle.lines_demo.specs.declared.script.session.Session.TheInside.{Inside}
 use Rattle.lines_demo.proofs.AnsweredSessions.{IsAnswered, answered}
 use Rattle.lines_demo.proofs.EachMaps.{each_by_map}
 use Rattle.lines_demo.proofs.HubLooks.{ListSeesSame, prepared_all_same, prepared_retired, same_desk, seen_with, with_desk}
-use Rattle.lines_demo.specs.declared.script.reply.Reply.TheVariants.{Done}
+use Rattle.commands.specs.declared.reply.Reply.TheVariants.{Done}
 use Rattle.lines_demo.proofs.Inside.{state_inside}
 use Rattle.lines_demo.proofs.KeptCommands.{closing_reached}
 use Rattle.lines_demo.proofs.Replying.{closing_done}
@@ -109,7 +109,7 @@ closed_entry ending k (AtClose.Ended start) x y is retired unclosed closes = rec
       signal_wakes before lane_after k start refl ((λ some. (closes.exact.starts.0 some).1), (λ rests. closes.exact.starts.1 (free, rests)))
       ∙ ap (λ b. if b then k ∷ [] else []) (sym (λ i. started_desks (sees_now i).desk (seen i).desk))
 
-module _ {B : Type 0} (session : Inside B) (new : Hub DeskState) (ending : Ending) (due : List (Work Unit)) (is : IsSession session.hub (length session.stock.items) session.woken session.has_begun)
+module _ {B : Type 0} (session : Inside B) (new : Hub DeskState) (ending : Ending) (due : List (Work Unit)) (is : IsSession session.hub (length session.stock.items) session.woken session.beginning)
     (nothing_due : session.due.items ≡ []) (unclosed : session.hub.ending ≡ None) (sound : IsSound (hub_of end_of new)) (closes : ClosesAll end_of DoesCall ending session.due.items due session.hub new) where
   -- where it stood
   abbrev pub state : SessionState
@@ -129,8 +129,8 @@ module _ {B : Type 0} (session : Inside B) (new : Hub DeskState) (ending : Endin
 
   open_still : (k : ℕ) (x : Entry DeskState) → slice_get closes.middle k ≡ Some x → (subscription_of x).desk.lane.how ≡ None → (subscription_of x).desk.lane.causes.closing ≡ None
   open_still k x at live =
-      let kept : All (IsKept is.reached.0 old.next old.ending) (map subscription_of closes.middle) = subst (All (IsKept is.reached.0 old.next old.ending)) (sym looked.same) is.reached.1.subscriptions in
-      (all_seen_at (IsKept is.reached.0 old.next old.ending) subscription_of closes.middle k x kept at).closing live ∙ unclosed
+      let kept : All (IsKept is.reached.0 old.next session.beginning.order old.ending) (map subscription_of closes.middle) = subst (All (IsKept is.reached.0 old.next session.beginning.order old.ending)) (sym looked.same) is.reached.1.subscriptions in
+      (all_seen_at (IsKept is.reached.0 old.next session.beginning.order old.ending) subscription_of closes.middle k x kept at).closing live ∙ unclosed
 
   one : (k : ℕ) (start : AtClose Unit) (x y : Entry DeskState) → slice_get closes.middle k ≡ Some x → Closes end_of DoesCall ending start x y → IsClosedEntry ending k start x y
   one k start x y at closed = closed_entry ending k start x y (looked.entries k x at) (retired k x at) (open_still k x at) closed
@@ -158,22 +158,22 @@ module _ {B : Type 0} (session : Inside B) (new : Hub DeskState) (ending : Endin
 
   -- where it stands then
   abbrev pub new_state : SessionState
-  new_state = state_of new (length session.stock.items) (session.woken ++ numbers_of due) session.has_begun
+  new_state = state_of new (length session.stock.items) (session.woken ++ numbers_of due) session.beginning
 
   closed_state : new_state ≡ state_after_closing ending state
   closed_state =
-      state_of_is new (length session.stock.items) (session.woken ++ numbers_of due) session.has_begun (state_after_closing ending state) (ap (λ (h : HubState). h.progress.capacity) closes.rest) refl
+      state_of_is new (length session.stock.items) (session.woken ++ numbers_of due) session.beginning (state_after_closing ending state) (ap (λ (h : HubState). h.progress.capacity) closes.rest) refl
       (ap (λ (h : HubState). h.progress.ending) closes.rest) (ap (λ (h : HubState). h.progress.next) closes.rest) refl subscriptions (ap (λ numbers. session.woken ++ numbers) woken_now)
 
   closed_replies : Replies (λ refusals. closing_result ending state refusals) Done new_state
   closed_replies = subst (Replies (λ refusals. closing_result ending state refusals) Done) (sym closed_state) (closing_done ending state (ap is_some unclosed))
 
   -- what it leaves
-  pub closed : session.has_begun ≡ true → IsAnswered (λ refusals. closing_result ending state refusals) Done new (length session.stock.items) (session.woken ++ numbers_of due) session.has_begun
+  pub closed : session.beginning.is_over ≡ true → IsAnswered (λ refusals. closing_result ending state refusals) Done new (length session.stock.items) (session.woken ++ numbers_of due) session.beginning
   closed begun =
-      answered (λ refusals. closing_result ending state refusals) Done new (length session.stock.items) (session.woken ++ numbers_of due) session.has_begun begun publisher closed_replies
+      answered (λ refusals. closing_result ending state refusals) Done new (length session.stock.items) (session.woken ++ numbers_of due) session.beginning begun publisher closed_replies
       (λ refusals. closing_reached ending state refusals is.reached)
 
   -- and there is room for whom it wakes
-  pub closed_room : session.has_begun ≡ true → length session.woken + length due ≤ MOST_LIVE
+  pub closed_room : session.beginning.is_over ≡ true → length session.woken + length due ≤ MOST_LIVE
   closed_room begun = room_for new_state session.woken due (closed begun).session.reached refl

@@ -28,6 +28,7 @@ use Rattle.lines_demo.proofs.HubLooks.{ListSeesSame, may_prepare_all_same, prepa
 use Rattle.lines_demo.proofs.OfferedLists.{AllOffered, AllStay, all_offered, all_stay, may_all_be_offered}
 use Rattle.lines_demo.proofs.SeenPublishers.{CameAsFar}
 use Rattle.lines_demo.proofs.SessionStates.{state_of_is}
+use Rattle.lines_demo.specs.declared.script.session.beginning.Beginning.{Beginning}
 
 -- ---- the item and the numbers
 
@@ -52,36 +53,36 @@ set_stands (first ∷ numbers) (suc place) value there at = set_stands numbers p
 -- ---- why nothing is published
 
 -- where the publisher takes items, so does the script
-pub nothing_against : (old : Hub DeskState) (stock : ℕ) (woken : List ℕ) (has_begun : Bool) → old.ending ≡ None → old.next < MOST_PUBLICATIONS → publication_refusal (state_of old stock woken has_begun) ≡ None
-nothing_against old stock woken has_begun unclosed few =
+pub nothing_against : (old : Hub DeskState) (stock : ℕ) (woken : List ℕ) (beginning : Beginning) → old.ending ≡ None → old.next < MOST_PUBLICATIONS → publication_refusal (state_of old stock woken beginning) ≡ None
+nothing_against old stock woken beginning unclosed few =
     let test : nat_le MOST_PUBLICATIONS old.next ≡ false = grind (arith, nat_tests) in
     rw (unclosed, test) refl
 
 -- why the publisher takes none is why the script publishes none
-pub refused_as : (old : Hub DeskState) (stock : ℕ) (woken : List ℕ) (has_begun : Bool) (refusal : Refusal) → IsRefused (hub_of end_of old).progress (Some refusal)
-    → publication_refusal (state_of old stock woken has_begun) ≡ Some refusal
-refused_as old stock woken has_begun (Refusal.Closed ending) why = rw why refl
-refused_as old stock woken has_begun Refusal.Exhausted why =
+pub refused_as : (old : Hub DeskState) (stock : ℕ) (woken : List ℕ) (beginning : Beginning) (refusal : Refusal) → IsRefused (hub_of end_of old).progress (Some refusal)
+    → publication_refusal (state_of old stock woken beginning) ≡ Some refusal
+refused_as old stock woken beginning (Refusal.Closed ending) why = rw why refl
+refused_as old stock woken beginning Refusal.Exhausted why =
     let last = why.1 in
     let test : nat_le MOST_PUBLICATIONS old.next ≡ true = grind (arith, nat_tests) in
     rw (why.0, test) refl
-refused_as old stock woken has_begun Refusal.BadCapacity why = absurd why
-refused_as old stock woken has_begun Refusal.Duplicate why = absurd why
-refused_as old stock woken has_begun Refusal.TooMany why = absurd why
-refused_as old stock woken has_begun Refusal.NoMemory why = absurd why
-refused_as old stock woken has_begun Refusal.LineTooLong why = absurd why
-refused_as old stock woken has_begun Refusal.BadWorkers why = absurd why
-refused_as old stock woken has_begun (Refusal.StillHeld name) why = absurd why
-refused_as old stock woken has_begun (Refusal.Unsettled names) why = absurd why
-refused_as old stock woken has_begun Refusal.Unknown why = absurd why
-refused_as old stock woken has_begun Refusal.WouldWait why = absurd why
-refused_as old stock woken has_begun Refusal.BadCommand why = absurd why
+refused_as old stock woken beginning Refusal.BadCapacity why = absurd why
+refused_as old stock woken beginning Refusal.Duplicate why = absurd why
+refused_as old stock woken beginning Refusal.TooMany why = absurd why
+refused_as old stock woken beginning Refusal.NoMemory why = absurd why
+refused_as old stock woken beginning Refusal.LineTooLong why = absurd why
+refused_as old stock woken beginning Refusal.BadWorkers why = absurd why
+refused_as old stock woken beginning (Refusal.StillHeld name) why = absurd why
+refused_as old stock woken beginning (Refusal.Unsettled names) why = absurd why
+refused_as old stock woken beginning Refusal.Unknown why = absurd why
+refused_as old stock woken beginning Refusal.WouldWait why = absurd why
+refused_as old stock woken beginning Refusal.BadCommand why = absurd why
 
 -- an item was not offered: nothing that a script sees has changed, and it says why
 pub record OfferRefused (old new : Hub DeskState) (refusal : Refusal) : Type 0 where
   pub far : CameAsFar old new
   pub sees : ListSeesSame old.entries.items new.entries.items
-  pub why : (stock : ℕ) (woken : List ℕ) (has_begun : Bool) → (refusal ≡ Refusal.NoMemory) ⊎ (publication_refusal (state_of old stock woken has_begun) ≡ Some refusal)
+  pub why : (stock : ℕ) (woken : List ℕ) (beginning : Beginning) → (refusal ≡ Refusal.NoMemory) ⊎ (publication_refusal (state_of old stock woken beginning) ≡ Some refusal)
 
 -- looks publish nothing
 pub looked_as_far : (old new : Hub DeskState) → IsLookedAt (hub_of end_of old) (hub_of end_of new) → CameAsFar old new
@@ -94,14 +95,14 @@ offer_refused old new refusal is refuses = by refusal refuses.why where
   other refusal refused prepared = record {
     far = looked_as_far old new refuses.unchanged;
     sees = prepared_all_same old.next prepared.0 old.entries.items new.entries.items is.entries prepared.1;
-    why = λ stock woken has_begun. inr (refused_as old stock woken has_begun refusal refused);
+    why = λ stock woken beginning. inr (refused_as old stock woken beginning refusal refused);
   }
 
   by : (refusal : Refusal) → WhyNotOffered end_of DoesCall old new refusal → OfferRefused old new refusal
   by Refusal.NoMemory each = record {
     far = looked_as_far old new refuses.unchanged;
     sees = may_prepare_all_same old.next old.entries.items new.entries.items is.entries each;
-    why = λ stock woken has_begun. inl refl;
+    why = λ stock woken beginning. inl refl;
   }
   by (Refusal.Closed ending) why = other (Refusal.Closed ending) why.0 why.1
   by Refusal.Exhausted why = other Refusal.Exhausted why.0 why.1
@@ -121,8 +122,8 @@ offer_refused old new refusal is refuses = by refusal refuses.why where
 -- an item of this text was published to all: a script stands where a publication leaves it
 pub record HubPublished (text : List ℕ) (old new : Hub DeskState) (due : List (Work Unit)) : Type 0 where
   pub script : IsScriptHub new
-  pub allowed : (stock : ℕ) (woken : List ℕ) (has_begun : Bool) → publication_refusal (state_of old stock woken has_begun) ≡ None
-  pub after : (stock : ℕ) (woken : List ℕ) (has_begun : Bool) → state_of new stock (woken ++ numbers_of due) has_begun ≡ state_after_publication text (state_of old stock woken has_begun)
+  pub allowed : (stock : ℕ) (woken : List ℕ) (beginning : Beginning) → publication_refusal (state_of old stock woken beginning) ≡ None
+  pub after : (stock : ℕ) (woken : List ℕ) (beginning : Beginning) → state_of new stock (woken ++ numbers_of due) beginning ≡ state_after_publication text (state_of old stock woken beginning)
 
 -- what a script's publisher says of an open subscription
 pub unclosed_entries : (old : Hub DeskState) → IsScriptHub old → old.ending ≡ None → (k : ℕ) (x : Entry DeskState) → slice_get old.entries.items k ≡ Some x → (desk_in x.feed).lane.causes.closing ≡ None
@@ -141,8 +142,8 @@ hub_published text old new item due is sound from words offers same entries woke
     entries = entries;
     numbered = ap (λ counts. slice_get counts SOURCE) counts ∙ set_stands old.counts.items SOURCE (item.seq + 1) old.next is.numbered ∙ ap (λ n. Some (n + 1)) (ap (λ (i : Item). i.seq) item_is) ∙ ap Some (sym next);
   };
-  allowed = λ stock woken has_begun. nothing_against old stock woken has_begun offers.next.unclosed offers.next.few;
-  after = λ stock woken has_begun. state_of_is new stock (woken ++ numbers_of due) has_begun (state_after_publication text (state_of old stock woken has_begun)) (ap (λ (h : HubState). h.progress.capacity) offers.rest) refl
+  allowed = λ stock woken beginning. nothing_against old stock woken beginning offers.next.unclosed offers.next.few;
+  after = λ stock woken beginning. state_of_is new stock (woken ++ numbers_of due) beginning (state_after_publication text (state_of old stock woken beginning)) (ap (λ (h : HubState). h.progress.capacity) offers.rest) refl
       (ap (λ (h : HubState). h.progress.ending) offers.rest) next refl now (ap (λ more. woken ++ more) (woken_now ∙ ap (newly_woken (map subscription_of old.entries.items)) now));
 } where
   item_is : item ≡ record { source = 0; seq = old.next; serial = old.next; text = text }
@@ -165,7 +166,7 @@ same_answer (suc drops) lag = refl
 -- an item was offered to all: a script stands where a publication leaves it, and that is the answer
 pub record HubOffered (text : List ℕ) (old new : Hub DeskState) (due : List (Work Unit)) (answer : ℤ) : Type 0 where
   pub published : HubPublished text old new due
-  pub answers : (stock : ℕ) (woken : List ℕ) (has_begun : Bool) → answer ≡ offer_answer (next_item (state_of old stock woken has_begun) text) (map subscription_of old.entries.items)
+  pub answers : (stock : ℕ) (woken : List ℕ) (beginning : Beginning) → answer ≡ offer_answer (next_item (state_of old stock woken beginning) text) (map subscription_of old.entries.items)
 
 pub hub_offered : (text : List ℕ) (declines : Bool) (old new : Hub DeskState) (due_old due : List (Work Unit)) (answer : ℤ) → IsScriptHub old → due_old ≡ [] → IsSound (hub_of end_of new)
     → OffersItem end_of DoesCall SOURCE text declines old new due_old due answer → HubOffered text old new due answer
@@ -174,7 +175,7 @@ hub_offered text declines old new due_old due answer is no_due sound o = record 
       (second.same ∙ first.same ∙ ap (map (subscription_after_offer o.item)) looked.same)
       second.entries
       (ap numbers_of due_is ∙ first.started ∙ ap (λ before. newly_woken before (map subscription_of o.middle)) looked.same ∙ ap (newly_woken (map subscription_of old.entries.items)) (sym second.same));
-  answers = λ stock woken has_begun.
+  answers = λ stock woken beginning.
       o.answers ∙ same_answer (length (dropped o.seconds)) (greatest (lags o.puts ++ lags_again o.seconds))
       ∙ ap (λ n. drops_or_lag n (greatest (lags o.puts ++ lags_again o.seconds))) (ap length second.drops ∙ first.missed ∙ ap drop_count looked.same)
       ∙ ap (drops_or_lag (drop_count (map subscription_of old.entries.items))) (

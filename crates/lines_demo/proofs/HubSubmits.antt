@@ -32,6 +32,7 @@ use Rattle.lines_demo.proofs.HubOffers.{HubPublished, hub_published, looked_as_f
 use Rattle.lines_demo.proofs.OfferedLists.{AllOffered, all_offered, count_gathered, may_all_be_offered}
 use Rattle.lines_demo.proofs.SeenPublishers.{CameAsFar}
 use Rattle.lines_demo.proofs.WokenLists.{bit}
+use Rattle.lines_demo.specs.declared.script.session.beginning.Beginning.{Beginning}
 
 -- ---- whether anybody has no room
 
@@ -121,7 +122,7 @@ full_counted old glances ys is unclosed looked =
 pub record SubmitRefused (old new : Hub DeskState) (refusal : Refusal) : Type 0 where
   pub far : CameAsFar old new
   pub sees : ListSeesSame old.entries.items new.entries.items
-  pub why : (stock : ℕ) (woken : List ℕ) (has_begun : Bool) → (refusal ≡ Refusal.NoMemory) ⊎ (submit_refusal (state_of old stock woken has_begun) ≡ Some refusal)
+  pub why : (stock : ℕ) (woken : List ℕ) (beginning : Beginning) → (refusal ≡ Refusal.NoMemory) ⊎ (submit_refusal (state_of old stock woken beginning) ≡ Some refusal)
 
 -- why it was refused is why an offer is
 why_refused : (text : List ℕ) (old new : Hub DeskState) (refusal : Refusal) → WhyRefused end_of DoesCall text old new (Refused refusal) → WhyNotOffered end_of DoesCall old new refusal
@@ -143,11 +144,11 @@ pub submit_refused : (text : List ℕ) (old new : Hub DeskState) (refusal : Refu
 submit_refused text old new refusal is refuses =
     let plain : RefusesOffer end_of DoesCall old new refusal = record { unchanged = refuses.unchanged; why = why_refused text old new refusal refuses.why } in
     let refused = offer_refused old new refusal is plain in
-    record { far = refused.far; sees = refused.sees; why = λ stock woken has_begun. by stock woken has_begun (refused.why stock woken has_begun) } where
-      by : (stock : ℕ) (woken : List ℕ) (has_begun : Bool) → (refusal ≡ Refusal.NoMemory) ⊎ (publication_refusal (state_of old stock woken has_begun) ≡ Some refusal)
-          → (refusal ≡ Refusal.NoMemory) ⊎ (submit_refusal (state_of old stock woken has_begun) ≡ Some refusal)
-      by stock woken has_begun (inl memory) = inl memory
-      by stock woken has_begun (inr why) = inr (ap (λ (r : Option Refusal). refusal_or_wait r (list_any is_full (map subscription_of old.entries.items))) why)
+    record { far = refused.far; sees = refused.sees; why = λ stock woken beginning. by stock woken beginning (refused.why stock woken beginning) } where
+      by : (stock : ℕ) (woken : List ℕ) (beginning : Beginning) → (refusal ≡ Refusal.NoMemory) ⊎ (publication_refusal (state_of old stock woken beginning) ≡ Some refusal)
+          → (refusal ≡ Refusal.NoMemory) ⊎ (submit_refusal (state_of old stock woken beginning) ≡ Some refusal)
+      by stock woken beginning (inl memory) = inl memory
+      by stock woken beginning (inr why) = inr (ap (λ (r : Option Refusal). refusal_or_wait r (list_any is_full (map subscription_of old.entries.items))) why)
 
 -- a submission would wait where any buffer is full
 pub submit_waits : (text back : List ℕ) (old new : Hub DeskState) → IsScriptHub old → RefusesItem end_of DoesCall text old new (NoRoom back) → SubmitRefused old new Refusal.WouldWait
@@ -161,8 +162,8 @@ submit_waits text back old new is refuses =
     record {
       far = looked_as_far old new refuses.unchanged;
       sees = prepared_all_same old.next glances old.entries.items new.entries.items is.entries prepared;
-      why = λ stock woken has_begun. inr (
-          ap (λ (r : Option Refusal). refusal_or_wait r (list_any is_full (map subscription_of old.entries.items))) (nothing_against old stock woken has_begun open_still.0 (below_most old.next is.sound.few_items open_still.1))
+      why = λ stock woken beginning. inr (
+          ap (λ (r : Option Refusal). refusal_or_wait r (list_any is_full (map subscription_of old.entries.items))) (nothing_against old stock woken beginning open_still.0 (below_most old.next is.sound.few_items open_still.1))
           ∙ ap (refusal_or_wait None) waits
           );
     }
@@ -172,17 +173,17 @@ submit_waits text back old new is refuses =
 -- an item was submitted to all: a script stands where a publication leaves it, and that is the lag
 pub record HubSubmitted (text : List ℕ) (old new : Hub DeskState) (due : List (Work Unit)) (lag : ℕ) : Type 0 where
   pub published : HubPublished text old new due
-  pub allowed : (stock : ℕ) (woken : List ℕ) (has_begun : Bool) → submit_refusal (state_of old stock woken has_begun) ≡ None
-  pub answers : (stock : ℕ) (woken : List ℕ) (has_begun : Bool) → lag ≡ greatest_lag (next_item (state_of old stock woken has_begun) text) (map subscription_of old.entries.items)
+  pub allowed : (stock : ℕ) (woken : List ℕ) (beginning : Beginning) → submit_refusal (state_of old stock woken beginning) ≡ None
+  pub answers : (stock : ℕ) (woken : List ℕ) (beginning : Beginning) → lag ≡ greatest_lag (next_item (state_of old stock woken beginning) text) (map subscription_of old.entries.items)
 
 pub hub_submitted : (text : List ℕ) (old new : Hub DeskState) (due_old due : List (Work Unit)) (lag : ℕ) → IsScriptHub old → due_old ≡ [] → IsSound (hub_of end_of new)
     → Publishes end_of DoesCall SOURCE text old new due_old due lag → HubSubmitted text old new due lag
 hub_submitted text old new due_old due lag is no_due sound p = record {
   published = published;
-  allowed = λ stock woken has_begun.
-      ap (λ (r : Option Refusal). refusal_or_wait r (list_any is_full (map subscription_of old.entries.items))) (published.allowed stock woken has_begun)
+  allowed = λ stock woken beginning.
+      ap (λ (r : Option Refusal). refusal_or_wait r (list_any is_full (map subscription_of old.entries.items))) (published.allowed stock woken beginning)
       ∙ ap (refusal_or_wait None) (none_passes is_full (map subscription_of old.entries.items) (sym (first.missed ∙ ap drop_count looked.same) ∙ ap length p.no_drop));
-  answers = λ stock woken has_begun.
+  answers = λ stock woken beginning.
       p.greatest_lag ∙ first.lag ∙ ap (greatest_lag p.item) looked.same ∙ ap (λ i. greatest_lag i (map subscription_of old.entries.items)) (next_item_is old p.item text is p.reaches.next p.from p.words);
 } where
   looked : ListSeesSame old.entries.items p.middle

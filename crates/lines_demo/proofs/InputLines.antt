@@ -3,7 +3,7 @@ use Rattle.std.proofs.Common.{◌≡◌, ℕ, List, [], ◌∷◌, ◌++◌, ref
 use Rattle.std.specs.Prelude.{◌⊎◌, Result}
 use Rattle.std.proofs.lemmas.List.{append-nil}
 use Rattle.lines_demo.specs.Prelude.{Refusal}
-use Rattle.lines_demo.specs.Line.{lines_of, without_return}
+use Rattle.commands.specs.Line.{lines_of, without_return}
 use Rattle.lines_demo.specs.Threads.Input.{AddsLine, joined, line_publications, spelled_publications}
 use Rattle.lines_demo.specs.declared.threads.input.Publication.{Publication}
 

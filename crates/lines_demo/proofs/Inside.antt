@@ -6,7 +6,7 @@ use Rattle.lines_demo.specs.declared.script.session.Session.TheInside.{Inside}
 
 -- as the session's model has it
 abbrev pub state_inside : {B : Type 0} → Inside B → SessionState
-state_inside s = state_of s.hub (length s.stock.items) s.woken s.has_begun
+state_inside s = state_of s.hub (length s.stock.items) s.woken s.beginning
 
 -- the woken once this one is, too, if it was started
 abbrev pub woken_with : List ℕ → ℕ → Bool → List ℕ

@@ -2,24 +2,24 @@
 use Rattle.std.proofs.Common.{◌≡◌, ◌==◌, ℕ, zero, suc, ◌+◌, ◌-◌, Bool, true, false, not, ◌&&◌, if◌then◌else◌, nat_lt, List, [], ◌∷◌, ◌++◌, length, map, refl, sym, ap, subst, ◌∙◌, Option, Some, None, ◌<◌, ◌≤◌}
 use Rattle.std.specs.Prelude.{All, is_some, is_none, count_by}
 use Rattle.std.specs.List.{list_any}
-use Rattle.std.proofs.lemmas.List.Elements.{All-cons, All-head, All-tail, All-push, All-map, All-weaker}
+use Rattle.std.proofs.lemmas.List.Elements.{All-nil, All-cons, All-head, All-tail, All-push, All-map, All-weaker}
 use Rattle.feed_core.specs.Desk.{desk_after_signal, desk_after_duplicate}
 use Rattle.feed_core.specs.LaneCalls.{lane_with_item, lane_with_closing}
 use Rattle.feed_core.proofs.SoundDesks.{owes_live}
-use Rattle.lines_demo.specs.Prelude.{Item, Ending, Refusal, LONGEST_TEXT, DeskState, LaneState, owes, is_gone, lag_of}
-use Rattle.lines_demo.specs.Word.{is_word}
-use Rattle.lines_demo.specs.Script.State.{SubscriptionState, SessionState, CommandResult, unchanged_result, result_unless_no_memory}
+use Rattle.lines_demo.specs.Prelude.{Item, Ending, ErrorOrder, AfterItems, Refusal, LONGEST_TEXT, DeskState, LaneState, owes, is_gone, lag_of}
+use Rattle.commands.specs.Word.{is_word}
+use Rattle.lines_demo.specs.Script.State.{SubscriptionState, SessionState, CommandResult, refused_result, unchanged_result, result_unless_no_memory}
 use Rattle.lines_demo.specs.Script.Waking.{is_live, owes_turn, with_subscriptions}
 use Rattle.lines_demo.specs.Script.Subscribing.{MOST_LIVE, new_subscription, is_live_as, is_subscribed, subscription_after_duplicate, subscribing_refusal, subscribing_unless, duplicate_result, sub_result}
 use Rattle.lines_demo.specs.Script.Publishing.{next_item, subscription_after_offer, state_after_publication, publication_refusal, refusal_or_wait, submit_refusal, publication_unless, publication_result, is_full, offered_reply, retried_reply, submitted_reply}
-use Rattle.lines_demo.specs.Script.Obeying.{cap_result, desk_after_act, is_known, subscriptions_after_act, act_result, subscription_after_closing, state_after_closing, closing_result, state_at_command, call_result, command_result}
+use Rattle.lines_demo.specs.Script.Obeying.{cap_result, late_state, late_result, begun_state, desk_after_act, is_known, subscriptions_after_act, act_result, subscription_after_closing, state_after_closing, closing_result, command_result}
 use Rattle.lines_demo.specs.Script.Kept.{IsKept, IsLawful, IsReached}
 use Rattle.lines_demo.specs.Script.Laws.{WakesWhoOwes}
-use Rattle.lines_demo.specs.declared.script.command.Command.{Command}
-use Rattle.lines_demo.specs.declared.script.command.Command.TheVariants.{Cap, Sub, Offer, Retry, Submit, Request, Cancel, Close, Fail, Run}
+use Rattle.commands.specs.declared.command.Command.{Command}
+use Rattle.commands.specs.declared.command.Command.TheVariants.{Cap, Late, Sub, Offer, Retry, Submit, Request, Cancel, Close, Fail, Run}
 use Rattle.lines_demo.specs.declared.script.session.acting.Act.{Act}
-use Rattle.lines_demo.specs.declared.script.reply.Reply.{Reply}
-use Rattle.lines_demo.specs.declared.script.reply.Reply.TheVariants.{Done}
+use Rattle.commands.specs.declared.reply.Reply.{Reply}
+use Rattle.commands.specs.declared.reply.Reply.TheVariants.{Done, Ordered}
 use Rattle.lines_demo.proofs.Acts.{act_owes}
 use Rattle.lines_demo.proofs.KeptSubscriptions.{kept_act, kept_duplicate, kept_closing, kept_offer, kept_new, texts_with}
 use Rattle.lines_demo.proofs.LiveSubscriptions.{duplicate_live, offer_live, closing_live, live_map, acts_live, room_for_one, live_push}
@@ -27,9 +27,9 @@ use Rattle.lines_demo.proofs.OneName.{duplicate_named, offer_named, closing_name
 use Rattle.lines_demo.proofs.WokenLists.{wakes_with, owes_map, owes_append}
 
 -- a call that keeps each subscription and forgets nobody's turn
-lawful_with : (texts : ℕ → List ℕ) (state : SessionState) (now : List SubscriptionState) → WakesWhoOwes state → All (IsKept texts state.serial state.closing) now
+lawful_with : (texts : ℕ → List ℕ) (state : SessionState) (now : List SubscriptionState) → (state.beginning.is_over ≡ false → now ≡ []) → WakesWhoOwes state → All (IsKept texts state.serial state.beginning.order state.closing) now
     → ((number : ℕ) → owes_turn state.subscriptions number ≡ true → owes_turn now number ≡ true) → count_by is_live now ≤ MOST_LIVE → ((name : List ℕ) → count_by (is_live_as name) now ≤ 1) → IsLawful texts (with_subscriptions now state)
-lawful_with texts state now woken kept owed few names = record { subscriptions = kept; woken = wakes_with state now woken owed; few = few; names = names }
+lawful_with texts state now none woken kept owed few names = record { subscriptions = kept; none_yet = none; woken = wakes_with state now woken owed; few = few; names = names }
 
 -- a test keeps it where both of its answers do
 either : (b : Bool) (p q : CommandResult) → IsReached p.state → IsReached q.state → IsReached (if b then p else q).state
@@ -84,16 +84,16 @@ acts_owe name act (s ∷ later) k owed = by (is_known name later) (is_word s.nam
 
 -- ---- `sub`
 
-subscribing_reached : (state : SessionState) (refusals : List Bool) (name : List ℕ) (number : ℕ) (why : Option Refusal) → is_subscribed name state.subscriptions ≡ false → (why ≡ None → count_by is_live state.subscriptions < MOST_LIVE)
+subscribing_reached : (state : SessionState) (refusals : List Bool) (name : List ℕ) (number : ℕ) (why : Option Refusal) → state.beginning.is_over ≡ true → is_subscribed name state.subscriptions ≡ false → (why ≡ None → count_by is_live state.subscriptions < MOST_LIVE)
     → IsReached state → IsReached (subscribing_unless why state refusals name number).state
-subscribing_reached state refusals name number (Some refusal) free room is = is
-subscribing_reached state refusals name number None free room is =
+subscribing_reached state refusals name number (Some refusal) begun free room is = is
+subscribing_reached state refusals name number None begun free room is =
     let texts = is.0 in
     let lawful = is.1 in
     let new = new_subscription state name number in
     let left : SessionState = record state { stock = state.stock - 1 } in
-    let kept = All-push (IsKept texts state.serial state.closing) state.subscriptions new lawful.subscriptions (kept_new texts state name number) in
-    unless_reached state refusals _ is (λ more. (texts, lawful_with texts left (state.subscriptions ++ new ∷ []) lawful.woken kept (owes_append state.subscriptions (new ∷ [])) (live_push state.subscriptions new (room refl)) (one_push state.subscriptions new free lawful.names)))
+    let kept = All-push (IsKept texts state.serial state.beginning.order state.closing) state.subscriptions new lawful.subscriptions (kept_new texts state name number) in
+    unless_reached state refusals _ is (λ more. (texts, lawful_with texts left (state.subscriptions ++ new ∷ []) (λ unread. (let never : true ≡ false = sym begun ∙ unread in cc)) lawful.woken kept (owes_append state.subscriptions (new ∷ [])) (live_push state.subscriptions new (room refl)) (one_push state.subscriptions new free lawful.names)))
 
 duplicate_reached : (state : SessionState) (refusals : List Bool) (name : List ℕ) → IsReached state → IsReached (duplicate_result state refusals name).state
 duplicate_reached state refusals name is =
@@ -101,27 +101,27 @@ duplicate_reached state refusals name is =
     let lawful = is.1 in
     let change = subscription_after_duplicate name in (
       texts,
-      lawful_with texts state (map change state.subscriptions) lawful.woken
-          (All-map (IsKept texts state.serial state.closing) change state.subscriptions
-          (All-weaker (IsKept texts state.serial state.closing) (λ s. IsKept texts state.serial state.closing (change s)) (one texts) state.subscriptions lawful.subscriptions))
+      lawful_with texts state (map change state.subscriptions) (λ unread. ap (map change) (lawful.none_yet unread)) lawful.woken
+          (All-map (IsKept texts state.serial state.beginning.order state.closing) change state.subscriptions
+          (All-weaker (IsKept texts state.serial state.beginning.order state.closing) (λ s. IsKept texts state.serial state.beginning.order state.closing (change s)) (one texts) state.subscriptions lawful.subscriptions))
           (owes_map change (duplicate_owes name) state.subscriptions)
           (subst (λ n. n ≤ MOST_LIVE) (sym (live_map change (duplicate_live name) state.subscriptions)) lawful.few)
           (one_map change state.subscriptions (λ other s. duplicate_named other name s) lawful.names),
     ) where
-      one : (texts : ℕ → List ℕ) (s : SubscriptionState) → IsKept texts state.serial state.closing s → IsKept texts state.serial state.closing (subscription_after_duplicate name s)
+      one : (texts : ℕ → List ℕ) (s : SubscriptionState) → IsKept texts state.serial state.beginning.order state.closing s → IsKept texts state.serial state.beginning.order state.closing (subscription_after_duplicate name s)
       one texts s kept = by (is_live_as name s) where
-        by : (live : Bool) → IsKept texts state.serial state.closing (if live then record s { desk = desk_after_duplicate s.desk } else s)
-        by true = kept_duplicate texts state.serial state.closing s kept
+        by : (live : Bool) → IsKept texts state.serial state.beginning.order state.closing (if live then record s { desk = desk_after_duplicate s.desk } else s)
+        by true = kept_duplicate texts state.serial state.beginning.order state.closing s kept
         by false = kept
 
-pub sub_reached : (state : SessionState) (refusals : List Bool) (name : List ℕ) (number : ℕ) → IsReached state → IsReached (sub_result state refusals name number).state
-sub_reached state refusals name number is =
+pub sub_reached : (state : SessionState) (refusals : List Bool) (name : List ℕ) (number : ℕ) → state.beginning.is_over ≡ true → IsReached state → IsReached (sub_result state refusals name number).state
+sub_reached state refusals name number begun is =
     unless_reached state refusals _ is
     (λ left. by left (is_subscribed name state.subscriptions) refl) where
       by : (left : List Bool) (live : Bool) → is_subscribed name state.subscriptions ≡ live
           → IsReached (if live then duplicate_result state left name else subscribing_unless (subscribing_refusal state) state left name number).state
       by left true e = duplicate_reached state left name is
-      by left false e = subscribing_reached state left name number (subscribing_refusal state) e (room_for_one state) is
+      by left false e = subscribing_reached state left name number (subscribing_refusal state) begun e (room_for_one state) is
 
 -- ---- publications
 
@@ -131,13 +131,13 @@ published_reached state text unclosed is =
     let lawful = is.1 in
     let change = subscription_after_offer (next_item state text) in
     let more = texts_with state.serial text texts in
-    let open_kept : All (IsKept texts state.serial None) state.subscriptions = subst (λ closing. All (IsKept texts state.serial closing) state.subscriptions) unclosed lawful.subscriptions in
-    let kept : All (IsKept more (state.serial + 1) None) (map change state.subscriptions) =
-    All-map (IsKept more (state.serial + 1) None) change state.subscriptions
-    (All-weaker (IsKept texts state.serial None) (λ s. IsKept more (state.serial + 1) None (change s)) (kept_offer texts state.serial text) state.subscriptions open_kept) in (
+    let open_kept : All (IsKept texts state.serial state.beginning.order None) state.subscriptions = subst (λ closing. All (IsKept texts state.serial state.beginning.order closing) state.subscriptions) unclosed lawful.subscriptions in
+    let kept : All (IsKept more (state.serial + 1) state.beginning.order None) (map change state.subscriptions) =
+    All-map (IsKept more (state.serial + 1) state.beginning.order None) change state.subscriptions
+    (All-weaker (IsKept texts state.serial state.beginning.order None) (λ s. IsKept more (state.serial + 1) state.beginning.order None (change s)) (kept_offer texts state.serial state.beginning.order text) state.subscriptions open_kept) in (
       more,
-      lawful_with more (record state { serial = state.serial + 1 }) (map change state.subscriptions) lawful.woken
-          (subst (λ closing. All (IsKept more (state.serial + 1) closing) (map change state.subscriptions)) (sym unclosed) kept)
+      lawful_with more (record state { serial = state.serial + 1 }) (map change state.subscriptions) (λ unread. ap (map change) (lawful.none_yet unread)) lawful.woken
+          (subst (λ closing. All (IsKept more (state.serial + 1) state.beginning.order closing) (map change state.subscriptions)) (sym unclosed) kept)
           (owes_map change (offer_owes (next_item state text)) state.subscriptions)
           (subst (λ n. n ≤ MOST_LIVE) (sym (live_map change (offer_live (next_item state text)) state.subscriptions)) lawful.few)
           (one_map change state.subscriptions (λ name s. offer_named name (next_item state text) s) lawful.names),
@@ -167,23 +167,23 @@ submit_allowed state allowed = by (publication_refusal state) (list_any is_full 
   by None waits e = refl
   by (Some refusal) waits e = cc
 
--- ---- acts, closings and `cap`
+-- ---- acts, closings, `cap` and `late`
 
-acts_kept : (texts : ℕ → List ℕ) (next : ℕ) (closed : Option Ending) (name : List ℕ) (act : Act) (subscriptions : List SubscriptionState) → All (IsKept texts next closed) subscriptions
-    → All (IsKept texts next closed) (subscriptions_after_act name act subscriptions)
-acts_kept texts next closed name act [] kept = kept
-acts_kept texts next closed name act (s ∷ later) kept =
-    by (is_known name later) (is_word s.name name) (acts_kept texts next closed name act later (All-tail (IsKept texts next closed) s later kept)) where
-      first : IsKept texts next closed s
-      first = All-head (IsKept texts next closed) s later kept
+acts_kept : (texts : ℕ → List ℕ) (next : ℕ) (order : ErrorOrder) (closed : Option Ending) (name : List ℕ) (act : Act) (subscriptions : List SubscriptionState) → All (IsKept texts next order closed) subscriptions
+    → All (IsKept texts next order closed) (subscriptions_after_act name act subscriptions)
+acts_kept texts next order closed name act [] kept = kept
+acts_kept texts next order closed name act (s ∷ later) kept =
+    by (is_known name later) (is_word s.name name) (acts_kept texts next order closed name act later (All-tail (IsKept texts next order closed) s later kept)) where
+      first : IsKept texts next order closed s
+      first = All-head (IsKept texts next order closed) s later kept
 
-      rest : All (IsKept texts next closed) later
-      rest = All-tail (IsKept texts next closed) s later kept
+      rest : All (IsKept texts next order closed) later
+      rest = All-tail (IsKept texts next order closed) s later kept
 
-      by : (known named : Bool) → All (IsKept texts next closed) (subscriptions_after_act name act later)
-          → All (IsKept texts next closed) (if known then s ∷ subscriptions_after_act name act later else (if named then (record s { desk = desk_after_act act s.desk }) ∷ later else s ∷ later))
-      by true named after = All-cons (IsKept texts next closed) s (subscriptions_after_act name act later) first after
-      by false true after = All-cons (IsKept texts next closed) (record s { desk = desk_after_act act s.desk }) later (kept_act texts next closed s act first) rest
+      by : (known named : Bool) → All (IsKept texts next order closed) (subscriptions_after_act name act later)
+          → All (IsKept texts next order closed) (if known then s ∷ subscriptions_after_act name act later else (if named then (record s { desk = desk_after_act act s.desk }) ∷ later else s ∷ later))
+      by true named after = All-cons (IsKept texts next order closed) s (subscriptions_after_act name act later) first after
+      by false true after = All-cons (IsKept texts next order closed) (record s { desk = desk_after_act act s.desk }) later (kept_act texts next order closed s act first) rest
       by false false after = kept
 
 pub act_reached : (state : SessionState) (refusals : List Bool) (name : List ℕ) (act : Act) → IsReached state → IsReached (act_result state refusals name act).state
@@ -192,8 +192,8 @@ act_reached state refusals name act is =
     let lawful = is.1 in
     either (is_known name state.subscriptions) _ _ (
       texts,
-      lawful_with texts state (subscriptions_after_act name act state.subscriptions) lawful.woken
-          (acts_kept texts state.serial state.closing name act state.subscriptions lawful.subscriptions)
+      lawful_with texts state (subscriptions_after_act name act state.subscriptions) (λ unread. ap (subscriptions_after_act name act) (lawful.none_yet unread)) lawful.woken
+          (acts_kept texts state.serial state.beginning.order state.closing name act state.subscriptions lawful.subscriptions)
           (acts_owe name act state.subscriptions)
           (subst (λ n. n ≤ MOST_LIVE) (sym (acts_live name act state.subscriptions)) lawful.few)
           (one_act name act state.subscriptions lawful.names),
@@ -202,8 +202,8 @@ act_reached state refusals name act is =
 
 pub closing_reached : (ending : Ending) (state : SessionState) (refusals : List Bool) → IsReached state → IsReached (closing_result ending state refusals).state
 closing_reached ending state refusals is = by state.closing refl where
-  open_kept : state.closing ≡ None → All (IsKept is.0 state.serial None) state.subscriptions
-  open_kept e = subst (λ closing. All (IsKept is.0 state.serial closing) state.subscriptions) e is.1.subscriptions
+  open_kept : state.closing ≡ None → All (IsKept is.0 state.serial state.beginning.order None) state.subscriptions
+  open_kept e = subst (λ closing. All (IsKept is.0 state.serial state.beginning.order closing) state.subscriptions) e is.1.subscriptions
 
   by : (closing : Option Ending) → state.closing ≡ closing
       → IsReached (if is_some closing then unchanged_result state refusals Done
@@ -214,9 +214,9 @@ closing_reached ending state refusals is = by state.closing refl where
       unless_reached state refusals (λ left. record { reply = Done; state = state_after_closing ending state; refusals = left }) is
       (λ left. (
         is.0,
-        lawful_with is.0 (record state { closing = Some ending }) (map change state.subscriptions) is.1.woken
-            (All-map (IsKept is.0 state.serial (Some ending)) change state.subscriptions
-            (All-weaker (IsKept is.0 state.serial None) (λ s. IsKept is.0 state.serial (Some ending) (change s)) (kept_closing is.0 state.serial ending) state.subscriptions (open_kept e)))
+        lawful_with is.0 (record state { closing = Some ending }) (map change state.subscriptions) (λ unread. ap (map change) (is.1.none_yet unread)) is.1.woken
+            (All-map (IsKept is.0 state.serial state.beginning.order (Some ending)) change state.subscriptions
+            (All-weaker (IsKept is.0 state.serial state.beginning.order None) (λ s. IsKept is.0 state.serial state.beginning.order (Some ending) (change s)) (kept_closing is.0 state.serial state.beginning.order ending) state.subscriptions (open_kept e)))
             (owes_map change (closing_owes ending) state.subscriptions)
             (subst (λ n. n ≤ MOST_LIVE) (sym (live_map change (closing_live ending) state.subscriptions)) is.1.few)
             (one_map change state.subscriptions (λ name s. closing_named name ending s) is.1.names),
@@ -224,41 +224,41 @@ closing_reached ending state refusals is = by state.closing refl where
 
 cap_reached : (state : SessionState) (refusals : List Bool) (capacity : ℕ) → IsReached state → IsReached (cap_result state refusals capacity).state
 cap_reached state refusals capacity is =
-    either state.has_begun _ _ is
-    (either (capacity == 0) _ _ is (unless_reached state refusals _ is (λ left. (is.0, record { subscriptions = is.1.subscriptions; woken = is.1.woken; few = is.1.few; names = is.1.names }))))
+    either state.beginning.is_over _ _ is
+    (either (capacity == 0) _ _ is (unless_reached state refusals _ is (λ left. (is.0, record { subscriptions = is.1.subscriptions; none_yet = is.1.none_yet; woken = is.1.woken; few = is.1.few; names = is.1.names }))))
+
+-- nobody has subscribed who would be told errors in another order
+late_reached : (state : SessionState) (refusals : List Bool) → IsReached state → IsReached (late_result state refusals).state
+late_reached state refusals is = by state.beginning.is_over refl where
+  by : (over : Bool) → state.beginning.is_over ≡ over → IsReached (if over then refused_result state refusals Refusal.BadCommand else record { reply = Ordered; state = late_state state; refusals = refusals }).state
+  by true e = is
+  by false e = (
+    is.0,
+    record {
+      subscriptions = subst (λ (l : List SubscriptionState). All (IsKept is.0 state.serial AfterItems state.closing) l) (sym (is.1.none_yet e)) (All-nil (IsKept is.0 state.serial AfterItems state.closing));
+      none_yet = is.1.none_yet;
+      woken = is.1.woken;
+      few = is.1.few;
+      names = is.1.names;
+    },
+  )
 
 -- ---- commands
 
-call_reached : (command : Command) (state : SessionState) (refusals : List Bool) → IsReached state → IsReached (call_result command state refusals).state
-call_reached (Cap capacity) state refusals is = cap_reached state refusals capacity is
-call_reached (Sub name number) state refusals is = sub_reached state refusals name number is
-call_reached (Offer text) state refusals is = publication_reached publication_refusal offered_reply state refusals text (λ allowed. allowed) is
-call_reached (Retry text) state refusals is = publication_reached publication_refusal retried_reply state refusals text (λ allowed. allowed) is
-call_reached (Submit text) state refusals is = publication_reached submit_refusal submitted_reply state refusals text (submit_allowed state) is
-call_reached (Request name number) state refusals is = act_reached state refusals name (Act.Request number) is
-call_reached (Cancel name) state refusals is = act_reached state refusals name Act.Cancel is
-call_reached Close state refusals is = closing_reached Ending.Normal state refusals is
-call_reached (Fail code) state refusals is = closing_reached (Ending.Failed code) state refusals is
-call_reached Run state refusals is = is
-
--- the end of the time of `cap` changes no subscription
-begun_reached : (command : Command) (state : SessionState) → IsReached state → IsReached (state_at_command command state)
-begun_reached command state is = by command where
-  begun : IsReached (record state { has_begun = true })
-  begun = (is.0, record { subscriptions = is.1.subscriptions; woken = is.1.woken; few = is.1.few; names = is.1.names })
-
-  by : (c : Command) → IsReached (state_at_command c state)
-  by (Cap capacity) = is
-  by (Sub name number) = begun
-  by (Offer text) = begun
-  by (Retry text) = begun
-  by (Submit text) = begun
-  by (Request name number) = begun
-  by (Cancel name) = begun
-  by Close = begun
-  by (Fail code) = begun
-  by Run = begun
+-- the end of the beginning changes no subscription
+begun_reached : (state : SessionState) → IsReached state → IsReached (begun_state state)
+begun_reached state is = (is.0, record { subscriptions = is.1.subscriptions; none_yet = λ never. cc; woken = is.1.woken; few = is.1.few; names = is.1.names })
 
 -- each command leaves a script where it may stand
 pub command_reached : (command : Command) (state : SessionState) (refusals : List Bool) → IsReached state → IsReached (command_result command state refusals).state
-command_reached command state refusals is = call_reached command (state_at_command command state) refusals (begun_reached command state is)
+command_reached (Cap capacity) state refusals is = cap_reached state refusals capacity is
+command_reached Late state refusals is = late_reached state refusals is
+command_reached (Sub name number) state refusals is = sub_reached (begun_state state) refusals name number refl (begun_reached state is)
+command_reached (Offer text) state refusals is = publication_reached publication_refusal offered_reply (begun_state state) refusals text (λ allowed. allowed) (begun_reached state is)
+command_reached (Retry text) state refusals is = publication_reached publication_refusal retried_reply (begun_state state) refusals text (λ allowed. allowed) (begun_reached state is)
+command_reached (Submit text) state refusals is = publication_reached submit_refusal submitted_reply (begun_state state) refusals text (submit_allowed (begun_state state)) (begun_reached state is)
+command_reached (Request name number) state refusals is = act_reached (begun_state state) refusals name (Act.Request number) (begun_reached state is)
+command_reached (Cancel name) state refusals is = act_reached (begun_state state) refusals name Act.Cancel (begun_reached state is)
+command_reached Close state refusals is = closing_reached Ending.Normal (begun_state state) refusals (begun_reached state is)
+command_reached (Fail code) state refusals is = closing_reached (Ending.Failed code) (begun_state state) refusals (begun_reached state is)
+command_reached Run state refusals is = begun_reached state is

@@ -1,21 +1,22 @@
 -- At the end of any script its subscriptions keep what they have to, and just those who owe a turn are woken.
 use Rattle.std.proofs.Common.{◌==◌, ℕ, Bool, true, false, if◌then◌else◌, nat_lt, List, [], ◌∷◌, length, refl, Option, Some, None, arith}
 use Rattle.std.proofs.lemmas.List.Elements.{All-nil}
-use Rattle.lines_demo.specs.Line.{lines_of, without_return}
+use Rattle.lines_demo.specs.Prelude.{Overtake}
+use Rattle.commands.specs.Line.{lines_of, without_return}
 use Rattle.lines_demo.specs.Script.Answering.{turns_before, spelled_result, line_result, lines_result}
-use Rattle.lines_demo.specs.Script.Command.{command_of}
+use Rattle.commands.specs.Command.{command_of}
 use Rattle.lines_demo.specs.Script.Laws.{script_state}
 use Rattle.lines_demo.specs.Script.Kept.{IsKept, IsReached}
 use Rattle.lines_demo.specs.Script.State.{SessionState, LineResult, state_at_start}
-use Rattle.lines_demo.specs.declared.script.command.Command.{Command}
-use Rattle.lines_demo.specs.declared.script.command.Command.TheVariants.{Cap, Sub, Offer, Retry, Submit, Request, Cancel, Close, Fail, Run}
-use Rattle.lines_demo.specs.declared.script.player.TheConstants.{LONGEST_LINE}
+use Rattle.commands.specs.declared.command.Command.{Command}
+use Rattle.commands.specs.declared.command.Command.TheVariants.{Cap, Late, Sub, Offer, Retry, Submit, Request, Cancel, Close, Fail, Run}
+use Rattle.commands.specs.declared.line.TheConstants.{LONGEST_LINE}
 use Rattle.lines_demo.proofs.KeptCommands.{command_reached}
 use Rattle.lines_demo.proofs.KeptTurns.{run_reached}
 
 -- where a script starts
 pub start_reached : (stock : ℕ) → IsReached (state_at_start stock)
-start_reached stock = ((λ serial. []), record { subscriptions = All-nil (IsKept (λ serial. []) 0 None); woken = λ number. refl; few = omega arith; names = λ name. omega arith })
+start_reached stock = ((λ serial. []), record { subscriptions = All-nil (IsKept (λ serial. []) 0 Overtake None); none_yet = λ unread. refl; woken = λ number. refl; few = omega arith; names = λ name. omega arith })
 
 -- a test keeps it where both of its answers do
 either : (b : Bool) (p q : LineResult) → IsReached p.state → IsReached q.state → IsReached (if b then p else q).state
@@ -24,6 +25,7 @@ either false p q is_p is_q = is_q
 
 turns_before_reached : (command : Command) (state : SessionState) (refusals : List Bool) → IsReached state → IsReached (turns_before command state refusals).state
 turns_before_reached (Cap capacity) state refusals is = is
+turns_before_reached Late state refusals is = is
 turns_before_reached (Sub name number) state refusals is = is
 turns_before_reached (Offer text) state refusals is = is
 turns_before_reached (Retry text) state refusals is = is

@@ -8,7 +8,7 @@ use Rattle.feed_core.specs.LaneCalls.{lane_with_item, lane_with_closing}
 use Rattle.feed_core.specs.PlainTurn.{plain_turn_of}
 use Rattle.feed_core.specs.Turn.{MeetsPlainTurn, how_after, causes_after}
 use Rattle.feed_core.proofs.SoundDesks.{sound_new_desk, sound_desk_put, sound_desk_demand, sound_desk_end, sound_desk_duplicate, sound_desk_turn}
-use Rattle.lines_demo.specs.Prelude.{Item, Signal, Ending, How, Outlook, desk_after_demand, desk_after_end, is_gone, lag_of}
+use Rattle.lines_demo.specs.Prelude.{Item, Signal, Ending, ErrorOrder, How, Outlook, desk_after_demand, desk_after_end, is_gone, lag_of}
 use Rattle.lines_demo.specs.Script.State.{SubscriptionState, SessionState}
 use Rattle.lines_demo.specs.Script.Subscribing.{desk_at_start, desk_at_subscribing, new_subscription}
 use Rattle.lines_demo.specs.Script.Publishing.{subscription_after_offer}
@@ -23,24 +23,24 @@ use Rattle.lines_demo.proofs.WokenLists.{same_test, other_test}
 
 -- ---- acts and duplicates
 
-pub kept_act : (texts : ℕ → List ℕ) (next : ℕ) (closed : Option Ending) (s : SubscriptionState) (act : Act) → IsKept texts next closed s
-    → IsKept texts next closed (record s { desk = desk_after_act act s.desk })
-kept_act texts next closed s act kept =
-    by_act act s.desk (λ desk. IsSoundDesk desk → IsKept texts next closed (record s { desk = desk })) (λ asked cancel argument started cancelled goes_on sound.
-    record { sound = sound; rise = kept.rise; published = kept.published; most = kept.most; all = kept.all; closing = kept.closing }) (act_sound act s.desk kept.sound)
+pub kept_act : (texts : ℕ → List ℕ) (next : ℕ) (order : ErrorOrder) (closed : Option Ending) (s : SubscriptionState) (act : Act) → IsKept texts next order closed s
+    → IsKept texts next order closed (record s { desk = desk_after_act act s.desk })
+kept_act texts next order closed s act kept =
+    by_act act s.desk (λ desk. IsSoundDesk desk → IsKept texts next order closed (record s { desk = desk })) (λ asked cancel argument started cancelled goes_on sound.
+    record { sound = sound; rise = kept.rise; published = kept.published; most = kept.most; all = kept.all; closing = kept.closing; ordered = kept.ordered }) (act_sound act s.desk kept.sound)
 
-pub kept_duplicate : (texts : ℕ → List ℕ) (next : ℕ) (closed : Option Ending) (s : SubscriptionState) → IsKept texts next closed s
-    → IsKept texts next closed (record s { desk = desk_after_duplicate s.desk })
-kept_duplicate texts next closed s kept =
-    record { sound = sound_desk_duplicate s.desk kept.sound; rise = kept.rise; published = kept.published; most = kept.most; all = kept.all; closing = kept.closing }
+pub kept_duplicate : (texts : ℕ → List ℕ) (next : ℕ) (order : ErrorOrder) (closed : Option Ending) (s : SubscriptionState) → IsKept texts next order closed s
+    → IsKept texts next order closed (record s { desk = desk_after_duplicate s.desk })
+kept_duplicate texts next order closed s kept =
+    record { sound = sound_desk_duplicate s.desk kept.sound; rise = kept.rise; published = kept.published; most = kept.most; all = kept.all; closing = kept.closing; ordered = kept.ordered }
 
 -- ---- closing
 
-pub kept_closing : (texts : ℕ → List ℕ) (next : ℕ) (ending : Ending) (s : SubscriptionState) → IsKept texts next None s
-    → IsKept texts next (Some ending) (subscription_after_closing ending s)
-kept_closing texts next ending s kept = by s.desk.lane.how refl where
+pub kept_closing : (texts : ℕ → List ℕ) (next : ℕ) (order : ErrorOrder) (ending : Ending) (s : SubscriptionState) → IsKept texts next order None s
+    → IsKept texts next order (Some ending) (subscription_after_closing ending s)
+kept_closing texts next order ending s kept = by s.desk.lane.how refl where
   unclosed : (closing : Option Ending) → s.desk.lane.causes.closing ≡ closing → closing ≡ None → s.desk.lane.how ≡ None
-      → IsKept texts next (Some ending) (record s { desk = if is_some closing then s.desk else desk_after_signal s.desk (lane_with_closing ending s.desk.lane) })
+      → IsKept texts next order (Some ending) (record s { desk = if is_some closing then s.desk else desk_after_signal s.desk (lane_with_closing ending s.desk.lane) })
   unclosed (Some other) is none live = cc
   unclosed None is none live = record {
     sound = closed_sound;
@@ -49,11 +49,12 @@ kept_closing texts next ending s kept = by s.desk.lane.how refl where
     most = kept.most;
     all = kept.all;
     closing = λ e. refl;
+    ordered = kept.ordered;
   } where
     closed_sound : IsSoundDesk (desk_after_signal s.desk (lane_with_closing ending s.desk.lane))
     closed_sound = subst (λ closing. IsSoundDesk (if is_some closing then s.desk else desk_after_signal s.desk (lane_with_closing ending s.desk.lane))) is (sound_desk_end s.desk ending kept.sound)
 
-  by : (how : Option How) → s.desk.lane.how ≡ how → IsKept texts next (Some ending) (if is_none how then record s { desk = desk_after_end ending s.desk } else s)
+  by : (how : Option How) → s.desk.lane.how ≡ how → IsKept texts next order (Some ending) (if is_none how then record s { desk = desk_after_end ending s.desk } else s)
   by None live = unclosed s.desk.lane.causes.closing refl (kept.closing live) live
   by (Some how) ended = record {
     sound = kept.sound;
@@ -62,6 +63,7 @@ kept_closing texts next ending s kept = by s.desk.lane.how refl where
     most = kept.most;
     all = λ live. (let never : Some how ≡ None = sym ended ∙ live in cc);
     closing = λ live. (let never : Some how ≡ None = sym ended ∙ live in cc);
+    ordered = kept.ordered;
   }
 
 -- ---- publications
@@ -99,9 +101,9 @@ rise_more : (texts : ℕ → List ℕ) (first next : ℕ) (text : List ℕ) (ite
 rise_more texts first next text items rise published =
     all_pairs_push (λ item later. item.serial < later.serial) items (record { source = 0; seq = next; serial = next; text = text }) rise (λ k d within. (published k d within).before)
 
-pub kept_offer : (texts : ℕ → List ℕ) (next : ℕ) (text : List ℕ) (s : SubscriptionState) → IsKept texts next None s
-    → IsKept (texts_with next text texts) (next + 1) None (subscription_after_offer (record { source = 0; seq = next; serial = next; text = text }) s)
-kept_offer texts next text s kept = by (is_gone s.desk.lane) (lag_of s.desk.lane == s.desk.capacity) refl refl where
+pub kept_offer : (texts : ℕ → List ℕ) (next : ℕ) (order : ErrorOrder) (text : List ℕ) (s : SubscriptionState) → IsKept texts next order None s
+    → IsKept (texts_with next text texts) (next + 1) order None (subscription_after_offer (record { source = 0; seq = next; serial = next; text = text }) s)
+kept_offer texts next order text s kept = by (is_gone s.desk.lane) (lag_of s.desk.lane == s.desk.capacity) refl refl where
   item : Item
   item = record { source = 0; seq = next; serial = next; text = text }
 
@@ -114,7 +116,7 @@ kept_offer texts next text s kept = by (is_gone s.desk.lane) (lag_of s.desk.lane
       let never : false ≡ true = sym (ap (λ (how : Option How). is_some how || is_some s.desk.lane.causes.closing) live ∙ ap is_some (kept.closing live)) ∙ gone in cc
 
   by : (gone full : Bool) → is_gone s.desk.lane ≡ gone → (lag_of s.desk.lane == s.desk.capacity) ≡ full
-      → IsKept (texts_with next text texts) (next + 1) None (record s {
+      → IsKept (texts_with next text texts) (next + 1) order None (record s {
         dropped = if not gone && full then s.dropped + 1 else s.dropped;
         desk = if not gone && not full then desk_after_signal s.desk (lane_with_item item s.desk.lane) else s.desk;
       })
@@ -125,6 +127,7 @@ kept_offer texts next text s kept = by (is_gone s.desk.lane) (lag_of s.desk.lane
     most = (let most = kept.most in omega arith);
     all = λ live. absurd (ended g live);
     closing = kept.closing;
+    ordered = kept.ordered;
   }
   by false true g f = record {
     sound = kept.sound;
@@ -133,6 +136,7 @@ kept_offer texts next text s kept = by (is_gone s.desk.lane) (lag_of s.desk.lane
     most = (let most = kept.most in omega arith);
     all = λ live. (let all = kept.all live in omega arith);
     closing = kept.closing;
+    ordered = kept.ordered;
   }
   by false false g f = record {
     sound = taken;
@@ -141,6 +145,7 @@ kept_offer texts next text s kept = by (is_gone s.desk.lane) (lag_of s.desk.lane
     most = (let most = kept.most in omega (arith, grown));
     all = λ live. (let all = kept.all live in omega (arith, grown));
     closing = kept.closing;
+    ordered = kept.ordered;
   } where
     grown : length (s.desk.lane.accepted ++ item ∷ []) ≡ length s.desk.lane.accepted + 1
     grown = length-append s.desk.lane.accepted (item ∷ [])
@@ -152,43 +157,58 @@ kept_offer texts next text s kept = by (is_gone s.desk.lane) (lag_of s.desk.lane
 
 -- ---- new subscriptions
 
-pub kept_new : (texts : ℕ → List ℕ) (state : SessionState) (name : List ℕ) (number : ℕ) → IsKept texts state.serial state.closing (new_subscription state name number)
+pub kept_new : (texts : ℕ → List ℕ) (state : SessionState) (name : List ℕ) (number : ℕ) → IsKept texts state.serial state.beginning.order state.closing (new_subscription state name number)
 kept_new texts state name number = by state.closing where
-  fresh : IsSoundDesk (desk_at_start state.capacity)
-  fresh = sound_new_desk state.capacity true true 0 refl
+  order : ErrorOrder
+  order = state.beginning.order
+
+  fresh : IsSoundDesk (desk_at_start order state.capacity)
+  fresh = sound_new_desk order state.capacity true true 0 refl
 
   by : (closing : Option Ending)
-      → IsKept texts state.serial closing (record { name = name; since = state.serial; dropped = 0; desk = desk_after_demand number (desk_at_subscribing closing state.capacity) })
+      → IsKept texts state.serial order closing (record { name = name; since = state.serial; dropped = 0; desk = desk_after_demand number (desk_at_subscribing closing order state.capacity) })
   by None = record {
-    sound = sound_desk_demand (desk_at_start state.capacity) number fresh;
+    sound = sound_desk_demand (desk_at_start order state.capacity) number fresh;
     rise = λ i j d less within. absurd (omega arith);
     published = All-nil (IsPublished texts state.serial state.serial);
     most = omega arith;
     all = λ live. omega arith;
     closing = λ live. refl;
+    ordered = refl;
   }
   by (Some ending) = record {
-    sound = sound_desk_demand (desk_after_end ending (desk_at_start state.capacity)) number (sound_desk_end (desk_at_start state.capacity) ending fresh);
+    sound = sound_desk_demand (desk_after_end ending (desk_at_start order state.capacity)) number (sound_desk_end (desk_at_start order state.capacity) ending fresh);
     rise = λ i j d less within. absurd (omega arith);
     published = All-nil (IsPublished texts state.serial state.serial);
     most = omega arith;
     all = λ live. omega arith;
     closing = λ live. refl;
+    ordered = refl;
   }
 
 -- ---- turns
 
-pub kept_turn : (texts : ℕ → List ℕ) (next : ℕ) (closed : Option Ending) (s : SubscriptionState) (told : List Signal) (outlook : Outlook) → IsKept texts next closed s → s.desk.lane.how ≡ None
-    → MeetsPlainTurn (plain_turn_of s.desk.lane) told outlook → IsKept texts next closed (subscription_after_turn told outlook s)
-kept_turn texts next closed s told outlook kept live meets = record {
+pub kept_turn : (texts : ℕ → List ℕ) (next : ℕ) (order : ErrorOrder) (closed : Option Ending) (s : SubscriptionState) (told : List Signal) (outlook : Outlook) → IsKept texts next order closed s → s.desk.lane.how ≡ None
+    → MeetsPlainTurn (plain_turn_of s.desk.lane) told outlook → IsKept texts next order closed (subscription_after_turn told outlook s)
+kept_turn texts next order closed s told outlook kept live meets = record {
   sound = sound_desk_turn s.desk told outlook kept.sound live meets;
   rise = kept.rise;
   published = kept.published;
   most = kept.most;
   all = λ still. kept.all live;
   closing = closing outlook;
+  ordered = ordered outlook ∙ kept.ordered;
 } where
   closing : (o : Outlook) → how_after o ≡ None → (causes_after o s.desk.lane.causes).closing ≡ closed
   closing Outlook.Again still = kept.closing live
   closing Outlook.Resting still = kept.closing live
   closing (Outlook.Ended how) still = cc
+
+  ordered : (o : Outlook) → (causes_after o s.desk.lane.causes).order ≡ s.desk.lane.causes.order
+  ordered Outlook.Again = refl
+  ordered Outlook.Resting = refl
+  ordered (Outlook.Ended How.Completed) = refl
+  ordered (Outlook.Ended (How.Errored fault)) = refl
+  ordered (Outlook.Ended How.Cancelled) = refl
+  ordered (Outlook.Ended (How.Failed code)) = refl
+  ordered (Outlook.Ended How.OutOfMemory) = refl

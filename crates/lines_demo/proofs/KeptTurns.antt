@@ -135,14 +135,15 @@ turn_lawful texts number rest state refusals lawful woken = by (slice_get state.
   by None is = let never : false ≡ true = sym (ap owes_if_there is) ∙ owed in cc
   by (Some s) is =
       let within = slice_get_within state.subscriptions number s is in
-      let kept : IsKept texts state.serial state.closing s =
-      subst (IsKept texts state.serial state.closing) (get_or_from_slice_get state.subscriptions number s s is) (lawful.subscriptions number s within) in
+      let kept : IsKept texts state.serial state.beginning.order state.closing s =
+      subst (IsKept texts state.serial state.beginning.order state.closing) (get_or_from_slice_get state.subscriptions number s s is) (lawful.subscriptions number s within) in
       let live : s.desk.lane.how ≡ None = owes_live s.desk (sym (ap owes_if_there is) ∙ owed) in
       let told = told_in s.desk.lane refusals in
       let outlook = outlook_in s.desk.lane refusals in
       record {
-        subscriptions = All-set (IsKept texts state.serial state.closing) state.subscriptions number (subscription_after_turn told outlook s)
-            (kept_turn texts state.serial state.closing s told outlook kept live (turn_meets s.desk.lane refusals)) lawful.subscriptions;
+        subscriptions = All-set (IsKept texts state.serial state.beginning.order state.closing) state.subscriptions number (subscription_after_turn told outlook s)
+            (kept_turn texts state.serial state.beginning.order state.closing s told outlook kept live (turn_meets s.desk.lane refusals)) lawful.subscriptions;
+        none_yet = λ unread. ap (λ (l : List SubscriptionState). set l number (subscription_after_turn told outlook s)) (lawful.none_yet unread);
         woken = woken_after number rest s told outlook state is places owed;
         few = live_after_turn state number s (subscription_after_turn told outlook s) within (get_or_from_slice_get state.subscriptions number s s is) live lawful.few;
         names = one_after_turn state number s (subscription_after_turn told outlook s) within (get_or_from_slice_get state.subscriptions number s s is) live refl lawful.names;

@@ -1,7 +1,7 @@
 -- A `request` or a `cancel` means the latest subscription of its name.
 use Rattle.std.proofs.Common.{◌≡◌, ℕ, zero, suc, ◌<◌, Bool, true, false, ◌||◌, List, [], ◌∷◌, set, refl, ap, ◌∙◌, arith, Some}
 use Rattle.std.specs.Prelude.{slice_get}
-use Rattle.lines_demo.specs.Word.{is_word}
+use Rattle.commands.specs.Word.{is_word}
 use Rattle.lines_demo.specs.Script.State.{SubscriptionState}
 use Rattle.lines_demo.specs.Script.Obeying.{desk_after_act, is_known, subscriptions_after_act}
 use Rattle.lines_demo.specs.declared.script.session.acting.Act.{Act}

@@ -1,5 +1,5 @@
 -- A session whose publisher lent its end of one subscription, as for what its owner does or for a turn.
-use Rattle.std.proofs.Common.{◌≡◌, ℕ, Bool, true, Option, None, Some, List, map, set, refl, sym, ap, subst, ◌∙◌}
+use Rattle.std.proofs.Common.{◌≡◌, ℕ, true, Option, None, Some, List, map, set, refl, sym, ap, subst, ◌∙◌}
 use Rattle.std.specs.Prelude.{is_some, IsSome, option_map, slice_get}
 use Rattle.std.specs.Borrow.{MutBor}
 use Rattle.std.specs.Option.{option_and_then, option_copied_mut}
@@ -17,6 +17,7 @@ use Rattle.lines_demo.specs.Script.Session.{IsScriptEntry, IsScriptHub, state_of
 use Rattle.lines_demo.specs.Script.State.{SubscriptionState}
 use Rattle.lines_demo.proofs.Duplicates.{set_entries}
 use Rattle.lines_demo.proofs.HubLooks.{same_desk, seen_with, with_desk}
+use Rattle.lines_demo.specs.declared.script.session.beginning.Beginning.{Beginning}
 
 -- the publisher after its end of this number was left as this
 abbrev pub lent : Hub DeskState → ℕ → DeskState → Hub DeskState
@@ -61,12 +62,12 @@ module _ (hub : Hub DeskState) (number : ℕ) (before after : DeskState) (at : f
   lent_stands = slice_get-map subscription_of hub.entries.items number ∙ ap (option_map subscription_of) lent_one.stands ∙ ap Some (seen_with lent_one.entry before lent_one.there)
 
   -- where a script stands then
-  pub lent_state : (stock : ℕ) (woken : List ℕ) (begun : Bool)
-      → state_of (lent hub number after) stock woken begun
-      ≡ record (state_of hub stock woken begun) { subscriptions = set (map subscription_of hub.entries.items) number (with_desk lent_one.entry after) }
-  lent_state stock woken begun =
-      ap (λ h. state_of h stock woken begun) lent_is
-      ∙ ap (λ subscriptions. record (state_of hub stock woken begun) { subscriptions = subscriptions }) (map-set subscription_of hub.entries.items number (record lent_one.entry { feed = Some after }))
+  pub lent_state : (stock : ℕ) (woken : List ℕ) (beginning : Beginning)
+      → state_of (lent hub number after) stock woken beginning
+      ≡ record (state_of hub stock woken beginning) { subscriptions = set (map subscription_of hub.entries.items) number (with_desk lent_one.entry after) }
+  lent_state stock woken beginning =
+      ap (λ h. state_of h stock woken beginning) lent_is
+      ∙ ap (λ subscriptions. record (state_of hub stock woken beginning) { subscriptions = subscriptions }) (map-set subscription_of hub.entries.items number (record lent_one.entry { feed = Some after }))
 
   -- a script's publisher is one still
   pub lent_publisher : IsScriptHub hub → MayBecome (end_of before) (end_of after) → after.is_steady ≡ before.is_steady → IsScriptHub (lent hub number after)

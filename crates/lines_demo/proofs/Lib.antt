@@ -3,7 +3,6 @@ pub mod Acts
 pub mod Admissions
 pub mod AnsweredSessions
 pub mod CheckedInputs
-pub mod Digits
 pub mod Duplicates
 pub mod EachMaps
 pub mod FewWoken
@@ -27,7 +26,6 @@ pub mod LookedSessions
 pub mod OfferedEntries
 pub mod OfferedLists
 pub mod OneName
-pub mod Places
 pub mod PlannedSubscribers
 pub mod Reading
 pub mod RepliedTexts
@@ -41,6 +39,7 @@ pub mod SessionOffers
 pub mod SessionStates
 pub mod SessionTurns
 pub mod Sessions
+pub mod SignalLines
 pub mod Signals
 pub mod SmallNumbers
 pub mod StartedNumbers
@@ -50,4 +49,3 @@ pub mod TurningSessions
 pub mod Turns
 pub mod WokenLists
 pub mod WokenTasks
-pub mod Writers

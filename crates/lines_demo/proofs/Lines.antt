@@ -3,20 +3,20 @@ use Rattle.std.proofs.Common.{◌≡◌, ◌==◌, ℕ, suc, ◌+◌, ◌<◌, �
 use Rattle.std.specs.List.{before_first, after_first, position_or_len}
 use Rattle.std.proofs.lemmas.Bool.Decides.{nat_tests}
 use Rattle.lines_demo.specs.Prelude.{Refusal}
-use Rattle.lines_demo.specs.Line.{is_line_feed, with_first_byte, lines_of, without_return}
-use Rattle.lines_demo.specs.Writing.{Writes, line_of}
-use Rattle.lines_demo.specs.Script.Command.{command_of}
-use Rattle.lines_demo.specs.Script.Reply.{reply_text}
+use Rattle.commands.specs.Line.{is_line_feed, with_first_byte, lines_of, without_return}
+use Rattle.commands.specs.Writing.{Writes, line_of}
+use Rattle.commands.specs.Command.{command_of}
+use Rattle.commands.specs.Reply.{reply_text}
 use Rattle.lines_demo.specs.Script.State.{SessionState, LineResult, empty_result, result_then}
 use Rattle.lines_demo.specs.Script.Obeying.{command_result}
 use Rattle.lines_demo.specs.Script.Running.{run_turns}
 use Rattle.lines_demo.specs.Script.Answering.{reply_result, turns_before, spelled_result, line_result, lines_result}
 use Rattle.lines_demo.specs.Script.Playing.{Replies, Answers}
-use Rattle.lines_demo.specs.declared.script.command.Command.{Command}
-use Rattle.lines_demo.specs.declared.script.command.Command.TheVariants.{Cap, Sub, Offer, Retry, Submit, Request, Cancel, Close, Fail, Run}
-use Rattle.lines_demo.specs.declared.script.player.TheConstants.{LONGEST_LINE}
-use Rattle.lines_demo.specs.declared.script.reply.Reply.{Reply}
-use Rattle.lines_demo.specs.declared.script.reply.Reply.TheVariants.{Refused}
+use Rattle.commands.specs.declared.command.Command.{Command}
+use Rattle.commands.specs.declared.command.Command.TheVariants.{Cap, Late, Sub, Offer, Retry, Submit, Request, Cancel, Close, Fail, Run}
+use Rattle.commands.specs.declared.line.TheConstants.{LONGEST_LINE}
+use Rattle.commands.specs.declared.reply.Reply.{Reply}
+use Rattle.commands.specs.declared.reply.Reply.TheVariants.{Refused}
 use Rattle.lines_demo.proofs.Results.{Progress, answers_known, answers_reply, answers_empty, answers_same, answers_cut, progress_start, progress_more, progress_last, progress_end}
 
 -- ---- one command
@@ -24,6 +24,7 @@ use Rattle.lines_demo.proofs.Results.{Progress, answers_known, answers_reply, an
 -- any command but `run` makes no turn
 no_turns : (command : Command) (state : SessionState) → (command ≡ Run → ⊥) → (refusals : List Bool) → turns_before command state refusals ≡ empty_result state refusals
 no_turns (Cap capacity) state other refusals = refl
+no_turns Late state other refusals = refl
 no_turns (Sub name number) state other refusals = refl
 no_turns (Offer text) state other refusals = refl
 no_turns (Retry text) state other refusals = refl

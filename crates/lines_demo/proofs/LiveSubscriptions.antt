@@ -6,7 +6,7 @@ use Rattle.std.proofs.lemmas.List.Sums.{sum_by-append, sum_by-cons, sum_by-set}
 use Rattle.feed_core.specs.Desk.{desk_after_signal, desk_after_duplicate}
 use Rattle.feed_core.specs.LaneCalls.{lane_with_item, lane_with_closing}
 use Rattle.lines_demo.specs.Prelude.{Item, Ending, Refusal, is_gone, lag_of}
-use Rattle.lines_demo.specs.Word.{is_word}
+use Rattle.commands.specs.Word.{is_word}
 use Rattle.lines_demo.specs.Script.State.{SubscriptionState, SessionState}
 use Rattle.lines_demo.specs.Script.Waking.{is_live}
 use Rattle.lines_demo.specs.Script.Subscribing.{MOST_LIVE, MOST_ENTRIES, is_live_as, subscription_after_duplicate, subscribing_refusal}

@@ -1,5 +1,5 @@
 -- A session whose publisher's subscriptions were looked at.
-use Rattle.std.proofs.Common.{◌≡◌, ℕ, Bool, Some, List, refl, sym, ap, subst, ◌∙◌}
+use Rattle.std.proofs.Common.{◌≡◌, ℕ, Some, List, refl, sym, ap, subst, ◌∙◌}
 use Rattle.std.specs.Prelude.{slice_get}
 use Rattle.feed_core.specs.Feed.{end_of}
 use Rattle.feed_core.specs.LaneCalls.{IsCapacity}
@@ -12,15 +12,16 @@ use Rattle.lines_demo.specs.Script.Session.{IsSession, state_of}
 use Rattle.lines_demo.specs.Script.State.{state_at_start}
 use Rattle.lines_demo.proofs.HubLooks.{ListSeesSame}
 use Rattle.lines_demo.proofs.SessionStates.{state_of_is}
+use Rattle.lines_demo.specs.declared.script.session.beginning.Beginning.{Beginning}
 
 -- it stands where it stood
-pub record IsSameSession (old new : Hub DeskState) (stock : ℕ) (woken : List ℕ) (begun : Bool) : Type 0 where
-  pub session : IsSession new stock woken begun
-  pub state : state_of new stock woken begun ≡ state_of old stock woken begun
+pub record IsSameSession (old new : Hub DeskState) (stock : ℕ) (woken : List ℕ) (beginning : Beginning) : Type 0 where
+  pub session : IsSession new stock woken beginning
+  pub state : state_of new stock woken beginning ≡ state_of old stock woken beginning
 
-pub session_looked : (old new : Hub DeskState) (stock : ℕ) (woken : List ℕ) (begun : Bool) → IsSession old stock woken begun → IsSound (hub_of end_of new)
-    → (hub_of end_of new).progress ≡ (hub_of end_of old).progress → ListSeesSame old.entries.items new.entries.items → IsSameSession old new stock woken begun
-session_looked old new stock woken begun is sound progress looked = record {
+pub session_looked : (old new : Hub DeskState) (stock : ℕ) (woken : List ℕ) (beginning : Beginning) → IsSession old stock woken beginning → IsSound (hub_of end_of new)
+    → (hub_of end_of new).progress ≡ (hub_of end_of old).progress → ListSeesSame old.entries.items new.entries.items → IsSameSession old new stock woken beginning
+session_looked old new stock woken beginning is sound progress looked = record {
   session = record {
     publisher = record {
       sound = sound;
@@ -29,12 +30,12 @@ session_looked old new stock woken begun is sound progress looked = record {
       numbered = ap (λ (p : Progress). slice_get p.counts 0) progress ∙ is.publisher.numbered ∙ ap Some (sym (ap (λ (p : Progress). p.next) progress));
     };
     reached = subst IsReached (sym same) is.reached;
-    fresh = λ e. same ∙ is.fresh e ∙ ap (λ n. record (state_at_start stock) { capacity = n }) (sym capacity);
+    fresh = λ e. same ∙ is.fresh e ∙ ap (λ n. record (state_at_start stock) { capacity = n; beginning = beginning }) (sym capacity);
   };
   state = same;
 } where
   capacity : new.capacity ≡ old.capacity
   capacity = ap (λ (p : Progress). p.capacity) progress
 
-  same : state_of new stock woken begun ≡ state_of old stock woken begun
-  same = state_of_is new stock woken begun (state_of old stock woken begun) capacity refl (ap (λ (p : Progress). p.ending) progress) (ap (λ (p : Progress). p.next) progress) refl looked.same refl
+  same : state_of new stock woken beginning ≡ state_of old stock woken beginning
+  same = state_of_is new stock woken beginning (state_of old stock woken beginning) capacity refl (ap (λ (p : Progress). p.ending) progress) (ap (λ (p : Progress). p.next) progress) refl looked.same refl

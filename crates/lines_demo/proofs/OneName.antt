@@ -6,7 +6,7 @@ use Rattle.std.proofs.lemmas.List.Sums.{sum_by-append, sum_by-cons, sum_by-set}
 use Rattle.std.proofs.lemmas.Slice.Eq.{slice_eq-Decides}
 use Rattle.feed_core.specs.Desk.{desk_after_duplicate}
 use Rattle.lines_demo.specs.Prelude.{Item, Ending, desk_after_end}
-use Rattle.lines_demo.specs.Word.{is_word}
+use Rattle.commands.specs.Word.{is_word}
 use Rattle.lines_demo.specs.Script.State.{SubscriptionState, SessionState}
 use Rattle.lines_demo.specs.Script.Waking.{is_live}
 use Rattle.lines_demo.specs.Script.Subscribing.{is_live_as, is_subscribed, subscription_after_duplicate}

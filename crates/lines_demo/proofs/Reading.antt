@@ -7,7 +7,7 @@ use Rattle.std.proofs.KnownBytes.{Appends-nil}
 use Rattle.lines_demo.specs.declared.script.fault.ScriptFault.{ScriptFault}
 use Rattle.lines_demo.specs.declared.script.fault.ScriptFault.TheVariants.{Read, Write, Memory}
 use Rattle.lines_demo.specs.declared.reader.InputFault.{InputFault}
-use Rattle.lines_demo.specs.declared.writing.OutputFault.{OutputFault}
+use Rattle.commands.specs.declared.writing.OutputFault.{OutputFault}
 use Rattle.lines_demo.specs.Script.Fault.{reading_fault, script_fault}
 use Rattle.lines_demo.specs.Script.RunScript.{PlaysScript, IsScriptOf, IsAsMuch}
 use Rattle.lines_demo.specs.Script.State.{SessionState, LineResult}

@@ -4,8 +4,8 @@ use Rattle.lines_demo.specs.Prelude.{Item, Refusal}
 use Rattle.lines_demo.specs.Script.Playing.{IsTextOf, OffersText, RefusesText, Replies}
 use Rattle.lines_demo.specs.Script.Publishing.{drop_count, drops_in, drops_or_lag, greatest_lag, next_item, offer_answer, publication_refusal, publication_result, offer_result, retry_result, state_after_publication, submit_refusal, submit_result}
 use Rattle.lines_demo.specs.Script.State.{SubscriptionState, SessionState}
-use Rattle.lines_demo.specs.declared.script.reply.Reply.{Reply}
-use Rattle.lines_demo.specs.declared.script.reply.Reply.TheVariants.{Offered, Refused, Retried, Submitted}
+use Rattle.commands.specs.declared.reply.Reply.{Reply}
+use Rattle.commands.specs.declared.reply.Reply.TheVariants.{Offered, Refused, Retried, Submitted}
 use Rattle.lines_demo.proofs.Replying.{publication_against, publication_done, publication_long, publication_no_memory}
 
 module _ (refusal_of : SessionState → Option Refusal) (reply : Item → List SubscriptionState → Reply) (state : SessionState) (text : List ℕ) where

@@ -4,15 +4,15 @@ use Rattle.std.specs.Prelude.{is_some}
 use Rattle.std.proofs.lemmas.Bool.Decides.{nat_tests}
 use Rattle.lines_demo.specs.Prelude.{Item, Ending, Refusal, LONGEST_TEXT, capacity_of}
 use Rattle.lines_demo.specs.Script.Kept.{IsReached}
-use Rattle.lines_demo.specs.Script.Obeying.{act_result, cap_result, closing_result, is_known, state_after_closing, subscriptions_after_act}
+use Rattle.lines_demo.specs.Script.Obeying.{act_result, cap_result, late_state, late_result, closing_result, is_known, state_after_closing, subscriptions_after_act}
 use Rattle.lines_demo.specs.Script.Playing.{Replies}
 use Rattle.lines_demo.specs.Script.Publishing.{next_item, publication_result, state_after_publication}
 use Rattle.lines_demo.specs.Script.State.{SubscriptionState, SessionState, CommandResult}
 use Rattle.lines_demo.specs.Script.Subscribing.{is_subscribed, sub_result, state_after_duplicate, state_after_subscribing, subscribing_refusal}
 use Rattle.lines_demo.specs.Script.Waking.{with_subscriptions}
-use Rattle.lines_demo.specs.declared.script.reply.Reply.{Reply}
+use Rattle.commands.specs.declared.reply.Reply.{Reply}
 use Rattle.lines_demo.specs.declared.script.session.acting.Act.{Act}
-use Rattle.lines_demo.specs.declared.script.reply.Reply.TheVariants.{Capacity, Done, Name, Refused}
+use Rattle.commands.specs.declared.reply.Reply.TheVariants.{Capacity, Done, Name, Refused, Ordered}
 
 -- a number that is not 0 is above it
 pub above_0 : (n : ℕ) → (n ≡ 0 → ⊥) → 0 < n
@@ -27,18 +27,25 @@ replies_reached results reply state replies reached =
 
 -- ---- `cap`
 
-pub cap_late : (state : SessionState) (asked : ℕ) → state.has_begun ≡ true → Replies (λ refusals. cap_result state refusals asked) (Refused Refusal.BadCommand) state
+pub cap_late : (state : SessionState) (asked : ℕ) → state.beginning.is_over ≡ true → Replies (λ refusals. cap_result state refusals asked) (Refused Refusal.BadCommand) state
 cap_late state asked begun = record { used = []; replies = λ more. rw begun refl }
 
-pub cap_zero : (state : SessionState) (asked : ℕ) → state.has_begun ≡ false → asked ≡ 0 → Replies (λ refusals. cap_result state refusals asked) (Refused Refusal.BadCapacity) state
+-- errors may wait for the items only until then
+pub late_over : (state : SessionState) → state.beginning.is_over ≡ true → Replies (λ refusals. late_result state refusals) (Refused Refusal.BadCommand) state
+late_over state begun = record { used = []; replies = λ more. rw begun refl }
+
+pub late_done : (state : SessionState) → state.beginning.is_over ≡ false → Replies (λ refusals. late_result state refusals) Ordered (late_state state)
+late_done state fresh = record { used = []; replies = λ more. rw fresh refl }
+
+pub cap_zero : (state : SessionState) (asked : ℕ) → state.beginning.is_over ≡ false → asked ≡ 0 → Replies (λ refusals. cap_result state refusals asked) (Refused Refusal.BadCapacity) state
 cap_zero state asked fresh none = record { used = []; replies = λ more. rw (fresh, none) refl }
 
-pub cap_no_memory : (state : SessionState) (asked : ℕ) → state.has_begun ≡ false → 0 < asked → Replies (λ refusals. cap_result state refusals asked) (Refused Refusal.NoMemory) state
+pub cap_no_memory : (state : SessionState) (asked : ℕ) → state.beginning.is_over ≡ false → 0 < asked → Replies (λ refusals. cap_result state refusals asked) (Refused Refusal.NoMemory) state
 cap_no_memory state asked fresh some =
     let test : (asked == 0) ≡ false = grind (arith, nat_tests) in
     record { used = true ∷ []; replies = λ more. rw (fresh, test) refl }
 
-pub cap_done : (state : SessionState) (asked : ℕ) → state.has_begun ≡ false → 0 < asked
+pub cap_done : (state : SessionState) (asked : ℕ) → state.beginning.is_over ≡ false → 0 < asked
     → Replies (λ refusals. cap_result state refusals asked) (Capacity (capacity_of asked)) (record state { capacity = capacity_of asked })
 cap_done state asked fresh some =
     let test : (asked == 0) ≡ false = grind (arith, nat_tests) in

@@ -3,12 +3,12 @@ use Rattle.std.proofs.Common.{◌≡◌, ℕ, Bool, true, false, List, [], ◌++
 use Rattle.std.proofs.lemmas.List.{append-nil}
 use Rattle.std.specs.Io.KnownBytes.{Appends}
 use Rattle.std.proofs.KnownBytes.{Appends-nil, Appends-trans}
-use Rattle.lines_demo.specs.Writing.{Writes, line_of}
-use Rattle.lines_demo.specs.Script.Reply.{reply_text}
+use Rattle.commands.specs.Writing.{Writes, line_of}
+use Rattle.commands.specs.Reply.{reply_text}
 use Rattle.lines_demo.specs.Script.State.{SessionState, CommandResult, LineResult, empty_result, result_after_bytes, result_then}
 use Rattle.lines_demo.specs.Script.Answering.{reply_result}
 use Rattle.lines_demo.specs.Script.Playing.{Replies, Answers}
-use Rattle.lines_demo.specs.declared.script.reply.Reply.{Reply}
+use Rattle.commands.specs.declared.reply.Reply.{Reply}
 
 -- ---- one result
 

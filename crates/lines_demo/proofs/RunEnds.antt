@@ -6,7 +6,7 @@ use Rattle.std.proofs.lemmas.List.Sums.{sum_by-set}
 use Rattle.std.proofs.lemmas.Option.{slice_get_within, get_or_from_slice_get}
 use Rattle.feed_core.specs.Turn.{is_again, lane_after_turn}
 use Rattle.feed_core.proofs.RestingTurns.{fewer_after_again}
-use Rattle.lines_demo.specs.Prelude.{Ending, Outlook, lag_of}
+use Rattle.lines_demo.specs.Prelude.{Ending, ErrorOrder, Outlook, lag_of}
 use Rattle.lines_demo.specs.Script.Kept.{IsKept, IsLawful, IsReached}
 use Rattle.lines_demo.specs.Script.State.{SubscriptionState, SessionState}
 use Rattle.lines_demo.specs.Script.Running.{subscription_after_turn, turn_result, first_turn_result, turns_result, waiting_items, most_turns, run_turns}
@@ -14,9 +14,9 @@ use Rattle.lines_demo.proofs.KeptTurns.{told_in, outlook_in, turn_meets, told_wh
 use Rattle.lines_demo.proofs.WokenLists.{bit}
 
 -- fewer items wait after a turn that is to be gone on with, and never more
-fewer_wait : (texts : ℕ → List ℕ) (next : ℕ) (closed : Option Ending) (s : SubscriptionState) (refusals : List Bool) → IsKept texts next closed s
+fewer_wait : (texts : ℕ → List ℕ) (next : ℕ) (order : ErrorOrder) (closed : Option Ending) (s : SubscriptionState) (refusals : List Bool) → IsKept texts next order closed s
     → bit (is_again (outlook_in s.desk.lane refusals)) + lag_of (lane_after_turn s.desk.lane (told_in s.desk.lane refusals) (outlook_in s.desk.lane refusals)) ≤ lag_of s.desk.lane
-fewer_wait texts next closed s refusals kept = by (outlook_in s.desk.lane refusals) refl where
+fewer_wait texts next order closed s refusals kept = by (outlook_in s.desk.lane refusals) refl where
   by : (outlook : Outlook) → outlook_in s.desk.lane refusals ≡ outlook → bit (is_again outlook) + lag_of (lane_after_turn s.desk.lane (told_in s.desk.lane refusals) outlook) ≤ lag_of s.desk.lane
   by Outlook.Again e =
       let meets = turn_meets s.desk.lane refusals in
@@ -44,10 +44,10 @@ fewer_turns texts number rest state refusals lawful woken = by (slice_get state.
   by (Some s) is =
       let within = slice_get_within state.subscriptions number s is in
       let here : get_or state.subscriptions number s ≡ s = get_or_from_slice_get state.subscriptions number s s is in
-      let kept : IsKept texts state.serial state.closing s = subst (IsKept texts state.serial state.closing) here (lawful.subscriptions number s within) in
+      let kept : IsKept texts state.serial state.beginning.order state.closing s = subst (IsKept texts state.serial state.beginning.order state.closing) here (lawful.subscriptions number s within) in
       let told = told_in s.desk.lane refusals in
       let outlook = outlook_in s.desk.lane refusals in
-      let fewer = fewer_wait texts state.serial state.closing s refusals kept in
+      let fewer = fewer_wait texts state.serial state.beginning.order state.closing s refusals kept in
       let lag : SubscriptionState → ℕ = λ t. lag_of t.desk.lane in
       let sums : waiting_items (set state.subscriptions number (subscription_after_turn told outlook s)) + lag_of s.desk.lane ≡ waiting_items state.subscriptions + lag_of (lane_after_turn s.desk.lane told outlook) =
       ap (λ t. waiting_items (set state.subscriptions number (subscription_after_turn told outlook s)) + lag t) (sym here) ∙ sum_by-set lag state.subscriptions number (subscription_after_turn told outlook s) s within in

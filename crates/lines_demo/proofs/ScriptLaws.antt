@@ -6,26 +6,33 @@ use Rattle.std.proofs.lemmas.Bool.Decides.{eqb_tells}
 use Rattle.std.proofs.lemmas.List.{get_or_append_left}
 use Rattle.std.proofs.lemmas.List.Elements.{All-weaker}
 use Rattle.std.proofs.lemmas.Option.{slice_get-get_or, slice_get_within, get_or_from_slice_get, same_Some}
+use Rattle.feed_core.proofs.FlowRules.{errored_whole}
 use Rattle.feed_core.proofs.SoundDesks.{sound_desk_flow, sound_desk_settled}
 use Rattle.lines_demo.specs.Prelude.{Item, IsFlow, items_of, owes}
 use Rattle.lines_demo.specs.Script.Kept.{IsKept, IsPublished, IsReached}
 use Rattle.lines_demo.specs.Script.State.{SubscriptionState, SessionState}
 use Rattle.lines_demo.specs.Script.Waking.{owes_if_there}
-use Rattle.lines_demo.specs.Script.Laws.{KeepsFlow, IsSettledSession, places_of, WakesWhoOwes, FewAreLive, OneLiveOfName, SerialsRise, SerialsRiseIn, Agree, AgreesOnItems, StandsBefore, HaveOneOrder, TellsInOneOrder, IsCountedUpTo, CountsPublications}
+use Rattle.lines_demo.specs.Script.Laws.{KeepsFlow, IsSettledSession, TellsAllBeforeError, TellsAllBeforeErrors, places_of, WakesWhoOwes, FewAreLive, OneLiveOfName, SerialsRise, SerialsRiseIn, Agree, AgreesOnItems, StandsBefore, HaveOneOrder, TellsInOneOrder, IsCountedUpTo, CountsPublications}
 use Rattle.lines_demo.proofs.WokenLists.{bit, places_cons}
 
 -- ---- what each subscription keeps
 
 -- the subscription at a place keeps what each does
-kept_at : (state : SessionState) (is : IsReached state) (number : ℕ) (s : SubscriptionState) → slice_get state.subscriptions number ≡ Some s → IsKept is.0 state.serial state.closing s
+kept_at : (state : SessionState) (is : IsReached state) (number : ℕ) (s : SubscriptionState) → slice_get state.subscriptions number ≡ Some s → IsKept is.0 state.serial state.beginning.order state.closing s
 kept_at state is number s there =
-    subst (IsKept is.0 state.serial state.closing) (get_or_from_slice_get state.subscriptions number s s there)
+    subst (IsKept is.0 state.serial state.beginning.order state.closing) (get_or_from_slice_get state.subscriptions number s s there)
     (is.1.subscriptions number s (slice_get_within state.subscriptions number s there))
 
 -- each keeps the Flow rules
 pub reached_flow : (state : SessionState) → IsReached state → KeepsFlow state
 reached_flow state is =
-    All-weaker (IsKept is.0 state.serial state.closing) (λ s. IsFlow s.desk.lane) (λ s kept. sound_desk_flow s.desk kept.sound) state.subscriptions is.1.subscriptions
+    All-weaker (IsKept is.0 state.serial state.beginning.order state.closing) (λ s. IsFlow s.desk.lane) (λ s kept. sound_desk_flow s.desk kept.sound) state.subscriptions is.1.subscriptions
+
+-- each that ended with the publisher's error was told all before, where errors wait for the items
+pub reached_waits : (state : SessionState) → IsReached state → TellsAllBeforeErrors state
+reached_waits state is late =
+    All-weaker (IsKept is.0 state.serial state.beginning.order state.closing) (λ s. TellsAllBeforeError s.desk.lane)
+    (λ s kept code ended. errored_whole kept.sound.sound code ended (kept.ordered ∙ late)) state.subscriptions is.1.subscriptions
 
 -- what stands in a list has a place there
 placed : (number : ℕ) (numbers : List ℕ) → (places_of number numbers ≡ 0) ⊎ Contains numbers number
@@ -65,13 +72,13 @@ reached_names state is = is.1.names
 -- serial numbers rise
 pub reached_rise : (state : SessionState) → IsReached state → SerialsRiseIn state
 reached_rise state is =
-    All-weaker (IsKept is.0 state.serial state.closing) (λ s. SerialsRise s.desk.lane.accepted) (λ s kept. kept.rise) state.subscriptions is.1.subscriptions
+    All-weaker (IsKept is.0 state.serial state.beginning.order state.closing) (λ s. SerialsRise s.desk.lane.accepted) (λ s kept. kept.rise) state.subscriptions is.1.subscriptions
 
 -- publications are counted
 pub reached_counted : (state : SessionState) → IsReached state → CountsPublications state
 reached_counted state is =
-    All-weaker (IsKept is.0 state.serial state.closing) (IsCountedUpTo state.serial) one state.subscriptions is.1.subscriptions where
-      one : (s : SubscriptionState) → IsKept is.0 state.serial state.closing s → IsCountedUpTo state.serial s
+    All-weaker (IsKept is.0 state.serial state.beginning.order state.closing) (IsCountedUpTo state.serial) one state.subscriptions is.1.subscriptions where
+      one : (s : SubscriptionState) → IsKept is.0 state.serial state.beginning.order state.closing s → IsCountedUpTo state.serial s
       one s kept = record {
         since = All-weaker (IsPublished is.0 s.since state.serial) (λ item. s.since ≤ item.serial) (λ item published. published.since) s.desk.lane.accepted kept.published;
         published = All-weaker (IsPublished is.0 s.since state.serial) (λ item. item.serial < state.serial) (λ item published. published.before) s.desk.lane.accepted kept.published;
@@ -89,8 +96,8 @@ same_item texts first second next item other is_item is_other same =
 
 pub reached_agrees : (state : SessionState) → IsReached state → AgreesOnItems state
 reached_agrees state is =
-    All-weaker (IsKept is.0 state.serial state.closing) _ (λ first kept_first.
-    All-weaker (IsKept is.0 state.serial state.closing) (λ second. Agree first.desk.lane.accepted second.desk.lane.accepted) (λ second kept_second.
+    All-weaker (IsKept is.0 state.serial state.beginning.order state.closing) _ (λ first kept_first.
+    All-weaker (IsKept is.0 state.serial state.beginning.order state.closing) (λ second. Agree first.desk.lane.accepted second.desk.lane.accepted) (λ second kept_second.
     All-weaker (IsPublished is.0 first.since state.serial) _ (λ item is_item.
     All-weaker (IsPublished is.0 second.since state.serial) (λ other. item.serial ≡ other.serial → item ≡ other) (λ other is_other same.
     same_item is.0 first.since second.since state.serial item other is_item is_other same)
@@ -150,12 +157,12 @@ one_order items others rise rise_others = λ item later before has has_later.
 -- any two subscribers are told the same items in the same order
 pub reached_order : (state : SessionState) → IsReached state → TellsInOneOrder state
 reached_order state is =
-    All-weaker (IsKept is.0 state.serial state.closing) _ (λ first kept_first.
-    All-weaker (IsKept is.0 state.serial state.closing) (λ second. HaveOneOrder (items_of first.desk.lane.told) (items_of second.desk.lane.told)) (λ second kept_second.
+    All-weaker (IsKept is.0 state.serial state.beginning.order state.closing) _ (λ first kept_first.
+    All-weaker (IsKept is.0 state.serial state.beginning.order state.closing) (λ second. HaveOneOrder (items_of first.desk.lane.told) (items_of second.desk.lane.told)) (λ second kept_second.
     one_order (items_of first.desk.lane.told) (items_of second.desk.lane.told) (rise_in first kept_first) (rise_in second kept_second))
     state.subscriptions is.1.subscriptions)
     state.subscriptions is.1.subscriptions where
-      rise_in : (s : SubscriptionState) → IsKept is.0 state.serial state.closing s → SerialsRise (items_of s.desk.lane.told)
+      rise_in : (s : SubscriptionState) → IsKept is.0 state.serial state.beginning.order state.closing s → SerialsRise (items_of s.desk.lane.told)
       rise_in s kept =
           let prefix = (sound_desk_flow s.desk kept.sound).in_order in
           rise_told (items_of s.desk.lane.told) prefix.0 s.desk.lane.accepted prefix.1 kept.rise

@@ -7,7 +7,7 @@ use Rattle.feed_core.specs.Feed.{end_of}
 use Rattle.publisher_hub.specs.Entry.{EntryState, entry_of}
 use Rattle.publisher_hub.specs.declared.entry.Entry.{Entry}
 use Rattle.lines_demo.specs.Prelude.{DeskState}
-use Rattle.lines_demo.specs.Word.{is_word}
+use Rattle.commands.specs.Word.{is_word}
 use Rattle.lines_demo.specs.Script.Playing.{IsLatest}
 use Rattle.lines_demo.specs.Script.Session.{subscription_of}
 use Rattle.lines_demo.specs.Script.State.{SubscriptionState}

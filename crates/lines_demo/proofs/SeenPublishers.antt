@@ -17,7 +17,7 @@ use Rattle.publisher_hub.specs.declared.hub.Hub.{Hub}
 use Rattle.publisher_hub.proofs.PartialRounds.Next.{get_mapped, get_before_map}
 use Rattle.publisher_hub.proofs.AnswerLists.Places.{stood_by}
 use Rattle.lines_demo.specs.Prelude.{DeskState}
-use Rattle.lines_demo.specs.Word.{is_word}
+use Rattle.commands.specs.Word.{is_word}
 use Rattle.lines_demo.specs.Script.Session.{AreScriptEntries, IsScriptHub, subscription_of}
 use Rattle.lines_demo.specs.Script.State.{SubscriptionState}
 use Rattle.lines_demo.specs.Script.Subscribing.{is_live_as, is_subscribed}

@@ -1,5 +1,5 @@
 -- Where a script stands with its publisher, part by part.
-use Rattle.std.proofs.Common.{◌≡◌, ℕ, ◌+◌, ◌≤◌, Bool, false, Option, None, Some, List, ◌++◌, length, map, refl, sym, ap, subst, ◌∙◌, arith}
+use Rattle.std.proofs.Common.{◌≡◌, ℕ, ◌+◌, ◌≤◌, false, Option, None, Some, List, ◌++◌, length, map, refl, sym, ap, subst, ◌∙◌, arith}
 use Rattle.std.specs.Prelude.{All, is_some, option_map, slice_get}
 use Rattle.std.proofs.lemmas.Option.{slice_get-get_or, slice_get-map, slice_get_within}
 use Rattle.std.proofs.lemmas.List.{length-append, length-map}
@@ -12,13 +12,14 @@ use Rattle.lines_demo.specs.Script.State.{SessionState}
 use Rattle.lines_demo.specs.Script.Subscribing.{MOST_LIVE}
 use Rattle.lines_demo.proofs.FewWoken.{few_woken}
 use Rattle.lines_demo.proofs.ScriptLaws.{reached_few, reached_wakes}
+use Rattle.lines_demo.specs.declared.script.session.beginning.Beginning.{Beginning}
 
 -- it stands so where each part is so
-pub state_of_is : (hub : Hub DeskState) (stock : ℕ) (woken : List ℕ) (begun : Bool) (state : SessionState) → hub.capacity ≡ state.capacity → begun ≡ state.has_begun → hub.ending ≡ state.closing
-    → hub.next ≡ state.serial → stock ≡ state.stock → map subscription_of hub.entries.items ≡ state.subscriptions → woken ≡ state.woken → state_of hub stock woken begun ≡ state
-state_of_is hub stock woken begun state capacity has_begun closing serial stocked subscriptions woken_is = λ i. record {
+pub state_of_is : (hub : Hub DeskState) (stock : ℕ) (woken : List ℕ) (beginning : Beginning) (state : SessionState) → hub.capacity ≡ state.capacity → beginning ≡ state.beginning → hub.ending ≡ state.closing
+    → hub.next ≡ state.serial → stock ≡ state.stock → map subscription_of hub.entries.items ≡ state.subscriptions → woken ≡ state.woken → state_of hub stock woken beginning ≡ state
+state_of_is hub stock woken beginning state capacity beginning_is closing serial stocked subscriptions woken_is = λ i. record {
   capacity = capacity i;
-  has_begun = has_begun i;
+  beginning = beginning_is i;
   closing = closing i;
   serial = serial i;
   stock = stocked i;

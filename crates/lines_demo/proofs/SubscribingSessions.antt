@@ -1,5 +1,5 @@
 -- What `sub` leaves of a session.
-use Rattle.std.proofs.Common.{◌≡◌, inl, inr, ℕ, ◌+◌, ◌-◌, ◌<◌, ◌≤◌, Bool, true, false, None, List, [], ◌∷◌, ◌++◌, length, length-append, length-drop, drop, refl, sym, ap, subst, ◌∙◌, arith}
+use Rattle.std.proofs.Common.{◌≡◌, inl, inr, ℕ, ◌+◌, ◌-◌, ◌<◌, ◌≤◌, true, false, None, List, [], ◌∷◌, ◌++◌, length, length-append, length-drop, drop, refl, sym, ap, subst, ◌∙◌, arith}
 use Rattle.std.specs.Prelude.{All, count_by, Vec}
 use Rattle.std.specs.declared.alloc.Global.{Global}
 use Rattle.std.proofs.lemmas.List.{append-nil, length-map}
@@ -17,8 +17,8 @@ use Rattle.lines_demo.specs.Script.Session.{IsScriptHub, IsSession, numbers_of, 
 use Rattle.lines_demo.specs.Script.State.{SubscriptionState, SessionState}
 use Rattle.lines_demo.specs.Script.Subscribing.{MOST_LIVE, MOST_ENTRIES, desk_at_start, is_subscribed, state_after_subscribing, sub_result}
 use Rattle.lines_demo.specs.Script.Waking.{is_live}
-use Rattle.lines_demo.specs.declared.script.reply.Reply.{Reply}
-use Rattle.lines_demo.specs.declared.script.reply.Reply.TheVariants.{Name, Refused}
+use Rattle.commands.specs.declared.reply.Reply.{Reply}
+use Rattle.commands.specs.declared.reply.Reply.TheVariants.{Name, Refused}
 use Rattle.lines_demo.proofs.AnsweredSessions.{IsAnswered, answered}
 use Rattle.lines_demo.proofs.Admissions.{admitted_due, admitted_publisher, admitted_state, may_subscribe, refused_exhausted, refused_full, refused_stock}
 use Rattle.lines_demo.proofs.Duplicates.{told_publisher, told_state, told_subscribed}
@@ -28,6 +28,7 @@ use Rattle.lines_demo.proofs.LookedSessions.{IsSameSession, session_looked}
 use Rattle.lines_demo.proofs.Replying.{sub_against, sub_done, sub_duplicate, sub_no_buffer, sub_no_memory}
 use Rattle.lines_demo.proofs.SeenPublishers.{seen_as_far, seen_count, seen_in_part_as_far, seen_in_part_same, seen_same, seen_unnamed}
 use Rattle.lines_demo.proofs.SessionStates.{room_for}
+use Rattle.lines_demo.specs.declared.script.session.beginning.Beginning.{Beginning}
 
 -- nobody is left where the first can't be taken
 pub nobody : {A : Type 0} (stock rest : List A) → stock ≡ rest → rest ≡ drop 1 stock → length stock ≡ 0
@@ -52,23 +53,23 @@ all_back P first last stock rest now cut same back all =
 
 -- a session after `sub` was answered so
 abbrev pub AnswersSub : SessionState → List ℕ → ℕ → Reply → Hub DeskState → ℕ → List ℕ → Type 0
-AnswersSub old name number reply hub stock woken = IsAnswered (λ refusals. sub_result old refusals name number) reply hub stock woken old.has_begun
+AnswersSub old name number reply hub stock woken = IsAnswered (λ refusals. sub_result old refusals name number) reply hub stock woken old.beginning
 
 -- a reply that the definition gives leaves a session
-answers : (old : SessionState) (name : List ℕ) (number : ℕ) (reply : Reply) (hub : Hub DeskState) (stock : ℕ) (woken : List ℕ) → old.has_begun ≡ true → IsReached old → IsScriptHub hub
-    → Replies (λ refusals. sub_result old refusals name number) reply (state_of hub stock woken old.has_begun) → AnswersSub old name number reply hub stock woken
+answers : (old : SessionState) (name : List ℕ) (number : ℕ) (reply : Reply) (hub : Hub DeskState) (stock : ℕ) (woken : List ℕ) → old.beginning.is_over ≡ true → IsReached old → IsScriptHub hub
+    → Replies (λ refusals. sub_result old refusals name number) reply (state_of hub stock woken old.beginning) → AnswersSub old name number reply hub stock woken
 answers old name number reply hub stock woken begun reached publisher replies =
-    answered (λ refusals. sub_result old refusals name number) reply hub stock woken old.has_begun begun publisher replies (λ refusals. sub_reached old refusals name number reached)
+    answered (λ refusals. sub_result old refusals name number) reply hub stock woken old.beginning begun publisher replies (λ refusals. sub_reached old refusals name number begun reached)
 
-module _ (old : Hub DeskState) (stock : ℕ) (woken : List ℕ) (has_begun : Bool) (name : List ℕ) (number : ℕ) (is : IsSession old stock woken has_begun) (begun : has_begun ≡ true) where
+module _ (old : Hub DeskState) (stock : ℕ) (woken : List ℕ) (beginning : Beginning) (name : List ℕ) (number : ℕ) (is : IsSession old stock woken beginning) (begun : beginning.is_over ≡ true) where
   -- where the script stands before
   abbrev start : SessionState
-  start = state_of old stock woken has_begun
+  start = state_of old stock woken beginning
 
   -- ---- the publisher refuses
 
   -- a script sees nothing of what has changed
-  unseen : (new : Hub DeskState) (due : List (Work Unit)) (refusal : Refusal) → IsSameSession old new stock woken has_begun → due ≡ []
+  unseen : (new : Hub DeskState) (due : List (Work Unit)) (refusal : Refusal) → IsSameSession old new stock woken beginning → due ≡ []
       → Replies (λ refusals. sub_result start refusals name number) (Refused refusal) start → AnswersSub start name number (Refused refusal) new stock (woken ++ numbers_of due)
   unseen new due refusal same none replies =
       let woken_same : woken ++ numbers_of due ≡ woken = ap (λ d. woken ++ numbers_of d) none ∙ append-nil woken in
@@ -76,8 +77,8 @@ module _ (old : Hub DeskState) (stock : ℕ) (woken : List ℕ) (has_begun : Boo
       (subst (λ (s : SessionState). Replies (λ refusals. sub_result start refusals name number) (Refused refusal) s) (sym same.state) replies))
 
   -- looks leave the script where it stood
-  seen_session : (new : Hub DeskState) → IsSeen end_of DoesCall old new → IsSound (hub_of end_of new) → IsSameSession old new stock woken has_begun
-  seen_session new seen sound = session_looked old new stock woken has_begun is sound (seen_as_far old new seen) (seen_same old new is.publisher seen)
+  seen_session : (new : Hub DeskState) → IsSeen end_of DoesCall old new → IsSound (hub_of end_of new) → IsSameSession old new stock woken beginning
+  seen_session new seen sound = session_looked old new stock woken beginning is sound (seen_as_far old new seen) (seen_same old new is.publisher seen)
 
   -- as many were made as are stored
   seen_made : (new : Hub DeskState) → IsSeen end_of DoesCall old new → length new.entries.items ≡ length start.subscriptions
@@ -90,9 +91,9 @@ module _ (old : Hub DeskState) (stock : ℕ) (woken : List ℕ) (has_begun : Boo
   refused new due Refusal.Duplicate sound (middle, (seen, tells)) =
       let replies = sub_duplicate start name number (told_subscribed old middle new name due is.publisher seen tells) in
       answers start name number (Refused Refusal.Duplicate) new stock (woken ++ numbers_of due) begun is.reached (told_publisher old middle new name due is.publisher seen tells sound)
-      (subst (λ (s : SessionState). Replies (λ refusals. sub_result start refusals name number) (Refused Refusal.Duplicate) s) (sym (told_state old middle new name due is.publisher seen tells stock woken has_begun is.reached)) replies)
+      (subst (λ (s : SessionState). Replies (λ refusals. sub_result start refusals name number) (Refused Refusal.Duplicate) s) (sym (told_state old middle new name due is.publisher seen tells stock woken beginning is.reached)) replies)
   refused new due Refusal.NoMemory sound (inl part, none) =
-      let same = session_looked old new stock woken has_begun is sound (seen_in_part_as_far old new part) (seen_in_part_same old new is.publisher part) in
+      let same = session_looked old new stock woken beginning is sound (seen_in_part_as_far old new part) (seen_in_part_same old new is.publisher part) in
       unseen new due Refusal.NoMemory same none (sub_no_memory start name number)
   refused new due Refusal.NoMemory sound (inr finds, none) =
       unseen new due Refusal.NoMemory (seen_session new finds.seen sound) none (sub_no_memory start name number)
@@ -149,25 +150,25 @@ module _ (old : Hub DeskState) (stock : ℕ) (woken : List ℕ) (has_begun : Boo
         (sub_no_buffer start name number free (may_subscribe start few made some)))
 
     -- the next one subscribes
-    pub admitted : (after : Hub DeskState) (entry : ℕ) (feed : DeskState) (started : List (Work Unit)) → 0 < stock → feed ≡ desk_after_demand number (desk_at_start new.capacity)
+    pub admitted : (after : Hub DeskState) (entry : ℕ) (feed : DeskState) (started : List (Work Unit)) → 0 < stock → feed ≡ desk_after_demand number (desk_at_start beginning.order new.capacity)
         → Admits end_of DoesCall name feed None entry [] started new after → IsSound (hub_of end_of after)
         → AnswersSub start name number (Name name) after (stock - 1) (woken ++ entry ∷ [])
     admitted after entry feed started some requested admits sound_after =
         let publisher = (seen_session new seen sound).session.publisher in
-        let state = admitted_state new after name number entry feed started publisher requested admits stock woken has_begun in
+        let state = admitted_state new after beginning name number entry feed started publisher requested admits stock woken in
         let same = (seen_session new seen sound).state in
         let replies = sub_done start name number free (may_subscribe start few made some) in
-        answers start name number (Name name) after (stock - 1) (woken ++ entry ∷ []) begun is.reached (admitted_publisher new after name number entry feed started publisher requested admits sound_after)
+        answers start name number (Name name) after (stock - 1) (woken ++ entry ∷ []) begun is.reached (admitted_publisher new after beginning name number entry feed started publisher requested admits sound_after)
         (subst (λ (s : SessionState). Replies (λ refusals. sub_result start refusals name number) (Name name) s)
         (ap (λ (s : SessionState). state_after_subscribing name number s) (sym same) ∙ sym state) replies)
 
     -- nothing is due then
-    pub admitted_starts_nothing : (after : Hub DeskState) (entry : ℕ) (feed : DeskState) (started : List (Work Unit)) → feed ≡ desk_after_demand number (desk_at_start new.capacity)
+    pub admitted_starts_nothing : (after : Hub DeskState) (entry : ℕ) (feed : DeskState) (started : List (Work Unit)) → feed ≡ desk_after_demand number (desk_at_start beginning.order new.capacity)
         → Admits end_of DoesCall name feed None entry [] started new after → started ≡ []
-    admitted_starts_nothing after entry feed started requested admits = admitted_due new after name number entry feed started (seen_session new seen sound).session.publisher requested admits
+    admitted_starts_nothing after entry feed started requested admits = admitted_due new after beginning name number entry feed started (seen_session new seen sound).session.publisher requested admits
 
 -- there is room for all whom it woke
 pub room_after : (old : SessionState) (name : List ℕ) (number : ℕ) (reply : Reply) (hub : Hub DeskState) (stock : ℕ) (woken : List ℕ) (due : List (Work Unit)) → AnswersSub old name number reply hub stock (woken ++ numbers_of due)
     → length woken + length due ≤ MOST_LIVE
 room_after old name number reply hub stock woken due answer =
-    room_for (state_of hub stock (woken ++ numbers_of due) old.has_begun) woken due answer.session.reached refl
+    room_for (state_of hub stock (woken ++ numbers_of due) old.beginning) woken due answer.session.reached refl

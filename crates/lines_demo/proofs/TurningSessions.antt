@@ -22,6 +22,7 @@ use Rattle.lines_demo.proofs.LentSessions.{end_there, lent_one, lent_publisher, 
 use Rattle.lines_demo.proofs.SearchedNames.{known_name}
 use Rattle.lines_demo.proofs.SessionTurns.{first_owes, turn_reached}
 use Rattle.lines_demo.proofs.Turns.{turn_fewer}
+use Rattle.lines_demo.specs.declared.script.session.beginning.Beginning.{Beginning}
 
 -- who owes a turn is there
 pub owes_there : (subscriptions : List SubscriptionState) (number : ℕ) → owes_turn subscriptions number ≡ true → (s : SubscriptionState) × (slice_get subscriptions number ≡ Some s)
@@ -53,12 +54,12 @@ same_closing (Outlook.Ended (How.Failed code)) causes = refl
 same_closing (Outlook.Ended How.OutOfMemory) causes = refl
 
 -- a session after the turn of the first of its woken
-pub record HasTurned (old : SessionState) (hub : Hub DeskState) (stock : ℕ) (woken : List ℕ) (begun : Bool) (name : List ℕ) (told : List Signal) (outlook : Outlook) : Type 0 where
-  pub session : IsSession hub stock woken begun
-  pub makes : MakesTurn old (state_of hub stock woken begun) name told outlook
-  pub fewer : most_turns (state_of hub stock woken begun) < most_turns old
+pub record HasTurned (old : SessionState) (hub : Hub DeskState) (stock : ℕ) (woken : List ℕ) (beginning : Beginning) (name : List ℕ) (told : List Signal) (outlook : Outlook) : Type 0 where
+  pub session : IsSession hub stock woken beginning
+  pub makes : MakesTurn old (state_of hub stock woken beginning) name told outlook
+  pub fewer : most_turns (state_of hub stock woken beginning) < most_turns old
 
-module _ {B : Type 0} (session : Inside B) (is : IsSession session.hub (length session.stock.items) session.woken session.has_begun) (number : ℕ) (rest : List ℕ) (first : session.woken ≡ number ∷ rest) where
+module _ {B : Type 0} (session : Inside B) (is : IsSession session.hub (length session.stock.items) session.woken session.beginning) (number : ℕ) (rest : List ℕ) (first : session.woken ≡ number ∷ rest) where
   -- where it stood
   abbrev pub state : SessionState
   state = state_inside session
@@ -99,7 +100,7 @@ module _ {B : Type 0} (session : Inside B) (is : IsSession session.hub (length s
 
     -- where it stands then
     abbrev pub turned_state : SessionState
-    turned_state = state_of new (length session.stock.items) (woken_with rest number again) session.has_begun
+    turned_state = state_of new (length session.stock.items) (woken_with rest number again) session.beginning
 
     makes_turn : MakesTurn state turned_state name told outlook
     makes_turn = record {
@@ -111,8 +112,8 @@ module _ {B : Type 0} (session : Inside B) (is : IsSession session.hub (length s
       named = name_is;
       plain = turns.plain;
       after =
-          ap (λ hub. state_of hub (length session.stock.items) (woken_with rest number again) session.has_begun) turns.left
-          ∙ lent_state session.hub number before after turns.stood (length session.stock.items) (woken_with rest number again) session.has_begun
+          ap (λ hub. state_of hub (length session.stock.items) (woken_with rest number again) session.beginning) turns.left
+          ∙ lent_state session.hub number before after turns.stood (length session.stock.items) (woken_with rest number again) session.beginning
           ∙ ap (λ b. record state { subscriptions = set state.subscriptions number (turner after); woken = woken_with rest number b }) woken_again;
     }
 
@@ -126,7 +127,7 @@ module _ {B : Type 0} (session : Inside B) (is : IsSession session.hub (length s
     }
 
     -- what it leaves
-    pub turned : HasTurned state new (length session.stock.items) (woken_with rest number again) session.has_begun name told outlook
+    pub turned : HasTurned state new (length session.stock.items) (woken_with rest number again) session.beginning name told outlook
     turned = record {
       session = record {
         publisher = subst IsScriptHub (sym turns.left) (lent_publisher session.hub number before after turns.stood is.publisher becomes refl);

@@ -6,7 +6,7 @@ use Rattle.std.proofs.lemmas.Option.{slice_get_within}
 use Rattle.feed_core.specs.PlainTurn.{plain_turn_of}
 use Rattle.feed_core.specs.Turn.{IsOutlookOf}
 use Rattle.lines_demo.specs.Prelude.{Signal, Outlook, LaneState}
-use Rattle.lines_demo.specs.Writing.{Writes}
+use Rattle.commands.specs.Writing.{Writes}
 use Rattle.lines_demo.specs.Script.Kept.{IsReached}
 use Rattle.lines_demo.specs.Script.State.{SubscriptionState, SessionState, LineResult, empty_result, result_then}
 use Rattle.lines_demo.specs.Script.Turns.{TurnParts, parts_of_turn, with_signal_told, outlook_where, turn_lines}

@@ -2,6 +2,8 @@
 pub use Rattle.flow_rules.specs.declared.demand.TheConstants.{UNBOUNDED}
 pub use Rattle.flow_rules.specs.declared.ending.Ending.{Ending}
 pub use Rattle.flow_rules.specs.declared.ending.Ending.TheVariants as Ending
+pub use Rattle.flow_rules.specs.declared.error_order.ErrorOrder.{ErrorOrder}
+pub use Rattle.flow_rules.specs.declared.error_order.ErrorOrder.TheVariants.{Overtake, AfterItems}
 pub use Rattle.flow_rules.specs.declared.how.How.{How}
 pub use Rattle.flow_rules.specs.declared.how.How.TheVariants as How
 pub use Rattle.flow_rules.specs.declared.item.Item.{Item}

@@ -14,16 +14,11 @@ use std::rt::Env;
 use std::sync::Wait;
 use std::thread::Threads;
 use std::{env, io};
-use threads::{CAPACITY, LinesFault, SUBSCRIBERS, WORKERS, run_standard_input};
+use threads::{CAPACITY, FAIL, LinesFault, SUBSCRIBERS, WORKERS, run_standard_input};
 
-mod line;
-mod number;
 mod reader;
 mod script;
-mod text_bytes;
 mod threads;
-mod word;
-mod writing;
 
 /// The exit status of a fault.
 const FAULT: u8 = 1;
@@ -47,19 +42,22 @@ const THREADS: &str = "threads";
 /// What `--help` says of runs on threads.
 const LINES: &str =
     "A line of standard input is `SOURCE TEXT`, SOURCE a number up to 4,294,967,295. All of it is read first. Then each source publishes
-its texts in order from a thread of its own, and where all have ended the publisher is closed. The report has, for each
+its texts in order from a thread of its own, and when all have ended the publisher is closed. The report has, for each
 subscriber in order and each source in ascending order, a line `NAME SOURCE TEXT` for each item that it was told, in order; then
   NAME complete K   it was told all K items, and completed
   NAME open K       it was told as many as it requested, and has not ended
   NAME memory K     a callback was refused memory after K items
-and at last `drained 1` where every subscription has ended, else `drained 0`. The status is 0 where every subscriber completed, and
-else 3. What is refused is answered `lines_demo: refused N WORD` on standard error, with status 2: the input, too, where a
-subscriber requests fewer items than there are lines, and its buffer can't hold the others. There are 16 sources at most, and 64
-subscribers; a text has 4,096 bytes at most, a name 32, and the input 16,777,216.";
+  NAME failed C K   its callback failed with the code C at item K, as `--fail` asks
+then `handled NAME C` if the publisher's handler heard of a failure, and at last `drained 1` if every subscription has ended,
+else `drained 0`. The status is 0 if every subscriber completed, and else 3. What is refused prints `lines_demo: refused N WORD`
+on standard error, with status 2: the input, too, if a subscriber requests fewer items than there are lines, and its buffer
+can't hold the others; and `--fail`, if no subscriber has its NAME. There are 16 sources at most, and 64 subscribers; a text has
+4,096 bytes at most, a name 32, and the input 16,777,216.";
 
 /// What `--help` says of scripts.
 const SCRIPTS: &str = "Commands of a script, one a line, and their answers:
-  cap N           cap C     asks for a capacity of the buffers, before any other command
+  cap N           cap C     asks for a capacity of the buffers, before any other command but `late`
+  late            late      lets the error of a `fail` wait for the items, before any other command but `cap`
   sub NAME N      sub NAME  subscribes with this name, and requests N items
   offer TEXT      offer R   publishes; R is the greatest lag, or minus the number of drops; 0 where nobody takes it
   retry TEXT      retry R calls K  publishes as offer does, and once more, K times, where there was no room
@@ -67,7 +65,7 @@ const SCRIPTS: &str = "Commands of a script, one a line, and their answers:
   request NAME N  ok        the latest of this name requests N items more; an N below 1 is a bad request
   cancel NAME     ok        the latest of this name is cancelled
   close           ok        closes the publisher: each subscriber completes after its items
-  fail C          ok        closes it with the error C, before the items that wait
+  fail C          ok        closes it with the error C, before the items that wait; after `late`, after them
   run             idle      makes turns until none is owed, after a line for each signal that they tell:
                             NAME subscribed, NAME next TEXT, NAME complete, NAME memory,
                             NAME error published C (of `fail`), NAME error argument (of a bad request),
@@ -151,6 +149,7 @@ fn status_of(fault: &LinesFault) -> u8 {
             | Refusal::TooMany
             | Refusal::LineTooLong
             | Refusal::BadWorkers
+            | Refusal::Unknown
             | Refusal::WouldWait
             | Refusal::BadCommand,
         ) => WRONG_USE,
@@ -235,6 +234,13 @@ fn threads_line<'a>(alloc: Global) -> Result<Command<'a>, AllocError> {
         .help(
             "The capacity of each subscriber's buffer, rounded up to a power of two, at most 65536",
         );
+    let fail = Arg::new(alloc, FAIL)
+        .long("fail")
+        .value_name("NAME:K:C")
+        .action(ArgAction::Set)
+        .help(
+            "The callback of the subscriber of this name fails at its item K, counted from 1, with the code C",
+        );
     let subscribers = Arg::new(alloc, SUBSCRIBERS)
         .value_name("NAME:D")
         .required(true)
@@ -245,5 +251,6 @@ fn threads_line<'a>(alloc: Global) -> Result<Command<'a>, AllocError> {
         .after_help(LINES)
         .arg(workers)?
         .arg(capacity)?
+        .arg(fail)?
         .arg(subscribers)
 }

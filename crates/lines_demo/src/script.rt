@@ -1,11 +1,9 @@
 //! A script: commands, one a line, that are played on a publisher and its subscriptions, and what they are answered.
-mod command;
 mod explainer;
 mod explaining;
 mod fault;
 mod laws;
 mod player;
-mod reply;
 mod run;
 mod session;
 mod standard_input;

@@ -8,6 +8,6 @@ mod sending;
 mod standard_input;
 
 pub use fault::LinesFault;
-pub use plan::{CAPACITY, SUBSCRIBERS, WORKERS};
+pub use plan::{CAPACITY, FAIL, SUBSCRIBERS, WORKERS};
 pub use run::run_lines;
 pub use standard_input::run_standard_input;

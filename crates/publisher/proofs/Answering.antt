@@ -6,20 +6,20 @@ use Rattle.publisher.specs.Handles.{SubmitterState, SubscriptionState}
 use Rattle.publisher.specs.Outcome.{Finishes, IfRefused, IsRefusalOfFinish, LeavesAllDone}
 use Rattle.publisher.specs.declared.outcome.Outcome.{Outcome}
 
-module _ {B : Type 0} (submitters : List SubmitterState) (subscriptions : List SubscriptionState) (result : Result (Outcome B) (Refusal × Outcome B)) (finishes : Finishes submitters subscriptions result) where
+module _ {B H : Type 0} (submitters : List SubmitterState) (subscriptions : List SubscriptionState) (result : Result (Outcome B H) (Refusal × Outcome B H)) (finishes : Finishes submitters subscriptions result) where
   pub says_ok : IfOk result (LeavesAllDone submitters subscriptions)
   says_ok = by result finishes where
-    by : (r : Result (Outcome B) (Refusal × Outcome B)) → Finishes submitters subscriptions r → IfOk r (LeavesAllDone submitters subscriptions)
+    by : (r : Result (Outcome B H) (Refusal × Outcome B H)) → Finishes submitters subscriptions r → IfOk r (LeavesAllDone submitters subscriptions)
     by (Ok outcome) it = it
     by (Err refused) it = tt
 
   -- of the refusal that it is, `Finishes` says what its clause does
   pub says_of : (refusal : Refusal) → IfRefused refusal result (λ outcome. Finishes submitters subscriptions (Err (refusal, outcome)))
-  says_of refusal outcome same = subst (λ (r : Result (Outcome B) (Refusal × Outcome B)). Finishes submitters subscriptions r) same finishes
+  says_of refusal outcome same = subst (λ (r : Result (Outcome B H) (Refusal × Outcome B H)). Finishes submitters subscriptions r) same finishes
 
   pub says_refusals : IfErr result (λ refused. IsRefusalOfFinish refused.0)
   says_refusals = by result finishes where
-    by : (r : Result (Outcome B) (Refusal × Outcome B)) → Finishes submitters subscriptions r → IfErr r (λ refused. IsRefusalOfFinish refused.0)
+    by : (r : Result (Outcome B H) (Refusal × Outcome B H)) → Finishes submitters subscriptions r → IfErr r (λ refused. IsRefusalOfFinish refused.0)
     by (Ok outcome) it = tt
     by (Err (Refusal.NoMemory, outcome)) it = tt
     by (Err (Refusal.StillHeld name, outcome)) it = tt

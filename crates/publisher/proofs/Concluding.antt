@@ -1,5 +1,5 @@
 -- How a publisher's end is concluded: the lanes, and the answer.
-use Rattle.std.proofs.Common.{◌≡◌, ◌⊎◌, inl, inr, ℕ, ◌||◌, ◌&&◌, is_none, Bool, true, false, Option, None, Some, Result, Ok, Err, List, [], length, refl, sym, ap, subst, ◌∙◌, arith}
+use Rattle.std.proofs.Common.{◌≡◌, ◌⊎◌, inl, inr, ℕ, ◌+◌, ◌||◌, ◌&&◌, is_none, Bool, true, false, Option, None, Some, Result, Ok, Err, List, [], length, refl, sym, ap, subst, ◌∙◌, arith}
 use Rattle.std.specs.Prelude.{IsSome, slice_get}
 use Rattle.std.specs.Option.{option_or}
 use Rattle.std.proofs.lemmas.Option.{same_Some, slice_get_within}
@@ -10,7 +10,7 @@ use Rattle.publisher.specs.Finding.{IsHandedIn}
 use Rattle.publisher.specs.Finishing.{AreAudited, AreTakenOut, IsNothing}
 use Rattle.publisher.specs.Handles.{SubmitterState, SubscriptionState}
 use Rattle.publisher.specs.Leaving.{ClosesAll, Concludes, FindsFirst}
-use Rattle.publisher.specs.Outcome.{AnyKnows, AreDone, AreHandedIn, Finishes, HasLane, IsHeld, IsMissing, IsOutcome, IsRestGiven, IsWhole, Judges, NamesUndone, is_undone, outcome_of}
+use Rattle.publisher.specs.Outcome.{AnyKnows, AreDone, AreGiven, AreHandedIn, AreNumbered, AreReclaimed, Finishes, HasLane, IsHeld, IsMissing, IsOutcome, IsRestGiven, IsWhole, Judges, NamesUndone, is_undone, outcome_of}
 use Rattle.publisher.specs.declared.outcome.NamedLane.{NamedLane}
 use Rattle.publisher.specs.declared.outcome.Outcome.{Outcome}
 use Rattle.publisher.specs.declared.state.finding.Found.{Found}
@@ -18,7 +18,7 @@ use Rattle.publisher.specs.declared.state.finding.Taken.{Taken}
 use Rattle.publisher.specs.declared.state.finishing.Books.{Books}
 use Rattle.publisher.proofs.Outcomes.{drops_at, is_outcome}
 
-module _ {B : Type 0} (submitters : List SubmitterState) (subscriptions : List SubscriptionState) (outcome : Outcome B) (closed : Bool) where
+module _ {B H : Type 0} (submitters : List SubmitterState) (subscriptions : List SubscriptionState) (outcome : Outcome B H) (closed : Bool) where
   rests : (left : NamedLane B) → is_undone closed left ≡ false → left.lane.running ≡ false
   rests left done = by left.lane.running done where
     by : (running : Bool) → (running || (closed && is_none left.lane.ending)) ≡ false → running ≡ false
@@ -33,7 +33,7 @@ module _ {B : Type 0} (submitters : List SubmitterState) (subscriptions : List S
     by false true (Some how) y e = refl
     by false false ending y e = cc
 
-  pub judged_same : (result : Result (Outcome B) (Refusal × Outcome B)) → Judges outcome closed result → outcome_of result ≡ outcome
+  pub judged_same : (result : Result (Outcome B H) (Refusal × Outcome B H)) → Judges outcome closed result → outcome_of result ≡ outcome
   judged_same (Ok same) judges = judges.0
   judged_same (Err (Refusal.Unsettled names, same)) judges = judges.0
   judged_same (Err (Refusal.BadCapacity, same)) judges = absurd judges
@@ -49,7 +49,7 @@ module _ {B : Type 0} (submitters : List SubmitterState) (subscriptions : List S
   judged_same (Err (Refusal.BadCommand, same)) judges = absurd judges
   judged_same (Err (Refusal.Exhausted, same)) judges = absurd judges
 
-  pub finishes : (result : Result (Outcome B) (Refusal × Outcome B)) → Judges outcome closed result → IsWhole submitters subscriptions outcome → (AnyKnows submitters → closed ≡ true) → (outcome.drained ≡ true → closed ≡ true)
+  pub finishes : (result : Result (Outcome B H) (Refusal × Outcome B H)) → Judges outcome closed result → IsWhole submitters subscriptions outcome → (AnyKnows submitters → closed ≡ true) → (outcome.drained ≡ true → closed ≡ true)
       → Finishes submitters subscriptions result
   finishes (Ok same) judges whole knows drained =
       let done : AreDone submitters outcome = record {
@@ -57,8 +57,8 @@ module _ {B : Type 0} (submitters : List SubmitterState) (subscriptions : List S
         ended = λ any i left at. ends left (knows any) (judges.1 i left at);
         drained = λ last i left at. ends left (drained last) (judges.1 i left at);
       } in
-      subst (λ (o : Outcome B). IsWhole submitters subscriptions o × AreDone submitters o) (sym judges.0) (whole, done)
-  finishes (Err (Refusal.Unsettled names, same)) judges whole knows drained = subst (λ (o : Outcome B). IsWhole submitters subscriptions o × NamesUndone names.items o.lanes.items) (sym judges.0) (whole, judges.1)
+      subst (λ (o : Outcome B H). IsWhole submitters subscriptions o × AreDone submitters o) (sym judges.0) (whole, done)
+  finishes (Err (Refusal.Unsettled names, same)) judges whole knows drained = subst (λ (o : Outcome B H). IsWhole submitters subscriptions o × NamesUndone names.items o.lanes.items) (sym judges.0) (whole, judges.1)
   finishes (Err (Refusal.BadCapacity, same)) judges whole knows drained = absurd judges
   finishes (Err (Refusal.Closed ending, same)) judges whole knows drained = absurd judges
   finishes (Err (Refusal.Duplicate, same)) judges whole knows drained = absurd judges
@@ -72,8 +72,8 @@ module _ {B : Type 0} (submitters : List SubmitterState) (subscriptions : List S
   finishes (Err (Refusal.BadCommand, same)) judges whole knows drained = absurd judges
   finishes (Err (Refusal.Exhausted, same)) judges whole knows drained = absurd judges
 
-module _ {B : Type 0} (told : B → List Signal) (submitters : List SubmitterState) (subscriptions : List SubscriptionState) (founds : List (Found B)) (dropping : ℕ) (drained : Bool) (outcome : Outcome B) (first missing : Option (List ℕ))
-    (out : AreTakenOut subscriptions founds outcome.published dropping drained) (same : outcome.drained ≡ drained) (closes : ClosesAll told founds (length founds) outcome.lanes.items outcome.held.items first)
+module _ {B H : Type 0} (told : B → List Signal) (submitters : List SubmitterState) (subscriptions : List SubscriptionState) (founds : List (Found B)) (dropping : ℕ) (drained : Bool) (outcome : Outcome B H) (first missing : Option (List ℕ))
+    (out : AreTakenOut subscriptions founds outcome.published dropping drained) (same : outcome.drained ≡ drained) (closes : ClosesAll told founds (length founds) outcome.lanes.items outcome.held.items outcome.reclaimed.items first)
     (audited : AreAudited submitters outcome.published dropping missing) where
   -- one whose two ends were there was handed in
   both_handed : (number : ℕ) (taken : Taken B) → slice_get founds number ≡ Some (Found.Both taken) → IsHandedIn subscriptions number
@@ -84,6 +84,19 @@ module _ {B : Type 0} (told : B → List Signal) (submitters : List SubmitterSta
     rising = closes.rising;
     each = λ i left at. let it = closes.each i left at in both_handed left.entry it.0 it.1.0;
   }
+
+  -- a reclaimed one was not handed in, and has no lane
+  pub are_reclaimed : AreReclaimed subscriptions outcome
+  are_reclaimed = record {
+    not_handed = λ number is handed. out.reclaimed number (closes.reclaimed_are number is).0 handed;
+    no_lane = λ number is lane.
+        let both = closes.each lane.0 lane.1 lane.2.0 in
+        let no : Some Found.Reclaimed ≡ Some (Found.Both both.0) = sym (closes.reclaimed_are number is).0 ∙ ap (slice_get founds) (sym lane.2.1) ∙ both.1.0 in cc;
+  }
+
+  -- all that there are are given
+  numbered : length outcome.lanes.items + length outcome.reclaimed.items ≡ length founds → AreGiven (length founds) outcome.lanes.items outcome.reclaimed.items → AreNumbered outcome.lanes.items outcome.reclaimed.items
+  numbered many given = λ number less. given number (omega arith)
 
   -- each that was handed in has its lane, or is held
   pub rest_given : IsRestGiven subscriptions outcome
@@ -97,6 +110,7 @@ module _ {B : Type 0} (told : B → List Signal) (submitters : List SubmitterSta
     by : (number : ℕ) → IsHandedIn subscriptions number → (found : Found B) → slice_get founds number ≡ Some found → HasLane number outcome.lanes.items ⊎ IsHeld number outcome.held.items
     by number handed (Found.Both taken) at = closes.all number taken (slice_get_within founds number (Found.Both taken) at) at
     by number handed (Found.Missing name) at = absurd (out.missing number name at handed)
+    by number handed Found.Reclaimed at = absurd (out.reclaimed number at handed)
 
   pub is_missing_of : (name : List ℕ) → option_or first missing ≡ Some name → IsMissing name submitters subscriptions outcome
   is_missing_of name is = by first missing is closes.finds audited where
@@ -104,9 +118,9 @@ module _ {B : Type 0} (told : B → List Signal) (submitters : List SubmitterSta
     away number it (inl at) = inl (λ handed. out.missing number it at handed)
     away number it (inr is_held) = inr is_held
 
-    by : (f m : Option (List ℕ)) → option_or f m ≡ Some name → FindsFirst told founds (length founds) outcome.lanes.items outcome.held.items f → AreAudited submitters outcome.published dropping m → IsMissing name submitters subscriptions outcome
+    by : (f m : Option (List ℕ)) → option_or f m ≡ Some name → FindsFirst told founds (length founds) outcome.lanes.items outcome.held.items outcome.reclaimed.items f → AreAudited submitters outcome.published dropping m → IsMissing name submitters subscriptions outcome
     by (Some it) m e finds audit = inl (finds.0, (finds.1.1.0, away finds.0 it finds.1.1.1))
-    by None (Some it) e finds audit = inr (audit.0, (audit.1.0, (sym (same_Some it name e) ∙ audit.1.1.0, (audit.1.1.1, (finds.1.0, finds.1.1)))))
+    by None (Some it) e finds audit = inr (audit.0, (audit.1.0, (sym (same_Some it name e) ∙ audit.1.1.0, (audit.1.1.1, (numbered finds.0 finds.1.0, finds.1.1)))))
     by None None e finds audit = cc
 
   pub is_whole_of : option_or first missing ≡ None → IsWhole submitters subscriptions outcome
@@ -118,11 +132,11 @@ module _ {B : Type 0} (told : B → List Signal) (submitters : List SubmitterSta
     given none number (inl lane) = lane
     given none number (inr is_held) = absurd (held_none number none is_held)
 
-    by : (f m : Option (List ℕ)) → option_or f m ≡ None → FindsFirst told founds (length founds) outcome.lanes.items outcome.held.items f → AreAudited submitters outcome.published dropping m → IsWhole submitters subscriptions outcome
+    by : (f m : Option (List ℕ)) → option_or f m ≡ None → FindsFirst told founds (length founds) outcome.lanes.items outcome.held.items outcome.reclaimed.items f → AreAudited submitters outcome.published dropping m → IsWhole submitters subscriptions outcome
     by (Some it) m e finds audit = cc
     by None (Some it) e finds audit = cc
     by None None e finds audit = record {
-      numbered = finds.1.0;
+      numbered = numbered finds.0 finds.1.0;
       none_left_out = λ number handed. given finds.1.1 number (rest_given.given number handed);
       none_held = finds.1.1;
       published = sym audit.0;
@@ -132,7 +146,7 @@ module _ {B : Type 0} (told : B → List Signal) (submitters : List SubmitterSta
     }
 
 -- what the end of a publisher gives, by what was taken out from behind its lock
-module _ {B : Type 0} (told : B → List Signal) (submitters : List SubmitterState) (subscriptions : List SubscriptionState) (books : Books B) (dropping : ℕ) (result : Result (Outcome B) (Refusal × Outcome B))
+module _ {B H : Type 0} (told : B → List Signal) (submitters : List SubmitterState) (subscriptions : List SubscriptionState) (books : Books B) (dropping : ℕ) (result : Result (Outcome B H) (Refusal × Outcome B H))
     (ends : AreTakenOut subscriptions books.founds.items books.published dropping books.drained) (audited : AreAudited submitters books.published dropping books.missing) (concludes : Concludes told books result) where
   out : AreTakenOut subscriptions books.founds.items (outcome_of result).published dropping books.drained
   out = subst (λ n. AreTakenOut subscriptions books.founds.items n dropping books.drained) (sym concludes.published) ends
@@ -146,9 +160,12 @@ module _ {B : Type 0} (told : B → List Signal) (submitters : List SubmitterSta
   pub handed_is : AreHandedIn subscriptions (outcome_of result).lanes.items
   handed_is = are_handed_in told submitters subscriptions books.founds.items dropping books.drained (outcome_of result) concludes.first books.missing out concludes.drained concludes.closes audit
 
+  pub reclaimed_is : AreReclaimed subscriptions (outcome_of result)
+  reclaimed_is = are_reclaimed told submitters subscriptions books.founds.items dropping books.drained (outcome_of result) concludes.first books.missing out concludes.drained concludes.closes audit
+
   pub finishes_is : (AnyKnows submitters → books.is_closed ≡ true) → (books.drained ≡ true → books.is_closed ≡ true) → Finishes submitters subscriptions result
   finishes_is knows closed = by (option_or concludes.first books.missing) refl where
-    missing : (name : List ℕ) (other : Result (Outcome B) (Refusal × Outcome B)) (outcome : Outcome B) → IsMissing name submitters subscriptions (outcome_of other) → IsRestGiven subscriptions (outcome_of other) → other ≡ Err (Refusal.StillHeld name, outcome)
+    missing : (name : List ℕ) (other : Result (Outcome B H) (Refusal × Outcome B H)) (outcome : Outcome B H) → IsMissing name submitters subscriptions (outcome_of other) → IsRestGiven subscriptions (outcome_of other) → other ≡ Err (Refusal.StillHeld name, outcome)
         → Finishes submitters subscriptions other
     missing name other outcome is rest same = subst (λ r. Finishes submitters subscriptions r) (sym same) (
       subst (λ r. IsMissing name submitters subscriptions (outcome_of r)) same is,
@@ -165,7 +182,7 @@ module _ {B : Type 0} (told : B → List Signal) (submitters : List SubmitterSta
         knows (λ last. closed (sym concludes.drained ∙ last))
 
 -- an outcome without lanes
-pub nothing_is : {B : Type 0} (told : B → List Signal) (outcome : Outcome B) → IsNothing outcome → IsOutcome told outcome
+pub nothing_is : {B H : Type 0} (told : B → List Signal) (outcome : Outcome B H) → IsNothing outcome → IsOutcome told outcome
 nothing_is told outcome none = record {
   lanes = [];
   as_many = sym (ap length none.no_lanes);
@@ -175,14 +192,19 @@ nothing_is told outcome none = record {
   late = λ i left at. let no : None ≡ Some left = sym (ap (λ lanes. slice_get lanes i) none.no_lanes) ∙ at in cc;
 }
 
-pub nothing_handed : {B : Type 0} (subscriptions : List SubscriptionState) (outcome : Outcome B) → IsNothing outcome → AreHandedIn subscriptions outcome.lanes.items
+pub nothing_handed : {B H : Type 0} (subscriptions : List SubscriptionState) (outcome : Outcome B H) → IsNothing outcome → AreHandedIn subscriptions outcome.lanes.items
 nothing_handed subscriptions outcome none = record {
   rising = λ i j left other at. let no : None ≡ Some left = sym (ap (λ lanes. slice_get lanes i) none.no_lanes) ∙ at in cc;
   each = λ i left at. let no : None ≡ Some left = sym (ap (λ lanes. slice_get lanes i) none.no_lanes) ∙ at in cc;
 }
 
+pub nothing_reclaimed : {B H : Type 0} (subscriptions : List SubscriptionState) (outcome : Outcome B H) → IsNothing outcome → AreReclaimed subscriptions outcome
+nothing_reclaimed subscriptions outcome none = record { not_handed = λ number is handed. never number is; no_lane = λ number is lane. never number is } where
+  never : (number : ℕ) → IsHeld number outcome.reclaimed.items → ⊥
+  never number is = let no : None ≡ Some number = sym (ap (λ held. slice_get held is.0) none.none_reclaimed) ∙ is.1 in cc
+
 -- the answers of what was closed
-module _ {B : Type 0} (told : B → List Signal) (books : Books B) (first : Option (List ℕ)) (outcome : Outcome B) (closes : ClosesAll told books.founds.items (length books.founds.items) outcome.lanes.items outcome.held.items first)
+module _ {B H : Type 0} (told : B → List Signal) (books : Books B) (first : Option (List ℕ)) (outcome : Outcome B H) (closes : ClosesAll told books.founds.items (length books.founds.items) outcome.lanes.items outcome.held.items outcome.reclaimed.items first)
     (published : outcome.published ≡ books.published) (drained : outcome.drained ≡ books.drained) where
   pub concludes_held : (name : List ℕ) → option_or first books.missing ≡ Some name → Concludes told books (Err (Refusal.StillHeld name, outcome))
   concludes_held name is = record {
@@ -194,14 +216,14 @@ module _ {B : Type 0} (told : B → List Signal) (books : Books B) (first : Opti
     judged = λ none. let never : Some name ≡ None = sym is ∙ none in cc;
   }
 
-  pub concludes_judged : (result : Result (Outcome B) (Refusal × Outcome B)) → option_or first books.missing ≡ None → Judges outcome books.is_closed result → Concludes told books result
+  pub concludes_judged : (result : Result (Outcome B H) (Refusal × Outcome B H)) → option_or first books.missing ≡ None → Judges outcome books.is_closed result → Concludes told books result
   concludes_judged result is judges =
       let same = judged_same [] [] outcome books.is_closed result judges in
       record {
         first = first;
-        closes = subst (λ (o : Outcome B). ClosesAll told books.founds.items (length books.founds.items) o.lanes.items o.held.items first) (sym same) closes;
-        published = ap (λ (o : Outcome B). o.published) same ∙ published;
-        drained = ap (λ (o : Outcome B). o.drained) same ∙ drained;
+        closes = subst (λ (o : Outcome B H). ClosesAll told books.founds.items (length books.founds.items) o.lanes.items o.held.items o.reclaimed.items first) (sym same) closes;
+        published = ap (λ (o : Outcome B H). o.published) same ∙ published;
+        drained = ap (λ (o : Outcome B H). o.drained) same ∙ drained;
         missing = λ other e. let never : None ≡ Some other = sym is ∙ e in cc;
         judged = λ none. subst (λ o. Judges o books.is_closed result) (sym same) judges;
       }

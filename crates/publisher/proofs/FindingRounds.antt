@@ -1,6 +1,7 @@
 -- How the two ends of each subscription are brought together, one subscription after the other.
 use Rattle.std.proofs.Common.{◌≡◌, ◌⊎◌, inl, inr, ℕ, ◌+◌, ◌<◌, ◌≤◌, ◌||◌, ◌&&◌, Bool, true, false, is_some, Option, None, Some, option_map, List, [], ◌∷◌, ◌++◌, length, refl, sym, ap, subst, ◌∙◌, arith}
-use Rattle.std.specs.Prelude.{slice_get, slice_set}
+use Rattle.std.specs.Option.{option_and_then}
+use Rattle.std.specs.Prelude.{IsSome, slice_get, slice_set}
 use Rattle.std.proofs.lemmas.List.{length-append, length-map, length-set}
 use Rattle.std.proofs.lemmas.Option.{same_Some}
 use Rattle.feed_cell.specs.Parties.{HandleState, ProducerState}
@@ -8,14 +9,15 @@ use Rattle.publisher_hub.specs.Entry.{EntryState, entry_of}
 use Rattle.publisher_hub.specs.Hub.{HubState, hub_of}
 use Rattle.publisher_hub.specs.Lists.{Each}
 use Rattle.publisher_hub.specs.Sound.{IsSound}
-use Rattle.publisher_hub.specs.Taking.{entry_without_feed}
+use Rattle.publisher_hub.specs.Lending.{feed_at}
+use Rattle.publisher_hub.specs.Taking.{TakesOutAt, entry_without_feed}
 use Rattle.publisher_hub.specs.declared.entry.Entry.{Entry}
 use Rattle.publisher_hub.specs.declared.hub.Hub.{Hub}
 use Rattle.publisher_hub.proofs.AnswerLists.Updates.{get_elsewhere, get_grown}
 use Rattle.publisher_hub.proofs.PartialRounds.Next.{get_before_map, get_mapped}
 use Rattle.publisher_hub.proofs.AnswerLists.Places.{there}
 use Rattle.publisher_hub.proofs.Soundness.Replacing.{set_or_stood, set_same}
-use Rattle.publisher.specs.Finding.{FindsAll, FindsBy, FindsOne, IsFoundOf, IsSameOrLeft, TakesBoth, is_missing}
+use Rattle.publisher.specs.Finding.{FindsAll, FindsBy, FindsOne, IsFoundOf, IsSameOrLeft, is_reclaimed}
 use Rattle.publisher.specs.State.{producer_end}
 use Rattle.publisher.specs.Tickets.{IsLate}
 use Rattle.publisher.specs.declared.state.finding.Found.{Found}
@@ -29,18 +31,20 @@ right_false : (a b : Bool) → (a || b) ≡ false → b ≡ false
 right_false true b e = cc
 right_false false b e = e
 
--- a handle that was not handed in, where one that is missing was not
-not_handed : {B : Type 0} (handle : Option HandleState) (name : List ℕ) (found : Found B) → found ≡ Found.Missing name → (is_some handle && is_missing found) ≡ false → handle ≡ None
-not_handed None name found is e = refl
-not_handed (Some handle) name (Found.Both taken) is e = cc
-not_handed (Some handle) name (Found.Missing other) is e = cc
+-- no handle was handed in, where none is that of a reclaimed one
+not_handed : {B : Type 0} (handle : Option HandleState) (found : Found B) → found ≡ Found.Reclaimed → (is_some handle && is_reclaimed found) ≡ false → handle ≡ None
+not_handed None found is e = refl
+not_handed (Some handle) (Found.Both taken) is e = cc
+not_handed (Some handle) (Found.Missing name) is e = cc
+not_handed (Some handle) Found.Reclaimed is e = cc
 
 -- how far the finding has come: nothing further has changed
 pub record IsFinding {B : Type 0} (old new : Hub ProducerState) (counted : Option ℕ) (handles now : List (Option HandleState)) (most : ℕ) (founds : List (Found B)) (gone : Bool) : Type 0 where
   pub as_many : length founds ≡ most
   pub each : (k : ℕ) (entry : Entry ProducerState) (found : Found B) → slice_get old.entries.items k ≡ Some entry → slice_get founds k ≡ Some found → IsFoundOf counted k (entry_of producer_end entry) found
   pub here : (k : ℕ) (taken : Taken B) → slice_get founds k ≡ Some (Found.Both taken) → slice_get handles k ≡ Some (Some taken.handle)
-  pub missing : gone ≡ false → (k : ℕ) (name : List ℕ) → slice_get founds k ≡ Some (Found.Missing name) → slice_get handles k ≡ Some None
+  pub missing : (k : ℕ) (name : List ℕ) → slice_get founds k ≡ Some (Found.Missing name) → slice_get handles k ≡ Some None
+  pub reclaimed : gone ≡ false → (k : ℕ) → slice_get founds k ≡ Some Found.Reclaimed → slice_get handles k ≡ Some None
   pub rest : hub_of producer_end new ≡ record (hub_of producer_end old) { entries = (hub_of producer_end new).entries }
   pub stays : Each IsSameOrLeft old.entries.items new.entries.items
   pub sound : IsSound (hub_of producer_end new)
@@ -54,7 +58,8 @@ finding_none hub counted handles [] none sound = record {
   as_many = refl;
   each = λ k entry found at on. cc;
   here = λ k taken at. cc;
-  missing = λ here k name at. cc;
+  missing = λ k name at. cc;
+  reclaimed = λ here k at. cc;
   rest = refl;
   stays = record { as_long = refl; each = λ k x y at on. inl (same_Some y x (sym on ∙ at)) };
   sound = sound;
@@ -85,16 +90,20 @@ module _ {B : Type 0} (old new later : Hub ProducerState) (counted : Option ℕ)
   stood : slice_get old.entries.items most ≡ Some finds.entry
   stood = sym (finding.ahead most (omega arith)) ∙ finds.stands
 
+  same_still : later.entries.items ≡ new.entries.items → Each IsSameOrLeft old.entries.items later.entries.items × ((k : ℕ) → most + 1 ≤ k → slice_get later.entries.items k ≡ slice_get old.entries.items k)
+  same_still same = (
+    subst (λ items. Each IsSameOrLeft old.entries.items items) (sym same) finding.stays,
+    λ k le. ap (λ es. slice_get es k) same ∙ finding.ahead k (omega arith),
+  )
+
   -- what changed in the list of entries
   changed : (f : Found B) → found ≡ f → FindsBy most handle finds.entry f new later → Each IsSameOrLeft old.entries.items later.entries.items × ((k : ℕ) → most + 1 ≤ k → slice_get later.entries.items k ≡ slice_get old.entries.items k)
   changed (Found.Both both) e by = (
     left_set old.entries.items new.entries.items later.entries.items most new.next finds.entry stood by.1 finding.stays,
     λ k le. ap (λ es. slice_get es k) by.1 ∙ get_elsewhere new.entries.items most k (entry_without_feed new.next finds.entry) (λ same. absurd (omega arith)) ∙ finding.ahead k (omega arith),
   )
-  changed (Found.Missing name) e by = (
-    subst (λ items. Each IsSameOrLeft old.entries.items items) (sym by.1) finding.stays,
-    λ k le. ap (λ es. slice_get es k) by.1 ∙ finding.ahead k (omega arith),
-  )
+  changed (Found.Missing name) e by = same_still by.1
+  changed Found.Reclaimed e by = same_still by
 
   found_is : FindsBy most handle finds.entry found new later
   found_is = finds.by
@@ -102,15 +111,19 @@ module _ {B : Type 0} (old new later : Hub ProducerState) (counted : Option ℕ)
   both_here : (both : Taken B) → found ≡ Found.Both both → slice_get handles most ≡ Some (Some both.handle)
   both_here both e = was_handle ∙ ap Some (subst (λ f. FindsBy most handle finds.entry f new later) e finds.by).0
 
-  missing_here : (name : List ℕ) → found ≡ Found.Missing name → (is_some handle && is_missing found) ≡ false → slice_get handles most ≡ Some None
-  missing_here name e here = was_handle ∙ ap Some (not_handed handle name found e here)
+  missing_here : (name : List ℕ) → found ≡ Found.Missing name → slice_get handles most ≡ Some None
+  missing_here name e = was_handle ∙ ap Some (subst (λ f. FindsBy most handle finds.entry f new later) e finds.by).0
 
-  pub finding_more : IsFinding old later counted handles then (most + 1) (founds ++ found ∷ []) (gone || (is_some handle && is_missing found))
+  reclaimed_here : found ≡ Found.Reclaimed → (is_some handle && is_reclaimed found) ≡ false → slice_get handles most ≡ Some None
+  reclaimed_here e here = was_handle ∙ ap Some (not_handed handle found e here)
+
+  pub finding_more : IsFinding old later counted handles then (most + 1) (founds ++ found ∷ []) (gone || (is_some handle && is_reclaimed found))
   finding_more = record {
     as_many = length-append founds (found ∷ []) ∙ ap (λ n. n + 1) finding.as_many;
     each = λ k entry it at on. each k entry it at (get_grown founds found k it on);
     here = λ k both at. here k both (get_grown founds found k (Found.Both both) at);
-    missing = λ none k name at. missing none k name (get_grown founds found k (Found.Missing name) at);
+    missing = λ k name at. missing k name (get_grown founds found k (Found.Missing name) at);
+    reclaimed = λ none k at. reclaimed none k (get_grown founds found k Found.Reclaimed at);
     rest = finds.rest ∙ ap (λ (h : HubState). record h { entries = (hub_of producer_end later).entries }) finding.rest;
     stays = (changed found refl finds.by).0;
     sound = sound;
@@ -130,9 +143,13 @@ module _ {B : Type 0} (old new later : Hub ProducerState) (counted : Option ℕ)
     here k both (inl before) = finding.here k both before
     here k both (inr last) = subst (λ n. slice_get handles n ≡ Some (Some both.handle)) (sym (last.0 ∙ finding.as_many)) (both_here both last.1)
 
-    missing : (gone || (is_some handle && is_missing found)) ≡ false → (k : ℕ) (name : List ℕ) → (slice_get founds k ≡ Some (Found.Missing name)) ⊎ ((k ≡ length founds) × (found ≡ Found.Missing name)) → slice_get handles k ≡ Some None
-    missing none k name (inl before) = finding.missing (left_false gone _ none) k name before
-    missing none k name (inr last) = subst (λ n. slice_get handles n ≡ Some None) (sym (last.0 ∙ finding.as_many)) (missing_here name last.1 (right_false gone _ none))
+    missing : (k : ℕ) (name : List ℕ) → (slice_get founds k ≡ Some (Found.Missing name)) ⊎ ((k ≡ length founds) × (found ≡ Found.Missing name)) → slice_get handles k ≡ Some None
+    missing k name (inl before) = finding.missing k name before
+    missing k name (inr last) = subst (λ n. slice_get handles n ≡ Some None) (sym (last.0 ∙ finding.as_many)) (missing_here name last.1)
+
+    reclaimed : (gone || (is_some handle && is_reclaimed found)) ≡ false → (k : ℕ) → (slice_get founds k ≡ Some Found.Reclaimed) ⊎ ((k ≡ length founds) × (found ≡ Found.Reclaimed)) → slice_get handles k ≡ Some None
+    reclaimed none k (inl before) = finding.reclaimed (left_false gone _ none) k before
+    reclaimed none k (inr last) = subst (λ n. slice_get handles n ≡ Some None) (sym (last.0 ∙ finding.as_many)) (reclaimed_here last.1 (right_false gone _ none))
 
 pub finding_all : {B : Type 0} (old new : Hub ProducerState) (counted : Option ℕ) (handles now : List (Option HandleState)) (most : ℕ) (founds : List (Found B)) (gone : Bool) → most ≡ length old.entries.items
     → IsFinding old new counted handles now most founds gone → FindsAll old new counted handles founds gone
@@ -145,6 +162,7 @@ finding_all old new counted handles now most founds gone all is = record {
   };
   here = is.here;
   missing = is.missing;
+  reclaimed = is.reclaimed;
   rest = is.rest;
   stays = is.stays;
   sound = is.sound;
@@ -157,40 +175,72 @@ read_of f hub number entry answer x is value stands = same_Some x (f (entry_of p
 
 -- what is found of one subscription
 module _ {B : Type 0} (counted : Option ℕ) (number : ℕ) (handle : Option HandleState) (old new : Hub ProducerState) (within : number < length old.entries.items) where
-  pub finds_both : (producer : ProducerState) (other : HandleState) (taken : Taken B) → TakesBoth number handle (Some (producer, other)) old new → taken.producer ≡ producer → taken.handle ≡ other
+  pub finds_both : (other : HandleState) (taken : Taken B) → handle ≡ Some other → TakesOutAt producer_end number (Some taken.producer) old new → taken.handle ≡ other
       → ((taken.late ≡ true → IsLate counted number) × (IsLate counted number → taken.late ≡ true))
       → ((entry : Entry ProducerState) → slice_get old.entries.items number ≡ Some entry → (taken.name ≡ entry.name) × (taken.since ≡ entry.since) × (taken.dropped ≡ entry.dropped))
       → FindsOne counted number handle (Found.Both taken) old new
-  finds_both producer other taken takes producer_is handle_is late reads =
+  finds_both other taken handed takes handle_is late reads =
       let entry = there old.entries.items number within in
-      let after = takes.1.there entry.0 entry.1 in
+      let after = takes.there entry.0 entry.1 in
       let known = reads entry.0 entry.1 in
       record {
         entry = entry.0;
         stands = entry.1;
-        is = record { name = known.0; since = known.1; dropped = known.2; late = late; producer = ap (option_map producer_end) after.1.0.0 ∙ ap (λ (p : ProducerState). Some p.end) (sym producer_is) };
-        by = (takes.0 ∙ ap Some (sym handle_is), after.1.1 ∙ ap (slice_set old.entries.items number) after.1.0.1);
-        rest = takes.1.rest;
+        is = record { name = known.0; since = known.1; dropped = known.2; late = late; producer = ap (option_map producer_end) after.1.0.0 };
+        by = (handed ∙ ap Some (sym handle_is), after.1.1 ∙ ap (slice_set old.entries.items number) after.1.0.1);
+        rest = takes.rest;
       }
 
-  pub finds_none : (name : List ℕ) → TakesBoth number handle None old new → ((entry : Entry ProducerState) → slice_get old.entries.items number ≡ Some entry → name ≡ entry.name)
-      → FindsOne {B = B} counted number handle (Found.Missing name) old new
-  finds_none name (inl same) reads =
-      let entry = there old.entries.items number within in
-      record {
-        entry = entry.0;
-        stands = entry.1;
-        is = reads entry.0 entry.1;
-        by = (inl same.0, ap (λ (h : Hub ProducerState). h.entries.items) same.1);
-        rest = ap (hub_of producer_end) same.1 ∙ ap (λ (h : Hub ProducerState). record (hub_of producer_end old) { entries = (hub_of producer_end h).entries }) (sym same.1);
-      }
-  finds_none name (inr takes) reads =
+  -- one whose producer's end was taken out before
+  pub finds_reclaimed : TakesOutAt producer_end number None old new → FindsOne {B = B} counted number handle Found.Reclaimed old new
+  finds_reclaimed takes =
       let entry = there old.entries.items number within in
       let after = takes.there entry.0 entry.1 in
       record {
         entry = entry.0;
         stands = entry.1;
-        is = reads entry.0 entry.1;
-        by = (inr after.1.0.0, after.1.1 ∙ ap (slice_set old.entries.items number) after.1.0.1 ∙ set_same old.entries.items number entry.0 entry.1);
+        is = ap (option_map producer_end) after.1.0.0;
+        by = after.1.1 ∙ ap (slice_set old.entries.items number) after.1.0.1 ∙ set_same old.entries.items number entry.0 entry.1;
         rest = takes.rest;
+      }
+
+-- the end of the one that stands there
+stored_feed : (hub : Hub ProducerState) (number : ℕ) (entry : Entry ProducerState) → slice_get hub.entries.items number ≡ Some entry → feed_at hub number ≡ entry.feed
+stored_feed hub number entry at = ap (option_and_then (λ (it : Entry ProducerState). it.feed)) at
+
+mapped_some : (feed : Option ProducerState) → IsSome feed → IsSome (option_map producer_end feed)
+mapped_some None some = some
+mapped_some (Some producer) some = refl
+
+mapped_none : (feed : Option ProducerState) → (IsSome feed → ⊥) → option_map producer_end feed ≡ None
+mapped_none None none = refl
+mapped_none (Some producer) none = absurd (none refl)
+
+none_handed : (handle : Option HandleState) → ((it : HandleState) → handle ≡ Some it → ⊥) → handle ≡ None
+none_handed None not = refl
+none_handed (Some it) not = absurd (not it refl)
+
+-- what is found of one whose handle was not handed in
+module _ {B : Type 0} (counted : Option ℕ) (number : ℕ) (handle : Option HandleState) (hub : Hub ProducerState) (within : number < length hub.entries.items) (unhanded : (it : HandleState) → handle ≡ Some it → ⊥) where
+  pub finds_missing : (name : List ℕ) → IsSome (feed_at hub number) → ((entry : Entry ProducerState) → slice_get hub.entries.items number ≡ Some entry → name ≡ entry.name)
+      → FindsOne {B = B} counted number handle (Found.Missing name) hub hub
+  finds_missing name some reads =
+      let entry = there hub.entries.items number within in
+      record {
+        entry = entry.0;
+        stands = entry.1;
+        is = (reads entry.0 entry.1, mapped_some entry.0.feed (subst IsSome (stored_feed hub number entry.0 entry.1) some));
+        by = (none_handed handle unhanded, refl);
+        rest = refl;
+      }
+
+  pub finds_gone : (IsSome (feed_at hub number) → ⊥) → FindsOne {B = B} counted number handle Found.Reclaimed hub hub
+  finds_gone none =
+      let entry = there hub.entries.items number within in
+      record {
+        entry = entry.0;
+        stands = entry.1;
+        is = mapped_none entry.0.feed (λ some. none (subst IsSome (sym (stored_feed hub number entry.0 entry.1)) some));
+        by = refl;
+        rest = refl;
       }

@@ -109,34 +109,48 @@ keep_told due_before due_after number old new tells = subst (λ entries. AllKeep
     (one_told (hub_of producer_end old).entries number (entry_of producer_end tells.before) (entry_of producer_end tells.after) (get_mapped (entry_of producer_end) old.entries.items number tells.before tells.there)
     (was_told producer_end DoesCall tells.start tells.before tells.after tells.told))
 
--- a subscribing that is refused
+-- a subscribing that is refused: a live subscription is told of it; or all were looked at, or some
 module _ (name : List ℕ) (due_before due_after : List (Work TaskState)) (old new : Hub ProducerState) where
-  stays_no_place : (refusal : Refusal) → FindsNoPlace producer_end DoesCall name refusal old new → Stays (hub_of producer_end old) (hub_of producer_end new)
-  stays_no_place refusal finds = stays_seen (hub_of producer_end old) (hub_of producer_end new) finds.seen.rest finds.seen.kept
+  abbrev IsDuplicate : Type 0
+  IsDuplicate = (middle : Hub ProducerState) × (IsSeen producer_end DoesCall old middle × TellsOne producer_end DoesCall name due_before due_after middle new)
 
-  stays_in_part : IsSeenInPart producer_end DoesCall old new ⊎ FindsNoPlace producer_end DoesCall name Refusal.NoMemory old new → Stays (hub_of producer_end old) (hub_of producer_end new)
-  stays_in_part (inl seen) = stays_looked (hub_of producer_end old) (hub_of producer_end new) (record { rest = seen.rest; entries = seen.kept })
-  stays_in_part (inr finds) = stays_no_place Refusal.NoMemory finds
+  abbrev pub IsLookedThrough : Type 0
+  IsLookedThrough = IsDuplicate ⊎ (IsSeenInPart producer_end DoesCall old new ⊎ IsSeen producer_end DoesCall old new)
 
-  stays_told : (middle : Hub ProducerState) → IsSeen producer_end DoesCall old middle → TellsOne producer_end DoesCall name due_before due_after middle new → Stays (hub_of producer_end old) (hub_of producer_end new)
-  stays_told middle seen tells = stays_then
-      (stays_seen (hub_of producer_end old) (hub_of producer_end middle) seen.rest seen.kept)
+  no_place : (refusal : Refusal) → FindsNoPlace producer_end DoesCall name refusal old new → IsLookedThrough
+  no_place refusal finds = inr (inr finds.seen)
+
+  in_part : IsSeenInPart producer_end DoesCall old new ⊎ FindsNoPlace producer_end DoesCall name Refusal.NoMemory old new → IsLookedThrough
+  in_part (inl seen) = inr (inl seen)
+  in_part (inr finds) = no_place Refusal.NoMemory finds
+
+  pub looked_through : (refusal : Refusal) → Refuses producer_end DoesCall name refusal due_before due_after old new → IsLookedThrough
+  looked_through Refusal.Duplicate refuses = inl refuses
+  looked_through Refusal.NoMemory refuses = in_part refuses.0
+  looked_through Refusal.BadCapacity refuses = no_place Refusal.BadCapacity refuses.0
+  looked_through (Refusal.Closed ending) refuses = no_place (Refusal.Closed ending) refuses.0
+  looked_through Refusal.TooMany refuses = no_place Refusal.TooMany refuses.0
+  looked_through Refusal.LineTooLong refuses = no_place Refusal.LineTooLong refuses.0
+  looked_through Refusal.BadWorkers refuses = no_place Refusal.BadWorkers refuses.0
+  looked_through (Refusal.StillHeld other) refuses = no_place (Refusal.StillHeld other) refuses.0
+  looked_through (Refusal.Unsettled names) refuses = no_place (Refusal.Unsettled names) refuses.0
+  looked_through Refusal.Unknown refuses = no_place Refusal.Unknown refuses.0
+  looked_through Refusal.WouldWait refuses = no_place Refusal.WouldWait refuses.0
+  looked_through Refusal.BadCommand refuses = no_place Refusal.BadCommand refuses.0
+  looked_through Refusal.Exhausted refuses = no_place Refusal.Exhausted refuses.0
+
+  stays_looked_through : IsLookedThrough → Stays (hub_of producer_end old) (hub_of producer_end new)
+  stays_looked_through (inl told) =
+      let middle = told.0 in
+      let seen = told.1.0 in
+      let tells = told.1.1 in
+      stays_then (stays_seen (hub_of producer_end old) (hub_of producer_end middle) seen.rest seen.kept)
       (stays_by (hub_of producer_end middle) (hub_of producer_end new) tells.tells.rest (keep_told due_before due_after tells.number middle new tells.tells))
+  stays_looked_through (inr (inl seen)) = stays_looked (hub_of producer_end old) (hub_of producer_end new) (record { rest = seen.rest; entries = seen.kept })
+  stays_looked_through (inr (inr seen)) = stays_seen (hub_of producer_end old) (hub_of producer_end new) seen.rest seen.kept
 
   pub stays_refused : (refusal : Refusal) → Refuses producer_end DoesCall name refusal due_before due_after old new → Stays (hub_of producer_end old) (hub_of producer_end new)
-  stays_refused Refusal.Duplicate refuses = stays_told refuses.0 refuses.1.0 refuses.1.1
-  stays_refused Refusal.NoMemory refuses = stays_in_part refuses.0
-  stays_refused Refusal.BadCapacity refuses = stays_no_place Refusal.BadCapacity refuses.0
-  stays_refused (Refusal.Closed ending) refuses = stays_no_place (Refusal.Closed ending) refuses.0
-  stays_refused Refusal.TooMany refuses = stays_no_place Refusal.TooMany refuses.0
-  stays_refused Refusal.LineTooLong refuses = stays_no_place Refusal.LineTooLong refuses.0
-  stays_refused Refusal.BadWorkers refuses = stays_no_place Refusal.BadWorkers refuses.0
-  stays_refused (Refusal.StillHeld other) refuses = stays_no_place (Refusal.StillHeld other) refuses.0
-  stays_refused (Refusal.Unsettled names) refuses = stays_no_place (Refusal.Unsettled names) refuses.0
-  stays_refused Refusal.Unknown refuses = stays_no_place Refusal.Unknown refuses.0
-  stays_refused Refusal.WouldWait refuses = stays_no_place Refusal.WouldWait refuses.0
-  stays_refused Refusal.BadCommand refuses = stays_no_place Refusal.BadCommand refuses.0
-  stays_refused Refusal.Exhausted refuses = stays_no_place Refusal.Exhausted refuses.0
+  stays_refused refusal refuses = stays_looked_through (looked_through refusal refuses)
 
 pub state_looked_at_one : (old new : Hub ProducerState) (number : ℕ) (glance : Option Standing) (sums : Sums) → IsState (hub_of producer_end old) sums → IsSound (hub_of producer_end new)
     → LooksAtOne producer_end DoesCall number glance old new → IsState (hub_of producer_end new) sums

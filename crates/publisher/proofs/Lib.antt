@@ -4,12 +4,15 @@ pub mod AskedStates
 pub mod Compared
 pub mod Concluding
 pub mod FindingRounds
+pub mod FreeNames
 pub mod GrownStates
 pub mod Judged
 pub mod KeptStates
 pub mod LeavingRounds
 pub mod Outcomes
 pub mod Placing
+pub mod ReclaimedLanes
+pub mod ReclaimedStates
 pub mod Refused
 pub mod Subscribed
 pub mod TakenOut

@@ -8,7 +8,7 @@ use Rattle.feed_core.proofs.TurnLoop.{last_contained}
 use Rattle.publisher_hub.proofs.AnswerLists.Places.{there}
 use Rattle.publisher.specs.Finishing.{AreTakenOut, IsCountedIn}
 use Rattle.publisher.specs.Handles.{SubscriptionState}
-use Rattle.publisher.specs.Leaving.{ClosesAll, IsLeftOfTaken}
+use Rattle.publisher.specs.Leaving.{ClosesAll, IsLaneOfTaken}
 use Rattle.publisher.specs.Outcome.{IsLane, IsOutcome, TookPart}
 use Rattle.publisher.specs.declared.outcome.NamedLane.{NamedLane}
 use Rattle.publisher.specs.declared.outcome.Outcome.{Outcome}
@@ -29,8 +29,8 @@ pub record HasLaneState {B : Type 0} (told : B → List Signal) (published : ℕ
   pub accepted : lane.accepted ≡ taken.producer.end.accepted
   pub is_lane : IsLane told published left lane
 
-module _ {B : Type 0} (told : B → List Signal) (published dropping : ℕ) (founds : List (Found B)) (left : NamedLane B) (taken : Taken B) (is : IsLeftOfTaken told left.entry taken left) (counted : IsCountedIn published dropping taken) where
-  abbrev lane : LaneState
+module _ {B : Type 0} (told : B → List Signal) (published dropping : ℕ) (founds : List (Found B)) (left : NamedLane B) (taken : Taken B) (is : IsLaneOfTaken told left.entry taken left) (counted : IsCountedIn published dropping taken) where
+  abbrev pub lane : LaneState
   lane = is.lane.lane
 
   -- one that goes on, or was completed, took part to the end
@@ -54,7 +54,7 @@ module _ {B : Type 0} (told : B → List Signal) (published dropping : ℕ) (fou
   many : left.lane.accepted ≡ length taken.producer.end.accepted
   many = is.lane.is.accepted ∙ ap length is.lane.accepted
 
-  is_lane_of : IsLane told published left lane
+  pub is_lane_of : IsLane told published left lane
   is_lane_of = record {
     is = is.lane.is;
     ordered = λ i j x y at on less. counted.ordered i j x y (sym (ap (λ l. slice_get l i) is.lane.accepted) ∙ at) (sym (ap (λ l. slice_get l j) is.lane.accepted) ∙ on) less;
@@ -70,24 +70,24 @@ module _ {B : Type 0} (told : B → List Signal) (published dropping : ℕ) (fou
   pub few_drops : left.dropped ≤ dropping
   few_drops = let drops = counted.drops in let same = is.dropped in omega arith
 
-module _ {B : Type 0} (told : B → List Signal) (subscriptions : List SubscriptionState) (founds : List (Found B)) (dropping : ℕ) (drained : Bool) (outcome : Outcome B) (first : Option (List ℕ))
-    (out : AreTakenOut subscriptions founds outcome.published dropping drained) (same : outcome.drained ≡ drained) (closes : ClosesAll told founds (length founds) outcome.lanes.items outcome.held.items first) where
+module _ {B H : Type 0} (told : B → List Signal) (subscriptions : List SubscriptionState) (founds : List (Found B)) (dropping : ℕ) (drained : Bool) (outcome : Outcome B H) (first : Option (List ℕ))
+    (out : AreTakenOut subscriptions founds outcome.published dropping drained) (same : outcome.drained ≡ drained) (closes : ClosesAll told founds (length founds) outcome.lanes.items outcome.held.items outcome.reclaimed.items first) where
   lane_at : (i : ℕ) (left : NamedLane B) → slice_get outcome.lanes.items i ≡ Some left → (lane : LaneState) × HasLaneState told outcome.published founds left lane
   lane_at i left at =
       let it = closes.each i left at in (
-        it.1.1.1.lane.lane,
+        it.1.1.1.of.lane.lane,
         record {
           taken = it.0;
           stands = it.1.0;
-          accepted = it.1.1.1.lane.accepted;
-          is_lane = is_lane_of told outcome.published dropping founds left it.0 it.1.1.1 (out.each left.entry it.0 it.1.0);
+          accepted = it.1.1.1.of.lane.accepted;
+          is_lane = is_lane_of told outcome.published dropping founds left it.0 it.1.1.1.of (out.each left.entry it.0 it.1.0);
         },
       )
 
   pub drops_at : (i : ℕ) (left : NamedLane B) → slice_get outcome.lanes.items i ≡ Some left → left.dropped ≤ dropping
   drops_at i left at =
       let it = closes.each i left at in
-      few_drops told outcome.published dropping founds left it.0 it.1.1.1 (out.each left.entry it.0 it.1.0)
+      few_drops told outcome.published dropping founds left it.0 it.1.1.1.of (out.each left.entry it.0 it.1.0)
 
   -- the lanes of a list of what is left
   pub record AreLanes (lefts : List (NamedLane B)) (lanes : List LaneState) : Type 0 where
@@ -122,8 +122,8 @@ module _ {B : Type 0} (told : B → List Signal) (subscriptions : List Subscript
             out.agreed left.0.entry other_left.0.entry k n here.taken there.taken x y here.stands (sym (ap (λ l. slice_get l k) here.accepted) ∙ on) there.stands (sym (ap (λ l. slice_get l n) there.accepted) ∙ on_other) is_one;
         drained = λ last i left at on_time.
             let it = closes.each i left at in
-            it.1.1.1.lane.over (out.ended (sym same ∙ last) left.entry it.0 it.1.0 (sym it.1.1.1.late ∙ on_time));
+            it.1.1.1.of.lane.over (out.ended (sym same ∙ last) left.entry it.0 it.1.0 (sym it.1.1.1.of.late ∙ on_time));
         late = λ i left at late.
             let it = closes.each i left at in
-            it.1.1.1.since ∙ (out.each left.entry it.0 it.1.0).late (sym it.1.1.1.late ∙ late);
+            it.1.1.1.of.since ∙ (out.each left.entry it.0 it.1.0).late (sym it.1.1.1.of.late ∙ late);
       }

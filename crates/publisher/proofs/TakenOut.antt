@@ -46,6 +46,25 @@ took_part next entry e counted gone closed (inl on) = by entry.retired refl wher
   by false at = rw at refl
   by true at = closed (some_if e.closing (sym (ap (λ over. over || is_some e.closing) on) ∙ gone at))
 
+-- what a subscription accepted and dropped, by its producer's end that is taken out
+pub counted_of : {B : Type 0} (hub : HubState) (counted : Option ℕ) (sums : Sums) (k : ℕ) (entry : EntryState) (taken : Taken B) → IsState hub sums → sums.counted ≡ counted → slice_get hub.entries k ≡ Some entry → IsTakenOf counted k entry taken
+    → IsCountedIn hub.progress.next hub.progress.dropping taken
+counted_of hub counted sums k entry taken is same stands of =
+    let stored = is.sound.entries k entry stands in
+    let count = stored.counted taken.producer.end of.producer in
+    let since = of.since in
+    let dropped = of.dropped in
+    let many = count.count in
+    let until = count.until in
+    record {
+      ordered = count.ordered;
+      items = λ i x on. let item = count.items i x on in (let first = item.since in omega arith, let last = item.until in omega arith);
+      counted = omega arith;
+      whole = λ part. let all = took_part hub.progress.next entry taken.producer.end 0 count.gone count.closed part in omega arith;
+      drops = let drops = stored.drops in omega arith;
+      late = λ late. since ∙ (is.tickets.1.entries k entry stands).late (subst (λ c. IsLate c k) (sym same) (of.late.0 late));
+    }
+
 module _ {B : Type 0} (hub : HubState) (counted : Option ℕ) (sums : Sums) (founds : List (Found B)) (is : IsState hub sums) (same : sums.counted ≡ counted) (found : AreFoundIn hub counted founds) where
   -- what is stored of one whose two ends are there
   stored : (k : ℕ) (taken : Taken B) → slice_get founds k ≡ Some (Found.Both taken) → (entry : EntryState) × ((slice_get hub.entries k ≡ Some entry) × IsTakenOf counted k entry taken)
@@ -54,23 +73,7 @@ module _ {B : Type 0} (hub : HubState) (counted : Option ℕ) (sums : Sums) (fou
       (entry.0, (entry.1, found.each k entry.0 (Found.Both taken) entry.1 at))
 
   pub counted_in : (k : ℕ) (taken : Taken B) → slice_get founds k ≡ Some (Found.Both taken) → IsCountedIn hub.progress.next hub.progress.dropping taken
-  counted_in k taken at = by (stored k taken at) where
-    by : (entry : EntryState) × ((slice_get hub.entries k ≡ Some entry) × IsTakenOf counted k entry taken) → IsCountedIn hub.progress.next hub.progress.dropping taken
-    by (entry, (stands, of)) =
-        let stored = is.sound.entries k entry stands in
-        let count = stored.counted taken.producer.end of.producer in
-        let since = of.since in
-        let dropped = of.dropped in
-        let many = count.count in
-        let until = count.until in
-        record {
-          ordered = count.ordered;
-          items = λ i x on. let item = count.items i x on in (let first = item.since in omega arith, let last = item.until in omega arith);
-          counted = omega arith;
-          whole = λ part. let all = took_part hub.progress.next entry taken.producer.end 0 count.gone count.closed part in omega arith;
-          drops = let drops = stored.drops in omega arith;
-          late = λ late. since ∙ (is.tickets.1.entries k entry stands).late (subst (λ c. IsLate c k) (sym same) (of.late.0 late));
-        }
+  counted_in k taken at = let it = stored k taken at in counted_of hub counted sums k it.0 taken is same it.1.0 it.1.1
 
   accepted_by : (k : ℕ) (taken : Taken B) (i : ℕ) (x : Item) → slice_get founds k ≡ Some (Found.Both taken) → slice_get taken.producer.end.accepted i ≡ Some x → IsAccepted hub.entries x
   accepted_by k taken i x at on =
@@ -87,12 +90,14 @@ module _ {B : Type 0} (hub : HubState) (counted : Option ℕ) (sums : Sums) (fou
   pub are_taken_out : (subscriptions : List SubscriptionState) (handles : List (Option HandleState)) (published dropping : ℕ) (drained : Bool) → published ≡ hub.progress.next → dropping ≡ hub.progress.dropping → length handles ≡ length founds
       → ArePlaced subscriptions handles true → ((k : ℕ) (taken : Taken B) → slice_get founds k ≡ Some (Found.Both taken) → slice_get handles k ≡ Some (Some taken.handle))
       → ((k : ℕ) (name : List ℕ) → slice_get founds k ≡ Some (Found.Missing name) → slice_get handles k ≡ Some None)
+      → ((k : ℕ) → slice_get founds k ≡ Some Found.Reclaimed → slice_get handles k ≡ Some None)
       → (drained ≡ true → (k : ℕ) (entry : EntryState) → slice_get hub.entries k ≡ Some entry → IsOver entry ⊎ IsLate counted k)
       → AreTakenOut subscriptions founds published dropping drained
-  are_taken_out subscriptions handles published dropping drained published_is dropping_is long placed here missing spent = record {
+  are_taken_out subscriptions handles published dropping drained published_is dropping_is long placed here missing reclaimed spent = record {
     each = λ k taken at. subst (λ n. IsCountedIn n dropping taken) (sym published_is) (subst (λ n. IsCountedIn hub.progress.next n taken) (sym dropping_is) (counted_in k taken at));
     handed = λ k taken at. placed.placed k taken.handle (here k taken at);
     missing = λ k name at handed. placed.empty k (missing k name at) handed;
+    reclaimed = λ k at handed. placed.empty k (reclaimed k at) handed;
     within = λ number handed. subst (λ n. number < n) long (placed.within refl number handed);
     ended = λ last k taken at on_time. ended_in (spent last) k taken at on_time;
     agreed = λ j k m n one other x y at_one on_one at_other on_other same. is.sound.agreed x y (accepted_by j one m x at_one on_one) (accepted_by k other n y at_other on_other) same;

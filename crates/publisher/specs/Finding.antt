@@ -1,11 +1,11 @@
 -- How the two ends of each subscription are brought together.
-use Rattle.std.specs.Prelude.{◌≡◌, ◌⊎◌, ℕ, ◌<◌, Bool, true, false, Option, None, Some, List, length, slice_get, slice_set}
+use Rattle.std.specs.Prelude.{◌≡◌, ◌⊎◌, ℕ, ◌<◌, Bool, true, false, Option, None, Some, IsSome, List, length, slice_get, slice_set}
 use Rattle.feed_cell.specs.Parties.{HandleState, ProducerState}
 use Rattle.publisher_hub.specs.Entry.{EntryState, entry_of}
 use Rattle.publisher_hub.specs.Hub.{HubState, OnlyEntriesChange, hub_of}
 use Rattle.publisher_hub.specs.Lists.{Each}
 use Rattle.publisher_hub.specs.Sound.{IsSound}
-use Rattle.publisher_hub.specs.Taking.{TakesOutAt, entry_without_feed}
+use Rattle.publisher_hub.specs.Taking.{entry_without_feed}
 use Rattle.publisher_hub.specs.declared.entry.Entry.{Entry}
 use Rattle.publisher_hub.specs.declared.hub.Hub.{Hub}
 use Rattle.publisher.specs.Handles.{SubscriptionState}
@@ -38,10 +38,10 @@ pub record ArePlaced (subscriptions : List SubscriptionState) (handles : List (O
       → ⊥
   pub within : all ≡ true → (number : ℕ) → IsHandedIn subscriptions number → number < length handles
 
--- whether an end is missing
-abbrev pub is_missing : {B : Type 0} → Found B → Bool
-is_missing (Found.Both taken) = false
-is_missing (Found.Missing name) = true
+-- whether the subscription was reclaimed: its producer's end was taken out before
+abbrev pub is_reclaimed : {B : Type 0} → Found B → Bool
+is_reclaimed Found.Reclaimed = true
+is_reclaimed _ = false
 
 -- both ends of the subscription of this number, of which this is stored, with what is known of it
 pub record IsTakenOf {B : Type 0} (counted : Option ℕ) (number : ℕ) (entry : EntryState)
@@ -56,16 +56,18 @@ pub record IsTakenOf {B : Type 0} (counted : Option ℕ) (number : ℕ) (entry :
 -- what is found of the subscription of this number, of which this is stored
 abbrev pub IsFoundOf : {B : Type 0} → Option ℕ → ℕ → EntryState → Found B → Type 0
 IsFoundOf counted number entry (Found.Both taken) = IsTakenOf counted number entry taken
-IsFoundOf counted number entry (Found.Missing name) = name ≡ entry.name
+IsFoundOf counted number entry (Found.Missing name) = (name ≡ entry.name) × IsSome entry.feed
+IsFoundOf counted number entry Found.Reclaimed = entry.feed ≡ None
 
--- the producer's end of the subscription of this number was taken out, with this handle; or that was not handed in, or the producer's end was
--- taken out before
+-- the producer's end of the subscription of this number was taken out, with this handle; or that was not handed in; or the subscription was
+-- reclaimed
 abbrev pub FindsBy : {B : Type 0} → ℕ → Option HandleState → Entry ProducerState → Found B
     → Hub ProducerState → Hub ProducerState → Type 0
 FindsBy number handle entry (Found.Both taken) old new = (handle ≡ Some taken.handle)
     × (new.entries.items ≡ slice_set old.entries.items number (entry_without_feed old.next entry))
 FindsBy number handle entry (Found.Missing name) old new =
-    ((handle ≡ None) ⊎ (entry.feed ≡ None)) × (new.entries.items ≡ old.entries.items)
+    (handle ≡ None) × (new.entries.items ≡ old.entries.items)
+FindsBy number handle entry Found.Reclaimed old new = new.entries.items ≡ old.entries.items
 
 -- what there is of the subscription of this number, with this handle, if that was handed in
 pub record FindsOne {B : Type 0} (counted : Option ℕ) (number : ℕ) (handle : Option HandleState)
@@ -75,14 +77,6 @@ pub record FindsOne {B : Type 0} (counted : Option ℕ) (number : ℕ) (handle :
   pub is : IsFoundOf counted number (entry_of producer_end entry) found
   pub by : FindsBy number handle entry found old new
   pub rest : OnlyEntriesChange (hub_of producer_end old) (hub_of producer_end new)
-
--- the producer's end of the subscription of this number was taken out, if its handle was handed in
-abbrev pub TakesBoth : ℕ → Option HandleState → Option (ProducerState × HandleState)
-    → Hub ProducerState → Hub ProducerState → Type 0
-TakesBoth number handle (Some (producer, other)) old new =
-    (handle ≡ Some other) × TakesOutAt producer_end number (Some producer) old new
-TakesBoth number handle None old new =
-    ((handle ≡ None) × (new ≡ old)) ⊎ TakesOutAt producer_end number None old new
 
 -- of each subscription of a Hub it was found, in order, what there is of it
 pub record AreFoundIn {B : Type 0} (hub : HubState) (counted : Option ℕ) (founds : List (Found B))
@@ -96,15 +90,17 @@ abbrev pub IsSameOrLeft : Entry ProducerState → Entry ProducerState → Type 0
 IsSameOrLeft old new =
     (new ≡ old) ⊎ (((new.feed ≡ None) × (new.ticket ≡ None)) × (new.since ≡ old.since))
 
--- what there is of each subscription of a Hub was found, with the handles that were handed in; nothing else changed. Whether a producer's
--- end was taken out before
+-- what there is of each subscription of a Hub was found, with the handles that were handed in; nothing else changed. Whether one of these is
+-- that of a reclaimed one
 pub record FindsAll {B : Type 0} (old new : Hub ProducerState) (counted : Option ℕ)
     (handles : List (Option HandleState)) (founds : List (Found B)) (gone : Bool) : Type 0 where
   pub found : AreFoundIn (hub_of producer_end old) counted founds
   pub here : (k : ℕ) (taken : Taken B) → slice_get founds k ≡ Some (Found.Both taken)
       → slice_get handles k ≡ Some (Some taken.handle)
-  pub missing : gone ≡ false → (k : ℕ) (name : List ℕ)
+  pub missing : (k : ℕ) (name : List ℕ)
       → slice_get founds k ≡ Some (Found.Missing name) → slice_get handles k ≡ Some None
+  pub reclaimed : gone ≡ false → (k : ℕ)
+      → slice_get founds k ≡ Some Found.Reclaimed → slice_get handles k ≡ Some None
   pub rest : OnlyEntriesChange (hub_of producer_end old) (hub_of producer_end new)
   pub stays : Each IsSameOrLeft old.entries.items new.entries.items
   pub sound : IsSound (hub_of producer_end new)

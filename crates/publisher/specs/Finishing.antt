@@ -18,15 +18,18 @@ use Rattle.publisher.specs.declared.state.finishing.Room.{Room}
 pub record HasRoom {B : Type 0} (many : ℕ) (room : Room B) : Type 0 where
   pub no_lanes : room.lanes.items ≡ []
   pub none_held : room.held.items ≡ []
+  pub none_reclaimed : room.reclaimed.items ≡ []
   pub none_unsettled : room.unsettled.items ≡ []
   pub lanes : many ≤ vec_capacity room.lanes
   pub held : many ≤ vec_capacity room.held
+  pub reclaimed : many ≤ vec_capacity room.reclaimed
   pub unsettled : many ≤ vec_capacity room.unsettled
 
 -- an outcome without lanes
-pub record IsNothing {B : Type 0} (outcome : Outcome B) : Type 0 where
+pub record IsNothing {B H : Type 0} (outcome : Outcome B H) : Type 0 where
   pub no_lanes : outcome.lanes.items ≡ []
   pub none_held : outcome.held.items ≡ []
+  pub none_reclaimed : outcome.reclaimed.items ≡ []
 
 -- what a subscription accepted and dropped, by its producer's end, of a publisher that published so many items
 pub record IsCountedIn {B : Type 0} (published dropping : ℕ) (taken : Taken B) : Type 0 where
@@ -49,6 +52,8 @@ pub record AreTakenOut {B : Type 0} (subscriptions : List SubscriptionState)
   pub handed : (k : ℕ) (taken : Taken B) → slice_get founds k ≡ Some (Found.Both taken)
       → IsHandedWith subscriptions k taken.handle
   pub missing : (k : ℕ) (name : List ℕ) → slice_get founds k ≡ Some (Found.Missing name)
+      → IsHandedIn subscriptions k → ⊥
+  pub reclaimed : (k : ℕ) → slice_get founds k ≡ Some Found.Reclaimed
       → IsHandedIn subscriptions k → ⊥
   pub within : (number : ℕ) → IsHandedIn subscriptions number → number < length founds
   pub ended : drained ≡ true → (k : ℕ) (taken : Taken B)

@@ -2,6 +2,7 @@
 use Rattle.std.specs.Prelude.{◌≡◌, ⊤, ℕ, ℤ, true, false, Option, Some}
 use Rattle.feed_cell.specs.Parties.{HandleState, handle_after_request}
 use Rattle.flow_rules.specs.declared.ending.Ending.{Ending}
+use Rattle.flow_rules.specs.declared.error_order.ErrorOrder.{ErrorOrder}
 use Rattle.flow_rules.specs.declared.refusal.Refusal.{Refusal}
 use Rattle.flow_rules.specs.declared.refusal.Refusal.TheVariants.{Closed, Duplicate, Exhausted, LineTooLong, NoMemory, TooMany}
 use Rattle.publisher_hub.specs.declared.hub.publishing.Unpublished.{Unpublished}
@@ -23,10 +24,11 @@ pub record Requests (n : ℤ) (old new : HandleState) : Type 0 where
 pub record Cancels (old new : HandleState) : Type 0 where
   pub cancelled : new ≡ record old { cancelled = true; ready = new.ready; started = new.started }
 
--- a publisher: the name of its closing, of which its notes are, and how many workers it has
+-- a publisher: the name of its closing, of which its notes are; how many workers it has; and in which order a closing error and the items are told
 pub record PublisherView : Type 0 where
   pub closing : ℕ
   pub workers : ℕ
+  pub order : ErrorOrder
 
 -- a submitter: its number; of which publisher's closing its note is, and what it was told of that; how many items it published; and how many of its offers found a buffer full
 pub record SubmitterState : Type 0 where

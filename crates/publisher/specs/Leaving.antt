@@ -1,10 +1,10 @@
 -- What is left of each subscription, once both its ends were brought together.
-use Rattle.std.specs.Prelude.{◌≡◌, ◌⊎◌, ℕ, ◌<◌, ◌≤◌, Option, None, Some, Result, List, [], length, slice_get}
+use Rattle.std.specs.Prelude.{◌≡◌, ◌⊎◌, ⊤, ℕ, ◌+◌, ◌<◌, ◌≤◌, Option, None, Some, Result, List, [], length, slice_get}
 use Rattle.std.specs.Option.{option_or}
 use Rattle.feed_cell.specs.Left.{IsLeftOf}
 use Rattle.feed_core.specs.Prelude.{Signal}
 use Rattle.flow_rules.specs.declared.refusal.Refusal.{Refusal}
-use Rattle.publisher.specs.Outcome.{AreNumbered, HasLane, IsFirstGap, IsHeld, Judges, StillHolds, outcome_of}
+use Rattle.publisher.specs.Outcome.{AreGiven, HasLane, IsFirstGap, IsHeld, Judges, StillHolds, outcome_of}
 use Rattle.publisher.specs.declared.leaving.Closed.{Closed}
 use Rattle.publisher.specs.declared.outcome.NamedLane.{NamedLane}
 use Rattle.publisher.specs.declared.outcome.Outcome.{Outcome}
@@ -13,15 +13,18 @@ use Rattle.publisher.specs.declared.state.finding.Taken.{Taken}
 use Rattle.publisher.specs.declared.state.finishing.Books.{Books}
 
 module _ {B : Type 0} (told : B → List Signal) where
-  -- what is left of the subscription of this number, whose two ends these are
-  pub record IsLeftOfTaken (number : ℕ) (taken : Taken B) (left : NamedLane B) : Type 0 where
+  -- this is of the subscription of this number, whose two ends these are
+  pub record IsLaneOfTaken (number : ℕ) (taken : Taken B) (left : NamedLane B) : Type 0 where
     pub number_is : left.entry ≡ number
     pub name : left.name ≡ taken.name
     pub since : left.since ≡ taken.since
     pub dropped : left.dropped ≡ taken.dropped
     pub late : left.late ≡ taken.late
     pub lane : IsLeftOf told taken.producer.end None left.lane
-    -- if they are the ends of one subscription, it counts what its handle did
+
+  -- what is left of it. If they are the ends of one subscription, it counts what its handle did
+  pub record IsLeftOfTaken (number : ℕ) (taken : Taken B) (left : NamedLane B) : Type 0 where
+    pub of : IsLaneOfTaken number taken left
     pub own : taken.handle.table ≡ taken.producer.table
         → IsLeftOf told taken.producer.end (Some taken.handle) left.lane
 
@@ -30,20 +33,23 @@ module _ {B : Type 0} (told : B → List Signal) where
   ClosesOne number (Found.Both taken) (Closed.Lane left) = IsLeftOfTaken number taken left
   ClosesOne number (Found.Both taken) (Closed.Held name) = name ≡ taken.name
   ClosesOne number (Found.Missing name) (Closed.Missing other) = other ≡ name
+  ClosesOne number Found.Reclaimed Closed.Reclaimed = ⊤
   ClosesOne number _ _ = ⊥
 
-  -- the first of these that has no lane, if one has none: its handle was not handed in, or a thread has its task still
-  abbrev pub FindsFirst : List (Found B) → ℕ → List (NamedLane B) → List ℕ → Option (List ℕ)
-      → Type 0
-  FindsFirst founds most lanes held None = (length lanes ≡ most) × (AreNumbered lanes × (held ≡ []))
-  FindsFirst founds most lanes held (Some name) = (number : ℕ)
+  -- the first of these that has no lane and was not reclaimed, if there is one: its handle was not handed in, or a thread has its task still
+  abbrev pub FindsFirst : List (Found B) → ℕ → List (NamedLane B) → List ℕ → List ℕ
+      → Option (List ℕ) → Type 0
+  FindsFirst founds most lanes held reclaimed None =
+      (length lanes + length reclaimed ≡ most)
+      × (AreGiven most lanes reclaimed × (held ≡ []))
+  FindsFirst founds most lanes held reclaimed (Some name) = (number : ℕ)
       × ((number < most)
-      × (IsFirstGap number lanes
+      × (IsFirstGap number lanes reclaimed
       × ((slice_get founds number ≡ Some (Found.Missing name)) ⊎ IsHeld number held)))
 
   -- those with a number below this were closed, in order
   pub record ClosesAll (founds : List (Found B)) (most : ℕ) (lanes : List (NamedLane B))
-      (held : List ℕ) (first : Option (List ℕ)) : Type 0 where
+      (held reclaimed : List ℕ) (first : Option (List ℕ)) : Type 0 where
     pub each : (i : ℕ) (left : NamedLane B) → slice_get lanes i ≡ Some left
         → (taken : Taken B)
         × ((slice_get founds left.entry ≡ Some (Found.Both taken))
@@ -57,16 +63,21 @@ module _ {B : Type 0} (told : B → List Signal) where
         → (taken : Taken B)
         × ((slice_get founds number ≡ Some (Found.Both taken))
         × ((number < most) × (HasLane number lanes → ⊥)))
-    pub finds : FindsFirst founds most lanes held first
+    pub reclaimed_are : (number : ℕ) → IsHeld number reclaimed
+        → (slice_get founds number ≡ Some Found.Reclaimed) × (number < most)
+    pub finds : FindsFirst founds most lanes held reclaimed first
     pub few_lanes : length lanes ≤ most
     pub few_held : length held ≤ most
+    pub few_reclaimed : length reclaimed ≤ most
 
   -- each subscription was closed, and what is left was judged
-  pub record Concludes (books : Books B) (result : Result (Outcome B) (Refusal × Outcome B))
+  pub record Concludes {H : Type 0} (books : Books B)
+      (result : Result (Outcome B H) (Refusal × Outcome B H))
       : Type 0 where
     pub first : Option (List ℕ)
     pub closes : ClosesAll books.founds.items (length books.founds.items)
-        (outcome_of result).lanes.items (outcome_of result).held.items first
+        (outcome_of result).lanes.items (outcome_of result).held.items
+        (outcome_of result).reclaimed.items first
     pub published : (outcome_of result).published ≡ books.published
     pub drained : (outcome_of result).drained ≡ books.drained
     pub missing : (name : List ℕ) → option_or first books.missing ≡ Some name

@@ -7,6 +7,7 @@ pub mod Leaving
 pub mod Note
 pub mod Outcome
 pub mod Publishing
+pub mod Reclaiming
 pub mod Spending
 pub mod Standing
 pub mod State

@@ -42,7 +42,7 @@ AreAgreed lanes = (i j k n : ℕ) (one other : LaneState) (x y : Item)
     → x.serial ≡ y.serial → x ≡ y
 
 -- what a publisher leaves: each subscription was a lane, and these agree
-pub record IsOutcome {B : Type 0} (told : B → List Signal) (outcome : Outcome B) : Type 0 where
+pub record IsOutcome {B H : Type 0} (told : B → List Signal) (outcome : Outcome B H) : Type 0 where
   pub lanes : List LaneState
   pub as_many : length lanes ≡ length outcome.lanes.items
   pub each : (i : ℕ) (left : NamedLane B) (lane : LaneState)
@@ -57,7 +57,7 @@ pub record IsOutcome {B : Type 0} (told : B → List Signal) (outcome : Outcome 
       → left.late ≡ true → left.since ≡ outcome.published
 
 -- what is left, whatever the answer of `finish`
-abbrev pub outcome_of : {B : Type 0} → Result (Outcome B) (Refusal × Outcome B) → Outcome B
+abbrev pub outcome_of : {B H : Type 0} → Result (Outcome B H) (Refusal × Outcome B H) → Outcome B H
 outcome_of (Ok outcome) = outcome
 outcome_of (Err refused) = refused.1
 
@@ -69,11 +69,6 @@ pub record AreHandedIn {B : Type 0} (subscriptions : List SubscriptionState)
   pub each : (i : ℕ) (left : NamedLane B) → slice_get lanes i ≡ Some left
       → IsHandedIn subscriptions left.entry
 
--- each lane stands at the place of its number
-abbrev pub AreNumbered : {B : Type 0} → List (NamedLane B) → Type 0
-AreNumbered {B} lanes =
-    (i : ℕ) (left : NamedLane B) → slice_get lanes i ≡ Some left → left.entry ≡ i
-
 -- the subscription of this number has a lane
 abbrev pub HasLane : {B : Type 0} → ℕ → List (NamedLane B) → Type 0
 HasLane {B} number lanes =
@@ -83,16 +78,26 @@ HasLane {B} number lanes =
 abbrev pub IsHeld : ℕ → List ℕ → Type 0
 IsHeld number held = (i : ℕ) × (slice_get held i ≡ Some number)
 
--- it is the first that has no lane
-pub record IsFirstGap {B : Type 0} (number : ℕ) (lanes : List (NamedLane B)) : Type 0 where
-  pub before : (k : ℕ) → k < number
-      → (left : NamedLane B) × ((slice_get lanes k ≡ Some left) × (left.entry ≡ k))
+-- the subscriptions with a number below this have a lane, but for the reclaimed ones
+abbrev pub AreGiven : {B : Type 0} → ℕ → List (NamedLane B) → List ℕ → Type 0
+AreGiven many lanes reclaimed =
+    (number : ℕ) → number < many → HasLane number lanes ⊎ IsHeld number reclaimed
+
+-- the numbers of the lanes have no gap but for the reclaimed ones: each number below how many these are together is that of one of them
+abbrev pub AreNumbered : {B : Type 0} → List (NamedLane B) → List ℕ → Type 0
+AreNumbered lanes reclaimed = AreGiven (length lanes + length reclaimed) lanes reclaimed
+
+-- it is the first that has no lane and was not reclaimed
+pub record IsFirstGap {B : Type 0} (number : ℕ) (lanes : List (NamedLane B)) (reclaimed : List ℕ)
+    : Type 0 where
+  pub before : AreGiven number lanes reclaimed
   pub none : HasLane number lanes → ⊥
+  pub kept : IsHeld number reclaimed → ⊥
 
 -- all is there: each subscription that was made, and all submitters, whose shares sum up to what was published
-pub record IsWhole {B : Type 0} (submitters : List SubmitterState)
-    (subscriptions : List SubscriptionState) (outcome : Outcome B) : Type 0 where
-  pub numbered : AreNumbered outcome.lanes.items
+pub record IsWhole {B H : Type 0} (submitters : List SubmitterState)
+    (subscriptions : List SubscriptionState) (outcome : Outcome B H) : Type 0 where
+  pub numbered : AreNumbered outcome.lanes.items outcome.reclaimed.items
   pub none_left_out : (number : ℕ) → IsHandedIn subscriptions number
       → HasLane number outcome.lanes.items
   pub none_held : outcome.held.items ≡ []
@@ -106,7 +111,7 @@ AnyKnows submitters =
     (i : ℕ) × (s : SubmitterState) × ((slice_get submitters i ≡ Some s) × IsSome s.known)
 
 -- nothing runs, and all has ended where a submitter knows that the publisher is closed, or where the last ticket was spent
-pub record AreDone {B : Type 0} (submitters : List SubmitterState) (outcome : Outcome B)
+pub record AreDone {B H : Type 0} (submitters : List SubmitterState) (outcome : Outcome B H)
     : Type 0 where
   pub rests : (i : ℕ) (left : NamedLane B) → slice_get outcome.lanes.items i ≡ Some left
       → left.lane.running ≡ false
@@ -137,57 +142,66 @@ abbrev pub source_name : ℕ → List ℕ
 source_name source = codes "source-" ++ decimal source
 
 -- the first subscription that has no lane was not handed in, or is held still
-abbrev pub IsLaneAway : {B : Type 0} → List SubscriptionState → Outcome B → Type 0
+abbrev pub IsLaneAway : {B H : Type 0} → List SubscriptionState → Outcome B H → Type 0
 IsLaneAway subscriptions outcome = (number : ℕ)
-    × (IsFirstGap number outcome.lanes.items
+    × (IsFirstGap number outcome.lanes.items outcome.reclaimed.items
     × ((IsHandedIn subscriptions number → ⊥) ⊎ IsHeld number outcome.held.items))
 
 -- the submitter with this name was not handed in, and no lane is missing
-abbrev pub IsSourceAway : {B : Type 0} → List ℕ → List SubmitterState → Outcome B → Type 0
+abbrev pub IsSourceAway : {B H : Type 0} → List ℕ → List SubmitterState → Outcome B H → Type 0
 IsSourceAway name submitters outcome = (source : ℕ)
     × ((source < SOURCES)
     × ((name ≡ source_name source)
-    × (IsAway source submitters × (AreNumbered outcome.lanes.items × (outcome.held.items ≡ [])))))
+    × (IsAway source submitters
+    × (AreNumbered outcome.lanes.items outcome.reclaimed.items × (outcome.held.items ≡ [])))))
 
 -- a subscription or a submitter is missing
-abbrev pub IsMissing : {B : Type 0} → List ℕ → List SubmitterState → List SubscriptionState
-    → Outcome B → Type 0
+abbrev pub IsMissing : {B H : Type 0} → List ℕ → List SubmitterState → List SubscriptionState
+    → Outcome B H → Type 0
 IsMissing name submitters subscriptions outcome =
     IsLaneAway subscriptions outcome ⊎ IsSourceAway name submitters outcome
 
 -- the rest is given: each subscription that was handed in has its lane, but those that are held still, which have none
-pub record IsRestGiven {B : Type 0} (subscriptions : List SubscriptionState) (outcome : Outcome B)
-    : Type 0 where
+pub record IsRestGiven {B H : Type 0} (subscriptions : List SubscriptionState)
+    (outcome : Outcome B H) : Type 0 where
   pub given : (number : ℕ) → IsHandedIn subscriptions number
       → HasLane number outcome.lanes.items ⊎ IsHeld number outcome.held.items
   pub held : (number : ℕ) → IsHeld number outcome.held.items
       → IsHandedIn subscriptions number × (HasLane number outcome.lanes.items → ⊥)
 
 -- if it is refused so, this holds of what is given
-abbrev pub IfRefused : {B : Type 0} → Refusal → Result (Outcome B) (Refusal × Outcome B)
-    → (Outcome B → Type 0) → Type 0
-IfRefused {B} refusal result Holds =
-    (outcome : Outcome B) → result ≡ Err (refusal, outcome) → Holds outcome
+abbrev pub IfRefused : {B H : Type 0} → Refusal → Result (Outcome B H) (Refusal × Outcome B H)
+    → (Outcome B H → Type 0) → Type 0
+IfRefused {B} {H} refusal result Holds =
+    (outcome : Outcome B H) → result ≡ Err (refusal, outcome) → Holds outcome
 
 -- on 5 no lane is left
-abbrev pub HasNoLane : {B : Type 0} → Outcome B → Type 0
+abbrev pub HasNoLane : {B H : Type 0} → Outcome B H → Type 0
 HasNoLane outcome = (outcome.lanes.items ≡ []) × (outcome.held.items ≡ [])
 
+-- the reclaimed ones were not handed in, and have no lane
+pub record AreReclaimed {B H : Type 0} (subscriptions : List SubscriptionState)
+    (outcome : Outcome B H) : Type 0 where
+  pub not_handed : (number : ℕ) → IsHeld number outcome.reclaimed.items
+      → IsHandedIn subscriptions number → ⊥
+  pub no_lane : (number : ℕ) → IsHeld number outcome.reclaimed.items
+      → HasLane number outcome.lanes.items → ⊥
+
 -- on 8 the one of this name is missing, and the rest is given
-abbrev pub LacksOne : {B : Type 0} → List SubmitterState → List SubscriptionState → List ℕ
-    → Outcome B → Type 0
+abbrev pub LacksOne : {B H : Type 0} → List SubmitterState → List SubscriptionState → List ℕ
+    → Outcome B H → Type 0
 LacksOne submitters subscriptions name outcome =
     IsMissing name submitters subscriptions outcome × IsRestGiven subscriptions outcome
 
 -- on 9 all is there, and these have not ended or run
-abbrev pub LeavesUndone : {B : Type 0} → List SubmitterState → List SubscriptionState
-    → List (List ℕ) → Outcome B → Type 0
+abbrev pub LeavesUndone : {B H : Type 0} → List SubmitterState → List SubscriptionState
+    → List (List ℕ) → Outcome B H → Type 0
 LeavesUndone submitters subscriptions names outcome =
     IsWhole submitters subscriptions outcome × NamesUndone names outcome.lanes.items
 
 -- on Ok all is there, and done
-abbrev pub LeavesAllDone : {B : Type 0} → List SubmitterState → List SubscriptionState
-    → Outcome B → Type 0
+abbrev pub LeavesAllDone : {B H : Type 0} → List SubmitterState → List SubscriptionState
+    → Outcome B H → Type 0
 LeavesAllDone submitters subscriptions outcome =
     IsWhole submitters subscriptions outcome × AreDone submitters outcome
 
@@ -199,8 +213,8 @@ IsRefusalOfFinish (Refusal.Unsettled names) = ⊤
 IsRefusalOfFinish _ = ⊥
 
 -- the answers of `finish` together, in the order of its refusals
-abbrev pub Finishes : {B : Type 0} → List SubmitterState → List SubscriptionState
-    → Result (Outcome B) (Refusal × Outcome B) → Type 0
+abbrev pub Finishes : {B H : Type 0} → List SubmitterState → List SubscriptionState
+    → Result (Outcome B H) (Refusal × Outcome B H) → Type 0
 Finishes submitters subscriptions (Ok outcome) = LeavesAllDone submitters subscriptions outcome
 Finishes submitters subscriptions (Err (Refusal.NoMemory, outcome)) = HasNoLane outcome
 Finishes submitters subscriptions (Err (Refusal.StillHeld name, outcome)) =
@@ -210,18 +224,19 @@ Finishes submitters subscriptions (Err (Refusal.Unsettled names, outcome)) =
 Finishes submitters subscriptions (Err (_, outcome)) = ⊥
 
 -- it is refused by this name
-abbrev pub StillHolds : {B : Type 0} → List ℕ → Result (Outcome B) (Refusal × Outcome B) → Type 0
-StillHolds {B} name result =
-    (outcome : Outcome B) × (result ≡ Err (Refusal.StillHeld name, outcome))
+abbrev pub StillHolds : {B H : Type 0} → List ℕ → Result (Outcome B H) (Refusal × Outcome B H)
+    → Type 0
+StillHolds {B} {H} name result =
+    (outcome : Outcome B H) × (result ≡ Err (Refusal.StillHeld name, outcome))
 
 -- whether what is left runs, or has not ended where the publisher is closed
 abbrev pub is_undone : {B : Type 0} → Bool → NamedLane B → Bool
 is_undone closed left = left.lane.running || (closed && is_none left.lane.ending)
 
 -- what is left is refused where something runs, or is closed and has not ended
-abbrev pub Judges : {B : Type 0} → Outcome B → Bool → Result (Outcome B) (Refusal × Outcome B)
-    → Type 0
-Judges {B} outcome closed (Ok same) = (same ≡ outcome)
+abbrev pub Judges : {B H : Type 0} → Outcome B H → Bool
+    → Result (Outcome B H) (Refusal × Outcome B H) → Type 0
+Judges {B} {H} outcome closed (Ok same) = (same ≡ outcome)
     × ((i : ℕ) (left : NamedLane B) → slice_get outcome.lanes.items i ≡ Some left
     → is_undone closed left ≡ false)
 Judges outcome closed (Err (Refusal.Unsettled names, same)) =

@@ -8,7 +8,7 @@ use crate::state::Own;
 use async_pool::{Job, Pool};
 use crossbeam_utils::Backoff;
 use feed_cell::Task;
-use flow_rules::{DropHandler, Listener, NoMemory, Refusal, Text};
+use flow_rules::{DropHandler, FailHandler, Listener, NoMemory, Refusal, Text};
 use publisher_hub::{Unpublished, Work};
 use std::alloc::Global;
 use std::sync::ledger::Ledger;
@@ -19,18 +19,23 @@ const LOOKS: u32 = 12;
 
 /// What one thread hands tasks to the pool with, and runs those that come back.
 #[derive(Drop)]
-pub struct Caller<L: Ledger + Send, D: Ledger + Send, B: Listener + Send> {
-    pub worker: Worker<L, D, B>,
-    pool: Arc<Pool<ConsumerTask<L, D, B>>>,
+pub struct Caller<L: Ledger + Send, D: Ledger + Send, B: Listener + Send, F: FailHandler + Send> {
+    pub worker: Worker<L, D, B, F>,
+    pool: Arc<Pool<ConsumerTask<L, D, B, F>>>,
 }
 
-impl<L: Ledger + Send, D: Ledger + Send, B: Listener + Send> Caller<L, D, B> {
+impl<L: Ledger + Send, D: Ledger + Send, B: Listener + Send, F: FailHandler + Send> Caller<
+    L,
+    D,
+    B,
+    F,
+> {
     /// One for one more thread.
     pub fn new(
         alloc: Global,
-        shared: &Arc<Shared<L, D, B>>,
-        pool: &Arc<Pool<ConsumerTask<L, D, B>>>,
-    ) -> Result<Caller<L, D, B>, NoMemory> {
+        shared: &Arc<Shared<L, D, B, F>>,
+        pool: &Arc<Pool<ConsumerTask<L, D, B, F>>>,
+    ) -> Result<Caller<L, D, B, F>, NoMemory> {
         Ok(Caller {
             worker: Worker::new(alloc, shared)?,
             pool: Arc::try_clone(pool)?,
@@ -123,14 +128,14 @@ impl<L: Ledger + Send, D: Ledger + Send, B: Listener + Send> Caller<L, D, B> {
     }
 
     /// Hands a task to the pool, or runs it if it comes back.
-    fn hand_in<R: Wait>(&mut self, rt: &R, task: ConsumerTask<L, D, B>) {
+    fn hand_in<R: Wait>(&mut self, rt: &R, task: ConsumerTask<L, D, B, F>) {
         if let Err(task) = self.pool.execute(rt, task) {
             self.run(rt, task);
         }
     }
 
     /// Runs turns of a task until none is owed.
-    fn run<R: Wait>(&mut self, rt: &R, task: ConsumerTask<L, D, B>) {
+    fn run<R: Wait>(&mut self, rt: &R, task: ConsumerTask<L, D, B, F>) {
         let mut next = task;
         for _ in rt.forever() {
             match next.run(rt, &mut self.worker) {

@@ -7,7 +7,7 @@ ghost use Rattle.publisher.specs.Outcome.{Judges, is_undone};
 use crate::outcome::{NamedLane, Outcome};
 use crate::state::{Books, Found, Room, Taken};
 use feed_cell::close;
-use flow_rules::{Listener, Name, Refusal};
+use flow_rules::{FailHandler, Listener, Name, Refusal};
 
 /// What is left of subscriptions.
 #[derive(Drop)]
@@ -15,13 +15,18 @@ struct Left<B> {
     lanes: Vec<NamedLane<B>>,
     /// The numbers of those that a thread holds still.
     held: Vec<u32>,
-    /// The name of the first that has no lane.
+    /// The numbers of those that were reclaimed.
+    reclaimed: Vec<u32>,
+    /// The name of the first that has no lane and was not reclaimed.
     first: Option<Name>,
 }
 
 impl<B: Listener> Books<B> {
-    /// Closes each subscription, and judges what is left.
-    pub(crate) fn conclude(self) -> Result<Outcome<B>, (Refusal, Outcome<B>)>
+    /// Closes each subscription, and judges what is left, with the handler.
+    pub(crate) fn conclude<F: FailHandler>(
+        self,
+        handler: Option<F>,
+    ) -> Result<Outcome<B, F>, (Refusal, Outcome<B, F>)>
         requires room { HasRoom (length self.founds.items) self.room }
         requires few { length self.founds.items < 4294967296 }
         ensures { Concludes B.told self result }
@@ -37,14 +42,22 @@ impl<B: Listener> Books<B> {
         let Room {
             lanes,
             held,
+            reclaimed,
             unsettled,
         } = room;
-        let Left { lanes, held, first } = close_all(founds, lanes, held);
+        let Left {
+            lanes,
+            held,
+            reclaimed,
+            first,
+        } = close_all(founds, lanes, held, reclaimed);
         let outcome = Outcome {
             lanes,
             held,
+            reclaimed,
             published,
             drained,
+            handler,
         };
         match first.or(missing) {
             Some(name) => Err((Refusal::StillHeld(name), outcome)),
@@ -58,13 +71,15 @@ fn close_all<B: Listener>(
     founds: Vec<Found<B>>,
     mut lanes: Vec<NamedLane<B>>,
     mut held: Vec<u32>,
+    mut reclaimed: Vec<u32>,
 ) -> Left<B>
-    requires empty { (lanes.items ≡ []) × (held.items ≡ []) }
+    requires empty { (lanes.items ≡ []) × ((held.items ≡ []) × (reclaimed.items ≡ [])) }
     requires room { (length founds.items ≤ vec_capacity lanes)
-        × (length founds.items ≤ vec_capacity held) }
+        × ((length founds.items ≤ vec_capacity held)
+        × (length founds.items ≤ vec_capacity reclaimed)) }
     requires few { length founds.items < 4294967296 }
-    ensures { ClosesAll B.told founds.items
-        (length founds.items) result.lanes.items result.held.items result.first }
+    ensures { ClosesAll B.told founds.items (length founds.items)
+        result.lanes.items result.held.items result.reclaimed.items result.first }
 {
     let mut first = None;
     let mut number = 0;
@@ -76,10 +91,16 @@ fn close_all<B: Listener>(
                 first = first.or(Some(name));
             }
             Closed::Missing(name) => first = first.or(Some(name)),
+            Closed::Reclaimed => reclaimed.push_reserved(number),
         }
         number += 1;
     }
-    Left { lanes, held, first }
+    Left {
+        lanes,
+        held,
+        reclaimed,
+        first,
+    }
 }
 
 /// What becomes of a subscription that is closed.
@@ -89,6 +110,8 @@ enum Closed<B> {
     Held(Name),
     /// Its handle was not handed in.
     Missing(Name),
+    /// It was reclaimed before.
+    Reclaimed,
 }
 
 /// Closes the subscription of this number.
@@ -98,6 +121,7 @@ fn close_one<B: Listener>(number: u32, found: Found<B>) -> Closed<B>
     let taken = match found {
         Found::Both(taken) => taken,
         Found::Missing(name) => return Closed::Missing(name),
+        Found::Reclaimed => return Closed::Reclaimed,
     };
     let Taken {
         name,
@@ -121,11 +145,11 @@ fn close_one<B: Listener>(number: u32, found: Found<B>) -> Closed<B>
 }
 
 /// Refuses what is left if a subscription runs, or is closed and has not ended, and names these.
-fn judge<B>(
-    outcome: Outcome<B>,
+fn judge<B, F: FailHandler>(
+    outcome: Outcome<B, F>,
     is_closed: bool,
     mut unsettled: Vec<Name>,
-) -> Result<Outcome<B>, (Refusal, Outcome<B>)>
+) -> Result<Outcome<B, F>, (Refusal, Outcome<B, F>)>
     requires empty { unsettled.items ≡ [] }
     requires room { length outcome.lanes.items ≤ vec_capacity unsettled }
     ensures { Judges outcome is_closed result }

@@ -15,7 +15,7 @@
 //! | a look: [`is_closed`](Publisher::is_closed), [`closed_with`](Publisher::closed_with), [`requested`](Subscription::requested) | whoever has it | never |
 //! | a look: [`lag`](Subscription::lag), [`has_ended`](Subscription::has_ended), the numbers of subscribers | whoever has it | for the publisher's lock |
 //! | [`wait_end`](Subscription::wait_end), [`wait_drained`](Publisher::wait_drained), [`finish`] | whoever has it | until the subscription has ended; until all have that were there at the close; until each worker has ended |
-//! | a turn, with its callbacks | a worker; a blocked submitter; or whoever started the task, if the pool takes none | for no lock. After it, if the subscription has ended or somebody waits for room, for the publisher's lock |
+//! | a turn, with its callbacks | a worker; a blocked submitter; or whoever started the task, if the pool takes none | for no lock. After it, if an item's callback failed, for the lock of the handler that hears of it; and if the subscription has ended or somebody waits for room, for the publisher's lock |
 //!
 //! Each subscription has a buffer that its publisher and its task share without a lock (`feed_cell`). So callbacks run outside every lock: one
 //! may wait for what another subscriber's callback does, and each call of the publisher returns meanwhile. It may publish, request, subscribe
@@ -38,11 +38,13 @@
 
 mod caller;
 mod handed_in;
+mod handling;
 mod leaving;
 mod note;
 mod options;
 mod outcome;
 mod publisher;
+mod reclaiming;
 mod shared;
 mod state;
 mod submitter;
@@ -52,8 +54,8 @@ mod the_end;
 pub use async_pool::MOST_WORKERS;
 pub use feed_core::Lane;
 pub use flow_rules::{
-    DropHandler, Ending, Fault, How, LARGEST_CAPACITY, Listener, MOST_PUBLICATIONS, Name, NoMemory,
-    Refusal, Text,
+    DropHandler, Ending, ErrorOrder, FailHandler, Fault, How, LARGEST_CAPACITY, LastFailure,
+    Listener, MOST_PUBLICATIONS, Name, NoMemory, Refusal, Text,
 };
 pub use handed_in::HandedIn;
 pub use note::Note;

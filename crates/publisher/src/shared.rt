@@ -2,8 +2,8 @@
 use crate::state::{Reason, State, Wake};
 use async_pool::Job;
 use feed_cell::{Task, Turn};
-use feed_core::Seen;
-use flow_rules::{Ending, Listener, NoMemory};
+use feed_core::{Seen, failed_item};
+use flow_rules::{Ending, ErrorOrder, FailHandler, Listener, NoMemory};
 use once_cell::race::OnceBox;
 use std::alloc::Global;
 use std::marker::PhantomData;
@@ -14,9 +14,11 @@ use std::sync::{Arc, Condvar, Mutex, MutexGuard, Wait};
 
 /// What a publisher's threads share.
 #[derive(Drop)]
-pub struct Shared<L: Ledger, D: Ledger, B: Listener> {
+pub struct Shared<L: Ledger, D: Ledger, B: Listener, F: FailHandler> {
     /// The capacity of each buffer.
     pub capacity: usize,
+    /// In which order a closing error and the items are told.
+    pub order: ErrorOrder,
     pub state: Mutex<State<L, D, B>>,
     /// A turn was run, the publisher was closed, or the loop of a worker has ended.
     pub changed: Condvar,
@@ -24,9 +26,11 @@ pub struct Shared<L: Ledger, D: Ledger, B: Listener> {
     pub awaiting: AtomicU64,
     /// How the publisher is closed, once it is. It is set while the lock is held, and read without it.
     pub closing: Arc<OnceBox<Ending>>,
+    /// Who hears of failures, behind a lock of its own, if anybody does.
+    pub handler: Mutex<Option<F>>,
 }
 
-impl<L: Ledger, D: Ledger, B: Listener> Shared<L, D, B> {
+impl<L: Ledger, D: Ledger, B: Listener, F: FailHandler> Shared<L, D, B, F> {
     /// Lets go of the lock, and wakes those who wait, if anybody does.
     pub fn tell(&self, state: MutexGuard<'_, State<L, D, B>>) {
         let wake = state.wake();
@@ -102,14 +106,17 @@ impl<L: Ledger, D: Ledger, B: Listener> Shared<L, D, B> {
 
 /// What one thread runs turns with.
 #[derive(Drop)]
-pub struct Worker<L: Ledger, D: Ledger, B: Listener> {
-    pub shared: Arc<Shared<L, D, B>>,
+pub struct Worker<L: Ledger, D: Ledger, B: Listener, F: FailHandler> {
+    pub shared: Arc<Shared<L, D, B, F>>,
     seen: Seen,
 }
 
-impl<L: Ledger, D: Ledger, B: Listener> Worker<L, D, B> {
+impl<L: Ledger, D: Ledger, B: Listener, F: FailHandler> Worker<L, D, B, F> {
     /// One for one more thread.
-    pub fn new(alloc: Global, shared: &Arc<Shared<L, D, B>>) -> Result<Worker<L, D, B>, NoMemory> {
+    pub fn new(
+        alloc: Global,
+        shared: &Arc<Shared<L, D, B, F>>,
+    ) -> Result<Worker<L, D, B, F>, NoMemory> {
         Ok(Worker {
             shared: Arc::try_clone(shared)?,
             seen: Seen::new(alloc)?,
@@ -119,15 +126,15 @@ impl<L: Ledger, D: Ledger, B: Listener> Worker<L, D, B> {
 
 /// The task of the subscription of this number, as the pool runs it.
 #[must_use]
-pub struct ConsumerTask<L: Ledger, D: Ledger, B: Listener> {
+pub struct ConsumerTask<L: Ledger, D: Ledger, B: Listener, F: FailHandler> {
     entry: u32,
     task: Task<B>,
-    of: PhantomData<(L, D)>,
+    of: PhantomData<(L, D, F)>,
 }
 
-impl<L: Ledger, D: Ledger, B: Listener> ConsumerTask<L, D, B> {
+impl<L: Ledger, D: Ledger, B: Listener, F: FailHandler> ConsumerTask<L, D, B, F> {
     /// The task of the subscription of this number.
-    pub fn new(entry: u32, task: Task<B>) -> ConsumerTask<L, D, B> {
+    pub fn new(entry: u32, task: Task<B>) -> ConsumerTask<L, D, B, F> {
         ConsumerTask {
             entry,
             task,
@@ -136,7 +143,7 @@ impl<L: Ledger, D: Ledger, B: Listener> ConsumerTask<L, D, B> {
     }
 }
 
-impl<L: Ledger, D: Ledger, B: Listener> Drop for ConsumerTask<L, D, B> {
+impl<L: Ledger, D: Ledger, B: Listener, F: FailHandler> Drop for ConsumerTask<L, D, B, F> {
     fn drop(self) {
         let ConsumerTask {
             entry: _,
@@ -146,17 +153,28 @@ impl<L: Ledger, D: Ledger, B: Listener> Drop for ConsumerTask<L, D, B> {
     }
 }
 
-impl<L: Ledger + Send, D: Ledger + Send, B: Listener + Send> Job for ConsumerTask<L, D, B> {
-    type Context = Worker<L, D, B>;
+impl<L: Ledger + Send, D: Ledger + Send, B: Listener + Send, F: FailHandler + Send> Job
+    for ConsumerTask<L, D, B, F> {
+    type Context = Worker<L, D, B, F>;
 
-    /// Runs one turn, outside every lock, and then does what is to be done after it. It is run again if another turn is owed.
-    fn run<R: Wait>(self, rt: &R, worker: &mut Worker<L, D, B>) -> Option<ConsumerTask<L, D, B>> {
+    /// Runs one turn, outside every lock, and then does what is to be done after it: first the handler hears of an `onNext` that failed. It
+    /// is run again if another turn is owed.
+    fn run<R: Wait>(
+        self,
+        rt: &R,
+        worker: &mut Worker<L, D, B, F>,
+    ) -> Option<ConsumerTask<L, D, B, F>> {
         let ConsumerTask { entry, task, of: _ } = self;
         let Worker { shared, seen } = worker;
         let (again, has_ended) = match task.turn(seen) {
             Turn::Again(task) => (Some(ConsumerTask::new(entry, task)), false),
             Turn::Resting(_) => (None, false),
-            Turn::Ended(_, _) => (None, true),
+            Turn::Ended(how, _) => {
+                if let Some(code) = failed_item(seen.as_slice(), how) {
+                    shared.tell_failure(rt, entry, code);
+                }
+                (None, true)
+            }
         };
         shared.after_turn(rt, entry, has_ended);
         again

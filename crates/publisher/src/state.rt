@@ -4,6 +4,7 @@ mod finding;
 mod finishing;
 mod naming;
 mod publishing;
+mod reclaiming;
 mod shares;
 mod standing;
 mod subscribing;

@@ -12,7 +12,9 @@ use crate::note::Note;
 use crate::state::Own;
 use crossbeam_utils::Backoff;
 use feed_cell::Task;
-use flow_rules::{DropHandler, Ending, Listener, NoMemory, Refusal, Text};
+use flow_rules::{
+    DropHandler, Ending, FailHandler, LastFailure, Listener, NoMemory, Refusal, Text,
+};
 use once_cell::race::OnceBox;
 use publisher_hub::{Unpublished, Work};
 use std::alloc::Global;
@@ -23,8 +25,13 @@ use std::sync::{Arc, Wait};
 
 /// One source of a publisher's items, with what it was told of the close. [`finish`](crate::finish) takes it back.
 #[derive(Drop)]
-pub struct Submitter<L: Ledger + Send, D: Ledger + Send, B: Listener + Send> {
-    caller: Caller<L, D, B>,
+pub struct Submitter<
+    L: Ledger + Send,
+    D: Ledger + Send,
+    B: Listener + Send,
+    F: FailHandler + Send = LastFailure,
+> {
+    caller: Caller<L, D, B, F>,
     /// Where its note looks.
     closing: Arc<OnceBox<Ending>>,
     /// Its number, and its shares of the ledgers.
@@ -34,13 +41,15 @@ pub struct Submitter<L: Ledger + Send, D: Ledger + Send, B: Listener + Send> {
     due: Vec<Work<Task<B>>>,
 }
 
-impl<L: Ledger + Send, D: Ledger + Send, B: Listener + Send> fmt::Debug for Submitter<L, D, B> {
+impl<L: Ledger + Send, D: Ledger + Send, B: Listener + Send, F: FailHandler + Send> fmt::Debug
+    for Submitter<L, D, B, F> {
     fn fmt<W: fmt::Write>(&self, f: &mut fmt::Formatter<W>) -> fmt::Result {
         write!(f, "Submitter {{ source: {} }}", self.own.source)
     }
 }
 
-impl<L: Ledger + Send, D: Ledger + Send, B: Listener + Send> Model for Submitter<L, D, B> {
+impl<L: Ledger + Send, D: Ledger + Send, B: Listener + Send, F: FailHandler + Send> Model
+    for Submitter<L, D, B, F> {
     ghost use Rattle.std.specs.Prelude.{◌≡◌};
     ghost use Rattle.std.specs.Arc.{arc_value};
     ghost use Rattle.once_cell.specs.Once.{cell_name};
@@ -59,15 +68,20 @@ impl<L: Ledger + Send, D: Ledger + Send, B: Listener + Send> Model for Submitter
     } };
 }
 
-impl<L: Ledger + Send, D: Ledger + Send, B: Listener + Send> Submitter<L, D, B> {
+impl<L: Ledger + Send, D: Ledger + Send, B: Listener + Send, F: FailHandler + Send> Submitter<
+    L,
+    D,
+    B,
+    F,
+> {
     /// That of a source, with this note.
     pub(crate) fn new(
         alloc: Global,
-        caller: Caller<L, D, B>,
+        caller: Caller<L, D, B, F>,
         closing: Arc<OnceBox<Ending>>,
         own: Own<L, D>,
         note: Note,
-    ) -> Submitter<L, D, B>
+    ) -> Submitter<L, D, B, F>
         requires { note.cell ≡ cell_name (arc_value closing) }
         ensures { result ≡ record {
           source = own.source;
@@ -98,7 +112,7 @@ impl<L: Ledger + Send, D: Ledger + Send, B: Listener + Send> Submitter<L, D, B> 
             ↔ (LONGEST < length text.now) }
         ensures ok { OnOk result (self.new ≡ record self.old
             { published = self.old.published + 1 }) }
-        ensures err { IfErr result (λ refusal. self.new ≡ told_by refusal self.old) }
+        ensures unchanged { IfErr result (λ refusal. self.new ≡ told_by refusal self.old) }
         ensures refusals { IfErr result (λ refusal. RefusesPublication refusal self.new.known) }
     {
         let text = self.admit(alloc, text)?;
@@ -134,7 +148,7 @@ impl<L: Ledger + Send, D: Ledger + Send, B: Listener + Send> Submitter<L, D, B> 
               dropping = self.old.dropping
                   + drop_of answer;
             }) }
-        ensures err { IfErr result (λ refusal. self.new ≡ told_by refusal self.old) }
+        ensures unchanged { IfErr result (λ refusal. self.new ≡ told_by refusal self.old) }
         ensures refusals { IfErr result (λ refusal. RefusesPublication refusal self.new.known) }
     {
         self.offer_to(rt, alloc, text, handler)
@@ -160,7 +174,7 @@ impl<L: Ledger + Send, D: Ledger + Send, B: Listener + Send> Submitter<L, D, B> 
               dropping = self.old.dropping
                   + drop_of answer;
             }) }
-        ensures err { IfErr result (λ refusal. self.new ≡ told_by refusal self.old) }
+        ensures unchanged { IfErr result (λ refusal. self.new ≡ told_by refusal self.old) }
         ensures refusals { IfErr result (λ refusal. RefusesPublication refusal self.new.known) }
     {
         self.offer_to(rt, alloc, text, Some(handler))
@@ -184,7 +198,7 @@ impl<L: Ledger + Send, D: Ledger + Send, B: Listener + Send> Submitter<L, D, B> 
               dropping = self.old.dropping
                   + drop_of answer;
             }) }
-        ensures err { IfErr result (λ refusal. self.new ≡ told_by refusal self.old) }
+        ensures unchanged { IfErr result (λ refusal. self.new ≡ told_by refusal self.old) }
         ensures refusals { IfErr result (λ refusal. RefusesPublication refusal self.new.known) }
     {
         let text = self.admit(alloc, text)?;
@@ -209,7 +223,7 @@ impl<L: Ledger + Send, D: Ledger + Send, B: Listener + Send> Submitter<L, D, B> 
         ensures known { IfSome self.old.known (λ ending. result ≡ Err (Refusal.Closed ending)) }
         ensures long { self.old.known ≡ None → (result ≡ Err Refusal.LineTooLong)
             ↔ (LONGEST < length text.now) }
-        ensures err { IfErr result (λ refusal. self.new ≡ told_by refusal self.old) }
+        ensures unchanged { IfErr result (λ refusal. self.new ≡ told_by refusal self.old) }
         ensures refusals { IfErr result (λ refusal. RefusesPublication refusal self.new.known) }
     {
         if let Some(ending) = self.note.known(&self.closing) {
@@ -225,7 +239,7 @@ impl<L: Ledger + Send, D: Ledger + Send, B: Listener + Send> Submitter<L, D, B> 
     fn publish<R: Wait>(&mut self, rt: &R, text: Text) -> Result<u64, Refusal>
         ensures ok { OnOk result (self.new ≡ record self.old
             { published = self.old.published + 1 }) }
-        ensures err { OnErr result (self.new ≡ self.old) }
+        ensures unchanged { OnErr result (self.new ≡ self.old) }
         ensures reasons { IfErr result (λ refusal. IsHubRefusal refusal) }
     {
         let Submitter {

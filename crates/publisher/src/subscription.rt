@@ -1,7 +1,7 @@
 //! What the owner of a subscription holds.
 use crate::caller::Caller;
 use feed_cell::Handle;
-use flow_rules::{Listener, NoMemory};
+use flow_rules::{FailHandler, LastFailure, Listener, NoMemory};
 use std::fmt;
 use std::marker::Model;
 use std::sync::Wait;
@@ -9,19 +9,26 @@ use std::sync::ledger::Ledger;
 
 /// What the owner of a subscription requests and cancels with (`Flow.Subscription`, Java SE 17). [`finish`](crate::finish) takes it back.
 #[derive(Drop)]
-pub struct Subscription<L: Ledger + Send, D: Ledger + Send, B: Listener + Send> {
-    caller: Caller<L, D, B>,
+pub struct Subscription<
+    L: Ledger + Send,
+    D: Ledger + Send,
+    B: Listener + Send,
+    F: FailHandler + Send = LastFailure,
+> {
+    caller: Caller<L, D, B, F>,
     entry: u32,
     handle: Handle<B>,
 }
 
-impl<L: Ledger + Send, D: Ledger + Send, B: Listener + Send> fmt::Debug for Subscription<L, D, B> {
+impl<L: Ledger + Send, D: Ledger + Send, B: Listener + Send, F: FailHandler + Send> fmt::Debug
+    for Subscription<L, D, B, F> {
     fn fmt<W: fmt::Write>(&self, f: &mut fmt::Formatter<W>) -> fmt::Result {
         write!(f, "Subscription {{ entry: {} }}", self.entry)
     }
 }
 
-impl<L: Ledger + Send, D: Ledger + Send, B: Listener + Send> Model for Subscription<L, D, B> {
+impl<L: Ledger + Send, D: Ledger + Send, B: Listener + Send, F: FailHandler + Send> Model
+    for Subscription<L, D, B, F> {
     ghost use Rattle.publisher.specs.Handles.{SubscriptionState};
 
     ghost Value = { SubscriptionState };
@@ -29,16 +36,21 @@ impl<L: Ledger + Send, D: Ledger + Send, B: Listener + Send> Model for Subscript
     ghost view = { λ s. record { entry = s.entry; handle = s.handle } };
 }
 
-impl<L: Ledger + Send, D: Ledger + Send, B: Listener + Send> Subscription<L, D, B> {
+impl<L: Ledger + Send, D: Ledger + Send, B: Listener + Send, F: FailHandler + Send> Subscription<
+    L,
+    D,
+    B,
+    F,
+> {
     ghost use Rattle.std.specs.Prelude.{◌≡◌, OnErr, OnOk};
     ghost use Rattle.publisher.specs.Handles.{Cancels, Requests};
 
     /// That of the subscription of this number.
     pub(crate) fn new(
-        caller: Caller<L, D, B>,
+        caller: Caller<L, D, B, F>,
         entry: u32,
         handle: Handle<B>,
-    ) -> Subscription<L, D, B>
+    ) -> Subscription<L, D, B, F>
         ensures { result ≡ record { entry = entry; handle = handle } }
     {
         Subscription {
@@ -121,11 +133,20 @@ impl<L: Ledger + Send, D: Ledger + Send, B: Listener + Send> Subscription<L, D, 
     pub(crate) fn into_parts(self) -> (u32, Handle<B>)
         ensures { result ≡ (self.entry, self.handle) }
     {
+        let (_, entry, handle) = self.into_all();
+        (entry, handle)
+    }
+
+    /// Its number and its handle, and what its owner hands tasks to the pool with.
+    pub(crate) fn into_all(self) -> (Caller<L, D, B, F>, u32, Handle<B>)
+        ensures entry { result.1 ≡ self.entry }
+        ensures handle { result.2 ≡ self.handle }
+    {
         let Subscription {
-            caller: _,
+            caller,
             entry,
             handle,
         } = self;
-        (entry, handle)
+        (caller, entry, handle)
     }
 }

@@ -2,13 +2,13 @@
 ghost use Rattle.std.specs.Prelude.{◌≡◌, IfErr, IfOk};
 ghost use Rattle.flow_rules.specs.declared.refusal.Refusal.TheVariants as Refusal;
 ghost use Rattle.publisher.specs.declared.state.TheConstants.{PARTS};
-ghost use Rattle.publisher.specs.Outcome.{AreHandedIn, HasNoLane, IfRefused, IsOutcome, IsRefusalOfFinish, LacksOne, LeavesAllDone, LeavesUndone, outcome_of};
+ghost use Rattle.publisher.specs.Outcome.{AreHandedIn, AreReclaimed, HasNoLane, IfRefused, IsOutcome, IsRefusalOfFinish, LacksOne, LeavesAllDone, LeavesUndone, outcome_of};
 
 use crate::outcome::Outcome;
 use crate::publisher::Publisher;
 use crate::submitter::Submitter;
 use crate::subscription::Subscription;
-use flow_rules::{Listener, Refusal};
+use flow_rules::{FailHandler, Listener, Refusal};
 use std::alloc::Global;
 use std::sync::Wait;
 use std::sync::ledger::Ledger;
@@ -16,16 +16,26 @@ use std::sync::ledger::Ledger;
 /// Ends a publisher's workers, and gives what is left of each subscription that is handed in, with its subscriber. Nothing is closed by
 /// that: a publisher that is to tell its subscribers of the end is closed before. It doesn't wait for demand to come.
 ///
+/// One that was reclaimed before has no lane, and nothing asks for it; its number is among the `reclaimed` ones.
+///
+/// The handler of failures, if the publisher has one, is in what is left; it hears of no failure from then on.
+///
 /// Refused 5 if a growth is refused, and no lane is left then; 8 if a subscription or a submitter is missing, by the name of the first, or if
 /// a thread is still in the middle of a turn of a subscription, which is `held` then; and 9 if a subscription runs, or is closed and has not
 /// ended, by the names of these. The rest is given nevertheless.
-pub fn finish<L: Ledger + Send, D: Ledger + Send, B: Listener + Send, R: Wait>(
+pub fn finish<
+    L: Ledger + Send,
+    D: Ledger + Send,
+    B: Listener + Send,
+    F: FailHandler + Send,
+    R: Wait,
+>(
     rt: &R,
     alloc: Global,
-    publisher: Publisher<L, D, B>,
-    submitters: Vec<Submitter<L, D, B>>,
-    subscriptions: Vec<Subscription<L, D, B>>,
-) -> Result<Outcome<B>, (Refusal, Outcome<B>)>
+    publisher: Publisher<L, D, B, F>,
+    submitters: Vec<Submitter<L, D, B, F>>,
+    subscriptions: Vec<Subscription<L, D, B, F>>,
+) -> Result<Outcome<B, F>, (Refusal, Outcome<B, F>)>
     requires { (L.parts ≡ PARTS) × (D.parts ≡ PARTS) }
 
     // What each subscriber was told, whatever the threads did and whatever the answer.
@@ -33,6 +43,7 @@ pub fn finish<L: Ledger + Send, D: Ledger + Send, B: Listener + Send, R: Wait>(
 
     // Of which subscriptions.
     ensures handed { AreHandedIn subscriptions.items (outcome_of result).lanes.items }
+    ensures reclaimed { AreReclaimed subscriptions.items (outcome_of result) }
 
     // What each answer says of what is left.
     ensures ok { IfOk result (LeavesAllDone submitters.items subscriptions.items) }
@@ -44,13 +55,14 @@ pub fn finish<L: Ledger + Send, D: Ledger + Send, B: Listener + Send, R: Wait>(
     ensures refusals { IfErr result (λ refused. IsRefusalOfFinish refused.0) }
 {
     publisher.stop(rt);
+    let handler = publisher.shared.take_handler(rt);
     let books = publisher
         .shared
         .state
         .lock(rt)
         .take_out(alloc, submitters, subscriptions);
     match books {
-        Ok(books) => books.conclude(),
-        Err(outcome) => Err((Refusal::NoMemory, outcome)),
+        Ok(books) => books.conclude(handler),
+        Err(outcome) => Err((Refusal::NoMemory, Outcome { handler, ..outcome })),
     }
 }

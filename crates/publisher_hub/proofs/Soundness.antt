@@ -7,6 +7,7 @@ pub mod Looking
 pub mod LookingAtAll
 pub mod LookingAtOne
 pub mod Publishing
+pub mod Reclaiming
 pub mod Replacing
 pub mod SameLists
 pub mod Starting

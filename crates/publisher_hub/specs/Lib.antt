@@ -12,6 +12,7 @@ pub mod OpeningTicket
 pub mod Overview
 pub mod Publishing
 pub mod Readiness
+pub mod Reclaiming
 pub mod Sound
 pub mod Steps
 pub mod Subscribing

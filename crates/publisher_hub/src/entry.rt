@@ -10,6 +10,7 @@ ghost use Rattle.publisher_hub.specs.Offering.{Gives, GivesAgain};
 ghost use Rattle.publisher_hub.specs.Readiness.{IsReady};
 ghost use Rattle.publisher_hub.specs.Steps.{CanTake, HasAcceptedFew, IsHere};
 ghost use Rattle.publisher_hub.specs.Subscribing.{Told};
+ghost use Rattle.publisher_hub.specs.Reclaiming.{TakesEnded};
 ghost use Rattle.publisher_hub.specs.Taking.{TakesOut};
 ghost use Rattle.publisher_hub.specs.Tickets.{AsksForTicket};
 
@@ -189,6 +190,21 @@ impl<F: Feed> Entry<F> {
         self.retire(next);
         self.ticket = None;
         Some(feed)
+    }
+
+    /// Looks at a subscription, if its producer's end is there. If that shows that it has ended, it is retired, and its producer's end and its
+    /// ticket are taken out.
+    pub fn take_ended(&mut self, next: u64) -> Option<(F, Option<Ticket>)>
+        ensures { (glance : Option Standing)
+            × TakesEnded F.meaning F.does next glance result self.old self.new }
+    {
+        let mut feed = self.feed.take()?;
+        if !feed.standing().ended {
+            self.feed = Some(feed);
+            return None;
+        }
+        self.retire(next);
+        Some((feed, self.ticket.take()))
     }
 
     /// Lends the producer's end.

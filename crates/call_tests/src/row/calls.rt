@@ -33,7 +33,7 @@ pub fn answers<B: Listener>(
     ensures fits { IfOk result (λ is_answered. is_answered ≡ true
         → Fits row.entry desk.old desk.new) }
     ensures flow { IsFlow desk.new.lane }
-    ensures err { OnErr result (desk.new ≡ desk.old) }
+    ensures unchanged { OnErr result (desk.new ≡ desk.old) }
 {
     desks_keep_the_flow_rules(desk);
     Ok(match row {
@@ -76,7 +76,7 @@ fn is_accepted<B: Listener>(
     ensures fits { IfOk result (λ is_answered. is_answered ≡ true
         → Fits (Row.Accepted letter want.0 want.1) desk.old desk.new) }
     ensures flow { IsFlow desk.old.lane → IsFlow desk.new.lane }
-    ensures err { OnErr result (desk.new ≡ desk.old) }
+    ensures unchanged { OnErr result (desk.new ≡ desk.old) }
 {
     let item = item_with(alloc, &[letter])?;
     if desk.accepted() >= MOST_PUBLICATIONS {
@@ -102,7 +102,7 @@ fn comes_back<B: Listener>(
     ensures gone { IfOk result (λ is_answered. is_answered ≡ true → from_gone ≡ true
         → Fits (Row.Gone letter) desk.old desk.new) }
     ensures flow { IsFlow desk.old.lane → IsFlow desk.new.lane }
-    ensures err { OnErr result (desk.new ≡ desk.old) }
+    ensures unchanged { OnErr result (desk.new ≡ desk.old) }
 {
     let item = item_with(alloc, &[letter])?;
     let twin = item.share()?;
@@ -173,7 +173,7 @@ fn turns<B: Listener>(
 ) -> Result<bool, NoMemory>
     ensures fits { IfOk result (λ is_answered. is_answered ≡ true → MakesTurn desk.old desk.new) }
     ensures flow { IsFlow desk.old.lane → IsFlow desk.new.lane }
-    ensures err { OnErr result (desk.new ≡ desk.old) }
+    ensures unchanged { OnErr result (desk.new ≡ desk.old) }
 {
     let wanted = signals(alloc, letters)?;
     let mut seen = Seen::new(alloc)?;

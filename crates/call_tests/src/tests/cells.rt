@@ -4,6 +4,7 @@ ghost use Rattle.std.specs.Prelude.{◌≡◌, []};
 mod board;
 mod closes;
 mod in_order;
+mod late;
 mod parties;
 mod putting;
 mod relay;

@@ -7,6 +7,7 @@ use super::callbacks::stand::{Stand, name_of};
 use flow_rules::{How, Refusal, Tally};
 use publisher::{PARTS, finish};
 use std::alloc::Global;
+use std::env;
 use std::marker::Brand;
 use std::sync::Wait;
 use std::sync::ledger::{Blank, Ledger};
@@ -96,19 +97,20 @@ fn count_cancelled<L: Ledger + Send + Sync + 'static, D: Ledger + Send + Sync + 
     Ok(cancelled)
 }
 
-// Run from outside, too, to compare what memory it takes with that of the next one.
-#[test]
-fn thousands_come_and_go(rt: HostRuntime) -> Result<(), Fail> {
-    let (publications, drops) = (Blank::new(PARTS), Blank::new(PARTS));
-    let left = come_and_go::<Brand, Brand, _>(rt, rt.alloc(), publications, drops, 100)?;
-    assert!(rt; left == 100 * LIVE, "{left}");
-    Ok(())
+// How many rounds a run from outside asks for, which compares what memory they take.
+fn rounds_of(rt: &HostRuntime) -> u64 {
+    let asked = env::var(rt, "ROUNDS").ok();
+    asked
+        .and_then(|text| text.as_str().parse::<u64>().ok())
+        .unwrap_or(100)
 }
 
 #[test]
-fn three_times_as_many_come_and_go(rt: HostRuntime) -> Result<(), Fail> {
+fn thousands_come_and_go(rt: HostRuntime) -> Result<(), Fail> {
+    let rounds = rounds_of(&rt);
     let (publications, drops) = (Blank::new(PARTS), Blank::new(PARTS));
-    let left = come_and_go::<Brand, Brand, _>(rt, rt.alloc(), publications, drops, 300)?;
-    assert!(rt; left == 300 * LIVE, "{left}");
+    let left = come_and_go::<Brand, Brand, _>(rt, rt.alloc(), publications, drops, rounds)?;
+    let is_each = (left / LIVE) as u64 == rounds && left % LIVE == 0;
+    assert!(rt; is_each, "{left} in {rounds} rounds");
     Ok(())
 }

@@ -1,11 +1,14 @@
-//! Pools: what happens behind the lock, and between threads.
+//! Pools: what one thread sees of them, and what happens between threads.
 ghost use Rattle.std.specs.Prelude.{◌≡◌, ◌<◌, IfOk};
 ghost use Rattle.std.specs.Arc.{arc_value};
 ghost use Rattle.async_pool.specs.Pool.{pool_workers};
 
 mod alone;
+mod crowds;
 mod sleepers;
+mod stealing;
 mod threads;
+mod waking;
 
 use async_pool::{Gate, Job, Pool};
 use std::alloc::{AllocError, Global};
@@ -15,9 +18,13 @@ use std::sync::{Arc, Wait};
 use std::test::Fail;
 use std::thread;
 use std::thread::{JoinHandle, Threads};
+use std::time::{Clock, Instant};
 
 // How often a thread looks for what another one does before it gives up.
 const MOST_LOOKS: u64 = 10_000_000;
+
+// How many seconds a test takes for what it would do for longer.
+const PATIENCE: u64 = 10;
 
 type Runs = Arc<Vec<AtomicU64>, Global>;
 
@@ -91,6 +98,35 @@ fn wait_for(flag: &AtomicBool) -> bool {
         thread::yield_now();
     }
     false
+}
+
+// Waits until a count comes to a number, but not for ever.
+fn comes_to(count: &AtomicU64, number: u64) -> bool {
+    for _ in 0..MOST_LOOKS {
+        if count.load(SeqCst) >= number {
+            return true;
+        }
+        thread::yield_now();
+    }
+    false
+}
+
+// Whether a test has taken enough time.
+fn is_late(rt: &impl Clock, start: &Instant) -> bool {
+    let Ok(time) = start.elapsed(rt) else {
+        return true;
+    };
+    time.as_secs() >= PATIENCE
+}
+
+// Whether each job ran this often.
+fn all_ran(runs: &Runs, number: u64) -> bool {
+    for run in runs.iter() {
+        if run.load(SeqCst) != number {
+            return false;
+        }
+    }
+    true
 }
 
 // What the threads of a pool's workers share: the pool, their gate, and how many of them have ended.

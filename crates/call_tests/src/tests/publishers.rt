@@ -2,12 +2,15 @@
 mod day;
 mod days;
 mod heard;
+mod late_days;
 mod left;
 mod refused_days;
 mod site;
 
 use day::Day;
 use days::{DAYS, RACES};
+use flow_rules::ErrorOrder;
+use late_days::LATE_DAYS;
 use publisher::PARTS;
 use refused_days::REFUSED;
 use site::report;
@@ -19,11 +22,12 @@ use std::test::Fail;
 use std::thread::Threads;
 use std::time::{Clock, Instant};
 
-// What a day answers that is played at a publisher of its own with so many workers.
+// What a day answers that is played at a publisher of its own with so many workers and this order of errors.
 fn played<R: Clock + Threads + Wait + Copy + Send + 'static>(
     rt: R,
     alloc: Global,
     workers: usize,
+    order: ErrorOrder,
     round: u64,
     day: &Day,
 ) -> Result<String, Fail> {
@@ -33,6 +37,7 @@ fn played<R: Clock + Threads + Wait + Copy + Send + 'static>(
         Blank::new(PARTS),
         Blank::new(PARTS),
         workers,
+        order,
         round,
         day,
     )
@@ -42,7 +47,21 @@ fn played<R: Clock + Threads + Wait + Copy + Send + 'static>(
 fn each_day_leaves_what_it_should(rt: HostRuntime) -> Result<(), Fail> {
     for (number, day) in DAYS.iter().enumerate() {
         for workers in 1..3 {
-            let told = played(rt, rt.alloc(), workers, 0, day)?;
+            let told = played(rt, rt.alloc(), workers, ErrorOrder::Overtake, 0, day)?;
+            assert!(rt;
+                told.as_str() == day.report,
+                "at {number} with {workers}: {told}"
+            );
+        }
+    }
+    Ok(())
+}
+
+#[test]
+fn a_late_error_waits_for_the_items(rt: HostRuntime) -> Result<(), Fail> {
+    for (number, day) in LATE_DAYS.iter().enumerate() {
+        for workers in 1..3 {
+            let told = played(rt, rt.alloc(), workers, ErrorOrder::AfterItems, 0, day)?;
             assert!(rt;
                 told.as_str() == day.report,
                 "at {number} with {workers}: {told}"
@@ -65,7 +84,7 @@ fn no_race_leaves_anybody_asleep(rt: HostRuntime) -> Result<(), Fail> {
             break;
         }
         for (number, day) in RACES.iter().enumerate() {
-            let told = played(rt, rt.alloc(), 2, round, day)?;
+            let told = played(rt, rt.alloc(), 2, ErrorOrder::Overtake, round, day)?;
             assert!(rt;
                 told.as_str() == day.report,
                 "{number} in round {round}: {told}"
@@ -89,7 +108,7 @@ fn is_told(told: &str, day: &Day, others: &[&str]) -> bool {
 #[test]
 fn a_refusal_changes_nothing_else(rt: HostRuntime) -> Result<(), Fail> {
     for (number, (day, others)) in REFUSED.iter().enumerate() {
-        let told = played(rt, rt.alloc(), 1, 0, day)?;
+        let told = played(rt, rt.alloc(), 1, ErrorOrder::Overtake, 0, day)?;
         assert!(rt; is_told(told.as_str(), day, others), "at {number}: {told}");
     }
     Ok(())

@@ -1,5 +1,6 @@
 //! One subscription over all interleavings, event by event.
 mod chance;
+mod errors;
 mod table;
 
 use feed_core::Causes;
@@ -7,11 +8,12 @@ use feed_core::world::{
     Cause, Event, Parts, Producing, Requesting, Runner, Side, all_runs,
     at_most_one_item_follows_an_end, worlds_at_rest_forget_nothing,
 };
-use flow_rules::{Answer, Ending, How};
+use flow_rules::{Answer, Ending, ErrorOrder, How};
 use std::process::Abort;
 use std::test::Fail;
 
 const NO_CAUSES: Causes = Causes {
+    order: ErrorOrder::Overtake,
     cancel: false,
     argument: false,
     state: false,
@@ -53,11 +55,15 @@ type Row<'a> = (&'a [Event], bool, Option<Parts>);
 
 /// The task rests; an item starts it; it takes the item.
 const REST_AND_WAKE: [Row<'static>; 5] = [
-    (&[Event::Make(3)], false, None),
-    (&[Event::Make(1), Event::See], false, Some(MADE)),
+    (&[Event::Make(3, ErrorOrder::Overtake)], false, None),
+    (
+        &[Event::Make(1, ErrorOrder::Overtake), Event::See],
+        false,
+        Some(MADE),
+    ),
     (
         &[
-            Event::Make(2),
+            Event::Make(2, ErrorOrder::Overtake),
             Event::Look(Answer::Request(1)),
             Event::See,
             Event::Measure,
@@ -73,7 +79,7 @@ const REST_AND_WAKE: [Row<'static>; 5] = [
     ),
     (
         &[
-            Event::Make(2),
+            Event::Make(2, ErrorOrder::Overtake),
             Event::Look(Answer::Request(1)),
             Event::See,
             Event::Measure,
@@ -95,7 +101,7 @@ const REST_AND_WAKE: [Row<'static>; 5] = [
     ),
     (
         &[
-            Event::Make(2),
+            Event::Make(2, ErrorOrder::Overtake),
             Event::Look(Answer::Request(1)),
             Event::See,
             Event::Measure,
@@ -126,7 +132,7 @@ const RACES: [Row<'static>; 6] = [
     // An item that came after the runner had counted: it doesn't rest.
     (
         &[
-            Event::Make(1),
+            Event::Make(1, ErrorOrder::Overtake),
             Event::Look(Answer::Request(1)),
             Event::See,
             Event::Measure,
@@ -147,7 +153,7 @@ const RACES: [Row<'static>; 6] = [
     // A second signal starts no second task.
     (
         &[
-            Event::Make(1),
+            Event::Make(1, ErrorOrder::Overtake),
             Event::Look(Answer::Go),
             Event::See,
             Event::Measure,
@@ -170,7 +176,7 @@ const RACES: [Row<'static>; 6] = [
     // The items are counted after a look alone, and not before it.
     (
         &[
-            Event::Make(1),
+            Event::Make(1, ErrorOrder::Overtake),
             Event::Look(Answer::Go),
             Event::See,
             Event::See,
@@ -184,7 +190,7 @@ const RACES: [Row<'static>; 6] = [
     // A look that saw no completion completes nothing.
     (
         &[
-            Event::Make(1),
+            Event::Make(1, ErrorOrder::Overtake),
             Event::Look(Answer::Go),
             Event::Signal(Side::Producer, Some(Cause::Closing(Ending::Normal))),
             Event::See,
@@ -202,7 +208,7 @@ const RACES: [Row<'static>; 6] = [
     // One item may follow a cancel, and no second one.
     (
         &[
-            Event::Make(2),
+            Event::Make(2, ErrorOrder::Overtake),
             Event::Room,
             Event::Put,
             SIGNAL_PUT,
@@ -231,7 +237,7 @@ const RACES: [Row<'static>; 6] = [
     // A look that saw a cancel gives nothing.
     (
         &[
-            Event::Make(1),
+            Event::Make(1, ErrorOrder::Overtake),
             SIGNAL_CANCEL,
             Event::Look(Answer::Go),
             Event::See,
@@ -280,7 +286,7 @@ fn a_world_shows_its_parts(rt: HostRuntime) -> Result<(), Fail> {
     assert!(rt; nothing.parts() == None && nothing.capacity() == 0 && nothing.cut() == None);
     assert!(rt; nothing.runner() == Runner::Nobody && !nothing.runner().is_started());
     let world = all_runs(&[
-        Event::Make(2),
+        Event::Make(2, ErrorOrder::Overtake),
         Event::Look(Answer::Request(3)),
         Event::Room,
         Event::Put,

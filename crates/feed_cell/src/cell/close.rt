@@ -1,4 +1,5 @@
 //! How a subscription is closed for good: its producer's end and its handle are given back.
+pub mod again;
 mod joined;
 
 ghost use Rattle.std.specs.Prelude.{◌≡◌, ◌%◌, ◌-◌, ◌<◌, ◌≤◌, ◌⊎◌, ℕ, Bool, true, false, [], Option, Some, None, IfSome, IfOk, IfErr};
@@ -132,7 +133,7 @@ fn lane_of<B: Listener>(head: u64, tail: u64, asked: u64, control: u64, last: He
                 own,
                 how,
                 given: _,
-                answers: _,
+                answers,
             } = Box::into_inner(guest.lodger);
             Lane {
                 subscriber: Some(subscriber),
@@ -140,6 +141,7 @@ fn lane_of<B: Listener>(head: u64, tail: u64, asked: u64, control: u64, last: He
                 given,
                 asked: requested.saturating_add(own).min(UNBOUNDED),
                 ending: how,
+                order: Some(answers.order),
                 running: head < MARK && asked < MARK,
             }
         }
@@ -149,6 +151,7 @@ fn lane_of<B: Listener>(head: u64, tail: u64, asked: u64, control: u64, last: He
             given,
             asked: requested,
             ending: None,
+            order: None,
             running: true,
         },
     }

@@ -46,6 +46,7 @@ impl<B: Listener> Model for Handle<B> {
     ghost view = { λ h. record {
       table = h.party.seat.table_id;
       capacity = h.party.capacity;
+      order = h.party.seat.me.0.order;
       asked = h.party.seat.me.0.asked;
       cancelled = h.party.seat.me.0.cancel;
       argument = h.party.seat.me.0.argument;
@@ -89,7 +90,8 @@ impl<B: Listener> Handle<B> {
         ensures requested { self.old.cancelled ≡ false
             → self.new ≡ record (handle_after_request n self.old) { ready = self.new.ready; started = self.new.started } }
         ensures counts { self.new.started ≡ starts_after result self.old.started }
-        ensures starts { IfSome result (IsStarted self.old.table self.old.capacity) }
+        ensures starts { IfSome result
+            (IsStarted self.old.table self.old.capacity self.old.order) }
         ensures spent { IsSome result → self.new.ready ≡ false }
         ensures kept { IsNone result → self.new.ready ≡ self.old.ready }
     {
@@ -115,7 +117,8 @@ impl<B: Listener> Handle<B> {
         ensures cancelled { self.old.cancelled ≡ false
             → self.new ≡ record self.old { cancelled = true; ready = self.new.ready; started = self.new.started } }
         ensures counts { self.new.started ≡ starts_after result self.old.started }
-        ensures starts { IfSome result (IsStarted self.old.table self.old.capacity) }
+        ensures starts { IfSome result
+            (IsStarted self.old.table self.old.capacity self.old.order) }
         ensures spent { IsSome result → self.new.ready ≡ false }
         ensures kept { IsNone result → self.new.ready ≡ self.old.ready }
     {

@@ -3,7 +3,7 @@ ghost use Rattle.std.specs.Prelude.{◌≡◌, ◌+◌, [], ◌∷◌, replicate
 ghost use Rattle.std.specs.Arc.{arc_value};
 ghost use Rattle.crossbeam_utils.specs.Padded.{padded_value};
 ghost use Rattle.feed_core.specs.LaneCalls.{IsCapacity};
-ghost use Rattle.feed_cell.specs.Parties.{new_producer, new_handle, IsNewTask};
+ghost use Rattle.feed_cell.specs.Parties.{new_producer, new_producer_in, new_handle, new_handle_in, IsNewTask, IsNewTaskIn};
 ghost use Rattle.feed_cell.specs.Seats.{HasFourWords, StepsTo};
 ghost use Rattle.feed_cell.specs.TaskPlays.{IsUnlodged, HasLodged};
 ghost use Rattle.feed_cell.specs.TaskAnswers.{new_lodger};
@@ -16,12 +16,12 @@ use super::seated::Seated;
 use super::task::plays::EnterStep;
 use super::task::{Stage, Task};
 use super::{
-    BoxedLodger, CONTROL, CellSeat, CellTable, FIRST_WORDS, Held, Lodger, SharedTable, View,
+    BoxedLodger, CONTROL, CellSeat, CellTable, FIRST_WORDS, Held, Lodger, SharedTable, Terms, View,
 };
 use atomic_table::Split;
 use crossbeam_utils::CachePadded;
 use feed_core::Causes;
-use flow_rules::{Listener, NoMemory};
+use flow_rules::{ErrorOrder, Listener, NoMemory};
 use std::alloc::Global;
 use std::sync::Arc;
 
@@ -30,7 +30,8 @@ pub struct Cell;
 
 impl Cell {
     /// Makes a new subscription of this subscriber, with a buffer of this capacity, which is one of `capacity`'s values: its
-    /// producer's end, its handle, and its task, which owes the first turn. If memory is refused, the subscriber comes back.
+    /// producer's end, its handle, and its task, which owes the first turn. A closing error overtakes the items. If memory is
+    /// refused, the subscriber comes back.
     pub fn new<B: Listener>(
         alloc: Global,
         capacity: usize,
@@ -43,13 +44,33 @@ impl Cell {
         ensures task { IfOk result (λ made. IsNewTask made.0.table capacity made.2) }
         ensures back { IfErr result (λ refused. refused.1 ≡ subscriber) }
     {
-        let Ok((table, mut seat)) = lay::<B>(alloc, capacity) else {
+        Cell::new_with(alloc, capacity, ErrorOrder::Overtake, subscriber)
+    }
+
+    /// Makes a new subscription, as [`Cell::new`] does, in which a closing error is told in this order. If memory is refused, the
+    /// subscriber comes back.
+    pub fn new_with<B: Listener>(
+        alloc: Global,
+        capacity: usize,
+        order: ErrorOrder,
+        subscriber: B,
+    ) -> Result<(Producer<B>, Handle<B>, Task<B>), (NoMemory, B)>
+        requires capacity { IsCapacity capacity }
+        requires untold { B.told subscriber ≡ [] }
+        ensures producer { IfOk result
+            (λ made. made.0 ≡ new_producer_in order capacity made.0.table) }
+        ensures handle { IfOk result
+            (λ made. made.1 ≡ new_handle_in order capacity made.0.table) }
+        ensures task { IfOk result (λ made. IsNewTaskIn order made.0.table capacity made.2) }
+        ensures back { IfErr result (λ refused. refused.1 ≡ subscriber) }
+    {
+        let Ok((table, mut seat)) = lay::<B>(alloc, capacity, order) else {
             return Err((NoMemory, subscriber));
         };
         let Ok(shares) = share(alloc, table) else {
             return Err((NoMemory, subscriber));
         };
-        let guest = lodger(alloc, subscriber)?;
+        let guest = lodger(alloc, order, subscriber)?;
         let cell: &CellTable<B> = &shares.producer;
         let running = cell.shared.split_seat::<RunnerApart>(&mut seat);
         let asking = cell.shared.split_seat::<HandleApart>(&mut seat);
@@ -89,16 +110,23 @@ impl Cell {
 }
 
 /// Lays the table, with all its slots empty, and the seat of its maker.
-fn lay<B: Listener>(alloc: Global, capacity: usize) -> Result<(CellTable<B>, CellSeat<B>), NoMemory>
+fn lay<B: Listener>(
+    alloc: Global,
+    capacity: usize,
+    order: ErrorOrder,
+) -> Result<(CellTable<B>, CellSeat<B>), NoMemory>
     requires capacity { IsCapacity capacity }
     ensures { IfOk result (λ made.
         (made.1.table_id ≡ made.0.shared.table_id)
         × HasFourWords made.1.table_id
-        × (made.1.me ≡ (first_view capacity, []))) }
+        × (made.1.me ≡ (first_view capacity order, []))) }
 {
     let slots = empty_slots::<B>(alloc, capacity + 1)?;
-    let places = capacity as u64;
-    match CellTable::<B>::new(alloc, &FIRST_WORDS, slots, &places) {
+    let terms = Terms {
+        capacity: capacity as u64,
+        order,
+    };
+    match CellTable::<B>::new(alloc, &FIRST_WORDS, slots, &terms) {
         Ok(made) => Ok(made),
         Err(_) => Err(NoMemory),
     }
@@ -150,15 +178,19 @@ fn share<B: Listener>(alloc: Global, table: CellTable<B>) -> Result<Shares<B>, N
 }
 
 /// Boxes the subscriber before its first turn. If memory is refused, it comes back.
-fn lodger<B: Listener>(alloc: Global, subscriber: B) -> Result<BoxedLodger<B>, (NoMemory, B)>
-    ensures new { IfOk result (λ guest. guest ≡ new_lodger subscriber) }
+fn lodger<B: Listener>(
+    alloc: Global,
+    order: ErrorOrder,
+    subscriber: B,
+) -> Result<BoxedLodger<B>, (NoMemory, B)>
+    ensures new { IfOk result (λ guest. guest ≡ new_lodger order subscriber) }
     ensures back { IfErr result (λ refused. refused.1 ≡ subscriber) }
 {
     let lodger = Lodger {
         subscriber,
         given: 0,
         own: 0,
-        answers: Causes::none(),
+        answers: Causes::none_in(order),
         how: None,
     };
     match Box::new(alloc, lodger) {

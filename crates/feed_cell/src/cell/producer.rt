@@ -42,6 +42,7 @@ impl<B: Listener> Model for Producer<B> {
 
     ghost view = { λ p. record {
       table = p.party.seat.table_id;
+      order = p.party.seat.me.0.order;
       end = known_end p.party.seat.me.0 (is_some p.spare);
       started = p.party.seat.me.0.started;
     } };

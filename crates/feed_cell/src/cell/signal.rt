@@ -42,7 +42,8 @@ pub(crate) fn signal<B: Listener>(party: &mut Seated<B>, mask: u64) -> Option<Ce
     requires may { MaySignal (cause_in mask) party.old.seat.me.0 }
     ensures sent { StepsTo party.old.seat
         (IsSent (cause_in mask) result party.old.seat.me) party.new.seat }
-    ensures starts { IfSome result (IsReadySeat party.old.seat.table_id party.old.capacity) }
+    ensures starts { IfSome result
+        (IsReadySeat party.old.seat.table_id party.old.capacity party.old.seat.me.0.order) }
 {
     let table = &party.table.shared;
     let found = table.fetch_or::<SignalStep>(&mut party.seat, CONTROL, mask);
@@ -54,7 +55,8 @@ fn hand_over<B: Listener>(party: &mut Seated<B>, found: u64) -> Option<CellSeat<
     requires hands { bit_at found RUNNING ≡ 0 → MustHandOver party.old.seat.me.0 }
     ensures handed { StepsTo party.old.seat (IsHanded found result party.old.seat.me)
         party.new.seat }
-    ensures starts { IfSome result (IsReadySeat party.old.seat.table_id party.old.capacity) }
+    ensures starts { IfSome result
+        (IsReadySeat party.old.seat.table_id party.old.capacity party.old.seat.me.0.order) }
 {
     let table = &party.table.shared;
     if found & RUN != 0 {
@@ -72,10 +74,12 @@ pub(crate) fn start<B: Listener>(
     requires ready { IsSome spare.old }
     requires fits { IfSome spare.old (λ spare.
         (padded_value (arc_value spare)).shared.table_id ≡ party.now.seat.table_id) }
-    requires handed { IfSome seat (IsReadySeat party.now.seat.table_id party.now.capacity) }
+    requires handed { IfSome seat
+        (IsReadySeat party.now.seat.table_id party.now.capacity party.now.seat.me.0.order) }
     ensures none { IfNone result ((seat ≡ None) × (spare.new ≡ spare.old)) }
     ensures spent { IfSome result (λ task. spare.new ≡ None) }
-    ensures started { IfSome result (IsStarted party.now.seat.table_id party.now.capacity) }
+    ensures started { IfSome result
+        (IsStarted party.now.seat.table_id party.now.capacity party.now.seat.me.0.order) }
     ensures some { IfSome result (λ task. IsSome seat) }
     ensures counts { (started : ℕ) → starts_after result started ≡ starts_after seat started }
 {

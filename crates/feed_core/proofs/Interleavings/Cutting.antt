@@ -2,7 +2,7 @@
 use Rattle.std.proofs.Common.{◌≡◌, ℕ, zero, suc, ℤ, pos, negsuc, ◌+◌, ◌≤◌, Bool, true, false, refl, sym, ap, subst, ◌∙◌, arith, Option, Some, None}
 use Rattle.std.specs.Prelude.{IsSome}
 use Rattle.feed_core.specs.Prelude.{Answer, How}
-use Rattle.feed_core.specs.Cause.{stops, no_causes}
+use Rattle.feed_core.specs.Cause.{stops, no_causes_in}
 use Rattle.feed_core.specs.World.Types.{Producer, Handle, Cause, Event, Make, Room, Put, See, Take, Ask, Signal, Hand, Look, Measure, Rest, End, Runner, Nobody, Coming, Fresh, Ready, Looked, Saw, Measured, Taken, Over, Parts}
 use Rattle.feed_core.specs.World.Table.{IsPossible, joined, requested, answered, started, seeing, resting_after, after}
 use Rattle.feed_core.specs.World.Runs.{given_before, cut_where, cut_by, cut_after}
@@ -68,7 +68,7 @@ rested_follow false = refl
 
 -- what a cut allows goes on holding
 pub cut_kept : (event : Event) (w : Parts) (cut : ℕ) → IsPossible event w → IsCut w cut → IsCut (after event w) cut
-cut_kept (Make n) w cut may c = absurd may
+cut_kept (Make n order) w cut may c = absurd may
 cut_kept Room w cut may c = record { stopped = c.stopped; few = c.few }
 cut_kept Put w cut may c = record { stopped = c.stopped; few = c.few }
 cut_kept See w cut may c =
@@ -123,19 +123,19 @@ before_started given (Over how) = refl
 
 -- the first such signal sets it
 first_cut : (cause : Option Cause) (w v : Parts) → v.causes ≡ joined cause w.causes → v.given ≡ w.given → v.runner ≡ started w.runner
-    → IsCutAt (cut_where (stops (joined cause no_causes)) w) v
-first_cut cause w v causes given runner = by (stops (joined cause no_causes)) refl where
-  by : (stop : Option How) → stops (joined cause no_causes) ≡ stop → IsCutAt (cut_where stop w) v
+    → IsCutAt (cut_where (stops (joined cause (no_causes_in w.causes.order))) w) v
+first_cut cause w v causes given runner = by (stops (joined cause (no_causes_in w.causes.order))) refl where
+  by : (stop : Option How) → stops (joined cause (no_causes_in w.causes.order)) ≡ stop → IsCutAt (cut_where stop w) v
   by None e = tt
   by (Some how) e =
-      let some : IsSome (stops (joined cause no_causes)) = subst IsSome (sym e) refl in
+      let some : IsSome (stops (joined cause (no_causes_in w.causes.order))) = subst IsSome (sym e) refl in
       let stopped : IsSome (stops v.causes) = subst (λ c. IsSome (stops c)) (sym causes) (joined_stops cause w.causes some) in
       let is : given_before v.given v.runner ≡ given_before w.given w.runner =
       ap (λ n. given_before n v.runner) given ∙ ap (given_before w.given) runner ∙ before_started w.given w.runner in
       subst (IsCut v) is (stopped_cut v stopped)
 
 new_cut : (event : Event) (w : Parts) → IsCutAt (cut_by event w) (after event w)
-new_cut (Make n) w = tt
+new_cut (Make n order) w = tt
 new_cut Room w = tt
 new_cut Put w = tt
 new_cut See w = tt
@@ -164,7 +164,7 @@ adds_stop event w may none stopped = by event may stopped where
   few = few_before w.given w.runner
 
   by : (event : Event) → IsPossible event w → IsSome (stops (after event w).causes) → IsCut (after event w) (given_before w.given w.runner)
-  by (Make n) may some = absurd may
+  by (Make n order) may some = absurd may
   by Room may some = absurd (never some)
   by Put may some = absurd (never some)
   by See may some = absurd (never some)

@@ -1,12 +1,11 @@
 -- The runner ends the subscription.
 use Rattle.std.proofs.Common.{◌≡◌, ℕ, refl, sym, subst, ◌∙◌, arith, Option, Some, None, inl, inr}
-use Rattle.std.specs.Prelude.{IsSome}
-use Rattle.feed_core.specs.Prelude.{Published, IllegalArgument, IllegalState, Ending, How}
-use Rattle.feed_core.specs.Cause.{stops, closes, completion}
+use Rattle.feed_core.specs.Prelude.{Published, IllegalArgument, IllegalState, Ending, ErrorOrder, Overtake, AfterItems, How}
+use Rattle.feed_core.specs.Cause.{stops, closes, end_at_last}
 use Rattle.feed_core.specs.World.Types.{Causes, End, Runner, Nobody, Coming, Fresh, Ready, Looked, Saw, Measured, Taken, Over, Parts}
 use Rattle.feed_core.specs.World.Table.{MayEnd, IsAnswered, IsEndBy, IsStop, IsPossible, after}
 use Rattle.feed_core.specs.World.Kept.{IsAt, IsKeptParts, IsWithin, EndHasCause, HasLooked, HasMeasured, coming}
-use Rattle.feed_core.proofs.Interleavings.Causing.{IsStopOf, stops_cause}
+use Rattle.feed_core.proofs.Interleavings.Causing.{IsStopOf, stops_cause, normal_closes, error_closes}
 
 -- what a callback answered is a cause
 answered_ended : (how : How) (w : Parts) → IsAnswered how → EndHasCause how (after (End how) w)
@@ -19,9 +18,9 @@ answered_ended How.OutOfMemory w may = refl
 -- an end at once has its cause, which a look saw
 stop_ended : (c : Causes) (due : How) (w : Parts) → IsWithin c w.causes → IsStopOf c due → EndHasCause due (after (End due) w)
 stop_ended c How.Completed w within of = absurd of
-stop_ended c (How.Errored (Published code)) w within of = within.closing (Ending.Failed code) of
-stop_ended c (How.Errored IllegalArgument) w within of = within.argument of
-stop_ended c (How.Errored IllegalState) w within of = within.state of
+stop_ended c (How.Errored (Published code)) w within of = (within.closing (Ending.Failed code) of.0, λ waits. (let overtakes : w.causes.order ≡ Overtake = sym within.order ∙ of.1 in cc))
+stop_ended c (How.Errored IllegalArgument) w within of = (within.argument of, tt)
+stop_ended c (How.Errored IllegalState) w within of = (within.state of, tt)
 stop_ended c How.Cancelled w within of = refl
 stop_ended c (How.Failed _) w within of = absurd of
 stop_ended c How.OutOfMemory w within of = absurd of
@@ -38,13 +37,14 @@ looked_ended c how w s may = by (stops c) refl may where
   by (Some due) e may = by_end due how w (stop_ended c due w s.within (stops_cause c due e)) may
 
 measured_ended : (c : Causes) (t a : ℕ) (how : How) (w : Parts) → HasMeasured c t a w → IsStop (closes c) how → w.given ≡ t → EndHasCause how (after (End how) w)
-measured_ended c t a how w s may all = by c.closing refl may where
-  by : (closing : Option Ending) → c.closing ≡ closing → IsStop (completion closing) how → EndHasCause how (after (End how) w)
-  by None e may = absurd may
-  by (Some Ending.Normal) e may =
-      let some : IsSome (closes c) = subst (λ closing. IsSome (completion closing)) (sym e) refl in
-      by_end How.Completed how w (s.seen.looked.within.closing Ending.Normal e, all ∙ s.seen.last some) may
-  by (Some (Ending.Failed code)) e may = absurd may
+measured_ended c t a how w s may all = by c.closing c.order refl refl may where
+  by : (closing : Option Ending) (order : ErrorOrder) → c.closing ≡ closing → c.order ≡ order → IsStop (end_at_last closing order) how → EndHasCause how (after (End how) w)
+  by None order e o may = absurd may
+  by (Some Ending.Normal) order e o may =
+      by_end How.Completed how w (s.seen.looked.within.closing Ending.Normal e, all ∙ s.seen.last (normal_closes c e)) may
+  by (Some (Ending.Failed code)) Overtake e o may = absurd may
+  by (Some (Ending.Failed code)) AfterItems e o may =
+      by_end (How.Errored (Published code)) how w (s.seen.looked.within.closing (Ending.Failed code) e, λ waits. all ∙ s.seen.last (error_closes c code o e)) may
 
 -- whoever ends it has the task
 ended : (how : How) (w : Parts) (r : Runner) → IsAt r w → MayEnd how w.given r → EndHasCause how (after (End how) w) × (coming r ≡ 0)

@@ -1,5 +1,6 @@
 -- Every event keeps what is kept.
 use Rattle.std.proofs.Common.{ℕ, refl, arith}
+use Rattle.feed_core.specs.Prelude.{ErrorOrder}
 use Rattle.feed_core.specs.LaneCalls.{IsCapacity}
 use Rattle.feed_core.specs.World.Types.{Producer, Handle, Event, Make, Room, Put, See, Take, Ask, Signal, Hand, Look, Measure, Rest, End, Parts}
 use Rattle.feed_core.specs.World.Table.{IsPossible, after}
@@ -14,8 +15,8 @@ use Rattle.feed_core.proofs.Interleavings.Running.{look_kept, see_kept, measure_
 use Rattle.feed_core.proofs.Interleavings.Signalling.{producer_signal_kept, handle_signal_kept}
 
 -- a new subscription has it
-pub made_kept : (n : ℕ) → IsCapacity n → IsKeptParts (made n)
-made_kept n sized = record {
+pub made_kept : (n : ℕ) (order : ErrorOrder) → IsCapacity n → IsKeptParts (made n order)
+made_kept n order sized = record {
   sized = sized;
   asked_bounded = omega arith;
   own_bounded = omega arith;
@@ -30,7 +31,7 @@ made_kept n sized = record {
 }
 
 pub event_kept : (event : Event) (w : Parts) → IsKeptParts w → IsPossible event w → IsKeptParts (after event w)
-event_kept (Make n) w k may = absurd may
+event_kept (Make n order) w k may = absurd may
 event_kept Room w k may = room_kept w k may
 event_kept Put w k may = put_kept w k may
 event_kept See w k may = see_kept w k may

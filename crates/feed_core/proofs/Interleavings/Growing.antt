@@ -1,12 +1,12 @@
 -- What the steps of the other two sides do to what holds where the task stands: the numbers and the causes only grow, and what is new is marked.
 use Rattle.std.proofs.Common.{◌≡◌, ℕ, ◌≤◌, min, false, refl, sym, ap, subst, ◌∙◌, arith}
 use Rattle.std.specs.Prelude.{IsSome}
-use Rattle.feed_core.specs.Prelude.{Published, IllegalArgument, IllegalState, Ending, How}
+use Rattle.feed_core.specs.Prelude.{Published, IllegalArgument, IllegalState, Ending, AfterItems, How}
 use Rattle.feed_core.specs.Cause.{stops, closes}
 use Rattle.feed_core.specs.World.Types.{Causes, HasPut, HasAsked, Runner, Nobody, Coming, Fresh, Ready, Looked, Saw, Measured, Taken, Over, Parts}
 use Rattle.feed_core.specs.World.Table.{total_of}
 use Rattle.feed_core.specs.World.Kept.{IsWithin, EndHasCause, HasRested, HasLooked, HasSeen, HasMeasured, IsAt, IsKeptParts}
-use Rattle.feed_core.proofs.Interleavings.Causing.{within_step, closes_within, normal_closes}
+use Rattle.feed_core.proofs.Interleavings.Causing.{within_step, closes_within, normal_closes, error_closes}
 
 -- what another side's step does
 pub record Grows (w v : Parts) : Type 0 where
@@ -60,9 +60,13 @@ measured_kept {w} {v} g s = record {
 
 ended_kept : {w v : Parts} → Grows w v → (how : How) → EndHasCause how w → EndHasCause how v
 ended_kept {w} {v} g How.Completed s = (g.causes.closing Ending.Normal s.0, g.given ∙ s.1 ∙ sym (g.closed (normal_closes w.causes s.0)))
-ended_kept g (How.Errored (Published code)) s = g.causes.closing (Ending.Failed code) s
-ended_kept g (How.Errored IllegalArgument) s = g.causes.argument s
-ended_kept g (How.Errored IllegalState) s = g.causes.state s
+ended_kept {w} {v} g (How.Errored (Published code)) s = (g.causes.closing (Ending.Failed code) s.0, all) where
+  all : v.causes.order ≡ AfterItems → v.given ≡ v.accepted
+  all order =
+      let waits : w.causes.order ≡ AfterItems = g.causes.order ∙ order in
+      g.given ∙ s.1 waits ∙ sym (g.closed (error_closes w.causes code waits s.0))
+ended_kept g (How.Errored IllegalArgument) s = (g.causes.argument s.0, tt)
+ended_kept g (How.Errored IllegalState) s = (g.causes.state s.0, tt)
 ended_kept g How.Cancelled s = g.causes.cancel s
 ended_kept g (How.Failed code) s = g.causes.failed code s
 ended_kept g How.OutOfMemory s = g.causes.memory s

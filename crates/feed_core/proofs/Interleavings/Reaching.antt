@@ -1,5 +1,6 @@
 -- What any list of events leads to.
 use Rattle.std.proofs.Common.{◌≡◌, ℕ, ◌↔◌, Bool, true, false, refl, sym, subst, Option, Some, None, List, [], ◌∷◌, ◌++◌, inl, inr}
+use Rattle.feed_core.specs.Prelude.{ErrorOrder}
 use Rattle.feed_core.specs.LaneCalls.{IsCapacity}
 use Rattle.feed_core.specs.World.Types.{Event, Make, Room, Put, See, Take, Ask, Signal, Hand, Look, Measure, Rest, End, Parts}
 use Rattle.feed_core.specs.World.Table.{IsPossible, after}
@@ -13,7 +14,7 @@ use Rattle.feed_core.proofs.Interleavings.Lawfulness.{lawful}
 pub next_kept : (event : Event) (parts : Option Parts) (cut : Option ℕ) → IsKeptIn parts cut → IsPossibleIn event parts
     → IsKeptIn (next_of event parts cut).parts (next_of event parts cut).cut
 next_kept event (Some w) cut k may = (event_kept event w k.0 may, cut_at_kept event w cut may k.1)
-next_kept (Make n) None cut k may = (made_kept n may, tt)
+next_kept (Make n order) None cut k may = (made_kept n order may, tt)
 next_kept Room None cut k may = absurd may
 next_kept Put None cut k may = absurd may
 next_kept See None cut k may = absurd may
@@ -56,8 +57,8 @@ pub leads_event : (events : List Event) (w : Parts) (cut : Option ℕ) (event : 
     → Leads nothing (events ++ event ∷ []) (world_of (after event w) (cut_after event w cut))
 leads_event events w cut event leads may = leads_more nothing events event (world_of w cut) (world_of (after event w) (cut_after event w cut)) leads (inl (may, refl))
 
-pub reached_made : (n : ℕ) → IsCapacity n → IsReached (made n)
-reached_made n sized = record { events = Make n ∷ []; cut = None; leads = (world_of (made n) None, inl (sized, refl), refl) }
+pub reached_made : (n : ℕ) (order : ErrorOrder) → IsCapacity n → IsReached (made n order)
+reached_made n order sized = record { events = Make n order ∷ []; cut = None; leads = (world_of (made n order) None, inl (sized, refl), refl) }
 
 pub reached_more : (event : Event) {w : Parts} → IsReached w → IsPossible event w → IsReached (after event w)
 reached_more event {w} r may = record { events = r.events ++ event ∷ []; cut = cut_after event w r.cut; leads = leads_event r.events w r.cut event r.leads may }

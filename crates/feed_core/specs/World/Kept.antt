@@ -1,13 +1,14 @@
 -- What every event keeps, and from which all else follows.
 use Rattle.std.specs.Prelude.{◌≡◌, ℕ, ◌+◌, ◌<◌, ◌≤◌, min, true, false, Option, None, Some, IsSome}
-use Rattle.feed_core.specs.Prelude.{UNBOUNDED, Ending, How}
+use Rattle.feed_core.specs.Prelude.{UNBOUNDED, Fault, Published, IllegalArgument, IllegalState, Ending, AfterItems, How}
 use Rattle.feed_core.specs.Cause.{stops, closes, IsFaultOf}
 use Rattle.feed_core.specs.LaneCalls.{IsCapacity}
 use Rattle.feed_core.specs.World.Types.{Causes, Producing, HasRoom, HasPut, Hands, Requesting, HasAsked, HandsOver, Runner, Nobody, Coming, Fresh, Looked, Saw, Measured, Taken, Over, Parts}
 use Rattle.feed_core.specs.World.Table.{total_of, is_over}
 
--- the causes are all among those
+-- the causes are all among those, and a closing error is told in the same order
 pub record IsWithin (some all : Causes) : Type 0 where
+  pub order : some.order ≡ all.order
   pub cancel : some.cancel ≡ true → all.cancel ≡ true
   pub argument : some.argument ≡ true → all.argument ≡ true
   pub state : some.state ≡ true → all.state ≡ true
@@ -15,10 +16,16 @@ pub record IsWithin (some all : Causes) : Type 0 where
   pub failed : (code : ℕ) → some.failed ≡ Some code → all.failed ≡ Some code
   pub memory : some.memory ≡ true → all.memory ≡ true
 
--- an end has its cause, and completion has given every item
+-- a closing error that waits for the items has given every item
+abbrev pub HasGivenAll : Fault → Parts → Type 0
+HasGivenAll (Published code) w = w.causes.order ≡ AfterItems → w.given ≡ w.accepted
+HasGivenAll IllegalArgument w = Unit {0}
+HasGivenAll IllegalState w = Unit {0}
+
+-- an end has its cause, and completion, or a closing error that waits for the items, has given every item
 abbrev pub EndHasCause : How → Parts → Type 0
 EndHasCause How.Completed w = (w.causes.closing ≡ Some Ending.Normal) × (w.given ≡ w.accepted)
-EndHasCause (How.Errored fault) w = IsFaultOf w.causes fault
+EndHasCause (How.Errored fault) w = IsFaultOf w.causes fault × HasGivenAll fault w
 EndHasCause How.Cancelled w = w.causes.cancel ≡ true
 EndHasCause (How.Failed code) w = w.causes.failed ≡ Some code
 EndHasCause How.OutOfMemory w = w.causes.memory ≡ true

@@ -1,7 +1,7 @@
 -- Lists of events: what they lead to, whatever the order in which the parties make their steps.
 use Rattle.std.specs.Prelude.{◌≡◌, ℕ, ◌-◌, ◌⊎◌, false, Option, None, Some, List, [], ◌∷◌}
-use Rattle.feed_core.specs.Prelude.{How}
-use Rattle.feed_core.specs.Cause.{no_causes, stops}
+use Rattle.feed_core.specs.Prelude.{ErrorOrder, How}
+use Rattle.feed_core.specs.Cause.{no_causes_in, stops}
 use Rattle.feed_core.specs.LaneCalls.{IsCapacity}
 use Rattle.feed_core.specs.World.Types.{Event, Make, Signal, Free, Idle, Runner, Fresh, Taken, Parts}
 use Rattle.feed_core.specs.World.Table.{joined, IsPossible, after}
@@ -25,13 +25,13 @@ nothing = record { parts = None; cut = None }
 abbrev pub world_of : Parts → Option ℕ → WorldState
 world_of w cut = record { parts = Some w; cut = cut }
 
--- a new one: its task was never run
-abbrev pub made : ℕ → Parts
-made capacity = record { capacity = capacity; accepted = 0; given = 0; asked = 0; own = 0; causes = no_causes; active = false; producer = Free; handle = Idle; runner = Fresh }
+-- a new one, which is told a closing error in this order: its task was never run
+abbrev pub made : ℕ → ErrorOrder → Parts
+made capacity order = record { capacity = capacity; accepted = 0; given = 0; asked = 0; own = 0; causes = no_causes_in order; active = false; producer = Free; handle = Idle; runner = Fresh }
 
 -- where an event is possible: before the subscription was made, only that it is made
 abbrev pub IsPossibleIn : Event → Option Parts → Type 0
-IsPossibleIn (Make n) None = IsCapacity n
+IsPossibleIn (Make n order) None = IsCapacity n
 IsPossibleIn _ None = ⊥
 IsPossibleIn event (Some w) = IsPossible event w
 
@@ -46,7 +46,7 @@ cut_where None w = None
 cut_where (Some _) w = Some (given_before w.given w.runner)
 
 abbrev pub cut_by : Event → Parts → Option ℕ
-cut_by (Signal _ cause) w = cut_where (stops (joined cause no_causes)) w
+cut_by (Signal _ cause) w = cut_where (stops (joined cause (no_causes_in w.causes.order))) w
 cut_by _ w = None
 
 abbrev pub cut_after : Event → Parts → Option ℕ → Option ℕ
@@ -55,7 +55,7 @@ cut_after event w None = cut_by event w
 
 -- after an event that was possible
 abbrev pub next_of : Event → Option Parts → Option ℕ → WorldState
-next_of (Make n) None cut = world_of (made n) None
+next_of (Make n order) None cut = world_of (made n order) None
 next_of _ None cut = nothing
 next_of event (Some w) cut = world_of (after event w) (cut_after event w cut)
 

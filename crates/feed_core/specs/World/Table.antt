@@ -80,7 +80,7 @@ IsStop None how = ⊥
 IsStop (Some due) how = IsEndBy due how
 
 -- where the runner may end the subscription, with so many items given: by what a callback came back with, by what its look saw, or
--- by completion, where it counted no more items than were given
+-- by the end that waits for the items, where it counted no more items than were given
 abbrev pub MayEnd : How → ℕ → Runner → Type 0
 MayEnd how given Fresh = IsAnswered how
 MayEnd how given Taken = IsAnswered how
@@ -90,7 +90,7 @@ MayEnd how given _ = ⊥
 
 -- where an event is possible, once the subscription was made
 abbrev pub IsPossible : Event → Parts → Type 0
-IsPossible (Make _) w = ⊥
+IsPossible (Make _ _) w = ⊥
 IsPossible Room w = MayBegin w.producer
 IsPossible Put w = (w.producer ≡ HasRoom) × (w.causes.closing ≡ None)
 IsPossible See w = MaySee w.runner
@@ -171,7 +171,7 @@ resting_after false = Nobody
 
 -- what there is after an event that was possible
 abbrev pub after : Event → Parts → Parts
-after (Make _) w = w
+after (Make _ _) w = w
 after Room w = record w { producer = shown_room (has_room w) }
 after Put w = record w { accepted = w.accepted + 1; producer = HasPut }
 after See w = record w { runner = seeing w.accepted w.runner }

@@ -8,7 +8,7 @@ ghost use Rattle.feed_core.specs.Desk.{Owes, desk_after_turn};
 ghost use Rattle.feed_core.specs.Lane.{IsFlow};
 ghost use Rattle.feed_core.specs.PlainTurn.{plain_turn_of};
 ghost use Rattle.feed_core.specs.Steps.{Looks, Greets, Obeys, OwesEnd, IsMidTurn, TurnsAs};
-ghost use Rattle.feed_core.specs.Turn.{EndsIn, MeetsPlainTurn};
+ghost use Rattle.feed_core.specs.Turn.{EndsIn, EndsInObeyed, MeetsPlainTurn};
 
 use super::Desk;
 use super::call::ask;
@@ -52,6 +52,10 @@ impl<B: Listener> Desk<B> {
         ensures completed { EndsIn seen.new.signals Complete ↔ (result ≡ Ended How.Completed) }
         ensures errored { (fault : Fault) → EndsIn seen.new.signals (Error fault)
             ↔ (result ≡ Ended (How.Errored fault)) }
+
+        // Whose failure ended it: that of the callback whose signal it told last.
+        ensures failed { (code : _) → result ≡ Ended (How.Failed code)
+            → EndsInObeyed seen.new.signals }
     {
         seen.clear();
         match self.greet(seen) {

@@ -1,5 +1,5 @@
 //! What may happen to a subscription, a step at a time.
-use flow_rules::{Answer, Ending, How};
+use flow_rules::{Answer, Ending, ErrorOrder, How};
 
 /// Who signals: a subscription's publisher, or its owner.
 #[derive(Clone, Copy, Debug, PartialEq, Eq)]
@@ -26,8 +26,8 @@ pub enum Cause {
 /// One step that one party makes on the words that they share.
 #[derive(Clone, Copy, Debug, PartialEq, Eq)]
 pub enum Event {
-    /// The subscription is made, with a buffer of this capacity.
-    Make(usize),
+    /// The subscription is made, with a buffer of this capacity, and a closing error is told in this order.
+    Make(usize, ErrorOrder),
     /// The producer looks how many items were taken, and whether the subscription has ended.
     Room,
     /// The producer stores how many items were put, one more than before.

@@ -7,8 +7,8 @@ pub fn worlds_at_rest_forget_nothing()
     ensures { NothingIsForgotten }
 {}
 
-/// After an event that brings a cancel, a bad request, a second subscribing or a closing error at most one item is given, whatever happens
-/// later: the next one, or the one that was just taken (`Flow.Subscription.cancel`, Java SE 17; Reactive Streams 1.0, rules 2.8 and 3.12).
+/// After an event that brings a cancel, a bad request, a second subscribing or a closing error that overtakes the items at most one
+/// item is given, whatever happens later: the next one, or the one that was just taken (`Flow.Subscription.cancel`, Java SE 17; Reactive Streams 1.0, rules 2.8 and 3.12).
 pub fn at_most_one_item_follows_an_end()
     ensures { EndsWithinOneItem }
 {}

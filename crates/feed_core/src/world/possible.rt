@@ -23,7 +23,7 @@ impl Parts {
         ensures { (result ≡ true) ↔ IsPossible event self.now }
     {
         match event {
-            Event::Make(_) => false,
+            Event::Make(_, _) => false,
             Event::Room => may_begin(self.producer),
             Event::Put => self.producer == Producing::HasRoom && self.causes.closing.is_none(),
             Event::Ask(n) => self.handle == Requesting::Idle && n >= 1,

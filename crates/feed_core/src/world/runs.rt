@@ -1,6 +1,6 @@
 //! Events, one after the other.
 ghost use Rattle.std.specs.Prelude.{◌≡◌, ◌↔◌, true, false};
-ghost use Rattle.feed_core.specs.Cause.{stops, no_causes};
+ghost use Rattle.feed_core.specs.Cause.{stops, no_causes_in};
 ghost use Rattle.feed_core.specs.World.Kept.{IsKeptIn};
 ghost use Rattle.feed_core.specs.World.Lawful.{IsLawfulIn};
 ghost use Rattle.feed_core.specs.World.Runs.{nothing, IsPossibleIn, next_of, Leads, made, cut_after, cut_where};
@@ -12,6 +12,7 @@ use super::parts::{Parts, Producing, Requesting, Runner};
 use super::possible::is_capacity;
 use super::steps::join;
 use crate::cause::Causes;
+use flow_rules::ErrorOrder;
 
 impl World {
     /// One step of one party. Answers whether it is possible now; where it is not, it changes nothing.
@@ -42,8 +43,8 @@ impl World {
         ensures lawful { IsLawfulIn self.new.parts self.new.cut }
     {
         match event {
-            Event::Make(capacity) if is_capacity(capacity) => {
-                self.made = Some(new_parts(capacity));
+            Event::Make(capacity, order) if is_capacity(capacity) => {
+                self.made = Some(new_parts(capacity, order));
                 true
             }
             _ => false,
@@ -68,9 +69,9 @@ pub fn all_runs(events: &[Event]) -> World
     world
 }
 
-/// A new subscription: its task was never run.
-fn new_parts(capacity: usize) -> Parts
-    ensures { result ≡ made capacity }
+/// A new subscription, which is told a closing error in this order: its task was never run.
+fn new_parts(capacity: usize, order: ErrorOrder) -> Parts
+    ensures { result ≡ made capacity order }
 {
     Parts {
         capacity,
@@ -78,7 +79,7 @@ fn new_parts(capacity: usize) -> Parts
         given: 0,
         asked: 0,
         own: 0,
-        causes: Causes::none(),
+        causes: Causes::none_in(order),
         active: false,
         producer: Producing::Free,
         handle: Requesting::Idle,
@@ -98,9 +99,9 @@ fn cut_after(event: Event, parts: &Parts, cut: Option<u64>) -> Option<u64>
 
 /// The cut that a signal sets, if its cause ends the subscription at once.
 fn cut_where(cause: Option<Cause>, parts: &Parts) -> Option<u64>
-    ensures { result ≡ cut_where (stops (joined cause no_causes)) parts.now }
+    ensures { result ≡ cut_where (stops (joined cause (no_causes_in parts.now.causes.order))) parts.now }
 {
-    let mut causes = Causes::none();
+    let mut causes = Causes::none_in(parts.causes.order);
     join(cause, &mut causes);
     match causes.stops() {
         Some(_) => Some(parts.runner.given_before(parts.given)),

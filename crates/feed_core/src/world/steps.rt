@@ -28,7 +28,7 @@ impl Parts {
         ensures { self.new ≡ after event self.old }
     {
         match event {
-            Event::Make(_) => {}
+            Event::Make(_, _) => {}
             Event::Room => self.producer = self.look_for_room(),
             Event::Put => {
                 self.accepted += 1;

@@ -1,16 +1,16 @@
 -- What a script is answered: a function of its bytes, of the number of subscribers in the stock, and of the points at which memory is refused.
 use Rattle.std.specs.Prelude.{ℕ, ◌==◌, Bool, if◌then◌else◌, nat_lt, Option, Some, None, List, [], ◌∷◌, length}
 use Rattle.lines_demo.specs.Prelude.{Refusal}
-use Rattle.lines_demo.specs.Line.{lines_of, without_return}
-use Rattle.lines_demo.specs.Writing.{line_of}
-use Rattle.lines_demo.specs.Script.Command.{command_of}
-use Rattle.lines_demo.specs.Script.Reply.{reply_text}
+use Rattle.commands.specs.Line.{lines_of, without_return}
+use Rattle.commands.specs.Writing.{line_of}
+use Rattle.commands.specs.Command.{command_of}
+use Rattle.commands.specs.Reply.{reply_text}
 use Rattle.lines_demo.specs.Script.State.{SessionState, CommandResult, LineResult, refused_result, empty_result, result_then, state_at_start}
 use Rattle.lines_demo.specs.Script.Obeying.{command_result}
 use Rattle.lines_demo.specs.Script.Running.{run_turns}
-use Rattle.lines_demo.specs.declared.script.command.Command.{Command}
-use Rattle.lines_demo.specs.declared.script.command.Command.TheVariants.{Cap, Sub, Offer, Retry, Submit, Request, Cancel, Close, Fail, Run}
-use Rattle.lines_demo.specs.declared.script.player.TheConstants.{LONGEST_LINE}
+use Rattle.commands.specs.declared.command.Command.{Command}
+use Rattle.commands.specs.declared.command.Command.TheVariants.{Cap, Late, Sub, Offer, Retry, Submit, Request, Cancel, Close, Fail, Run}
+use Rattle.commands.specs.declared.line.TheConstants.{LONGEST_LINE}
 
 -- a reply is written as one line
 abbrev pub reply_result : CommandResult → LineResult
@@ -23,6 +23,7 @@ reply_result result = record {
 -- the turns before a command is answered: those of a `run`
 abbrev pub turns_before : Command → SessionState → List Bool → LineResult
 turns_before (Cap capacity) state refusals = empty_result state refusals
+turns_before Late state refusals = empty_result state refusals
 turns_before (Sub name number) state refusals = empty_result state refusals
 turns_before (Offer text) state refusals = empty_result state refusals
 turns_before (Retry text) state refusals = empty_result state refusals

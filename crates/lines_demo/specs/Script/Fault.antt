@@ -2,7 +2,7 @@
 use Rattle.lines_demo.specs.declared.script.fault.ScriptFault.{ScriptFault}
 use Rattle.lines_demo.specs.declared.script.fault.ScriptFault.TheVariants.{Read, Write, Memory}
 use Rattle.lines_demo.specs.declared.reader.InputFault.{InputFault}
-use Rattle.lines_demo.specs.declared.writing.OutputFault.{OutputFault}
+use Rattle.commands.specs.declared.writing.OutputFault.{OutputFault}
 
 -- why a script stops where an answer can't be written
 abbrev pub script_fault : OutputFault → ScriptFault

@@ -1,7 +1,7 @@
 -- What holds wherever a script may stand.
-use Rattle.std.specs.Prelude.{◌≡◌, ℕ, ◌+◌, ◌<◌, ◌≤◌, Option, None, List, All, length}
+use Rattle.std.specs.Prelude.{◌≡◌, ℕ, ◌+◌, ◌<◌, ◌≤◌, false, Option, None, List, [], All, length}
 use Rattle.feed_core.specs.Sound.{IsSoundDesk}
-use Rattle.lines_demo.specs.Prelude.{Item, Ending}
+use Rattle.lines_demo.specs.Prelude.{Item, Ending, ErrorOrder}
 use Rattle.lines_demo.specs.Script.State.{SubscriptionState, SessionState}
 use Rattle.lines_demo.specs.Script.Laws.{SerialsRise, WakesWhoOwes, FewAreLive, OneLiveOfName}
 
@@ -12,8 +12,8 @@ pub record IsPublished (texts : ℕ → List ℕ) (first next : ℕ) (item : Ite
   pub since : first ≤ item.serial
   pub before : item.serial < next
 
--- what a subscription keeps while the next serial number is this and the publisher was closed so
-pub record IsKept (texts : ℕ → List ℕ) (next : ℕ) (closed : Option Ending)
+-- what a subscription keeps while the next serial number is this, errors are told in this order, and the publisher was closed so
+pub record IsKept (texts : ℕ → List ℕ) (next : ℕ) (order : ErrorOrder) (closed : Option Ending)
     (subscription : SubscriptionState) : Type 0 where
   pub sound : IsSoundDesk subscription.desk
   pub rise : SerialsRise subscription.desk.lane.accepted
@@ -23,10 +23,13 @@ pub record IsKept (texts : ℕ → List ℕ) (next : ℕ) (closed : Option Endin
   pub all : subscription.desk.lane.how ≡ None
       → subscription.since + (length subscription.desk.lane.accepted + subscription.dropped) ≡ next
   pub closing : subscription.desk.lane.how ≡ None → subscription.desk.lane.causes.closing ≡ closed
+  pub ordered : subscription.desk.lane.causes.order ≡ order
 
--- where a script may stand that has published these texts
+-- where a script may stand that has published these texts; nobody has subscribed before its beginning is over
 pub record IsLawful (texts : ℕ → List ℕ) (state : SessionState) : Type 0 where
-  pub subscriptions : All (IsKept texts state.serial state.closing) state.subscriptions
+  pub subscriptions : All (IsKept texts state.serial state.beginning.order state.closing)
+      state.subscriptions
+  pub none_yet : state.beginning.is_over ≡ false → state.subscriptions ≡ []
   pub woken : WakesWhoOwes state
   pub few : FewAreLive state
   pub names : OneLiveOfName state

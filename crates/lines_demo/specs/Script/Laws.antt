@@ -1,6 +1,6 @@
 -- Where a script stands at its end, and what holds there of every script.
 use Rattle.std.specs.Prelude.{◌≡◌, ℕ, ◌+◌, ◌<◌, ◌≤◌, ◌==◌, Bool, if◌then◌else◌, None, Some, List, All, AllPairs, Contains, length, slice_get, count_by}
-use Rattle.lines_demo.specs.Prelude.{Item, IsFlow, IsSettled, items_of}
+use Rattle.lines_demo.specs.Prelude.{AfterItems, Item, How, Published, LaneState, IsFlow, IsSettled, items_of}
 use Rattle.lines_demo.specs.Script.Answering.{script_result}
 use Rattle.lines_demo.specs.Script.State.{SubscriptionState, SessionState}
 use Rattle.lines_demo.specs.Script.Subscribing.{MOST_LIVE, is_live_as}
@@ -26,6 +26,16 @@ IsSettledSession state =
     (number : ℕ) (subscription : SubscriptionState)
     → slice_get state.subscriptions number ≡ Some subscription
     → (Contains state.woken number → ⊥) → IsSettled subscription.desk.lane
+
+-- all that its buffer accepted was told where it ended with the error that its publisher was closed with
+abbrev pub TellsAllBeforeError : LaneState → Type 0
+TellsAllBeforeError lane =
+    (code : ℕ) → lane.how ≡ Some (How.Errored (Published code)) → items_of lane.told ≡ lane.accepted
+
+-- so it is of each subscription of a script that began with `late`
+abbrev pub TellsAllBeforeErrors : SessionState → Type 0
+TellsAllBeforeErrors state = state.beginning.order ≡ AfterItems
+    → All (λ subscription. TellsAllBeforeError subscription.desk.lane) state.subscriptions
 
 -- how often this number stands in the list
 abbrev pub places_of : ℕ → List ℕ → ℕ

@@ -1,27 +1,37 @@
 -- What each command but `run` changes, and what it is answered.
 use Rattle.std.specs.Prelude.{ℕ, ◌==◌, Bool, true, if◌then◌else◌, Some, is_some, List, [], ◌∷◌, map}
 use Rattle.std.specs.List.{list_any}
-use Rattle.lines_demo.specs.Prelude.{Ending, Refusal, capacity_of, DeskState, desk_after_end, desk_after_request, desk_after_cancel}
-use Rattle.lines_demo.specs.Word.{is_word}
+use Rattle.lines_demo.specs.Prelude.{AfterItems, Ending, Refusal, capacity_of, DeskState, desk_after_end, desk_after_request, desk_after_cancel}
+use Rattle.commands.specs.Word.{is_word}
 use Rattle.lines_demo.specs.Script.State.{SubscriptionState, SessionState, CommandResult, unchanged_result, refused_result, result_unless_no_memory}
 use Rattle.lines_demo.specs.Script.Waking.{is_live, with_subscriptions}
 use Rattle.lines_demo.specs.Script.Subscribing.{sub_result}
 use Rattle.lines_demo.specs.Script.Publishing.{offer_result, retry_result, submit_result}
-use Rattle.lines_demo.specs.declared.script.command.Command.{Command}
-use Rattle.lines_demo.specs.declared.script.command.Command.TheVariants.{Cap, Sub, Offer, Retry, Submit, Request, Cancel, Close, Fail, Run}
+use Rattle.commands.specs.declared.command.Command.{Command}
+use Rattle.commands.specs.declared.command.Command.TheVariants.{Cap, Late, Sub, Offer, Retry, Submit, Request, Cancel, Close, Fail, Run}
 use Rattle.lines_demo.specs.declared.script.session.acting.Act.{Act}
-use Rattle.lines_demo.specs.declared.script.reply.Reply.TheVariants.{Capacity, Done, Idle}
+use Rattle.commands.specs.declared.reply.Reply.TheVariants.{Capacity, Done, Idle, Ordered}
 
--- `cap N`: the capacity may be asked for as long as no other command was read
+-- `cap N`: the capacity may be asked for until the beginning is over
 abbrev pub cap_result : SessionState → List Bool → ℕ → CommandResult
 cap_result state refusals capacity =
-    if state.has_begun then refused_result state refusals Refusal.BadCommand
+    if state.beginning.is_over then refused_result state refusals Refusal.BadCommand
     else (if capacity == 0 then refused_result state refusals Refusal.BadCapacity
     else result_unless_no_memory state refusals (λ left. record {
       reply = Capacity (capacity_of capacity);
       state = record state { capacity = capacity_of capacity };
       refusals = left;
     }))
+
+-- a beginning in which a closing error waits for the items
+abbrev pub late_state : SessionState → SessionState
+late_state state = record state { beginning = record state.beginning { order = AfterItems } }
+
+-- `late`: so may that errors wait for the items
+abbrev pub late_result : SessionState → List Bool → CommandResult
+late_result state refusals =
+    if state.beginning.is_over then refused_result state refusals Refusal.BadCommand
+    else record { reply = Ordered; state = late_state state; refusals = refusals }
 
 -- whether any subscription ever had this name
 abbrev pub is_known : List ℕ → List SubscriptionState → Bool
@@ -72,13 +82,14 @@ closing_result ending state refusals =
     else result_unless_no_memory state refusals
     (λ left. record { reply = Done; state = state_after_closing ending state; refusals = left })
 
--- a command other than `cap` was read
+-- a command other than `cap` and `late` was read
 abbrev pub begun_state : SessionState → SessionState
-begun_state state = record state { has_begun = true }
+begun_state state = record state { beginning = record state.beginning { is_over = true } }
 
--- any command but `cap` ends the time of `cap`
+-- any command but `cap` and `late` ends the beginning
 abbrev pub state_at_command : Command → SessionState → SessionState
 state_at_command (Cap capacity) state = state
+state_at_command Late state = state
 state_at_command (Sub name number) state = begun_state state
 state_at_command (Offer text) state = begun_state state
 state_at_command (Retry text) state = begun_state state
@@ -92,6 +103,7 @@ state_at_command Run state = begun_state state
 -- what each command does; the turns of `run` are made before it
 abbrev pub call_result : Command → SessionState → List Bool → CommandResult
 call_result (Cap capacity) state refusals = cap_result state refusals capacity
+call_result Late state refusals = late_result state refusals
 call_result (Sub name number) state refusals = sub_result state refusals name number
 call_result (Offer text) state refusals = offer_result state refusals text
 call_result (Retry text) state refusals = retry_result state refusals text

@@ -5,13 +5,13 @@ use Rattle.std.specs.Io.KnownBytes.{Appends}
 use Rattle.feed_core.specs.PlainTurn.{plain_turn_of}
 use Rattle.feed_core.specs.Turn.{MeetsPlainTurn}
 use Rattle.lines_demo.specs.Prelude.{Signal, Refusal, Outlook, LONGEST_TEXT}
-use Rattle.lines_demo.specs.Writing.{Writes}
+use Rattle.commands.specs.Writing.{Writes}
 use Rattle.lines_demo.specs.Script.State.{SubscriptionState, SessionState, CommandResult, LineResult}
-use Rattle.lines_demo.specs.Word.{is_word}
+use Rattle.commands.specs.Word.{is_word}
 use Rattle.lines_demo.specs.Script.Publishing.{publication_refusal, next_item, offer_answer, state_after_publication}
 use Rattle.lines_demo.specs.Script.Turns.{signal_lines, untold_end_line}
 use Rattle.lines_demo.specs.Script.Running.{state_after_turn}
-use Rattle.lines_demo.specs.declared.script.reply.Reply.{Reply}
+use Rattle.commands.specs.declared.reply.Reply.{Reply}
 
 -- under some refusals this is the reply, and the script goes on from this state
 pub record Replies (results : List Bool → CommandResult) (reply : Reply) (state : SessionState)

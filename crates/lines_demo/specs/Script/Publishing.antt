@@ -5,8 +5,8 @@ use Rattle.feed_core.specs.LaneCalls.{accepts, lane_with_item}
 use Rattle.lines_demo.specs.Prelude.{MOST_PUBLICATIONS, Item, Ending, Refusal, LONGEST_TEXT, desk_after_put, is_gone, lag_of}
 use Rattle.lines_demo.specs.Script.State.{SubscriptionState, SessionState, CommandResult, refused_result, result_unless_no_memory}
 use Rattle.lines_demo.specs.Script.Waking.{with_subscriptions}
-use Rattle.lines_demo.specs.declared.script.reply.Reply.{Reply}
-use Rattle.lines_demo.specs.declared.script.reply.Reply.TheVariants.{Offered, Retried, Submitted}
+use Rattle.commands.specs.declared.reply.Reply.{Reply}
+use Rattle.commands.specs.declared.reply.Reply.TheVariants.{Offered, Retried, Submitted}
 
 -- the next item of a script: all have source 0, so its number among the source's items is its serial number
 abbrev pub next_item : SessionState → List ℕ → Item

@@ -1,5 +1,5 @@
 -- How a script's publisher and its list of the woken stand for where the script stands, and what holds of them between two commands.
-use Rattle.std.specs.Prelude.{◌≡◌, ℕ, Bool, true, false, is_some, Option, Some, None, List, map, slice_get}
+use Rattle.std.specs.Prelude.{◌≡◌, ℕ, true, false, is_some, Option, Some, None, List, map, slice_get}
 use Rattle.feed_core.specs.Feed.{end_of}
 use Rattle.feed_core.specs.LaneCalls.{IsCapacity}
 use Rattle.publisher_hub.specs.Hub.{hub_of}
@@ -7,15 +7,16 @@ use Rattle.publisher_hub.specs.Sound.{IsSound}
 use Rattle.publisher_hub.specs.declared.entry.Entry.{Entry}
 use Rattle.publisher_hub.specs.declared.hub.Hub.{Hub}
 use Rattle.publisher_hub.specs.declared.work.Work.{Work}
-use Rattle.lines_demo.specs.Prelude.{DeskState, desk_without_looks}
+use Rattle.lines_demo.specs.Prelude.{DeskState, Overtake, desk_without_looks}
 use Rattle.lines_demo.specs.Script.Kept.{IsReached}
 use Rattle.lines_demo.specs.Script.State.{SubscriptionState, SessionState, state_at_start}
 use Rattle.lines_demo.specs.Script.Subscribing.{desk_at_start}
+use Rattle.lines_demo.specs.declared.script.session.beginning.Beginning.{Beginning}
 use Rattle.lines_demo.specs.declared.script.session.publishing.TheConstants.{SOURCE}
 
 -- what is there of a subscription, which always has its desk
 abbrev pub desk_in : Option DeskState → DeskState
-desk_in None = desk_at_start 0
+desk_in None = desk_at_start Overtake 0
 desk_in (Some desk) = desk
 
 -- what a script sees of a subscription of its publisher
@@ -28,11 +29,11 @@ subscription_of entry =
       desk = desk_without_looks (desk_in entry.feed);
     }
 
--- where a script stands with this publisher, so many subscribers left, these woken, and its beginning over or not
-abbrev pub state_of : Hub DeskState → ℕ → List ℕ → Bool → SessionState
-state_of hub stock woken has_begun = record {
+-- where a script stands with this publisher, so many subscribers left, these woken, and this beginning
+abbrev pub state_of : Hub DeskState → ℕ → List ℕ → Beginning → SessionState
+state_of hub stock woken beginning = record {
   capacity = hub.capacity;
-  has_begun = has_begun;
+  beginning = beginning;
   closing = hub.ending;
   serial = hub.next;
   stock = stock;
@@ -63,11 +64,11 @@ pub record IsScriptHub (hub : Hub DeskState) : Type 0 where
   pub entries : AreScriptEntries hub.entries.items
   pub numbered : slice_get hub.counts.items SOURCE ≡ Some hub.next
 
--- what holds of a session; before the first command but `cap` it stands where a script starts
-pub record IsSession (hub : Hub DeskState) (stock : ℕ) (woken : List ℕ) (has_begun : Bool)
+-- what holds of a session; until its beginning is over it stands where a script starts
+pub record IsSession (hub : Hub DeskState) (stock : ℕ) (woken : List ℕ) (beginning : Beginning)
     : Type 0 where
   pub publisher : IsScriptHub hub
-  pub reached : IsReached (state_of hub stock woken has_begun)
-  pub fresh : has_begun ≡ false
-      → state_of hub stock woken has_begun
-      ≡ record (state_at_start stock) { capacity = hub.capacity }
+  pub reached : IsReached (state_of hub stock woken beginning)
+  pub fresh : beginning.is_over ≡ false
+      → state_of hub stock woken beginning
+      ≡ record (state_at_start stock) { capacity = hub.capacity; beginning = beginning }

@@ -1,8 +1,9 @@
 -- Where a script stands, and what a command or a line of it comes to.
 use Rattle.std.specs.Prelude.{ℕ, Bool, true, false, Option, None, List, [], ◌∷◌, ◌++◌}
-use Rattle.lines_demo.specs.Prelude.{Ending, Refusal, DeskState}
-use Rattle.lines_demo.specs.declared.script.reply.Reply.{Reply}
-use Rattle.lines_demo.specs.declared.script.reply.Reply.TheVariants.{Refused}
+use Rattle.lines_demo.specs.Prelude.{Ending, Overtake, Refusal, DeskState}
+use Rattle.commands.specs.declared.reply.Reply.{Reply}
+use Rattle.commands.specs.declared.reply.Reply.TheVariants.{Refused}
+use Rattle.lines_demo.specs.declared.script.session.beginning.Beginning.{Beginning}
 use Rattle.lines_demo.specs.declared.script.session.TheConstants.{DEFAULT_CAPACITY}
 
 -- a subscription: its name; the next serial number when it subscribed; how many items its buffer had no room for; and what the
@@ -13,23 +14,27 @@ pub record SubscriptionState : Type 0 where
   pub dropped : ℕ
   pub desk : DeskState
 
--- where a script stands: the capacity of each buffer; whether a command other than `cap` was read; how the publisher was closed, if
+-- where a script stands: the capacity of each buffer; what else its beginning said, and whether that is over; how the publisher was closed, if
 -- it was; the next serial number; how many subscribers are left; all subscriptions, in order; and the numbers of those that are woken,
 -- the one whose turn is next first
 pub record SessionState : Type 0 where
   pub capacity : ℕ
-  pub has_begun : Bool
+  pub beginning : Beginning
   pub closing : Option Ending
   pub serial : ℕ
   pub stock : ℕ
   pub subscriptions : List SubscriptionState
   pub woken : List ℕ
 
+-- a script begins, and closing errors overtake the items
+abbrev pub beginning_at_start : Beginning
+beginning_at_start = record { is_over = false; order = Overtake }
+
 -- where a script starts, with so many subscribers to take from
 abbrev pub state_at_start : ℕ → SessionState
 state_at_start stock = record {
   capacity = DEFAULT_CAPACITY;
-  has_begun = false;
+  beginning = beginning_at_start;
   closing = None;
   serial = 0;
   stock = stock;

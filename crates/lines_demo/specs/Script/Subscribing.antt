@@ -2,18 +2,18 @@
 use Rattle.std.specs.Prelude.{ℕ, ◌-◌, ◌==◌, Bool, true, false, ◌&&◌, if◌then◌else◌, nat_le, Option, Some, None, List, [], ◌∷◌, ◌++◌, length, map, count_by}
 use Rattle.std.specs.List.{list_any}
 use Rattle.feed_core.specs.Desk.{desk_after_duplicate}
-use Rattle.feed_core.specs.LaneCalls.{empty_lane}
-use Rattle.lines_demo.specs.Prelude.{Ending, Refusal, DeskState, desk_after_end, desk_after_demand}
-use Rattle.lines_demo.specs.Word.{is_word}
+use Rattle.feed_core.specs.LaneCalls.{empty_lane_in}
+use Rattle.lines_demo.specs.Prelude.{Ending, ErrorOrder, Refusal, DeskState, desk_after_end, desk_after_demand}
+use Rattle.commands.specs.Word.{is_word}
 use Rattle.lines_demo.specs.Script.State.{SubscriptionState, SessionState, CommandResult, refused_result, result_unless_no_memory}
 use Rattle.lines_demo.specs.Script.Waking.{is_live, with_subscriptions}
-use Rattle.lines_demo.specs.declared.script.reply.Reply.TheVariants.{Name, Refused}
+use Rattle.commands.specs.declared.reply.Reply.TheVariants.{Name, Refused}
 pub use Rattle.publisher_hub.specs.declared.hub.subscribing.TheConstants.{MOST_ENTRIES, MOST_LIVE}
 
--- what the publisher has of a new subscription: its first turn is owed, and its subscriber is steady
-abbrev pub desk_at_start : ℕ → DeskState
-desk_at_start capacity = record {
-  lane = empty_lane;
+-- what the publisher has of a new subscription, which is told a closing error in this order: its first turn is owed, and its subscriber is steady
+abbrev pub desk_at_start : ErrorOrder → ℕ → DeskState
+desk_at_start order capacity = record {
+  lane = empty_lane_in order;
   capacity = capacity;
   started = true;
   is_steady = true;
@@ -22,9 +22,10 @@ desk_at_start capacity = record {
 }
 
 -- what the publisher has of a subscription before it requests anything: it is closed at once where the publisher was
-abbrev pub desk_at_subscribing : Option Ending → ℕ → DeskState
-desk_at_subscribing None capacity = desk_at_start capacity
-desk_at_subscribing (Some ending) capacity = desk_after_end ending (desk_at_start capacity)
+abbrev pub desk_at_subscribing : Option Ending → ErrorOrder → ℕ → DeskState
+desk_at_subscribing None order capacity = desk_at_start order capacity
+desk_at_subscribing (Some ending) order capacity =
+    desk_after_end ending (desk_at_start order capacity)
 
 -- a new subscription of this name, which requests this many items
 abbrev pub new_subscription : SessionState → List ℕ → ℕ → SubscriptionState
@@ -32,7 +33,8 @@ new_subscription state name number = record {
   name = name;
   since = state.serial;
   dropped = 0;
-  desk = desk_after_demand number (desk_at_subscribing state.closing state.capacity);
+  desk = desk_after_demand number
+      (desk_at_subscribing state.closing state.beginning.order state.capacity);
 }
 
 -- where a script stands after the next subscriber of its stock has subscribed

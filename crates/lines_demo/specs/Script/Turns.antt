@@ -2,7 +2,7 @@
 use Rattle.std.specs.Prelude.{ℕ, Bool, true, false, Option, Some, None, List, [], ◌∷◌, ◌++◌, codes, decimal}
 use Rattle.feed_core.specs.Turn.{how_after}
 use Rattle.lines_demo.specs.Prelude.{Signal, Subscribed, Next, Complete, Error, Fault, Published, IllegalArgument, IllegalState, How, Outlook}
-use Rattle.lines_demo.specs.Writing.{line_of}
+use Rattle.commands.specs.Writing.{line_of}
 
 -- what is said of a fault
 abbrev pub fault_text : Fault → List ℕ

@@ -2,9 +2,9 @@
 use Rattle.std.specs.Prelude.{◌≡◌, ℕ, ◌+◌, ◌==◌, Bool, if◌then◌else◌, nat_lt, nat_le, Option, Some, None, Result, Ok, Err, List, [], ◌∷◌, ◌++◌, length, fold, insert}
 use Rattle.std.specs.List.{list_any, position_or_len}
 use Rattle.lines_demo.specs.Prelude.{Refusal, LONGEST_TEXT, capacity_of}
-use Rattle.lines_demo.specs.Line.{lines_of, without_return}
-use Rattle.lines_demo.specs.Number.{spelled_code}
-use Rattle.lines_demo.specs.Word.{first_word, after_space, spelled_text}
+use Rattle.commands.specs.Line.{lines_of, without_return}
+use Rattle.commands.specs.Number.{spelled_code}
+use Rattle.commands.specs.Word.{first_word, after_space, spelled_text}
 use Rattle.lines_demo.specs.Threads.Plan.{PlanState}
 use Rattle.lines_demo.specs.declared.threads.plan.NamedDemand.{NamedDemand}
 use Rattle.lines_demo.specs.declared.threads.input.Publication.{Publication}

@@ -2,7 +2,7 @@
 use Rattle.std.specs.Prelude.{◌≡◌, ◌⊎◌, ℕ, Option, List, Result, Err}
 use Rattle.lines_demo.specs.Prelude.{Refusal}
 use Rattle.lines_demo.specs.declared.reader.InputFault.{InputFault}
-use Rattle.lines_demo.specs.declared.writing.OutputFault.{OutputFault}
+use Rattle.commands.specs.declared.writing.OutputFault.{OutputFault}
 use Rattle.lines_demo.specs.declared.threads.fault.LinesFault.{LinesFault}
 use Rattle.lines_demo.specs.declared.threads.fault.LinesFault.TheVariants.{Read, Write, Refused}
 

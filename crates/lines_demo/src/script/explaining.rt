@@ -1,6 +1,6 @@
 //! What is said of a script beside its answers, for people who look for what went wrong.
-use super::reply::Reply;
 use super::session::Session;
+use commands::Reply;
 use flow_rules::{Listener, Refusal};
 
 /// A line of a script, without its line feed and the carriage return before it.

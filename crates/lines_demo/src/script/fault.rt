@@ -1,6 +1,6 @@
 //! Why a script stops before its end.
 use crate::reader::InputFault;
-use crate::writing::OutputFault;
+use commands::OutputFault;
 use thiserror::Error;
 
 /// Why a script stopped. What was written before stays.

@@ -1,7 +1,7 @@
 //! What holds of every script. Each law is a function, and to call it is to learn it: it speaks of the definition of scripts, whatever
 //! the script is, whatever the stock has, and wherever memory is refused.
 ghost use Rattle.std.specs.Prelude.{◌≡◌, ℕ, Bool, List, []};
-ghost use Rattle.lines_demo.specs.Script.Laws.{OfEveryScript, script_state, KeepsFlow, IsSettledSession, WakesWhoOwes, FewAreLive, OneLiveOfName, SerialsRiseIn, AgreesOnItems, TellsInOneOrder, CountsPublications};
+ghost use Rattle.lines_demo.specs.Script.Laws.{OfEveryScript, script_state, KeepsFlow, IsSettledSession, TellsAllBeforeErrors, WakesWhoOwes, FewAreLive, OneLiveOfName, SerialsRiseIn, AgreesOnItems, TellsInOneOrder, CountsPublications};
 ghost use Rattle.lines_demo.specs.Script.Running.{run_turns};
 
 /// The law of scripts: what each subscriber was told by the end of the script is a list of signals that the Flow rules allow. Its
@@ -14,6 +14,12 @@ pub fn every_subscriber_is_told_what_flow_allows()
 /// Nothing is forgotten: each subscriber that is not woken was told all that its demand and its ending allow.
 pub fn scripts_forget_nothing()
     ensures { OfEveryScript IsSettledSession }
+{}
+
+/// In a script that began with `late`, each subscriber that was told the error that its publisher was closed with was told all that
+/// its buffer accepted before.
+pub fn late_errors_wait_for_the_items()
+    ensures { OfEveryScript TellsAllBeforeErrors }
 {}
 
 /// A subscription is woken, once, just where its task was started and it has not ended.

@@ -1,30 +1,24 @@
 //! The player: it has a session obey the lines of a script, and writes what they are answered.
 ghost use Rattle.std.specs.Prelude.{◌≡◌, ◌<◌, Some, [], true, All, length, is_ok, IfOk, OnOk, false};
-ghost use Rattle.lines_demo.specs.Line.{lines_of};
-ghost use Rattle.lines_demo.specs.Writing.{Writes, line_of};
-ghost use Rattle.lines_demo.specs.Script.Command.{IsInRange};
+ghost use Rattle.commands.specs.Line.{lines_of};
+ghost use Rattle.commands.specs.Writing.{Writes, line_of};
+ghost use Rattle.commands.specs.Command.{IsInRange};
 ghost use Rattle.lines_demo.specs.Script.Answering.{line_result, lines_result, spelled_result};
 ghost use Rattle.lines_demo.specs.Script.Laws.{IsSettledSession};
 ghost use Rattle.lines_demo.specs.Script.Playing.{Answers, PrintsTurn};
-ghost use Rattle.lines_demo.specs.Script.Reply.{reply_text};
+ghost use Rattle.commands.specs.Reply.{reply_text};
 ghost use Rattle.lines_demo.specs.Script.Running.{first_turn_result, most_turns, run_turns};
 ghost use Rattle.lines_demo.specs.Script.State.{state_at_start};
 ghost use Rattle.lines_demo.specs.Script.Waking.{has_woken};
 
-use super::command::Command;
 use super::explaining::{Explain, Line, explain_reply};
-use super::reply::Reply;
 use super::session::Session;
 use super::turn_lines::write_turn;
-use crate::line::{split_line, strip_return};
-use crate::writing::{OutputFault, write_line};
+use commands::{Command, LONGEST_LINE, OutputFault, Reply, split_line, strip_return, write_line};
 use feed_core::Seen;
 use flow_rules::{Listener, NoMemory, Refusal};
 use std::alloc::Global;
 use std::io::Write;
-
-/// The most bytes of a line, without its line feed and the carriage return before it.
-pub const LONGEST_LINE: usize = 4200;
 
 /// A session, and the room for its turns and its lines, which is used again for each.
 #[derive(Drop)]

@@ -1,5 +1,6 @@
 //! The session: where a script stands, and what each command changes there.
 mod acting;
+mod beginning;
 mod publishing;
 mod showing;
 mod subscribing;
@@ -7,20 +8,20 @@ mod turning;
 
 ghost use Rattle.std.specs.Prelude.{◌≡◌, [], true, All, length, IfOk};
 ghost use Rattle.lines_demo.specs.Prelude.{Ending};
-ghost use Rattle.lines_demo.specs.Script.Command.{IsInRange};
-ghost use Rattle.lines_demo.specs.Script.Laws.{KeepsFlow, IsSettledSession, SerialsRiseIn, AgreesOnItems, TellsInOneOrder, CountsPublications};
-ghost use Rattle.lines_demo.specs.Script.Obeying.{command_result, cap_result, closing_result, call_result, state_at_command};
+ghost use Rattle.commands.specs.Command.{IsInRange};
+ghost use Rattle.lines_demo.specs.Script.Laws.{KeepsFlow, IsSettledSession, TellsAllBeforeErrors, SerialsRiseIn, AgreesOnItems, TellsInOneOrder, CountsPublications};
+ghost use Rattle.lines_demo.specs.Script.Obeying.{command_result, closing_result, call_result, state_at_command};
 ghost use Rattle.lines_demo.specs.Script.Playing.{Replies};
-ghost use Rattle.lines_demo.specs.Script.Reply.{reply_or_refusal};
+ghost use Rattle.commands.specs.Reply.{reply_or_refusal};
 ghost use Rattle.lines_demo.specs.Script.State.{state_at_start};
 ghost use Rattle.lines_demo.specs.Script.Waking.{has_woken};
 
-use super::command::Command;
-use super::reply::Reply;
 use super::woken::Woken;
 use acting::Act;
+use beginning::Beginning;
+use commands::{Command, Reply};
 use feed_core::Desk;
-use flow_rules::{Ending, Listener, NoMemory, Refusal, capacity};
+use flow_rules::{Ending, ErrorOrder, Listener, NoMemory, Refusal};
 use publisher_hub::{Hub, Work};
 use std::alloc::Global;
 use std::collections::VecDeque;
@@ -37,7 +38,7 @@ pub struct Session<B: Listener> {
     woken: Woken,
     /// The tasks that a call has started. Between two calls there are none.
     due: Vec<Work<()>>,
-    has_begun: bool,
+    beginning: Beginning,
 }
 
 impl<B: Listener> Model for Session<B> {
@@ -47,11 +48,11 @@ impl<B: Listener> Model for Session<B> {
 
     ghost Value = { SessionState };
 
-    ghost view = { λ s. state_of s.hub (length s.stock.items) s.woken s.has_begun };
+    ghost view = { λ s. state_of s.hub (length s.stock.items) s.woken s.beginning };
 
     ghost invariant = { λ s. All (λ b. B.told b ≡ []) s.stock.items
         × All (λ b. B.is_steady b ≡ true) s.stock.items
-        × IsSession s.hub (length s.stock.items) s.woken s.has_begun
+        × IsSession s.hub (length s.stock.items) s.woken s.beginning
         × (s.due.items ≡ []) };
 }
 
@@ -70,7 +71,10 @@ impl<B: Listener> Session<B> {
             stock: VecDeque::from_vec(stock),
             woken: Woken::new(alloc)?,
             due: Vec::new(alloc),
-            has_begun: false,
+            beginning: Beginning {
+                is_over: false,
+                order: ErrorOrder::Overtake,
+            },
         })
     }
 
@@ -87,15 +91,6 @@ impl<B: Listener> Session<B> {
         }
     }
 
-    /// This command was read. Any but `cap` ends the time of `cap`.
-    fn begin(&mut self, command: &Command<'_>)
-        ensures { self.new ≡ state_at_command command.now self.old }
-    {
-        if !matches!(command, Command::Cap(_)) {
-            self.has_begun = true;
-        }
-    }
-
     /// Does what a command says that was read.
     fn call(&mut self, alloc: Global, command: Command<'_>) -> Result<Reply, Refusal>
         requires range { IsInRange command }
@@ -105,6 +100,7 @@ impl<B: Listener> Session<B> {
     {
         match command {
             Command::Cap(capacity) => self.set_capacity(alloc, capacity as usize),
+            Command::Late => self.set_late(),
             Command::Sub(name, number) => self.subscribe(alloc, name, number),
             Command::Offer(text) => self.offer(alloc, text.as_bytes()),
             Command::Retry(text) => self.retry(alloc, text.as_bytes()),
@@ -117,22 +113,9 @@ impl<B: Listener> Session<B> {
         }
     }
 
-    /// Asks for a capacity. Refused once another command was read, and where the capacity is 0.
-    fn set_capacity(&mut self, alloc: Global, asked: usize) -> Result<Reply, Refusal>
-        ensures { Replies (λ refusals. cap_result self.old refusals asked)
-            (reply_or_refusal result) self.new }
-    {
-        if self.has_begun {
-            return Err(Refusal::BadCommand);
-        }
-        let enforced = capacity(asked)?;
-        self.hub = Hub::new(alloc, asked)?;
-        Ok(Reply::Capacity(enforced))
-    }
-
     /// Closes the publisher so. Only the first call does anything.
     fn close(&mut self, ending: Ending) -> Result<Reply, Refusal>
-        requires begun { self.old.has_begun ≡ true }
+        requires begun { self.old.beginning.is_over ≡ true }
         ensures { Replies (λ refusals. closing_result ending self.old refusals)
             (reply_or_refusal result) self.new }
     {
@@ -150,6 +133,7 @@ impl<B: Listener> Session<B> {
         ensures value { result ≡ has_woken self.now.woken }
         ensures flow { KeepsFlow self.now }
         ensures settled { IsSettledSession self.now }
+        ensures waited { TellsAllBeforeErrors self.now }
         ensures rise { SerialsRiseIn self.now }
         ensures agrees { AgreesOnItems self.now }
         ensures order { TellsInOneOrder self.now }

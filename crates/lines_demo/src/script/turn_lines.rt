@@ -1,10 +1,10 @@
 //! The lines of a turn: a line for each signal that was told, and one for want of memory.
 ghost use Rattle.std.specs.Prelude.{◌≡◌, ◌++◌, ◌∷◌, [], is_ok, codes, IfOk, Some};
 ghost use Rattle.feed_core.specs.Turn.{how_after};
-ghost use Rattle.lines_demo.specs.Writing.{Writes, line_of};
+ghost use Rattle.commands.specs.Writing.{Writes, line_of};
 ghost use Rattle.lines_demo.specs.Script.Turns.{fault_text, signal_line, signal_lines, untold_end_line, turn_lines};
 
-use crate::writing::{OutputFault, write_line, write_whole};
+use commands::{OutputFault, write_line, write_whole};
 use feed_core::Outlook;
 use flow_rules::{Fault, How, Name, Signal};
 use std::alloc::AllocError;

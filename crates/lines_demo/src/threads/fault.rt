@@ -1,6 +1,6 @@
 //! Why a run stops before its report is written.
 use crate::reader::InputFault;
-use crate::writing::OutputFault;
+use commands::OutputFault;
 use flow_rules::Refusal;
 use thiserror::Error;
 

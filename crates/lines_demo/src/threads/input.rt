@@ -2,14 +2,11 @@
 ghost use Rattle.std.specs.Prelude.{◌≡◌, ◌⊎◌, ◌==◌, ◌<◌, ◌≤◌, Err, IfErr, IfOk, Ok, OnOk, length, nat_le, position};
 ghost use Rattle.std.specs.List.{list_any};
 ghost use Rattle.flow_rules.specs.declared.refusal.Refusal.TheVariants as Refusal;
-ghost use Rattle.lines_demo.specs.Line.{lines_of};
+ghost use Rattle.commands.specs.Line.{lines_of};
 ghost use Rattle.lines_demo.specs.Threads.Input.{AddsLine, line_publications, place_of, sources_of, spelled_publication, spelled_publications, with_source};
 
 use super::plan::Plan;
-use crate::line::{split_line, strip_return};
-use crate::number::parse_code;
-use crate::text_bytes::TextBytes;
-use crate::word::{parse_text, split_word};
+use commands::{TextBytes, parse_code, parse_text, split_line, split_word, strip_return};
 use flow_rules::{NoMemory, Refusal, Text};
 use std::alloc::Global;
 use std::marker::Model;

@@ -1,6 +1,6 @@
 //! The report of a run: what each subscriber was told, and how its subscription ended.
-use crate::writing::{OutputFault, write_line, write_whole};
-use flow_rules::{How, Name, Shown, Signal, Subscriber, Text};
+use commands::{OutputFault, write_line, write_whole};
+use flow_rules::{FailHandler, How, Name, Shown, Signal, Subscriber, Text};
 use publisher::{NamedLane, Outcome};
 use std::alloc::{AllocError, Global};
 use std::io::Write;
@@ -9,11 +9,11 @@ use std::io::Write;
 const LONGEST_LINE: usize = Name::LONGEST + Text::LONGEST + 13;
 
 /// Writes the report. The answer is whether every subscriber completed.
-pub fn write_report<S: Subscriber, W: Write>(
+pub fn write_report<S: Subscriber, F: FailHandler, W: Write>(
     alloc: Global,
     writer: &mut W,
     sources: &[u32],
-    outcome: &Outcome<Shown<S>>,
+    outcome: &Outcome<Shown<S>, F>,
 ) -> Result<bool, OutputFault> {
     let Ok(mut line) = Vec::with_capacity(alloc, LONGEST_LINE) else {
         return Err(OutputFault::Memory);
@@ -23,6 +23,7 @@ pub fn write_report<S: Subscriber, W: Write>(
         write_lane(writer, &mut line, sources, left)?;
         all_complete &= is_complete(left);
     }
+    write_handled(writer, &mut line, &outcome.handler)?;
     let drained = u8::from(outcome.drained);
     write_line(writer, &mut line, format_args!("drained {drained}"))?;
     Ok(all_complete)
@@ -39,13 +40,31 @@ fn write_lane<S: Subscriber, W: Write>(
     for place in 0..sources.len() {
         write_items(writer, line, &left.name, sources[place], place, told)?;
     }
-    let word = word_of(left.lane.ending);
     let name = &left.name;
     let items = count_items(told);
+    if let Some(How::Failed(code)) = left.lane.ending {
+        return write_line(writer, line, format_args!("{name} failed {code} {items}"));
+    }
+    let word = word_of(left.lane.ending);
     write_line(writer, line, format_args!("{name} {word} {items}"))
 }
 
-/// Writes the items of the submitter of this number, which published the lines of a source.
+/// Writes which failure the handler has heard of, if it has heard of one.
+fn write_handled<F: FailHandler, W: Write>(
+    writer: &mut W,
+    line: &mut Vec<u8>,
+    handler: &Option<F>,
+) -> Result<(), OutputFault> {
+    let Some(handler) = handler else {
+        return Ok(());
+    };
+    let Some((name, code)) = handler.last() else {
+        return Ok(());
+    };
+    write_line(writer, line, format_args!("handled {name} {code}"))
+}
+
+/// Writes the items of the submitter of this number, which published the lines of a source. How these lines begin is made up once.
 fn write_items<W: Write>(
     writer: &mut W,
     line: &mut Vec<u8>,
@@ -54,10 +73,16 @@ fn write_items<W: Write>(
     submitter: usize,
     told: &[Signal],
 ) -> Result<(), OutputFault> {
+    line.clear();
+    if write!(line, "{name} {source} ").is_err() {
+        return Err(OutputFault::Memory);
+    }
+    let beginning = line.len();
     for signal in told {
         if let Signal::Next(item) = signal {
             if item.source as usize == submitter {
-                if make_line(line, name, source, item.text.as_bytes()).is_err() {
+                line.truncate(beginning);
+                if end_line(line, item.text.as_bytes()).is_err() {
                     return Err(OutputFault::Memory);
                 }
                 write_whole(writer, line.as_slice())?;
@@ -67,12 +92,8 @@ fn write_items<W: Write>(
     Ok(())
 }
 
-/// Puts the line of an item into the buffer.
-fn make_line(line: &mut Vec<u8>, name: &Name, source: u32, text: &[u8]) -> Result<(), AllocError> {
-    line.clear();
-    if write!(line, "{name} {source} ").is_err() {
-        return Err(AllocError);
-    }
+/// Puts the text of an item behind the beginning of its line, and ends the line.
+fn end_line(line: &mut Vec<u8>, text: &[u8]) -> Result<(), AllocError> {
     line.extend_from_slice(text)?;
     line.push(b'\n')?;
     Ok(())

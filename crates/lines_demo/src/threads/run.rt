@@ -11,8 +11,8 @@ use super::plan::{NamedDemand, Plan};
 use super::report::write_report;
 use super::sending::send_lines;
 use crate::reader::read_whole;
-use flow_rules::{Refusal, Shown, Subscriber};
-use publisher::{Outcome, PARTS, Publisher, Submitter, Subscription, finish};
+use flow_rules::{ErrorOrder, FailHandler, Refusal, Shown, Subscriber};
+use publisher::{Outcome, PARTS, Publisher, PublisherOptions, Submitter, Subscription, finish};
 use std::alloc::Global;
 use std::io::{Read, Write};
 use std::marker::Brand;
@@ -27,8 +27,8 @@ const COMPLETE: u8 = 0;
 const INCOMPLETE: u8 = 3;
 
 /// Publishes the lines that the reader gives by a plan, and writes the report of what the subscribers were told. There is one subscriber for
-/// each name of the plan, in its order, and each was told nothing. The answer is the exit status: 0 where every subscriber completed, and
-/// else 3. Where the input is refused, nothing is written.
+/// each name of the plan, in its order, and each was told nothing. The handler hears of failures, and the report says of which it heard
+/// last. The answer is the exit status: 0 where every subscriber completed, and else 3. Where the input is refused, nothing is written.
 pub fn run_lines<R: Threads + Wait + Copy + Send + Sync + 'static, I: Read, W: Write>(
     rt: R,
     alloc: Global,
@@ -36,6 +36,7 @@ pub fn run_lines<R: Threads + Wait + Copy + Send + Sync + 'static, I: Read, W: W
     reader: &mut I,
     writer: &mut W,
     subscribers: Vec<Box<dyn Subscriber>>,
+    handler: Box<dyn FailHandler + Send>,
 ) -> Result<u8, LinesFault>
     requires { All (λ b. told b ≡ []) subscribers.items }
     ensures status { IfOk result (λ status. (status ≡ 0) ⊎ (status ≡ 3)) }
@@ -44,13 +45,14 @@ pub fn run_lines<R: Threads + Wait + Copy + Send + Sync + 'static, I: Read, W: W
 {
     let bytes = read_whole(alloc, reader)?;
     let input = Input::read(alloc, plan, bytes.as_slice())?;
-    report_lines::<Brand, Brand, Box<dyn Subscriber>, R, W>(
+    report_lines::<Brand, Brand, Box<dyn Subscriber>, Box<dyn FailHandler + Send>, R, W>(
         rt,
         alloc,
         plan,
         &input,
         writer,
         subscribers,
+        handler,
         Blank::new(PARTS),
         Blank::new(PARTS),
     )
@@ -61,6 +63,7 @@ fn report_lines<
     L: Ledger + Send + Sync + 'static,
     D: Ledger + Send + Sync + 'static,
     S: Subscriber + 'static,
+    F: FailHandler + Send + 'static,
     R: Threads + Wait + Copy + Send + Sync + 'static,
     W: Write,
 >(
@@ -70,6 +73,7 @@ fn report_lines<
     input: &Input<'_>,
     writer: &mut W,
     subscribers: Vec<S>,
+    handler: F,
     publications: Blank,
     drops: Blank,
 ) -> Result<u8, LinesFault>
@@ -78,12 +82,13 @@ fn report_lines<
     requires untold { All (λ s. S.told s ≡ []) subscribers.items }
     ensures { IfOk result (λ status. (status ≡ 0) ⊎ (status ≡ 3)) }
 {
-    let outcome = publish_lines::<L, D, S, R>(
+    let outcome = publish_lines::<L, D, S, F, R>(
         rt,
         alloc,
         plan,
         input,
         subscribers,
+        handler,
         publications,
         drops,
     )?;
@@ -99,6 +104,7 @@ fn publish_lines<
     L: Ledger + Send + Sync + 'static,
     D: Ledger + Send + Sync + 'static,
     S: Subscriber + 'static,
+    F: FailHandler + Send + 'static,
     R: Threads + Wait + Copy + Send + Sync + 'static,
 >(
     rt: R,
@@ -106,22 +112,31 @@ fn publish_lines<
     plan: &Plan,
     input: &Input<'_>,
     subscribers: Vec<S>,
+    handler: F,
     publications: Blank,
     drops: Blank,
-) -> Result<Outcome<Shown<S>>, Refusal>
+) -> Result<Outcome<Shown<S>, F>, Refusal>
     requires publications { IsBlankOf publications L.name L.parts }
     requires drops { IsBlankOf drops D.name D.parts }
     requires untold { All (λ s. S.told s ≡ []) subscribers.items }
     ensures { IfOk result (λ outcome. IsOutcome (λ shown. S.told shown.0) outcome) }
 {
-    let publisher: Publisher<L, D, Shown<S>> = Publisher::new(
+    let options = PublisherOptions {
+        workers: plan.workers(),
+        capacity: plan.capacity(),
+        order: ErrorOrder::Overtake,
+    };
+    let publisher: Publisher<L, D, Shown<S>, F> = match Publisher::with_handler(
         rt,
         alloc,
         publications,
         drops,
-        plan.workers(),
-        plan.capacity(),
-    )?;
+        options,
+        handler,
+    ) {
+        Ok(publisher) => publisher,
+        Err((refusal, _)) => return Err(refusal),
+    };
     let mut subscriptions = Vec::new(alloc);
     let subscribed = subscribe_all(
         &rt,
@@ -148,9 +163,9 @@ fn publish_lines<
 }
 
 /// What a publisher leaves, also where some subscription has not ended.
-fn outcome_of<B: Drop>(
-    finished: Result<Outcome<B>, (Refusal, Outcome<B>)>,
-) -> Result<Outcome<B>, Refusal>
+fn outcome_of<B: Drop, F: FailHandler>(
+    finished: Result<Outcome<B, F>, (Refusal, Outcome<B, F>)>,
+) -> Result<Outcome<B, F>, Refusal>
     ensures { IfOk result (λ outcome. outcome ≡ outcome_of finished) }
 {
     match finished {
@@ -170,14 +185,15 @@ fn subscribe_all<
     L: Ledger + Send + Sync + 'static,
     D: Ledger + Send + Sync + 'static,
     S: Subscriber + 'static,
+    F: FailHandler + Send + 'static,
     R: Wait,
 >(
     rt: &R,
     alloc: Global,
-    publisher: &Publisher<L, D, Shown<S>>,
+    publisher: &Publisher<L, D, Shown<S>, F>,
     named: &[NamedDemand],
     subscribers: Vec<S>,
-    subscriptions: &mut Vec<Subscription<L, D, Shown<S>>>,
+    subscriptions: &mut Vec<Subscription<L, D, Shown<S>, F>>,
 ) -> Result<(), Refusal>
     requires { All (λ s. S.told s ≡ []) subscribers.items }
 {
@@ -202,13 +218,14 @@ fn publish_and_close<
     L: Ledger + Send + Sync + 'static,
     D: Ledger + Send + Sync + 'static,
     S: Subscriber + 'static,
+    F: FailHandler + Send + 'static,
     R: Threads + Wait + Sync,
 >(
     rt: &R,
     alloc: Global,
-    publisher: &Publisher<L, D, Shown<S>>,
+    publisher: &Publisher<L, D, Shown<S>, F>,
     input: &Input<'_>,
-) -> Result<Vec<Submitter<L, D, Shown<S>>>, Refusal> {
+) -> Result<Vec<Submitter<L, D, Shown<S>, F>>, Refusal> {
     let mut submitters = Vec::new(alloc);
     for _ in input.sources() {
         let submitter = publisher.submitter(rt, alloc, &mut publisher.note())?;

@@ -1,6 +1,6 @@
 //! The sources of a run: each publishes its lines from a thread of its own.
 use super::input::{Input, Publication};
-use flow_rules::{Listener, NoMemory};
+use flow_rules::{FailHandler, Listener, NoMemory};
 use publisher::Submitter;
 use std::alloc::Global;
 use std::sync::Wait;
@@ -10,14 +10,19 @@ use std::thread::Threads;
 
 /// A submitter, and the source whose lines it publishes.
 #[derive(Drop)]
-struct Sender<L: Ledger + Send, D: Ledger + Send, B: Listener + Send> {
-    submitter: Submitter<L, D, B>,
+struct Sender<L: Ledger + Send, D: Ledger + Send, B: Listener + Send, F: FailHandler + Send> {
+    submitter: Submitter<L, D, B, F>,
     source: u32,
     /// Whether a line was refused. The texts are short and the publisher is open, so that was for want of memory.
     is_refused: bool,
 }
 
-impl<L: Ledger + Send, D: Ledger + Send, B: Listener + Send> Sender<L, D, B> {
+impl<L: Ledger + Send, D: Ledger + Send, B: Listener + Send, F: FailHandler + Send> Sender<
+    L,
+    D,
+    B,
+    F,
+> {
     /// Publishes the lines of its source in order, up to one that is refused.
     fn send<R: Wait>(&mut self, rt: &R, alloc: Global, publications: &[Publication<'_>]) {
         for publication in publications {
@@ -38,27 +43,28 @@ pub fn send_lines<
     L: Ledger + Send + Sync + 'static,
     D: Ledger + Send + Sync + 'static,
     B: Listener + Send + 'static,
+    F: FailHandler + Send + 'static,
     R: Threads + Wait + Sync,
 >(
     rt: &R,
     alloc: Global,
     input: &Input<'_>,
-    submitters: Vec<Submitter<L, D, B>>,
-) -> Result<Vec<Submitter<L, D, B>>, NoMemory> {
+    submitters: Vec<Submitter<L, D, B, F>>,
+) -> Result<Vec<Submitter<L, D, B, F>>, NoMemory> {
     let mut senders = make_senders(alloc, input.sources(), submitters)?;
     let publications = input.publications();
-    let send = |_: usize, sender: &mut Sender<L, D, B>| sender.send(rt, alloc, publications);
+    let send = |_: usize, sender: &mut Sender<L, D, B, F>| sender.send(rt, alloc, publications);
     let threads = senders.len().max(1);
     thread::for_each_mut(rt, &mut senders, threads, &send);
     take_back(alloc, senders)
 }
 
 /// The submitters with their sources.
-fn make_senders<L: Ledger + Send, D: Ledger + Send, B: Listener + Send>(
+fn make_senders<L: Ledger + Send, D: Ledger + Send, B: Listener + Send, F: FailHandler + Send>(
     alloc: Global,
     sources: &[u32],
-    submitters: Vec<Submitter<L, D, B>>,
-) -> Result<Vec<Sender<L, D, B>>, NoMemory> {
+    submitters: Vec<Submitter<L, D, B, F>>,
+) -> Result<Vec<Sender<L, D, B, F>>, NoMemory> {
     let mut senders = Vec::new(alloc);
     let mut submitters = submitters.into_iter();
     for source in sources {
@@ -74,10 +80,10 @@ fn make_senders<L: Ledger + Send, D: Ledger + Send, B: Listener + Send>(
 }
 
 /// The submitters without their sources. It is refused where a line of one was.
-fn take_back<L: Ledger + Send, D: Ledger + Send, B: Listener + Send>(
+fn take_back<L: Ledger + Send, D: Ledger + Send, B: Listener + Send, F: FailHandler + Send>(
     alloc: Global,
-    senders: Vec<Sender<L, D, B>>,
-) -> Result<Vec<Submitter<L, D, B>>, NoMemory> {
+    senders: Vec<Sender<L, D, B, F>>,
+) -> Result<Vec<Submitter<L, D, B, F>>, NoMemory> {
     let mut submitters = Vec::new(alloc);
     for sender in senders {
         let Sender {

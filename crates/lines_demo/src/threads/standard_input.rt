@@ -2,10 +2,10 @@
 ghost use Rattle.std.specs.Prelude.{◌≡◌, [], All, IfOk};
 
 use super::fault::LinesFault;
-use super::plan::Plan;
+use super::plan::{NamedDemand, NamedFailure, Plan};
 use super::run::run_lines;
 use clap::ArgMatches;
-use flow_rules::{Collector, Refusal, Subscriber};
+use flow_rules::{Collector, FailHandler, LastFailure, Refusal, Subscriber};
 use std::alloc::Global;
 use std::io;
 use std::io::{BufWriter, Read, Write};
@@ -31,7 +31,7 @@ pub fn run_standard_input<
     }
 }
 
-/// Publishes lines to subscribers that request what a plan says, and keep all that they are told.
+/// Publishes lines to subscribers that request what a plan says, and keep all that they are told; the one of the plan's failure fails.
 fn run_on_collectors<R: Threads + Wait + Copy + Send + Sync + 'static, I: Read, W: Write>(
     rt: R,
     alloc: Global,
@@ -41,22 +41,40 @@ fn run_on_collectors<R: Threads + Wait + Copy + Send + Sync + 'static, I: Read, 
 ) -> Result<u8, LinesFault> {
     let mut subscribers: Vec<Box<dyn Subscriber>> = Vec::new(alloc);
     for subscriber in plan.subscribers() {
-        let Ok(collector) = Box::new(alloc, collector_of(alloc, subscriber.demand)) else {
+        let Ok(collector) = Box::new(alloc, collector_of(alloc, subscriber, plan.fail())) else {
             return Err(LinesFault::Refused(Refusal::NoMemory));
         };
         if subscribers.push(collector).is_err() {
             return Err(LinesFault::Refused(Refusal::NoMemory));
         }
     }
-    run_lines(rt, alloc, plan, reader, writer, untold(alloc, subscribers)?)
+    let Ok(handler) = Box::new(alloc, LastFailure::new()) else {
+        return Err(LinesFault::Refused(Refusal::NoMemory));
+    };
+    let handler: Box<dyn FailHandler + Send> = handler;
+    run_lines(
+        rt,
+        alloc,
+        plan,
+        reader,
+        writer,
+        untold(alloc, subscribers)?,
+        handler,
+    )
 }
 
-/// A subscriber that requests so many items.
-fn collector_of(alloc: Global, demand: u64) -> Collector {
-    match i64::try_from(demand) {
-        Ok(0) => Collector::new(alloc),
-        Ok(demand) => Collector::asking(alloc, demand),
-        Err(_) => Collector::asking(alloc, i64::MAX),
+/// A subscriber that requests what the plan says, and fails if it is the one that does.
+fn collector_of(alloc: Global, subscriber: &NamedDemand, fail: Option<NamedFailure>) -> Collector {
+    let demand = i64::try_from(subscriber.demand).unwrap_or(i64::MAX);
+    if let Some(failure) = fail {
+        if failure.name == subscriber.name {
+            return Collector::failing(alloc, demand, failure.item, failure.code);
+        }
+    }
+    if demand == 0 {
+        Collector::new(alloc)
+    } else {
+        Collector::asking(alloc, demand)
     }
 }
 

@@ -2,13 +2,13 @@
 ghost use Rattle.std.specs.Prelude.{◌≡◌, ◌<◌, ◌≤◌, ◌↔◌, [], length, None, Some, slice_get, slice_set, true, vec_capacity};
 ghost use Rattle.publisher_hub.specs.Hub.{hub_of};
 ghost use Rattle.publisher_hub.specs.Sound.{IsSound};
-ghost use Rattle.publisher.specs.Finding.{AreNone, ArePlaced, FindsAll, FindsOne, TakesBoth, is_missing};
+ghost use Rattle.publisher.specs.Finding.{AreNone, ArePlaced, FindsAll, FindsOne, is_reclaimed};
 ghost use Rattle.publisher.specs.State.{producer_end};
 ghost use Rattle.publisher.specs.Tickets.{IsLate};
 
 use crate::subscription::Subscription;
 use feed_cell::{Handle, Producer};
-use flow_rules::{Listener, Name};
+use flow_rules::{FailHandler, Listener, Name};
 use publisher_hub::Hub;
 use std::sync::ledger::Ledger;
 
@@ -33,25 +33,30 @@ pub enum Found<B: Listener> {
     Both(Taken<B>),
     /// Its handle was not handed in.
     Missing(Name),
+    /// It was reclaimed: its producer's end was taken out before.
+    Reclaimed,
 }
 
 impl<B: Listener> Found<B> {
-    /// Whether an end is missing.
-    fn is_missing(&self) -> bool
-        ensures { result ≡ is_missing self.now }
+    /// Whether it was reclaimed.
+    fn is_reclaimed(&self) -> bool
+        ensures { result ≡ is_reclaimed self.now }
     {
         match self {
             Found::Both(_) => false,
-            Found::Missing(_) => true,
+            Found::Missing(_) => false,
+            Found::Reclaimed => true,
         }
     }
 }
 
 /// Lays the handle of each subscription at the place of its number. The answer is whether each has a place.
-pub(super) fn place_all<L: Ledger + Send, D: Ledger + Send, B: Listener + Send>(
-    handles: &mut [Option<Handle<B>>],
-    mut subscriptions: Vec<Subscription<L, D, B>>,
-) -> bool
+pub(super) fn place_all<
+    L: Ledger + Send,
+    D: Ledger + Send,
+    B: Listener + Send,
+    F: FailHandler + Send,
+>(handles: &mut [Option<Handle<B>>], mut subscriptions: Vec<Subscription<L, D, B, F>>) -> bool
     requires empty { AreNone handles.old }
     ensures placed { ArePlaced subscriptions.items handles.new result }
     ensures length { length handles.new ≡ length handles.old }
@@ -77,7 +82,7 @@ fn place<B: Listener>(handles: &mut [Option<Handle<B>>], place: usize, handle: H
     is_there
 }
 
-/// Finds what there is of each subscription, in order. The answer is whether a producer's end was taken out before.
+/// Finds what there is of each subscription, in order. The answer is whether a handle is that of a reclaimed one.
 pub(super) fn find_all<B: Listener>(
     hub: &mut Hub<Producer<B>>,
     counted: Option<u32>,
@@ -96,7 +101,7 @@ pub(super) fn find_all<B: Listener>(
         let is_handed = handle.is_some();
         let found = find_one(hub, counted, number as u32, handle);
         // Two Bools that are there already, so `&` leaves nothing out.
-        gone |= is_handed & found.is_missing();
+        gone |= is_handed & found.is_reclaimed();
         founds.push_reserved(found);
     }
     gone
@@ -126,8 +131,15 @@ fn find_one<B: Listener>(
     let name = hub.name_of(number).unwrap();
     let since = hub.since(number).unwrap();
     let dropped = hub.dropped(number).unwrap();
-    match take_both(hub, number, handle) {
-        Some((producer, handle)) => Found::Both(Taken {
+    let Some(handle) = handle else {
+        return if hub.has_feed(number) {
+            Found::Missing(name)
+        } else {
+            Found::Reclaimed
+        };
+    };
+    match hub.take_feed(number) {
+        Some(producer) => Found::Both(Taken {
             name,
             since,
             dropped,
@@ -135,31 +147,16 @@ fn find_one<B: Listener>(
             producer,
             handle,
         }),
-        None => Found::Missing(name),
+        None => Found::Reclaimed,
     }
 }
 
 /// Whether the subscription of this number was made after the close, before which so many were.
-fn is_late(counted: Option<u32>, number: u32) -> bool
+pub(super) fn is_late(counted: Option<u32>, number: u32) -> bool
     ensures { (result ≡ true) ↔ IsLate counted number }
 {
     match counted {
         Some(many) => many <= number,
         None => false,
     }
-}
-
-/// Takes the producer's end of the subscription of this number out, if its handle was handed in.
-fn take_both<B: Listener>(
-    hub: &mut Hub<Producer<B>>,
-    number: u32,
-    handle: Option<Handle<B>>,
-) -> Option<(Producer<B>, Handle<B>)>
-    requires sound { IsSound (hub_of producer_end hub.old) }
-    ensures takes { TakesBoth number handle result hub.old hub.new }
-    ensures sound { IsSound (hub_of producer_end hub.new) }
-{
-    let handle = handle?;
-    let producer = hub.take_feed(number)?;
-    Some((producer, handle))
 }

@@ -10,7 +10,7 @@ use crate::outcome::{NamedLane, Outcome};
 use crate::submitter::Submitter;
 use crate::subscription::Subscription;
 use feed_cell::Handle;
-use flow_rules::{Listener, Name, NoMemory};
+use flow_rules::{FailHandler, Listener, Name, NoMemory};
 use std::alloc::Global;
 use std::sync::ledger::Ledger;
 
@@ -19,6 +19,7 @@ use std::sync::ledger::Ledger;
 pub struct Room<B: Listener> {
     pub lanes: Vec<NamedLane<B>>,
     pub held: Vec<u32>,
+    pub reclaimed: Vec<u32>,
     pub unsettled: Vec<Name>,
 }
 
@@ -48,13 +49,13 @@ pub struct Books<B: Listener> {
 
 impl<L: Ledger + Send, D: Ledger + Send, B: Listener + Send> State<L, D, B> {
     /// Takes the producer's end of each subscription out that was handed in, and sums up the shares of the submitters. If a growth is
-    /// refused, the answer is an outcome without lanes.
-    pub fn take_out(
+    /// refused, the answer is an outcome without lanes and without a handler.
+    pub fn take_out<F: FailHandler + Send>(
         &mut self,
         alloc: Global,
-        submitters: Vec<Submitter<L, D, B>>,
-        subscriptions: Vec<Subscription<L, D, B>>,
-    ) -> Result<Books<B>, Outcome<B>>
+        submitters: Vec<Submitter<L, D, B, F>>,
+        subscriptions: Vec<Subscription<L, D, B, F>>,
+    ) -> Result<Books<B>, Outcome<B, F>>
         requires { (L.parts ≡ PARTS) × (D.parts ≡ PARTS) }
         ensures ok { IfOk result
             (λ books. TakesOut submitters.items subscriptions.items self.old books) }
@@ -73,7 +74,7 @@ impl<L: Ledger + Send, D: Ledger + Send, B: Listener + Send> State<L, D, B> {
         let all = place_all(&mut handles, subscriptions);
         compare_tickets(&mut self.hub, &mut self.last, self.entries);
         let gone = find_all(&mut self.hub, self.counted, &mut handles, &mut founds);
-        // Each subscription of this publisher has its place; only another call of this takes buffers out, and a publisher is consumed by one.
+        // Each subscription of this publisher has its place, and one that is reclaimed is given up by its owner.
         if gone | !all {
             return Err(self.nothing(alloc));
         }
@@ -90,8 +91,8 @@ impl<L: Ledger + Send, D: Ledger + Send, B: Listener + Send> State<L, D, B> {
         })
     }
 
-    /// An outcome without lanes.
-    fn nothing(&self, alloc: Global) -> Outcome<B>
+    /// An outcome without lanes and without a handler.
+    fn nothing<F: FailHandler>(&self, alloc: Global) -> Outcome<B, F>
         ensures { IsNothing result }
     {
         let published = self.hub.next_serial();
@@ -99,8 +100,10 @@ impl<L: Ledger + Send, D: Ledger + Send, B: Listener + Send> State<L, D, B> {
         Outcome {
             lanes: Vec::new(alloc),
             held: Vec::new(alloc),
+            reclaimed: Vec::new(alloc),
             published,
             drained,
+            handler: None,
         }
     }
 }
@@ -118,6 +121,7 @@ fn new_places<B: Listener>(alloc: Global, entries: usize) -> Result<Places<B>, N
         room: Room {
             lanes: Vec::with_capacity(alloc, entries)?,
             held: Vec::with_capacity(alloc, entries)?,
+            reclaimed: Vec::with_capacity(alloc, entries)?,
             unsettled: Vec::with_capacity(alloc, entries)?,
         },
     })

@@ -7,7 +7,7 @@ use super::naming::source_name;
 use super::publishing::Own;
 use super::{PARTS, SOURCES, State};
 use crate::submitter::Submitter;
-use flow_rules::{Listener, Name};
+use flow_rules::{FailHandler, Listener, Name};
 use std::sync::ledger::{Book, Ledger, Share};
 
 /// What submitters have together.
@@ -46,7 +46,10 @@ impl<L: Ledger, D: Ledger> Together<L, D> {
 
 impl<L: Ledger + Send, D: Ledger + Send, B: Listener + Send> State<L, D, B> {
     /// Puts together what these submitters have.
-    pub(super) fn put_together(&mut self, mut submitters: Vec<Submitter<L, D, B>>) -> Together<L, D>
+    pub(super) fn put_together<F: FailHandler + Send>(
+        &mut self,
+        mut submitters: Vec<Submitter<L, D, B, F>>,
+    ) -> Together<L, D>
         ensures together { AreTogether submitters.items [] result.publications.amount
             result.drops.amount result.publications.parts result.drops.parts result.sources
             result.knows }

@@ -10,13 +10,13 @@ ghost use Rattle.publisher_hub.specs.Names.{IsSubscribed};
 ghost use Rattle.publisher_hub.specs.Subscribing.{Admits, CanAdmit};
 ghost use Rattle.publisher.specs.Handles.{RefusesSubscribing};
 ghost use Rattle.publisher.specs.State.{producer_end};
-ghost use Rattle.publisher.specs.Subscribing.{IsSubscription};
+ghost use Rattle.publisher.specs.Subscribing.{AddsNone, IsSubscription};
 ghost use Rattle.publisher.specs.Tickets.{IsTicketFor};
 
 use super::State;
 use close_count::Ticket;
 use feed_cell::{Cell, Handle, Producer, Task};
-use flow_rules::{Listener, Name, Refusal};
+use flow_rules::{ErrorOrder, Listener, Name, Refusal};
 use publisher_hub::Work;
 use std::alloc::Global;
 use std::sync::ledger::Ledger;
@@ -31,24 +31,28 @@ pub struct Subscribed<B: Listener> {
 }
 
 impl<L: Ledger, D: Ledger, B: Listener> State<L, D, B> {
-    /// Adds a subscription. The tasks of others that this starts are due.
+    /// Adds a subscription, in which a closing error and the items are told in this order. The tasks of others that this starts are due. A
+    /// refused one adds none, and the name stays as free as it was.
     pub fn subscribe(
         &mut self,
         alloc: Global,
         name: Name,
+        order: ErrorOrder,
         subscriber: B,
         due: &mut Vec<Work<Task<B>>>,
     ) -> Result<Subscribed<B>, (Refusal, B)>
         requires { B.told subscriber ≡ [] }
-        ensures ok { IfOk result (λ subscribed. IsSubscription name subscribed self.new) }
+        ensures ok { IfOk result (λ subscribed. IsSubscription name order subscribed self.new) }
         ensures refusals { IfErr result (λ refused. RefusesSubscribing refused.0) }
         ensures back { IfErr result (λ refused. refused.1 ≡ subscriber) }
+        ensures adds_none { OnErr result
+            (AddsNone (hub_of producer_end self.old.hub) (hub_of producer_end self.new.hub)) }
     {
         let ticket = match self.reserve(name, due) {
             Ok(ticket) => ticket,
             Err(refusal) => return Err((refusal, subscriber)),
         };
-        match Cell::new(alloc, self.hub.capacity(), subscriber) {
+        match Cell::new_with(alloc, self.hub.capacity(), order, subscriber) {
             Ok((producer, handle, task)) => {
                 let entry = self.admit(name, producer, ticket, due);
                 Ok(Subscribed {
@@ -73,6 +77,7 @@ impl<L: Ledger, D: Ledger, B: Listener> State<L, D, B> {
         ensures can { OnOk result (CanAdmit producer_end name self.new.hub due.new) }
         ensures ticket { IfOk result (λ ticket. IsTicketFor self.new.hub ticket) }
         ensures refusals { IfErr result (λ refusal. RefusesSubscribing refusal) }
+        ensures adds_none { AddsNone (hub_of producer_end self.old.hub) (hub_of producer_end self.new.hub) }
     {
         self.hub.may_subscribe(name, due)?;
         self.hub.add_ticket()

@@ -73,8 +73,9 @@ impl<F: Feed> Hub<F> {
         }
     }
 
-    /// Whether the producer's end of the subscription of this number is there.
-    fn has_feed(&self, entry: u32) -> bool
+    /// Whether the producer's end of the subscription of this number is there. It isn't if no subscription has this number, or the end was taken
+    /// out.
+    pub fn has_feed(&self, entry: u32) -> bool
         ensures { (result ≡ true) ↔ IsSome (feed_at self.now entry) }
     {
         match self.entries.get(entry as usize) {

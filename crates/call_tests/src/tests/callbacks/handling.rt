@@ -4,8 +4,9 @@ ghost use Rattle.publisher.specs.Blanks.{IsBlankOf};
 use super::acting::{Act, Acting};
 use super::stand::Stand;
 use super::{Count, Flag, comes_to, wait_for};
-use flow_rules::{DropHandler, Item, Name};
-use std::alloc::Global;
+use flow_rules::{DropHandler, Item, Name, Refusal};
+use publisher::{Submitter, Subscription};
+use std::alloc::{AllocError, Global};
 use std::sync::atomic::Ordering::SeqCst;
 use std::sync::atomic::{AtomicBool, AtomicU64};
 use std::sync::ledger::{Blank, Ledger};
@@ -24,14 +25,31 @@ impl Act for Counts {
     }
 }
 
-// Raises a flag, and has the offer tried once more where an item was told then.
+// Shared by who is asked about a drop, who requests then, and who counts the items that were told.
 #[derive(Drop)]
-struct Asks {
+struct Signs {
     is_asked: Flag,
     told: Count,
 }
 
-impl DropHandler for Asks {
+impl Signs {
+    fn new(alloc: Global) -> Result<Signs, AllocError> {
+        Ok(Signs {
+            is_asked: Arc::new(alloc, AtomicBool::new(false))?,
+            told: Arc::new(alloc, AtomicU64::new(0))?,
+        })
+    }
+
+    fn share(&self) -> Result<Signs, AllocError> {
+        Ok(Signs {
+            is_asked: Arc::try_clone(&self.is_asked)?,
+            told: Arc::try_clone(&self.told)?,
+        })
+    }
+}
+
+// Raises a flag, and has the offer tried once more if an item was told then.
+impl DropHandler for Signs {
     fn on_drop(&mut self, _: Name, _: &Item) -> bool {
         self.is_asked.store(true, SeqCst);
         comes_to(&self.told, 1)
@@ -42,33 +60,62 @@ impl DropHandler for Asks {
 pub fn offer_twice<
     L: Ledger + Send + Sync + 'static,
     D: Ledger + Send + Sync + 'static,
-    R: Threads + Wait + Copy + Send + 'static,
+    R: Threads + Wait + Copy + Send + Sync + 'static,
 >(rt: R, alloc: Global, publications: Blank, drops: Blank) -> Result<i64, Fail>
     requires publications { IsBlankOf publications L.name L.parts }
     requires drops { IsBlankOf drops D.name D.parts }
 {
-    let told = Arc::new(alloc, AtomicU64::new(0))?;
-    let is_asked = Arc::new(alloc, AtomicBool::new(false))?;
-    let act = Acting::new(Counts(Arc::try_clone(&told)?));
+    let signs = Signs::new(alloc)?;
+    let act = Acting::new(Counts(Arc::try_clone(&signs.told)?));
     let mut stand: Stand<L, D, Acting<Counts>> = Stand::new(rt, alloc, publications, drops, 1, 1)?;
     stand.subscribe(&rt, "a", act)?;
     stand.submitter.submit(&rt, alloc, b"x")?;
-    let asks = Asks {
-        is_asked: Arc::try_clone(&is_asked)?,
-        told,
-    };
-    let mut handler: Box<dyn DropHandler> = Box::new(alloc, asks)?;
     let Some(mut subscription) = stand.subscriptions.pop() else {
         return Err(Fail::new("there is no subscription"));
     };
-    let owner = thread::spawn(&rt, move || {
-        if wait_for(&is_asked) {
-            let _ = subscription.request(&rt, 1);
-        }
-        subscription
-    })?;
-    let answer = stand.submitter.offer(&rt, alloc, b"y", Some(&mut handler))?;
-    stand.subscriptions.push(owner.join(&rt))?;
+    let submitter = &mut stand.submitter;
+    let answer = offer_and_request(&rt, alloc, submitter, &mut subscription, &signs);
+    stand.subscriptions.push(subscription)?;
     stand.end(&rt)?;
-    Ok(answer)
+    Ok(answer?)
+}
+
+// One thread offers, and another one requests once the handler of the first is asked.
+fn offer_and_request<
+    L: Ledger + Send + Sync + 'static,
+    D: Ledger + Send + Sync + 'static,
+    R: Threads + Wait + Sync,
+>(
+    rt: &R,
+    alloc: Global,
+    submitter: &mut Submitter<L, D, Acting<Counts>>,
+    subscription: &mut Subscription<L, D, Acting<Counts>>,
+    signs: &Signs,
+) -> Result<i64, Refusal> {
+    let (answer, ()) = thread::join(
+        rt,
+        || offer(rt, alloc, submitter, signs),
+        || request_once_asked(rt, subscription, signs),
+    );
+    answer
+}
+
+fn offer<L: Ledger + Send + Sync + 'static, D: Ledger + Send + Sync + 'static, R: Wait>(
+    rt: &R,
+    alloc: Global,
+    submitter: &mut Submitter<L, D, Acting<Counts>>,
+    signs: &Signs,
+) -> Result<i64, Refusal> {
+    let mut handler: Box<dyn DropHandler> = Box::new(alloc, signs.share()?)?;
+    submitter.offer(rt, alloc, b"y", Some(&mut handler))
+}
+
+fn request_once_asked<
+    L: Ledger + Send + Sync + 'static,
+    D: Ledger + Send + Sync + 'static,
+    R: Wait,
+>(rt: &R, subscription: &mut Subscription<L, D, Acting<Counts>>, signs: &Signs) {
+    if wait_for(&signs.is_asked) {
+        let _ = subscription.request(rt, 1);
+    }
 }

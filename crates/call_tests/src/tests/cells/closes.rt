@@ -2,7 +2,7 @@
 use super::parties::Parties;
 use super::{Left, numbers};
 use crate::Row;
-use feed_cell::{Cell, Handle, Producer, Task, Turn, close};
+use feed_cell::{Cell, Handle, Producer, Task, Turn, close, close_again, is_shared};
 use feed_core::{Lane, Outlook, Seen};
 use flow_rules::{Collector, Feed, How, NoMemory, Shown, Signal, Subscriber, capacity};
 use std::alloc::Global;
@@ -119,6 +119,29 @@ fn its_own_handle_counts(rt: HostRuntime) -> Result<(), Fail> {
     assert!(rt; matches!(task.turn(&mut seen), Turn::Ended(How::Cancelled, _)));
     let Ok(lane) = close(other, of_other) else {
         return Err(Fail::new("it is still shared"));
+    };
+    assert!(rt; numbers(&lane) == (0, 0, 2, Some(How::Cancelled), false));
+    Ok(())
+}
+
+// While its task is alive it is shared, and the producer comes back from each close; once that has ended it is left with what its handle did.
+#[test]
+fn one_whose_task_is_alive_is_shared(rt: HostRuntime) -> Result<(), Fail> {
+    let alloc = rt.alloc();
+    let (resting, of_resting) = at_rest(&rt, alloc)?;
+    assert!(rt; !is_shared(&resting, &of_resting));
+    let (one, of_one, task) = cancelled(&rt, alloc)?;
+    assert!(rt; is_shared(&one, &of_one));
+    let Err(one) = close(one, of_one) else {
+        return Err(Fail::new("it is shared"));
+    };
+    let Err(one) = close_again(one) else {
+        return Err(Fail::new("it is still shared"));
+    };
+    let mut seen = Seen::new(alloc)?;
+    assert!(rt; matches!(task.turn(&mut seen), Turn::Ended(How::Cancelled, _)));
+    let Ok(lane) = close_again(one) else {
+        return Err(Fail::new("nobody shares it"));
     };
     assert!(rt; numbers(&lane) == (0, 0, 2, Some(How::Cancelled), false));
     Ok(())

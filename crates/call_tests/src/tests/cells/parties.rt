@@ -5,7 +5,7 @@ use super::putting::Putting;
 use crate::{Row, item_with, signals};
 use feed_cell::{Cell, Handle, Producer, Task, Turn, close};
 use feed_core::{Lane, Outlook, Seen};
-use flow_rules::{Ending, Feed, Listener, NoMemory, Put, Refusal, capacity};
+use flow_rules::{Ending, ErrorOrder, Feed, Listener, NoMemory, Put, Refusal, capacity};
 use std::alloc::Global;
 
 // The parties of a subscription, and its task where that is not at rest and was not lost.
@@ -21,7 +21,19 @@ impl<B: Listener> Parties<B> {
     pub fn new(alloc: Global, asked: usize, listener: B) -> Result<Parties<B>, Refusal>
         requires { B.told listener ≡ [] }
     {
-        match Cell::new(alloc, capacity(asked)?, listener) {
+        Parties::new_with(alloc, asked, ErrorOrder::Overtake, listener)
+    }
+
+    // Those of a new subscription in which a closing error and the items are told in this order.
+    pub fn new_with(
+        alloc: Global,
+        asked: usize,
+        order: ErrorOrder,
+        listener: B,
+    ) -> Result<Parties<B>, Refusal>
+        requires { B.told listener ≡ [] }
+    {
+        match Cell::new_with(alloc, capacity(asked)?, order, listener) {
             Ok((producer, handle, task)) => Ok(Parties {
                 putting: Putting::new(producer),
                 handle,

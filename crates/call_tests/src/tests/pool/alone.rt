@@ -121,3 +121,35 @@ fn a_refusal_is_answered(rt: HostRuntime) -> Result<(), Fail> {
     assert!(rt; is_answered);
     Ok(())
 }
+
+// A job that writes its number behind the digits of its context.
+#[derive(Drop)]
+struct Digit {
+    number: u64,
+    again: u64,
+}
+
+impl Job for Digit {
+    type Context = u64;
+
+    fn run<R: Wait>(self, _rt: &R, context: &mut u64) -> Option<Digit> {
+        *context = context.wrapping_mul(10).wrapping_add(self.number);
+        Some(Digit {
+            number: self.number,
+            again: self.again.checked_sub(1)?,
+        })
+    }
+}
+
+#[test]
+fn a_job_that_runs_again_comes_before_the_inbox(rt: HostRuntime) -> Result<(), Fail> {
+    let pool = Pool::new(rt.alloc(), 1)?;
+    for (number, again) in [(1, 2), (2, 1)] {
+        assert!(rt; pool.execute(&rt, Digit { number, again }).is_ok());
+    }
+    pool.shut(&rt);
+    let mut ran = 0;
+    pool.worker_loop(&rt, 0, &Wide, &mut ran);
+    assert!(rt; ran == 11_122);
+    Ok(())
+}

@@ -1,5 +1,5 @@
 //! What workers do that sleep: who wakes them, and that each looks again.
-use super::{Numbered, Runs, Site, hand_in, new_site, no_runs, start_worker, wait_for};
+use super::{Numbered, Runs, Site, hand_in, is_late, new_site, no_runs, start_worker, wait_for};
 use async_pool::{Gate, Pool, Wide};
 use std::alloc::{AllocError, Global};
 use std::process::Abort;
@@ -11,10 +11,8 @@ use std::thread;
 use std::thread::{JoinHandle, Threads};
 use std::time::{Clock, Duration, Instant};
 
-// How often, and for how many seconds, a test looks for what another thread does before it gives up.
+// How often a test looks for what another thread does before it gives up.
 const LOOKS: u64 = 10_000;
-
-const PATIENCE: u64 = 10;
 
 // How often a sleeper is woken for a job that is gone when it looks, if there is time for that.
 const ROUNDS: u64 = 3000;
@@ -39,14 +37,6 @@ fn comes_to(rt: &impl Clock, counter: &AtomicU64, number: u64) -> bool {
         thread::sleep(rt, Duration::from_millis(1));
     }
     false
-}
-
-// Whether a test has waited for long enough.
-fn is_late(rt: &impl Clock, start: &Instant) -> bool {
-    let Ok(time) = start.elapsed(rt) else {
-        return true;
-    };
-    time.as_secs() >= PATIENCE
 }
 
 // The workers of a pool, each in a thread of its own.

@@ -2,7 +2,7 @@
 ghost use Rattle.std.specs.Prelude.{◌<◌};
 ghost use Rattle.async_pool.specs.Pool.{pool_workers};
 
-use super::{Numbered, Runs, hand_in, new_site, no_runs, start_worker, wait_for};
+use super::{Numbered, Runs, all_ran, hand_in, new_site, no_runs, start_worker, wait_for};
 use async_pool::{CAPACITY, Gate, Job, MOST_WORKERS, Pool, Wide};
 use std::alloc::{AllocError, Global};
 use std::cell::Cell;
@@ -24,16 +24,6 @@ fn run_by_two<R: Threads + Wait + Sync>(rt: &R, pool: &Pool<Numbered>) -> u64
     { pool.worker_loop(rt, 1, &Wide, &mut second) };
     thread::join_mut(rt, &mut one, &mut other);
     first.saturating_add(second)
-}
-
-// Whether each job ran so often.
-fn all_ran(runs: &Runs, number: u64) -> bool {
-    for run in runs.iter() {
-        if run.load(SeqCst) != number {
-            return false;
-        }
-    }
-    true
 }
 
 #[test]
@@ -138,19 +128,21 @@ impl Gate for Held {
 
 #[test]
 fn a_second_loop_of_a_number_returns_at_once(rt: HostRuntime) -> Result<(), Fail> {
-    let site = new_site::<Numbered, Held>(rt.alloc(), 2, new_held())?;
-    let gate = Keeping(no_runs(rt.alloc(), 2)?);
-    let mut ran = 0;
-    site.pool.shut(&rt);
-    let first = start_worker(rt, &site, 0)?;
-    assert!(rt; wait_for(&site.gate.reached));
-    site.pool.worker_loop(&rt, 0, &gate, &mut ran);
-    assert!(rt; gate.passes_of(0) == Some(0));
-    // Once the first loop has ended, another of its number runs.
-    site.gate.open.store(true, SeqCst);
-    first.join(&rt);
-    site.pool.worker_loop(&rt, 0, &gate, &mut ran);
-    assert!(rt; gate.passes_of(0) == Some(1));
+    for worker in 0..2 {
+        let site = new_site::<Numbered, Held>(rt.alloc(), 2, new_held())?;
+        let gate = Keeping(no_runs(rt.alloc(), 2)?);
+        let mut ran = 0;
+        site.pool.shut(&rt);
+        let first = start_worker(rt, &site, worker)?;
+        assert!(rt; wait_for(&site.gate.reached));
+        site.pool.worker_loop(&rt, worker, &gate, &mut ran);
+        assert!(rt; gate.passes_of(worker) == Some(0));
+        // Once the first loop has ended, another of its number runs.
+        site.gate.open.store(true, SeqCst);
+        first.join(&rt);
+        site.pool.worker_loop(&rt, worker, &gate, &mut ran);
+        assert!(rt; gate.passes_of(worker) == Some(1));
+    }
     Ok(())
 }
 
@@ -199,7 +191,7 @@ fn hand_in_long<R: Wait>(
     Ok(pool.execute(rt, Mixed::Long { again: 4, watched }).is_ok())
 }
 
-// Hands in as many jobs as the list holds, and one that comes back.
+// Hands in as many jobs as the inbox holds, and one that comes back.
 fn fill<R: Wait>(rt: &R, pool: &Pool<Mixed>) -> bool {
     for _ in 0..CAPACITY {
         if pool.execute(rt, Mixed::Short).is_err() {
@@ -210,7 +202,7 @@ fn fill<R: Wait>(rt: &R, pool: &Pool<Mixed>) -> bool {
 }
 
 #[test]
-fn a_job_is_run_on_where_the_list_is_full(rt: HostRuntime) -> Result<(), Fail> {
+fn a_job_goes_back_where_the_inbox_is_full(rt: HostRuntime) -> Result<(), Fail> {
     let held = new_held();
     let ran = AtomicU64::new(0);
     let watched = Arc::new(rt.alloc(), Watched { held, ran })?;

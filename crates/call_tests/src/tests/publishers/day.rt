@@ -43,6 +43,10 @@ pub enum Step {
     Rest(u64, usize),
     // What is asked of all subscriptions.
     Looks,
+    // The subscription of this place has ended.
+    End(usize),
+    // It is reclaimed.
+    Reclaim(usize),
     // The subscription, or the submitter, of this place is not handed in at the end. After the end such a subscription requests one item.
     KeepSubscription(usize),
     KeepSubmitter(usize),

@@ -2,10 +2,11 @@
 use super::day::Day;
 use super::day::Step::{
     Ask, Cancel, CancelAmid, Close, Closing, Fail, Join, KeepSubmitter, KeepSubscription, Looks,
-    Nap, Offer, Refuse, Request, Rest, Send, Serve, Source, Stir, Submit, Subscribe, Turns,
+    Nap, Offer, Reclaim, Refuse, Request, Rest, Send, Serve, Source, Stir, Submit, Subscribe,
+    Turns,
 };
 
-pub const DAYS: [Day; 31] = [
+pub const DAYS: [Day; 35] = [
     // All that was accepted is told, also where a submitter had to wait, and the last ticket is spent.
     Day {
         capacity: 1,
@@ -20,6 +21,78 @@ pub const DAYS: [Day; 31] = [
             Closing,
         ],
         report: "sub a; lag 1; lag 1; lag 1; closed false None; ok; closed true Some(Normal); done, published 3, drained; a Some(Completed) 3 + 0 of 9: s 0.0.1 0.1.2 0.2.3 c",
+    },
+    // One that lives is not reclaimed. Once it was cancelled it is, and its name is free; nothing asks for it at the end.
+    Day {
+        capacity: 1,
+        steps: &[
+            Subscribe("a", 1),
+            Subscribe("b", 9),
+            Source,
+            Submit(0, 1),
+            Rest(4, 2),
+            Reclaim(0),
+            Cancel(0),
+            Rest(4, 1),
+            Reclaim(0),
+            Subscribe("a", 9),
+            Submit(0, 2),
+            Close,
+        ],
+        report: "sub a; sub b; lag 1; Unsettled([a]); reclaimed 0; a Some(Cancelled) 1 + 0 of 1: s 0.0.1; sub a; lag 1; ok; done, published 2, drained; b Some(Completed) 2 + 0 of 9: s 0.0.1 0.1.2 c; a Some(Completed) 1 + 0 of 9: s 0.1.2 c; 1 reclaimed",
+    },
+    // After the close, too: those that completed are reclaimed, and their tickets are spent. One that subscribes now is reclaimed as a late one.
+    Day {
+        capacity: 1,
+        steps: &[
+            Subscribe("a", 9),
+            Subscribe("b", 0),
+            Source,
+            Submit(0, 1),
+            Close,
+            Rest(4, 1),
+            Reclaim(0),
+            Reclaim(0),
+            Subscribe("c", 0),
+            Rest(6, 1),
+            Reclaim(1),
+            Request(0, 1),
+            Rest(8, 0),
+            Reclaim(0),
+        ],
+        report: "sub a; sub b; lag 1; ok; reclaimed 0; a Some(Completed) 1 + 0 of 9: s 0.0.1 c; Unsettled([b]); sub c; reclaimed 2; c Some(Completed) 0 + 0 of 0: s c; reclaimed 1; b Some(Completed) 1 + 0 of 1: s 0.0.1 c; done, published 1, drained; 3 reclaimed",
+    },
+    // One that is not handed in is missing by its own name, whichever were reclaimed before it.
+    Day {
+        capacity: 1,
+        steps: &[
+            Subscribe("a", 0),
+            Subscribe("b", 0),
+            Subscribe("c", 0),
+            Rest(3, 3),
+            Cancel(0),
+            Cancel(1),
+            Rest(3, 1),
+            Reclaim(1),
+            Reclaim(0),
+            KeepSubscription(0),
+        ],
+        report: "sub a; sub b; sub c; reclaimed 1; b Some(Cancelled) 0 + 0 of 0: s; reclaimed 0; a Some(Cancelled) 0 + 0 of 0: s; StillHeld(c), published 0, open; 2 reclaimed; later 0",
+    },
+    // A full buffer is given up with the one that is reclaimed, and no submitter waits for it any more.
+    Day {
+        capacity: 1,
+        steps: &[
+            Subscribe("a", 0),
+            Source,
+            Offer(0, 1),
+            Offer(0, 2),
+            Cancel(0),
+            Rest(1, 0),
+            Reclaim(0),
+            Submit(0, 3),
+        ],
+        report: "sub a; answer 1; answer -1; reclaimed 0; a Some(Cancelled) 1 + 1 of 0: s; lag 0; done, published 3, open; 1 reclaimed",
     },
     // One of two subscriptions is not handed in.
     Day {

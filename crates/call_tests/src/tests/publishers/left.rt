@@ -1,7 +1,7 @@
 //! What is left of a publisher, as a line.
 use super::heard::Heard;
 use crate::tests::cells::items_in;
-use flow_rules::{How, Signal, audit};
+use flow_rules::{ErrorOrder, How, Signal, audit};
 use publisher::{NamedLane, Outcome};
 use std::alloc::{AllocError, Global};
 use std::test::Fail;
@@ -29,6 +29,23 @@ pub fn outcome_line(
             add_lane(alloc, &mut line, left)?;
         }
     }
+    if !outcome.reclaimed.is_empty() {
+        line.push_str(&format!(in alloc; "; {} reclaimed", outcome.reclaimed.len())?)?;
+    }
+    Ok(line)
+}
+
+// What is left of one subscription that was reclaimed. No more than its number where its subscriber may have been refused memory.
+pub fn left_line(
+    alloc: Global,
+    left: &NamedLane<Heard>,
+    may_be_refused: bool,
+) -> Result<String, Fail> {
+    let mut line = format!(in alloc; "reclaimed {}", left.entry)?;
+    if !may_be_refused {
+        add_lane(alloc, &mut line, left)?;
+    }
+    line.push_str("; ")?;
     Ok(line)
 }
 
@@ -75,13 +92,17 @@ fn items_in_order(signals: &[Signal]) -> Option<u64> {
     Some(items)
 }
 
-// One lane: its name, how it ended, how many items it accepted, dropped and requested, whether it runs, and what was told, or how much that
-// is; and how many items were given, where that is another number than were told.
+// One lane: its name, how it ended, how many items it accepted, dropped and requested, whether it runs, whether a closing error waited for
+// its items, and what was told, or how much that is; and how many items were given, where that is another number than were told.
 fn add_lane(alloc: Global, line: &mut String, left: &NamedLane<Heard>) -> Result<(), Fail> {
     let lane = &left.lane;
     let runs = if lane.running { " runs" } else { "" };
+    let late = match lane.order {
+        Some(ErrorOrder::AfterItems) => " late",
+        _ => "",
+    };
     let numbers = format!(in alloc;
-        "; {} {:?} {} + {} of {}{runs}:",
+        "; {} {:?} {} + {} of {}{runs}{late}:",
         left.name, lane.ending, lane.accepted, left.dropped, lane.asked
     )?;
     line.push_str(&numbers)?;

@@ -1,12 +1,13 @@
 //! Days on which memory may be refused.
 use super::day::Day;
 use super::day::Step::{
-    Cancel, Close, Fail, KeepSubscription, MayRefuse, Offer, Request, Source, Submit, Subscribe,
+    Cancel, Close, End, Fail, KeepSubscription, MayRefuse, Offer, Reclaim, Request, Source, Submit,
+    Subscribe,
 };
 
 // Each with what it reports else where memory was refused to a callback of one subscriber. A call that is refused is made once more, and is
 // answered then as if it had not been refused before.
-pub const REFUSED: [(Day, [&str; 2]); 4] = [
+pub const REFUSED: [(Day, [&str; 2]); 5] = [
     // A day that ends in completions.
     (
         Day {
@@ -85,6 +86,25 @@ pub const REFUSED: [(Day, [&str; 2]); 4] = [
         [
             "sub a; sub b; lag 1; StillHeld(b), published 1, open; a refused; later 1",
             "sub a; sub b; lag 1; StillHeld(b), published 1, open; a None 1 + 0 of 9: s 0.0.1; later 0",
+        ],
+    ),
+    // One on which a subscription that lives is not reclaimed, and one that has ended is.
+    (
+        Day {
+            capacity: 1,
+            steps: &[
+                MayRefuse,
+                Subscribe("a", 0),
+                Reclaim(0),
+                Cancel(0),
+                End(0),
+                Reclaim(0),
+            ],
+            report: "sub a; Unsettled([a]); reclaimed 0; done, published 0, open; 1 reclaimed",
+        },
+        [
+            "sub a; reclaimed 0; done, published 0, open; 1 reclaimed",
+            "",
         ],
     ),
 ];

@@ -4,14 +4,15 @@ ghost use Rattle.publisher.specs.Blanks.{IsBlankOf};
 
 mod ending;
 mod publishing;
+mod reclaiming;
 mod senders;
 mod waiting;
 
 use super::day::{Day, Step};
 use super::heard::{Count, Heard};
 use ending::request_of;
-use flow_rules::{Name, Refusal};
-use publisher::{Note, Publisher, Submitter, Subscription};
+use flow_rules::{ErrorOrder, Name, Refusal};
+use publisher::{Note, Publisher, PublisherOptions, Submitter, Subscription};
 use senders::{Senders, Sent};
 use std::alloc::Global;
 use std::fmt::Debug;
@@ -44,7 +45,7 @@ struct Site<L: Ledger + Send + Sync + 'static, D: Ledger + Send + Sync + 'static
     may_be_refused: bool,
 }
 
-// What the steps of a day answer in a round of it, and what is left at its end.
+// What the steps of a day answer in a round of it, at a publisher with so many workers and this order of errors, and what is left at its end.
 pub fn report<
     L: Ledger + Send + Sync + 'static,
     D: Ledger + Send + Sync + 'static,
@@ -55,19 +56,24 @@ pub fn report<
     publications: Blank,
     drops: Blank,
     workers: usize,
+    order: ErrorOrder,
     round: u64,
     day: &Day,
 ) -> Result<String, Fail>
     requires publications { IsBlankOf publications L.name L.parts }
     requires drops { IsBlankOf drops D.name D.parts }
 {
-    let publisher: Publisher<L, D, Heard> = Publisher::new(
+    let options = PublisherOptions {
+        workers,
+        capacity: day.capacity,
+        order,
+    };
+    let publisher: Publisher<L, D, Heard> = Publisher::with_options(
         rt,
         alloc,
         publications,
         drops,
-        workers,
-        day.capacity,
+        options,
     )?;
     let mut site = new_site(alloc, publisher, round)?;
     let mut report = String::new(alloc);
@@ -123,6 +129,8 @@ impl<L: Ledger + Send + Sync + 'static, D: Ledger + Send + Sync + 'static> Site<
             Step::Close | Step::Fail(_) => self.close(&rt, step),
             Step::Closing => self.closing(),
             Step::Looks => self.looks(&rt),
+            Step::End(place) => self.wait_end(&rt, place),
+            Step::Reclaim(place) => self.reclaim(&rt, place),
             Step::KeepSubscription(_) | Step::KeepSubmitter(_) => self.keep(step),
             wait => self.wait(&rt, wait),
         }

@@ -1,7 +1,7 @@
 //! Lists of events by chance: the code and the second reading of the table agree at every event of them.
 use super::table::next;
 use feed_core::world::{Cause, Event, Side, all_runs};
-use flow_rules::{Answer, Ending, Fault, How};
+use flow_rules::{Answer, Ending, ErrorOrder, Fault, How};
 use std::process::Abort;
 use std::test::Fail;
 
@@ -68,8 +68,8 @@ fn next_number(number: u64) -> u64 {
 }
 
 /// A list of events that this number begins, after the one that makes the subscription, and the number that begins the next list.
-fn list_of(number: u64, capacity: usize) -> ([Event; LENGTH], u64) {
-    let mut events = [Event::Make(capacity); LENGTH];
+fn list_of(number: u64, capacity: usize, order: ErrorOrder) -> ([Event; LENGTH], u64) {
+    let mut events = [Event::Make(capacity, order); LENGTH];
     let mut number = number;
     for place in 1..LENGTH {
         number = next_number(number);
@@ -102,7 +102,12 @@ fn the_code_and_the_table_agree(rt: HostRuntime) -> Result<(), Fail> {
     let mut number = 1;
     let mut possible = 0_u64;
     for list in 0..3000_usize {
-        let (events, then) = list_of(number, [1, 2, 4][list % 3]);
+        let order = if list % 2 == 0 {
+            ErrorOrder::Overtake
+        } else {
+            ErrorOrder::AfterItems
+        };
+        let (events, then) = list_of(number, [1, 2, 4][list % 3], order);
         number = then;
         let (agrees, some) = agrees(&events);
         assert!(rt; agrees, "list {list}");

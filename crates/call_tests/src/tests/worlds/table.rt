@@ -2,12 +2,22 @@
 use super::MADE;
 use feed_core::Causes;
 use feed_core::world::{Cause, Event, Parts, Producing, Requesting, Runner, Side};
-use flow_rules::{Answer, Ending, Fault, How, UNBOUNDED};
+use flow_rules::{Answer, Ending, ErrorOrder, Fault, How, UNBOUNDED};
 
 /// What there is after an event, if it is possible.
 pub(super) fn next(now: Option<Parts>, event: Event) -> Option<Parts> {
     match (now, event) {
-        (None, Event::Make(capacity @ (1 | 2 | 4))) => Some(Parts { capacity, ..MADE }),
+        (None, Event::Make(capacity @ (1 | 2 | 4), order)) => {
+            let causes = Causes {
+                order,
+                ..MADE.causes
+            };
+            Some(Parts {
+                capacity,
+                causes,
+                ..MADE
+            })
+        }
         (None, _) => None,
         (Some(now), Event::Signal(side, cause)) => signal(now, side, cause),
         (Some(now), Event::End(how)) => end(now, how),
@@ -90,8 +100,11 @@ fn of_the_runner(now: Parts, event: Event) -> Option<Parts> {
             },
         ),
         (Event::Rest, Runner::Measured(causes, put, asked)) if now.given >= put.min(asked) => {
-            let is_complete = causes.closing == Some(Ending::Normal) && now.given == put;
-            if is_complete { None } else { Some(rest(now)) }
+            if last_end(causes) != None && now.given == put {
+                None
+            } else {
+                Some(rest(now))
+            }
         }
         _ => None,
     }
@@ -177,8 +190,11 @@ fn end(now: Parts, how: How) -> Option<Parts> {
             !causes.cancel && first_end(causes) != None
         }
         (Runner::Looked(causes), how) => first_end(causes) == Some(how),
-        (Runner::Measured(causes, put, _), How::Completed | How::OutOfMemory) => {
-            causes.closing == Some(Ending::Normal) && now.given == put
+        (Runner::Measured(causes, put, _), How::OutOfMemory) => {
+            last_end(causes) != None && now.given == put
+        }
+        (Runner::Measured(causes, put, _), how) => {
+            last_end(causes) == Some(how) && now.given == put
         }
         _ => false,
     };
@@ -205,9 +221,21 @@ fn first_end(causes: Causes) -> Option<How> {
         Causes { argument: true, .. } => Some(How::Errored(Fault::IllegalArgument)),
         Causes { state: true, .. } => Some(How::Errored(Fault::IllegalState)),
         Causes {
+            order: ErrorOrder::Overtake,
             closing: Some(Ending::Failed(code)),
             ..
         } => Some(How::Errored(Fault::Published(code))),
+        _ => None,
+    }
+}
+
+/// The end of these causes that waits for the items.
+fn last_end(causes: Causes) -> Option<How> {
+    match (causes.closing, causes.order) {
+        (Some(Ending::Normal), _) => Some(How::Completed),
+        (Some(Ending::Failed(code)), ErrorOrder::AfterItems) => {
+            Some(How::Errored(Fault::Published(code)))
+        }
         _ => None,
     }
 }

@@ -86,7 +86,8 @@ pub(crate) fn signal_end<B: Listener>(party: &mut Seated<B>, ending: Ending) -> 
     requires unclosed { party.old.seat.me.0.closing ≡ None }
     ensures sent { StepsTo party.old.seat
         (IsSent (Some (Closing ending)) result party.old.seat.me) party.new.seat }
-    ensures starts { IfSome result (IsReadySeat party.old.seat.table_id party.old.capacity) }
+    ensures starts { IfSome result
+        (IsReadySeat party.old.seat.table_id party.old.capacity party.old.seat.me.0.order) }
 {
     match ending {
         Ending::Normal => signal(party, COMPLETE),

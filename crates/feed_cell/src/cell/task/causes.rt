@@ -7,11 +7,12 @@ use crate::cell::{BAD_REQUEST, CANCELLED, CODE, COMPLETED, DOUBLED, FAILED};
 use feed_core::Causes;
 use flow_rules::Ending;
 
-/// Reads the causes that this control word tells, and joins those of the answers.
+/// Reads the causes that this control word tells, and joins those of the answers, with which the order of errors lies.
 pub(crate) fn causes_in(word: u64, answers: Causes) -> Causes
     ensures { (flags : Flags) → Reads word flags → result ≡ causes_of flags answers }
 {
     Causes {
+        order: answers.order,
         cancel: is_set(word, CANCELLED) || answers.cancel,
         argument: is_set(word, BAD_REQUEST) || answers.argument,
         state: is_set(word, DOUBLED),

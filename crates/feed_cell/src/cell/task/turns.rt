@@ -1,8 +1,8 @@
 //! A turn of a task: a greeting, if one is owed, and looks until it gave 64 items, rested or ended. Its words are the same as
 //! those of `Desk::turn`, which is a turn of one thread.
-ghost use Rattle.std.specs.Prelude.{◌≡◌, ◌≤◌, ◌↔◌, [], length, IfOk, IfErr, OnOk};
+ghost use Rattle.std.specs.Prelude.{◌≡◌, ◌≤◌, ◌↔◌, [], length, Err, IfOk, IfErr, OnOk};
 ghost use Rattle.feed_core.specs.Prelude.{Complete, Error, Fault, How, items_of};
-ghost use Rattle.feed_core.specs.Turn.{EndsIn};
+ghost use Rattle.feed_core.specs.Turn.{EndsIn, EndsInObeyed};
 ghost use Rattle.feed_core.specs.declared.turn.TheConstants.{ITEMS_IN_A_TURN, SIGNALS_IN_A_TURN};
 ghost use Rattle.feed_core.specs.declared.turn.outlook.Outlook.TheVariants.{Again, Ended};
 ghost use Rattle.feed_cell.specs.TaskPauses.{IsPaused};
@@ -34,9 +34,10 @@ pub enum Turn<B: Listener> {
 impl<B: Listener> Task<B> {
     /// Tells the subscriber what is owed: `onSubscribe` first of all, then items below the demand, 64 at most, then the
     /// terminal signal. What it was told is what `seen` then holds (`Flow.Subscriber`; Reactive Streams 1.0, rules 1.1, 1.3,
-    /// 1.5, 1.7 and 1.9). Before each item it looks: that look showed no cancel, bad request, second subscribing or error, and
-    /// a measure after it showed that the item was requested. What a callback answers is done at once; one that is refused
-    /// memory ends the subscription. It goes on only after 64 items, or if something was new when it would have rested.
+    /// 1.5, 1.7 and 1.9). Before each item it looks: that look showed no cancel, bad request, second subscribing or error that
+    /// overtakes the items, and a measure after it showed that the item was requested. What a callback answers is done at once;
+    /// one that is refused memory ends the subscription. It goes on only after 64 items, or if something was new when it would
+    /// have rested.
     pub fn turn(self, seen: &mut Seen) -> Turn<B>
 
         // What it tells, by what it takes each item, and what became of the task.
@@ -53,6 +54,10 @@ impl<B: Listener> Task<B> {
             ↔ (outlook_of result ≡ Ended How.Completed) }
         ensures errored { (fault : Fault)
             → EndsIn seen.new.signals (Error fault) ↔ (outlook_of result ≡ Ended (How.Errored fault)) }
+
+        // Whose failure ended it: that of the callback whose signal it told last.
+        ensures failed { (code : _) → outlook_of result ≡ Ended (How.Failed code)
+            → EndsInObeyed seen.new.signals }
     {
         let Task { mut party, stage } = self;
         seen.clear();
@@ -81,6 +86,8 @@ fn run<B: Listener>(party: &mut Seated<B>, stage: Stage, seen: &mut Seen) -> Out
     ensures seat { IsSameSeat party.old.seat party.new.seat }
     ensures runner { result ≡ Again → RunsFree party.new.seat.me.0 }
     ensures runs { RunsAs B.told result party.old.seat.me party.new.seat.me seen.new.signals }
+    ensures failed { (code : _) → result ≡ Ended (How.Failed code)
+        → EndsInObeyed seen.new.signals }
     ensures room { seen.new.room ≡ seen.old.room }
 {
     let mut stage = match greet(party, stage, seen) {
@@ -111,6 +118,8 @@ fn greet<B: Listener>(party: &mut Seated<B>, stage: Stage, seen: &mut Seen) -> R
         IsBeforeLook B.told stage 0 party.old.seat.me party.new.seat.me seen.new.signals) }
     ensures ends { IfErr result (λ how.
         RunsAs B.told (Ended how) party.old.seat.me party.new.seat.me seen.new.signals) }
+    ensures failed { (code : _) → result ≡ Err (How.Failed code)
+        → EndsInObeyed seen.new.signals }
     ensures room { seen.new.room ≡ seen.old.room }
 {
     match stage {

@@ -4,10 +4,10 @@ ghost use Rattle.publisher_hub.specs.Lending.{feed_at};
 ghost use Rattle.lines_demo.specs.Script.Acting.{ActsOn, was_started};
 ghost use Rattle.lines_demo.specs.Script.Obeying.{act_result, desk_after_act};
 ghost use Rattle.lines_demo.specs.Script.Playing.{Replies, IsLatest};
-ghost use Rattle.lines_demo.specs.Script.Reply.{reply_or_refusal};
+ghost use Rattle.commands.specs.Reply.{reply_or_refusal};
 
 use super::Session;
-use crate::script::reply::Reply;
+use commands::Reply;
 use feed_core::Desk;
 use flow_rules::{Listener, Name, Refusal};
 use publisher_hub::Hub;
@@ -24,7 +24,7 @@ pub enum Act {
 impl<B: Listener> Session<B> {
     /// Does this to the latest subscription of this name.
     pub(super) fn act(&mut self, name: Name, act: Act) -> Result<Reply, Refusal>
-        requires begun { self.old.has_begun ≡ true }
+        requires begun { self.old.beginning.is_over ≡ true }
         ensures { Replies (λ refusals. act_result self.old refusals name act)
             (reply_or_refusal result) self.new }
     {

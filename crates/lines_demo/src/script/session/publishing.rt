@@ -2,10 +2,10 @@
 ghost use Rattle.std.specs.Prelude.{◌≡◌, true, IfOk, IfErr};
 ghost use Rattle.lines_demo.specs.Script.Playing.{Replies, IsTextOf, OffersText, RefusesText};
 ghost use Rattle.lines_demo.specs.Script.Publishing.{offer_result, retry_result, submit_result, drops_in};
-ghost use Rattle.lines_demo.specs.Script.Reply.{reply_or_refusal};
+ghost use Rattle.commands.specs.Reply.{reply_or_refusal};
 
 use super::Session;
-use crate::script::reply::Reply;
+use commands::Reply;
 use flow_rules::{DropHandler, Item, Listener, Name, Refusal, Text};
 use publisher_hub::Unpublished;
 use std::alloc::Global;
@@ -16,7 +16,7 @@ const SOURCE: u32 = 0;
 impl<B: Listener> Session<B> {
     /// Offers a text to all live subscriptions.
     pub(super) fn offer(&mut self, alloc: Global, text: &[u8]) -> Result<Reply, Refusal>
-        requires begun { self.old.has_begun ≡ true }
+        requires begun { self.old.beginning.is_over ≡ true }
         ensures { Replies (λ refusals. offer_result self.old refusals text.now)
             (reply_or_refusal result) self.new }
     {
@@ -27,7 +27,7 @@ impl<B: Listener> Session<B> {
 
     /// Offers a text to all live subscriptions, and once more to each that had no room.
     pub(super) fn retry(&mut self, alloc: Global, text: &[u8]) -> Result<Reply, Refusal>
-        requires begun { self.old.has_begun ≡ true }
+        requires begun { self.old.beginning.is_over ≡ true }
         ensures { Replies (λ refusals. retry_result self.old refusals text.now)
             (reply_or_refusal result) self.new }
     {
@@ -46,7 +46,7 @@ impl<B: Listener> Session<B> {
         text: Text,
         handler: Option<&mut Box<dyn DropHandler>>,
     ) -> Result<i64, Refusal>
-        requires begun { self.old.has_begun ≡ true }
+        requires begun { self.old.beginning.is_over ≡ true }
         ensures ok { IfOk result (λ answer. OffersText self.old text answer self.new) }
         ensures refusals { IfErr result (λ refusal. RefusesText self.old refusal self.new) }
     {
@@ -57,7 +57,7 @@ impl<B: Listener> Session<B> {
 
     /// Publishes a text to all live subscriptions, and is refused where that would wait for room.
     pub(super) fn submit(&mut self, alloc: Global, text: &[u8]) -> Result<Reply, Refusal>
-        requires begun { self.old.has_begun ≡ true }
+        requires begun { self.old.beginning.is_over ≡ true }
         ensures { Replies (λ refusals. submit_result self.old refusals text.now)
             (reply_or_refusal result) self.new }
     {

@@ -3,13 +3,13 @@ ghost use Rattle.std.specs.Prelude.{◌≡◌, ◌≤◌, [], true, IfOk, IfErr}
 ghost use Rattle.feed_core.specs.LaneCalls.{IsCapacity};
 ghost use Rattle.lines_demo.specs.Prelude.{UNBOUNDED, desk_after_demand};
 ghost use Rattle.lines_demo.specs.Script.Playing.{Replies};
-ghost use Rattle.lines_demo.specs.Script.Reply.{reply_or_refusal};
+ghost use Rattle.commands.specs.Reply.{reply_or_refusal};
 ghost use Rattle.lines_demo.specs.Script.Subscribing.{sub_result, desk_at_start};
 
 use super::Session;
-use crate::script::reply::Reply;
+use commands::Reply;
 use feed_core::Desk;
-use flow_rules::{Listener, Name, NoMemory, Refusal};
+use flow_rules::{ErrorOrder, Listener, Name, NoMemory, Refusal};
 use std::alloc::Global;
 
 impl<B: Listener> Session<B> {
@@ -20,7 +20,7 @@ impl<B: Listener> Session<B> {
         name: Name,
         number: u64,
     ) -> Result<Reply, Refusal>
-        requires begun { self.old.has_begun ≡ true }
+        requires begun { self.old.beginning.is_over ≡ true }
         requires bounded { number ≤ UNBOUNDED }
         ensures { Replies (λ refusals. sub_result self.old refusals name number)
             (reply_or_refusal result) self.new }
@@ -32,7 +32,8 @@ impl<B: Listener> Session<B> {
         let Some(subscriber) = self.stock.pop_front() else {
             return Err(Refusal::TooMany);
         };
-        match new_desk(alloc, self.hub.capacity(), subscriber, number) {
+        let order = self.beginning.order;
+        match new_desk(alloc, self.hub.capacity(), order, subscriber, number) {
             Ok(desk) => {
                 let entry = self.hub.admit(name, desk, None, &mut self.due)?;
                 self.woken.push(entry);
@@ -46,10 +47,11 @@ impl<B: Listener> Session<B> {
     }
 }
 
-/// A new subscription of this subscriber, which has requested so many items. Where memory is refused, the subscriber comes back.
+/// A new subscription of this subscriber, which has requested so many items, and is told a closing error in this order. Where memory is refused, the subscriber comes back.
 fn new_desk<B: Listener>(
     alloc: Global,
     capacity: usize,
+    order: ErrorOrder,
     subscriber: B,
     number: u64,
 ) -> Result<Desk<B>, B>
@@ -57,10 +59,11 @@ fn new_desk<B: Listener>(
     requires steady { B.is_steady subscriber ≡ true }
     requires sized { IsCapacity capacity }
     requires bounded { number ≤ UNBOUNDED }
-    ensures ok { IfOk result (λ desk. desk ≡ desk_after_demand number (desk_at_start capacity)) }
+    ensures ok { IfOk result
+        (λ desk. desk ≡ desk_after_demand number (desk_at_start order capacity)) }
     ensures back { IfErr result (λ back. back ≡ subscriber) }
 {
-    match Desk::new(alloc, capacity, subscriber) {
+    match Desk::new_with(alloc, capacity, order, subscriber) {
         Ok(mut desk) => {
             if number > 0 {
                 let _ = desk.request(number as i64);

@@ -1,15 +1,13 @@
-use Rattle.std.proofs.Common.{◌≡◌, ◌+◌, ◌≤◌, ◌++◌, length, vec_len}
+use Rattle.std.proofs.Common.{◌≡◌, ◌++◌, []}
 use Rattle.std.specs.Vec.{vec_capacity}
-use Rattle.async_pool.specs.Inbox.{jobs_of, push_count, take_count}
+use Rattle.crossbeam_queue.specs.Passes.{view, IsPassOf}
+use Rattle.async_pool.specs.Bag.{log}
 use Rattle.async_pool.proofs.inbox.Inbox.drain_into.Given as goal
 
-abbrev pub invariant-loop-job : goal.invariant-loop-job
-invariant-loop-job g l = record {
-  room : vec_len l.left + length (jobs_of l.self) ≤ vec_capacity l.left;
-  order : l.left.items ++ jobs_of l.self ≡ l.initial.left.items ++ jobs_of l.initial.self;
-  taken : take_count l.self + length (jobs_of l.self) ≡ take_count l.initial.self + length (jobs_of l.initial.self);
-  pushed : push_count l.self ≡ push_count l.initial.self;
+abbrev pub invariant-loop : goal.invariant-loop
+invariant-loop g l = record {
+  of : IsPassOf l.self.queue l.pass;
+  put : (view l.pass).put ≡ [];
+  order : l.left.items ≡ l.initial.left.items ++ (view l.pass).taken;
+  room : vec_capacity l.left ≡ vec_capacity l.initial.left;
 }
-
-abbrev pub decreases-loop-job : goal.decreases-loop-job
-decreases-loop-job g l = length (jobs_of l.self)

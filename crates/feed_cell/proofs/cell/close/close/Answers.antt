@@ -27,4 +27,4 @@ returns-clause-own g c same =
     let v = c.in_ok-table.seat.me in let w = c.step_out-asking.result.me.0 in let me = c.join_if_of_one_table.new.seat.me in
     c.take_apart.ensures.left end (Some c.args.handle) (still v w me joined (λ v. end ≡ known_end v end.ready) knows knows)
     (in_it v w me joined (KnowsHandle c.args.handle) (c.step_out-asking.ensures.seat.0 ∙ same ∙ sym here.table ∙ here.seat)
-    (record { is = asks.is; left = asks.left; asked = asks.asked; cancelled = asks.cancelled; argument = asks.argument }))
+    (record { is = asks.is; left = asks.left; order = asks.order; asked = asks.asked; cancelled = asks.cancelled; argument = asks.argument }))

@@ -19,7 +19,7 @@ returns-after-head-lt-MARK-clause-there g c home =
     let whole : c.into_inner-subscriber.result ≡ c.in-Guest.guest = c.into_inner-subscriber.ensures ∙ c.guest.view_is in
     let own : c.into_inner-subscriber.result.own ≡ c.in-Guest.guest.own = ap (λ (l : Lodger g.row.B.Denot). l.own) whole in
     let total : c.min.result ≡ total_after (c.args.asked % MARK) c.in-Guest.guest.own = omega arith in
-    let lane : Lodger g.row.B.Denot → ℕ → Lane g.row.B.Denot = λ l asked. record { subscriber = Some l.subscriber; accepted = c.args.tail; given = c.args.head % MARK; asked = asked; ending = l.how; running = running } in
+    let lane : Lodger g.row.B.Denot → ℕ → Lane g.row.B.Denot = λ l asked. record { subscriber = Some l.subscriber; accepted = c.args.tail; given = c.args.head % MARK; asked = asked; ending = l.how; order = Some l.answers.order; running = running } in
     on_guest c.args.last c.in-Guest.guest _ c.in-Guest.is (
       running,
       λ off. elim c.if-head-lt-MARK.branch [ then-head-lt-MARK w ↦ inr (ltb-false c.args.asked MARK (sym w.result-is ∙ off)) | else-head-lt-MARK w ↦ inl w.if-head-lt-MARK.false ],

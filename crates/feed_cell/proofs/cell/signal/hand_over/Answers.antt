@@ -13,4 +13,4 @@ pub returns-clause-handed : goal.returns-clause-handed
 returns-clause-handed g c = ((c.split_seat.ensures.0, c.split_seat.ensures.1), (sym (low_bit c.args.found) ∙ c.if-found-ne0.false, c.split_seat.ensures.2))
 
 pub returns-clause-starts : goal.returns-clause-starts
-returns-clause-starts g c = (c.split_seat.ensures.3, c.split_seat.ensures.4 ∙ ap (λ (n : ℕ). (ready_view n, [])) c.args.party.now.sized)
+returns-clause-starts g c = (c.split_seat.ensures.3, c.split_seat.ensures.4 ∙ ap (λ (n : ℕ). (ready_view n c.args.party.now.seat.me.0.order, [])) c.args.party.now.sized)

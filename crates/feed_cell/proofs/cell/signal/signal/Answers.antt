@@ -1,5 +1,7 @@
-use Rattle.std.proofs.Common.{rules, ◌∙◌}
+use Rattle.std.proofs.Common.{rules, ◌∙◌, ap, []}
+use Rattle.feed_core.specs.Prelude.{ErrorOrder}
 use Rattle.feed_cell.specs.Control.{cause_in}
+use Rattle.feed_cell.specs.Views.{ready_view}
 use Rattle.feed_cell.proofs.HandOver.{on_some}
 use Rattle.feed_cell.proofs.SignalStep.{signals}
 use Rattle.feed_cell.proofs.SignalSent.{signalled, must_hand_over}
@@ -17,4 +19,4 @@ returns-clause-sent g c =
     ((there.0.0 ∙ c.fetch_or-found.ensures.0, there.0.1 ∙ c.fetch_or-found.ensures.1), signalled (cause_in c.args.mask) c.fetch_or-found.result c.hand_over.result c.args.party.now.seat.me c.fetch_or-found.new.seat.me c.hand_over.new.party.seat.me c.fetch_or-found.ensures.2 there.1)
 
 pub returns-clause-starts : goal.returns-clause-starts
-returns-clause-starts g c = on_some c.hand_over.result (λ task ready. (ready.0 ∙ c.fetch_or-found.ensures.0, ready.1)) c.hand_over.ensures.starts
+returns-clause-starts g c = on_some c.hand_over.result (λ task ready. (ready.0 ∙ c.fetch_or-found.ensures.0, ready.1 ∙ ap (λ (order : ErrorOrder). (ready_view c.args.party.now.capacity order, [])) c.fetch_or-found.ensures.2.ordered)) c.hand_over.ensures.starts

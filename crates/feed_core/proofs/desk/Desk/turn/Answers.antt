@@ -2,6 +2,7 @@
 use Rattle.std.proofs.Common.{length, ap, ◌∙◌, arith}
 use Rattle.feed_core.specs.Prelude.{Complete, Error}
 use Rattle.feed_core.specs.Seen.{SeenState}
+use Rattle.feed_core.proofs.FailedTurns.{failed_last}
 use Rattle.feed_core.proofs.GreetedTurns.{completes_greeted, errs_greeted, few_greeted, in_order_greeted, turns_greeted}
 use Rattle.feed_core.proofs.SteadyTurns.{turn_changes, turn_meets}
 use Rattle.feed_core.proofs.StoppedLooks.{stopped_gives_nothing}
@@ -39,6 +40,7 @@ returns-in_default g c =
       again = λ e. absurd (other e);
       completed = completes_greeted greets other nothing;
       errored = errs_greeted greets other nothing;
+      failed = failed_last turns.1;
     }
 
 pub returns-in_default-look : goal.returns-in_default-look
@@ -61,6 +63,7 @@ returns-in_default-look g c =
       again = λ e. absurd (other e);
       completed = completes so_far looks;
       errored = errs so_far looks;
+      failed = failed_last turns.1;
     }
 
 pub returns-clause-turned : goal.returns-clause-turned

@@ -1,4 +1,4 @@
-use Rattle.lines_demo.proofs.Writers.{writes_none}
+use Rattle.commands.proofs.Writers.{writes_none}
 use Rattle.lines_demo.proofs.script.turn_lines.write_signal.Goals as goal
 
 pub returns-in-Subscribed : goal.returns-in-Subscribed

@@ -1,5 +1,5 @@
 use Rattle.std.proofs.Common.{inl, inr, append-nil}
-use Rattle.lines_demo.proofs.Writers.{writes_after, writes_done}
+use Rattle.commands.proofs.Writers.{writes_after, writes_done}
 use Rattle.lines_demo.proofs.script.turn_lines.write_turn.Goals as goal
 
 pub returns-in-Ended : goal.returns-in-Ended

@@ -1,6 +1,6 @@
 use Rattle.std.proofs.Common.{◌∙◌, ap, length, nat_le}
 use Rattle.std.specs.Prelude.{unwrap_or}
-use Rattle.lines_demo.proofs.Places.{unwrap_or_position}
+use Rattle.commands.proofs.Places.{unwrap_or_position}
 use Rattle.lines_demo.proofs.threads.input.place_of.Goals as goal
 
 pub returns-clause-place : goal.returns-clause-place

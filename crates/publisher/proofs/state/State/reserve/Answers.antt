@@ -1,10 +1,13 @@
+use Rattle.std.proofs.Common.{subst}
 use Rattle.publisher_hub.specs.Hub.{hub_of}
 use Rattle.publisher.proofs.Admitted.{same_count, ticket_for_one}
+use Rattle.publisher.proofs.FreeNames.{refused_adds_none, seen_adds_none, ticket_adds_none}
 use Rattle.publisher.proofs.GrownStates.{on_ok_all, opened_after, state_ticketed}
 use Rattle.publisher.proofs.KeptStates.{state_stays, stays_refused, stays_seen}
 use Rattle.publisher.proofs.Refused.{ticket_refused}
 use Rattle.publisher.proofs.state.State.reserve.Goals as goal
-use Rattle.publisher.specs.State.{producer_end}
+use Rattle.publisher.specs.State.{PublisherState, producer_end}
+use Rattle.publisher.specs.Subscribing.{AddsNone}
 
 pub invariant_of-self : goal.invariant_of-self
 invariant_of-self g c =
@@ -29,4 +32,12 @@ returns g c =
       can = on_ok_all c.add_ticket.result (adds.keeps c.args.name c.may_subscribe.new.due c.in_ok-may_subscribe.ensures.can);
       ticket = ticket_for_one c.add_ticket.result c.may_subscribe.new.self c.add_ticket.new.self adds.closed adds.ok;
       refusals = ticket_refused c.add_ticket.result c.may_subscribe.new.self.opening adds.refusals;
+      adds_none = subst (λ (s : PublisherState). AddsNone (hub_of producer_end s.hub) (hub_of producer_end c.add_ticket.new.self)) c.self.view_is
+          (ticket_adds_none c.self.inside.hub c.may_subscribe.new.self c.add_ticket.new.self adds.rest
+          (seen_adds_none c.self.inside.hub c.may_subscribe.new.self c.in_ok-may_subscribe.ensures.seen));
     }
+
+pub returns-in_err-may_subscribe-clause-adds_none : goal.returns-in_err-may_subscribe-clause-adds_none
+returns-in_err-may_subscribe-clause-adds_none g c =
+    subst (λ (s : PublisherState). AddsNone (hub_of producer_end s.hub) (hub_of producer_end c.may_subscribe.new.self)) c.self.view_is
+    (refused_adds_none c.args.name c.args.due.now.items c.may_subscribe.new.due.items c.self.inside.hub c.may_subscribe.new.self c.in_err-may_subscribe.field-0.0 c.in_err-may_subscribe.ensures.refusals)

@@ -51,7 +51,7 @@ returns-clause-ok g c =
     subst (λ (s : PublisherState). Audits t.sources t.publications.amount t.drops.amount s.hub.next s.hub.dropping c.audit-missing.result) kept c.audit-missing.ensures.audits in
     rw (← c.self.view_is) (record {
       found = found;
-      ends = are_taken_out hub c.self.inside.counted _ founds is refl found c.args.subscriptions.items c.deref_mut-2.result.now c.next_serial.result c.self.inside.hub.dropping c.is_some-2.result (serial ∙ next) refl long placed finds.here (finds.missing there.0)
+      ends = are_taken_out hub c.self.inside.counted _ founds is refl found c.args.subscriptions.items c.deref_mut-2.result.now c.next_serial.result c.self.inside.hub.dropping c.is_some-2.result (serial ∙ next) refl long placed finds.here finds.missing (finds.reclaimed there.0)
           (λ last k entry at. all_spent hub c.self.inside.entries c.self.inside.counted c.self.inside.last c.is_some-2.result is.tickets is.entries_are none drained last k entry at);
       published = serial ∙ next;
       audited = subst (λ d. AreAudited c.args.submitters.items c.next_serial.result d c.audit-missing.result) dropping

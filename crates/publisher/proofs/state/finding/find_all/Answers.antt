@@ -20,7 +20,7 @@ push_reserved-requires g c = let many = c.loop-number.invariant.0.as_many in let
 pub loop-number-preserved : goal.loop-number-preserved
 loop-number-preserved g c =
     let finding = c.loop-number.invariant.0 in (
-      rw (c.push_reserved.ensures.items, c.is_some-is_handed.ensures, c.is_missing.ensures) (finding_more c.args.hub.now c.loop-number.hub c.find_one-found.new.hub c.args.counted c.args.handles.now c.loop-number.handles c.take_at-handle.new.handles c.loop-number.number c.loop-number.founds.items c.loop-number.gone
+      rw (c.push_reserved.ensures.items, c.is_some-is_handed.ensures, c.is_reclaimed.ensures) (finding_more c.args.hub.now c.loop-number.hub c.find_one-found.new.hub c.args.counted c.args.handles.now c.loop-number.handles c.take_at-handle.new.handles c.loop-number.number c.loop-number.founds.items c.loop-number.gone
           c.take_at-handle.result c.find_one-found.result finding c.take_at-handle.ensures.taken c.take_at-handle.ensures.left c.find_one-found.ensures.finds c.find_one-found.ensures.sound),
       omega arith,
       rw c.push_reserved.ensures.capacity c.loop-number.invariant.2,

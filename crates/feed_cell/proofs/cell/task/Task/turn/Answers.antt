@@ -1,10 +1,9 @@
 -- What came of the turn, and what that says of the signals that it saw.
 use Rattle.std.proofs.Common.{◌≡◌, length, subst, sym}
-use Rattle.feed_core.specs.World.Table.{MayEnd}
 use Rattle.feed_core.specs.declared.turn.outlook.Outlook.TheVariants.{Ended}
 use Rattle.feed_cell.specs.Parties.{TaskState, known_by_task}
 use Rattle.feed_cell.specs.Seats.{CellSeat}
-use Rattle.feed_cell.specs.TaskTurns.{MayGoOn, StopsAs}
+use Rattle.feed_cell.specs.TaskTurns.{MayEndIn, MayGoOn, StopsAs}
 use Rattle.feed_cell.proofs.TurnSignals.{few_seen, few_items, completed_by, errored_by}
 use Rattle.feed_cell.proofs.cell.task.Task.turn.Goals as goal
 
@@ -37,7 +36,7 @@ returns-in-Resting-clause-errored g c = errored_by c.in-Resting.ensures.runs.0.t
 
 pub returns-in-Ended-clause-turned : goal.returns-in-Ended-clause-turned
 returns-in-Ended-clause-turned g c =
-    let ended = λ (t : TaskState) (after : CellSeat g.row.B.Denot). (after.table_id ≡ t.table) × (after.id ≡ t.seat) × StopsAs t.knows (known_by_task after.me.0) t.told c.run.new.seen.signals (Ended c.in-Ended.how) × MayEnd c.in-Ended.how (length after.me.0.taken) after.me.0.runner in
+    let ended = λ (t : TaskState) (after : CellSeat g.row.B.Denot). (after.table_id ≡ t.table) × (after.id ≡ t.seat) × StopsAs t.knows (known_by_task after.me.0) t.told c.run.new.seen.signals (Ended c.in-Ended.how) × MayEndIn t.knows.order c.in-Ended.how (length after.me.0.taken) after.me.0.runner in
     let end = c.in-Ended.ensures in
     subst (ended c.args.self) (sym c.into_seat-seat-in-Ended.ensures) (subst (λ (t : TaskState). ended t c.run.new.party.seat) c.self.view_is (end.seat.0, end.seat.1, end.runs.0, end.runs.1))
 

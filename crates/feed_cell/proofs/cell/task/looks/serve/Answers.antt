@@ -1,14 +1,16 @@
-use Rattle.std.proofs.Common.{sym, ap, subst}
+use Rattle.std.proofs.Common.{sym, ap, subst, ◌∙◌}
+use Rattle.feed_core.specs.Cause.{IsNoFailure}
+use Rattle.feed_core.proofs.FailedTurns.{stops_without_failure}
 use Rattle.feed_cell.proofs.HandOver.{some_of, none_of}
 use Rattle.feed_cell.proofs.TaskLooks.{serves_finish, serves_give, serves_none, has_taken, carries_on}
 use Rattle.feed_cell.specs.Seats.{SeatOf}
-use Rattle.feed_cell.specs.TaskSteps.{Carries, TakesNext}
+use Rattle.feed_cell.specs.TaskSteps.{Carries, IsInOrder, TakesNext}
 use Rattle.feed_cell.specs.TaskLooks.{Serves}
 use Rattle.feed_cell.proofs.cell.task.looks.serve.Goals as goal
 
 pub returns-in-Some-clause-serves : goal.returns-in-Some-clause-serves
 returns-in-Some-clause-serves g c = serves_finish g.B.Listener.told c.in-Some.due c.finish.result c.args.party.now.seat.me c.notes-given.new.party.seat.me c.finish.new.party.seat.me c.args.seen.now c.finish.new.seen
-    (ap (λ (m : SeatOf g.row.B.Denot). m.1) c.notes-given.ensures.same) (ap (λ (m : SeatOf g.row.B.Denot). m.0.taken) c.notes-given.ensures.same) (ap (λ (m : SeatOf g.row.B.Denot). m.0.misses) c.notes-given.ensures.same) (ap (λ (m : SeatOf g.row.B.Denot). m.0.grants) c.notes-given.ensures.same) c.finish.ensures.finishes
+    (ap (λ (m : SeatOf g.row.B.Denot). m.1) c.notes-given.ensures.same) (ap (λ (m : SeatOf g.row.B.Denot). m.0.taken) c.notes-given.ensures.same) (ap (λ (m : SeatOf g.row.B.Denot). m.0.misses) c.notes-given.ensures.same) (ap (λ (m : SeatOf g.row.B.Denot). m.0.grants) c.notes-given.ensures.same) (ap (λ (m : SeatOf g.row.B.Denot). m.0.order) c.notes-given.ensures.same, λ stood. subst (λ (m : SeatOf g.row.B.Denot). IsInOrder c.args.party.now.seat.me.0.order m.0.runner) (sym c.notes-given.ensures.same) stood) (subst IsNoFailure (sym c.stops.ensures ∙ c.in-Some.is) (stops_without_failure c.causes_in-causes.result)) c.finish.ensures.finishes
 
 pub give-requires-clause-taken : goal.give-requires-clause-taken
 give-requires-clause-taken g c = has_taken g.B.Listener.told c.in-Some-next.item c.notes-given.new.party.seat.me c.next_item-tail.new.party.seat.me

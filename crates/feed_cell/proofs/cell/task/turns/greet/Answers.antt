@@ -35,5 +35,6 @@ returns-in_default g c = record {
   runner = c.requires.runner;
   goes = stays g.B.Listener.told c.args.stage c.args.party.now.seat.me c.args.seen.now.signals c.in_default.not-Fresh c.requires.nothing c.requires.paused;
   ends = tt;
+  failed = λ code e. cc;
   room = refl;
 }

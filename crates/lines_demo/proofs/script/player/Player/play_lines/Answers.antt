@@ -1,7 +1,7 @@
 use Rattle.std.proofs.Common.{◌≡◌, ◌<◌, [], length, rules}
 use Rattle.std.proofs.lemmas.Result.{err_from_is_err_and}
 use Rattle.lines_demo.proofs.Results.{progress_start}
-use Rattle.lines_demo.proofs.Writers.{empty_is}
+use Rattle.commands.proofs.Writers.{empty_is}
 use Rattle.lines_demo.proofs.Lines.{lines_more, lines_fault, lines_end}
 use Rattle.lines_demo.proofs.script.player.Player.play_lines.Goals as goal
 

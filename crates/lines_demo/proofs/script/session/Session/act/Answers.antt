@@ -2,7 +2,7 @@ use Rattle.std.proofs.Common.{Some, length, sym, ap, subst, ◌∙◌}
 use Rattle.lines_demo.specs.Script.Obeying.{act_result}
 use Rattle.lines_demo.specs.Script.Playing.{IsLatest}
 use Rattle.lines_demo.specs.Script.State.{SessionState}
-use Rattle.lines_demo.specs.declared.script.reply.Reply.TheVariants.{Done}
+use Rattle.commands.specs.declared.reply.Reply.TheVariants.{Done}
 use Rattle.lines_demo.proofs.ActingSessions.{acted, acted_room, latest_there}
 use Rattle.lines_demo.proofs.AnsweredSessions.{IsAnswered}
 use Rattle.lines_demo.proofs.Inside.{state_inside, woken_with}
@@ -29,15 +29,15 @@ act_at-is_started-requires g c = record {
 -- what is left once it was done
 done : (g : Over) (c : After-act_at-is_started g)
     → IsAnswered (λ refusals. act_result (state_inside c.self.inside) refusals c.args.name c.args.act) Done c.act_at-is_started.new.hub (length c.self.inside.stock.items)
-    (woken_with c.self.inside.woken c.in-Some.entry c.act_at-is_started.result) c.self.inside.has_begun
+    (woken_with c.self.inside.woken c.in-Some.entry c.act_at-is_started.result) c.self.inside.beginning
 done g c =
-    acted c.self.inside c.act_at-is_started.new.hub c.args.name c.args.act c.in-Some.entry c.act_at-is_started.result c.self.invariant.2 (ap (λ (s : SessionState). s.has_begun) c.self.view_is ∙ c.requires.begun)
+    acted c.self.inside c.act_at-is_started.new.hub c.args.name c.args.act c.in-Some.entry c.act_at-is_started.result c.self.invariant.2 (ap (λ (s : SessionState). s.beginning.is_over) c.self.view_is ∙ c.requires.begun)
     (latest g (goal.at.After-act_at-is_started g c).In-Some) c.act_at-is_started.ensures
 
 pub push_if-requires : goal.push_if-requires
 push_if-requires g c = record {
   room =
-      acted_room c.self.inside c.act_at-is_started.new.hub c.args.name c.args.act c.in-Some.entry c.act_at-is_started.result c.self.invariant.2 (ap (λ (s : SessionState). s.has_begun) c.self.view_is ∙ c.requires.begun)
+      acted_room c.self.inside c.act_at-is_started.new.hub c.args.name c.args.act c.in-Some.entry c.act_at-is_started.result c.self.invariant.2 (ap (λ (s : SessionState). s.beginning.is_over) c.self.view_is ∙ c.requires.begun)
       (latest g (goal.at.push_if-requires g c).In-Some) c.act_at-is_started.ensures;
 }
 

@@ -7,7 +7,7 @@ use Rattle.lines_demo.specs.Prelude.{Refusal}
 use Rattle.lines_demo.specs.Script.Obeying.{closing_result}
 use Rattle.lines_demo.specs.Script.Session.{numbers_of}
 use Rattle.lines_demo.specs.Script.State.{SessionState}
-use Rattle.lines_demo.specs.declared.script.reply.Reply.TheVariants.{Done}
+use Rattle.commands.specs.declared.reply.Reply.TheVariants.{Done}
 use Rattle.lines_demo.proofs.AnsweredSessions.{IsAnswered}
 use Rattle.lines_demo.proofs.HubCloses.{closed, closed_room}
 use Rattle.lines_demo.proofs.HubLooks.{may_prepare_all_same}
@@ -23,11 +23,11 @@ pub returns-then-is_some : goal.returns-then-is_some
 returns-then-is_some g c = rw (← c.self.view_is) (closing_again c.args.ending (state_inside c.self.inside) (ap is_some (sym c.ending.ensures) ∙ sym c.is_some.ensures ∙ c.if-is_some.true))
 
 -- memory was refused after some looks
-looked : (g : Over) (c : After-from_residual g) → IsSameSession c.self.inside.hub c.end.new.self (length c.self.inside.stock.items) c.self.inside.woken c.self.inside.has_begun
+looked : (g : Over) (c : After-from_residual g) → IsSameSession c.self.inside.hub c.end.new.self (length c.self.inside.stock.items) c.self.inside.woken c.self.inside.beginning
 looked g c =
     let old = c.self.inside.hub in
     let is = c.self.invariant.2 in
-    session_looked old c.end.new.self (length c.self.inside.stock.items) c.self.inside.woken c.self.inside.has_begun is c.in_err-end.ensures.sound
+    session_looked old c.end.new.self (length c.self.inside.stock.items) c.self.inside.woken c.self.inside.beginning is c.in_err-end.ensures.sound
     (ap (λ h. h.progress) c.in_err-end.ensures.looked.rest) (may_prepare_all_same old.next old.entries.items c.end.new.self.entries.items is.publisher.entries c.in_err-end.ensures.exact)
 
 pub invariant_of-self : goal.invariant_of-self
@@ -40,8 +40,8 @@ returns-in_err-end g c =
     rw (← c.self.view_is, failed.1, failed.2, why, (looked g (goal.at.returns-in_err-end g c).After-from_residual).state) (
     closing_no_memory c.args.ending (state_inside c.self.inside) (sym (c.is_some.ensures ∙ ap is_some c.ending.ensures) ∙ c.if-is_some.false))
 
-begun : (g : Over) (c : In_ok-end g) → c.self.inside.has_begun ≡ true
-begun g c = ap (λ (s : SessionState). s.has_begun) c.self.view_is ∙ c.requires.begun
+begun : (g : Over) (c : In_ok-end g) → c.self.inside.beginning.is_over ≡ true
+begun g c = ap (λ (s : SessionState). s.beginning.is_over) c.self.view_is ∙ c.requires.begun
 
 -- it wasn't closed before
 unclosed : (g : Over) (c : In_ok-end g) → c.self.inside.hub.ending ≡ None
@@ -53,7 +53,7 @@ closes g c = (c.in_ok-end.ensures.first (unclosed g c)).1
 
 -- what that leaves
 done : (g : Over) (c : In_ok-end g)
-    → IsAnswered (λ refusals. closing_result c.args.ending (state_inside c.self.inside) refusals) Done c.end.new.self (length c.self.inside.stock.items) (c.self.inside.woken ++ numbers_of c.end.new.due.items) c.self.inside.has_begun
+    → IsAnswered (λ refusals. closing_result c.args.ending (state_inside c.self.inside) refusals) Done c.end.new.self (length c.self.inside.stock.items) (c.self.inside.woken ++ numbers_of c.end.new.due.items) c.self.inside.beginning
 done g c = closed c.self.inside c.end.new.self c.args.ending c.end.new.due.items c.self.invariant.2 c.self.invariant.3 (unclosed g c) c.in_ok-end.ensures.sound (closes g c) (begun g c)
 
 pub push_all-requires : goal.push_all-requires

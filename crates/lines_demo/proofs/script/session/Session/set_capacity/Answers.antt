@@ -30,10 +30,10 @@ pub invariant_of-self : goal.invariant_of-self
 invariant_of-self g c =
     let some : 0 < c.args.asked = above_0 c.args.asked (λ none. let odd = c.in_ok-enforced.ensures.refused.1 none in cc) in
     let least = subst (IsCapacityOf c.args.asked) c.in_ok-enforced.ensures.value c.in_ok-enforced.ensures.least in
-    (c.self.invariant.0, c.self.invariant.1, session_resized c.self.inside.hub c.in_ok-self-inside.field-0 (length c.self.inside.stock.items) c.args.asked c.self.inside.woken c.self.inside.has_begun c.self.invariant.2 c.if-self.false c.in_ok-self-inside.ensures.ok c.in_ok-self-inside.ensures.sound some least, c.self.invariant.3)
+    (c.self.invariant.0, c.self.invariant.1, session_resized c.self.inside.hub c.in_ok-self-inside.field-0 (length c.self.inside.stock.items) c.args.asked c.self.inside.woken c.self.inside.beginning c.self.invariant.2 c.if-self.false c.in_ok-self-inside.ensures.ok c.in_ok-self-inside.ensures.sound some least, c.self.invariant.3)
 
 pub returns : goal.returns
 returns g c =
     let some : 0 < c.args.asked = above_0 c.args.asked (λ none. let odd = c.in_ok-enforced.ensures.refused.1 none in cc) in
-    let resized = state_resized c.self.inside.hub c.in_ok-self-inside.field-0 (length c.self.inside.stock.items) c.args.asked c.self.inside.woken c.self.inside.has_begun c.self.invariant.2 c.if-self.false c.in_ok-self-inside.ensures.ok in
+    let resized = state_resized c.self.inside.hub c.in_ok-self-inside.field-0 (length c.self.inside.stock.items) c.args.asked c.self.inside.woken c.self.inside.beginning c.self.invariant.2 c.if-self.false c.in_ok-self-inside.ensures.ok in
     rw (← c.self.view_is, c.in_ok-enforced.ensures.value, resized) (cap_done (state_inside c.self.inside) c.args.asked c.if-self.false some)

@@ -24,7 +24,7 @@ push_all-requires g c =
     let new = c.publish.new.self in
     let is = c.self.invariant.2 in
     let all = hub_submitted c.in_ok-text.text old new c.self.inside.due.items c.publish.new.due.items c.in-Ok.lag is.publisher c.self.invariant.3 c.in-Ok.ensures.sound c.in-Ok.ensures.ok in
-    record { room = published_room old new (length c.self.inside.stock.items) c.self.inside.woken c.self.inside.has_begun is c.in_ok-text.text c.publish.new.due.items all.published }
+    record { room = published_room old new (length c.self.inside.stock.items) c.self.inside.woken c.self.inside.beginning is c.in_ok-text.text c.publish.new.due.items all.published }
 
 -- what was submitted
 submitted : (g : Over) (c : goal.After-push_all g) → HubSubmitted c.in_ok-text.text c.self.inside.hub c.publish.new.self c.publish.new.due.items c.in-Ok.lag
@@ -34,7 +34,7 @@ submitted g c =
 -- its lag is small
 small : (g : Over) (c : goal.After-push_all g) → c.in-Ok.lag < 2 ^ 63
 small g c =
-    let few = lag_small c.self.inside.hub c.publish.new.self (length c.self.inside.stock.items) c.self.inside.woken c.self.inside.has_begun c.self.invariant.2 c.in_ok-text.text c.publish.new.due.items c.in-Ok.lag (submitted g c) in
+    let few = lag_small c.self.inside.hub c.publish.new.self (length c.self.inside.stock.items) c.self.inside.woken c.self.inside.beginning c.self.invariant.2 c.in_ok-text.text c.publish.new.due.items c.in-Ok.lag (submitted g c) in
     omega arith
 
 pub overflow_cast-result : goal.overflow_cast-result
@@ -42,17 +42,17 @@ overflow_cast-result g c = let few = small g c in search rules
 
 pub invariant_of-self : goal.invariant_of-self
 invariant_of-self g c =
-    let begun : c.self.inside.has_begun ≡ true = ap (λ (s : SessionState). s.has_begun) c.self.view_is ∙ c.requires.begun in
+    let begun : c.self.inside.beginning.is_over ≡ true = ap (λ (s : SessionState). s.beginning.is_over) c.self.view_is ∙ c.requires.begun in
     rw c.push_all.ensures.woken (
       c.self.invariant.0,
       c.self.invariant.1,
-      published_session c.self.inside.hub c.publish.new.self (length c.self.inside.stock.items) c.self.inside.woken c.self.inside.has_begun c.self.invariant.2 c.in_ok-text.text c.publish.new.due.items (submitted g c).published begun,
+      published_session c.self.inside.hub c.publish.new.self (length c.self.inside.stock.items) c.self.inside.woken c.self.inside.beginning c.self.invariant.2 c.in_ok-text.text c.publish.new.due.items (submitted g c).published begun,
       c.push_all.ensures.nothing_due,
     )
 
 pub returns-in-Ok : goal.returns-in-Ok
 returns-in-Ok g c =
-    submitted_replies c.self.inside.hub c.publish.new.self (length c.self.inside.stock.items) c.self.inside.woken c.self.inside.has_begun c.self.invariant.2 c.args.text.now c.in_ok-text.text c.publish.new.due.items c.in-Ok.lag
+    submitted_replies c.self.inside.hub c.publish.new.self (length c.self.inside.stock.items) c.self.inside.woken c.self.inside.beginning c.self.invariant.2 c.args.text.now c.in_ok-text.text c.publish.new.due.items c.in-Ok.lag
     c.in_ok-text.ensures (submitted g c) c.args.self.now c.self.view_is c.push_all.new.self c.push_all.ensures.woken (to_z w64 c.in-Ok.lag) (to_z_pos w64 c.in-Ok.lag (small g c))
 
 -- it was refused
@@ -64,13 +64,13 @@ refused g c =
 pub invariant_of-self-in-Err-Refused : goal.invariant_of-self-in-Err-Refused
 invariant_of-self-in-Err-Refused g c =
     let against = refused g c in
-    let same = session_looked c.self.inside.hub c.publish.new.self (length c.self.inside.stock.items) c.self.inside.woken c.self.inside.has_begun c.self.invariant.2 c.in-Err-Refused.ensures.sound against.far against.sees in
+    let same = session_looked c.self.inside.hub c.publish.new.self (length c.self.inside.stock.items) c.self.inside.woken c.self.inside.beginning c.self.invariant.2 c.in-Err-Refused.ensures.sound against.far against.sees in
     let nothing : c.publish.new.due.items ≡ c.self.inside.due.items = c.in-Err-Refused.ensures.nothing_due in
     (c.self.invariant.0, c.self.invariant.1, same.session, subst (λ items. items ≡ []) (sym nothing) c.self.invariant.3)
 
 pub returns-in-Err-Refused : goal.returns-in-Err-Refused
 returns-in-Err-Refused g c =
-    not_submitted_replies c.self.inside.hub c.publish.new.self (length c.self.inside.stock.items) c.self.inside.woken c.self.inside.has_begun c.self.invariant.2 c.args.text.now c.in_ok-text.text c.in-Err-Refused.refusal
+    not_submitted_replies c.self.inside.hub c.publish.new.self (length c.self.inside.stock.items) c.self.inside.woken c.self.inside.beginning c.self.invariant.2 c.args.text.now c.in_ok-text.text c.in-Err-Refused.refusal
     c.in_ok-text.ensures c.in-Err-Refused.ensures.sound (refused g c) c.args.self.now c.self.view_is
 
 -- it would wait
@@ -82,7 +82,7 @@ waits g c =
 pub invariant_of-self-in-Err-NoRoom : goal.invariant_of-self-in-Err-NoRoom
 invariant_of-self-in-Err-NoRoom g c =
     let against = waits g c in
-    let same = session_looked c.self.inside.hub c.publish.new.self (length c.self.inside.stock.items) c.self.inside.woken c.self.inside.has_begun c.self.invariant.2 c.in-Err-NoRoom.ensures.sound against.far against.sees in
+    let same = session_looked c.self.inside.hub c.publish.new.self (length c.self.inside.stock.items) c.self.inside.woken c.self.inside.beginning c.self.invariant.2 c.in-Err-NoRoom.ensures.sound against.far against.sees in
     let nothing : c.publish.new.due.items ≡ c.self.inside.due.items = c.in-Err-NoRoom.ensures.nothing_due in
     (c.self.invariant.0, c.self.invariant.1, same.session, subst (λ items. items ≡ []) (sym nothing) c.self.invariant.3)
 
@@ -90,5 +90,5 @@ pub returns : goal.returns
 returns g c =
     let against = submit_waits c.in_ok-text.text c.in-Err-NoRoom.field-0-0 c.self.inside.hub c.publish.new.self c.self.invariant.2.publisher
     (subst (λ why. RefusesItem end_of DoesCall c.in_ok-text.text c.self.inside.hub c.publish.new.self why) c.in-Err-NoRoom.field-0-is c.in-Err-NoRoom.ensures.refusals) in
-    not_submitted_replies c.self.inside.hub c.publish.new.self (length c.self.inside.stock.items) c.self.inside.woken c.self.inside.has_begun c.self.invariant.2 c.args.text.now c.in_ok-text.text Refusal.WouldWait
+    not_submitted_replies c.self.inside.hub c.publish.new.self (length c.self.inside.stock.items) c.self.inside.woken c.self.inside.beginning c.self.invariant.2 c.args.text.now c.in_ok-text.text Refusal.WouldWait
     c.in_ok-text.ensures c.in-Err-NoRoom.ensures.sound against c.args.self.now c.self.view_is

@@ -7,7 +7,7 @@ use Rattle.lines_demo.specs.Prelude.{Refusal, desk_after_demand}
 use Rattle.lines_demo.specs.Script.Session.{numbers_of}
 use Rattle.lines_demo.specs.Script.State.{SessionState}
 use Rattle.lines_demo.specs.Script.Subscribing.{desk_at_start}
-use Rattle.lines_demo.specs.declared.script.reply.Reply.TheVariants.{Name, Refused}
+use Rattle.commands.specs.declared.reply.Reply.TheVariants.{Name, Refused}
 use Rattle.lines_demo.proofs.Inside.{state_inside}
 use Rattle.lines_demo.proofs.SubscribingSessions.{AnswersSub, refused, finds_nobody, gets_no_buffer, admitted, admitted_starts_nothing, all_back, few_are_woken, nobody, one_back, one_fewer, room_after}
 use Rattle.lines_demo.proofs.script.session.Session.subscribe.Given.{Over}
@@ -19,8 +19,8 @@ use Rattle.lines_demo.proofs.script.session.Session.subscribe.Goals as goal
 refused_then : (g : Over) (c : goal.After-push_all-arg-in-Err-1 g)
     → AnswersSub (state_inside c.self.inside) c.args.name c.args.number (Refused c.in-Err.refusal) c.may_subscribe.new.self (length c.self.inside.stock.items) (c.self.inside.woken ++ numbers_of c.may_subscribe.new.due.items)
 refused_then g c =
-    refused c.self.inside.hub (length c.self.inside.stock.items) c.self.inside.woken c.self.inside.has_begun c.args.name c.args.number c.self.invariant.2
-    (ap (λ (s : SessionState). s.has_begun) c.self.view_is ∙ c.requires.begun) c.may_subscribe.new.self c.may_subscribe.new.due.items c.in-Err.refusal c.may_subscribe.ensures.sound
+    refused c.self.inside.hub (length c.self.inside.stock.items) c.self.inside.woken c.self.inside.beginning c.args.name c.args.number c.self.invariant.2
+    (ap (λ (s : SessionState). s.beginning.is_over) c.self.view_is ∙ c.requires.begun) c.may_subscribe.new.self c.may_subscribe.new.due.items c.in-Err.refusal c.may_subscribe.ensures.sound
     (subst (λ (d : List (Work Unit)). Refuses end_of DoesCall c.args.name c.in-Err.refusal d c.may_subscribe.new.due.items c.self.inside.hub c.may_subscribe.new.self) c.self.invariant.3 c.in-Err.ensures.refusals)
 
 pub push_all-requires : goal.push_all-requires
@@ -30,8 +30,8 @@ push_all-requires g c = record { room = room_after (state_inside c.self.inside) 
 refused_at_last : (g : Over) (c : goal.After-push_all g)
     → AnswersSub (state_inside c.self.inside) c.args.name c.args.number (Refused c.in-Err.refusal) c.may_subscribe.new.self (length c.self.inside.stock.items) c.push_all.new.self
 refused_at_last g c = rw c.push_all.ensures.woken (
-    refused c.self.inside.hub (length c.self.inside.stock.items) c.self.inside.woken c.self.inside.has_begun c.args.name c.args.number c.self.invariant.2
-    (ap (λ (s : SessionState). s.has_begun) c.self.view_is ∙ c.requires.begun) c.may_subscribe.new.self c.may_subscribe.new.due.items c.in-Err.refusal c.may_subscribe.ensures.sound
+    refused c.self.inside.hub (length c.self.inside.stock.items) c.self.inside.woken c.self.inside.beginning c.args.name c.args.number c.self.invariant.2
+    (ap (λ (s : SessionState). s.beginning.is_over) c.self.view_is ∙ c.requires.begun) c.may_subscribe.new.self c.may_subscribe.new.due.items c.in-Err.refusal c.may_subscribe.ensures.sound
     (subst (λ (d : List (Work Unit)). Refuses end_of DoesCall c.args.name c.in-Err.refusal d c.may_subscribe.new.due.items c.self.inside.hub c.may_subscribe.new.self) c.self.invariant.3 c.in-Err.ensures.refusals))
 
 pub invariant_of-self : goal.invariant_of-self
@@ -47,8 +47,8 @@ nobody_left : (g : Over) (c : goal.In_default-pop_front g)
     → AnswersSub (state_inside c.self.inside) c.args.name c.args.number (Refused Refusal.TooMany) c.may_subscribe.new.self (length c.pop_front.new.self.items) c.self.inside.woken
 nobody_left g c =
     rw (← c.in_default-pop_front.ensures.items) (
-    finds_nobody c.self.inside.hub (length c.self.inside.stock.items) c.self.inside.woken c.self.inside.has_begun c.args.name c.args.number c.self.invariant.2
-    (ap (λ (s : SessionState). s.has_begun) c.self.view_is ∙ c.requires.begun) c.may_subscribe.new.self c.may_subscribe.new.due c.in_default.ensures.seen c.in_default.ensures.can c.may_subscribe.ensures.sound
+    finds_nobody c.self.inside.hub (length c.self.inside.stock.items) c.self.inside.woken c.self.inside.beginning c.args.name c.args.number c.self.invariant.2
+    (ap (λ (s : SessionState). s.beginning.is_over) c.self.view_is ∙ c.requires.begun) c.may_subscribe.new.self c.may_subscribe.new.due c.in_default.ensures.seen c.in_default.ensures.can c.may_subscribe.ensures.sound
     (nobody c.self.inside.stock.items c.pop_front.new.self.items c.in_default-pop_front.ensures.items c.in_default-pop_front.ensures.rest))
 
 pub invariant_of-self-in_default-pop_front : goal.invariant_of-self-in_default-pop_front
@@ -67,13 +67,13 @@ returns-in_default-pop_front g c = rw (← c.self.view_is) (nobody_left g c).rep
 pub push-requires : goal.push-requires
 push-requires g c = record {
   room =
-      few_are_woken c.self.inside.hub (length c.self.inside.stock.items) c.self.inside.woken c.self.inside.has_begun c.args.name c.args.number c.self.invariant.2
-      (ap (λ (s : SessionState). s.has_begun) c.self.view_is ∙ c.requires.begun) c.may_subscribe.new.self c.may_subscribe.new.due c.in_default.ensures.seen c.in_default.ensures.can c.may_subscribe.ensures.sound;
+      few_are_woken c.self.inside.hub (length c.self.inside.stock.items) c.self.inside.woken c.self.inside.beginning c.args.name c.args.number c.self.invariant.2
+      (ap (λ (s : SessionState). s.beginning.is_over) c.self.view_is ∙ c.requires.begun) c.may_subscribe.new.self c.may_subscribe.new.due c.in_default.ensures.seen c.in_default.ensures.can c.may_subscribe.ensures.sound;
 }
 
 -- what it has requested
-requested : (g : Over) (c : goal.After-push g) → c.in-Ok.desk ≡ desk_after_demand c.args.number (desk_at_start c.may_subscribe.new.self.capacity)
-requested g c = c.in-Ok.ensures.ok ∙ ap (λ n. desk_after_demand c.args.number (desk_at_start n)) c.capacity.ensures
+requested : (g : Over) (c : goal.After-push g) → c.in-Ok.desk ≡ desk_after_demand c.args.number (desk_at_start c.self.inside.beginning.order c.may_subscribe.new.self.capacity)
+requested g c = c.in-Ok.ensures.ok ∙ ap (λ n. desk_after_demand c.args.number (desk_at_start c.self.inside.beginning.order n)) c.capacity.ensures
 
 -- the publisher added it, while nothing was due
 added : (g : Over) (c : goal.After-push g)
@@ -88,8 +88,8 @@ subscribed : (g : Over) (c : goal.After-push g)
 subscribed g c =
     let left = one_fewer c.in-Some.subscriber c.self.inside.stock.items c.pop_front.new.self.items c.in-Some.ensures.items in
     rw (c.push.ensures, left.1) (
-    admitted c.self.inside.hub (length c.self.inside.stock.items) c.self.inside.woken c.self.inside.has_begun c.args.name c.args.number c.self.invariant.2
-    (ap (λ (s : SessionState). s.has_begun) c.self.view_is ∙ c.requires.begun) c.may_subscribe.new.self c.may_subscribe.new.due c.in_default.ensures.seen c.in_default.ensures.can c.may_subscribe.ensures.sound
+    admitted c.self.inside.hub (length c.self.inside.stock.items) c.self.inside.woken c.self.inside.beginning c.args.name c.args.number c.self.invariant.2
+    (ap (λ (s : SessionState). s.beginning.is_over) c.self.view_is ∙ c.requires.begun) c.may_subscribe.new.self c.may_subscribe.new.due c.in_default.ensures.seen c.in_default.ensures.can c.may_subscribe.ensures.sound
     c.admit.new.self c.in_ok-entry-in-Ok.entry c.in-Ok.desk c.admit.new.due.items left.0 (requested g c) (added g c) c.admit.ensures.sound)
 
 pub invariant_of-self-in-Ok : goal.invariant_of-self-in-Ok
@@ -97,8 +97,8 @@ invariant_of-self-in-Ok g c = (
   All-rest (λ b. g.B.Listener.told b ≡ []) _ _ _ c.in-Some.ensures.items c.self.invariant.0,
   All-rest (λ b. g.B.Listener.is_steady b ≡ true) _ _ _ c.in-Some.ensures.items c.self.invariant.1,
   (subscribed g c).session,
-  admitted_starts_nothing c.self.inside.hub (length c.self.inside.stock.items) c.self.inside.woken c.self.inside.has_begun c.args.name c.args.number c.self.invariant.2
-      (ap (λ (s : SessionState). s.has_begun) c.self.view_is ∙ c.requires.begun) c.may_subscribe.new.self c.may_subscribe.new.due c.in_default.ensures.seen c.in_default.ensures.can c.may_subscribe.ensures.sound
+  admitted_starts_nothing c.self.inside.hub (length c.self.inside.stock.items) c.self.inside.woken c.self.inside.beginning c.args.name c.args.number c.self.invariant.2
+      (ap (λ (s : SessionState). s.beginning.is_over) c.self.view_is ∙ c.requires.begun) c.may_subscribe.new.self c.may_subscribe.new.due c.in_default.ensures.seen c.in_default.ensures.can c.may_subscribe.ensures.sound
       c.admit.new.self c.in_ok-entry-in-Ok.entry c.in-Ok.desk c.admit.new.due.items (requested g c) (added g c),
 )
 
@@ -113,8 +113,8 @@ no_buffer : (g : Over) (c : goal.After-push_back_reserved g)
 no_buffer g c =
     let left = one_fewer c.in-Some.subscriber c.self.inside.stock.items c.pop_front.new.self.items c.in-Some.ensures.items in
     rw (one_back c.in-Some.subscriber c.in-Err-new_desk.subscriber c.self.inside.stock.items c.pop_front.new.self.items c.push_back_reserved.new.self.items c.in-Some.ensures.items c.push_back_reserved.ensures.items) (
-    gets_no_buffer c.self.inside.hub (length c.self.inside.stock.items) c.self.inside.woken c.self.inside.has_begun c.args.name c.args.number c.self.invariant.2
-    (ap (λ (s : SessionState). s.has_begun) c.self.view_is ∙ c.requires.begun) c.may_subscribe.new.self c.may_subscribe.new.due c.in_default.ensures.seen c.in_default.ensures.can c.may_subscribe.ensures.sound
+    gets_no_buffer c.self.inside.hub (length c.self.inside.stock.items) c.self.inside.woken c.self.inside.beginning c.args.name c.args.number c.self.invariant.2
+    (ap (λ (s : SessionState). s.beginning.is_over) c.self.view_is ∙ c.requires.begun) c.may_subscribe.new.self c.may_subscribe.new.due c.in_default.ensures.seen c.in_default.ensures.can c.may_subscribe.ensures.sound
     left.0)
 
 pub invariant_of-self-in-Err-new_desk : goal.invariant_of-self-in-Err-new_desk

@@ -28,7 +28,7 @@ push_if-requires g c = record {
 
 -- what the turn leaves
 done : (g : Over) (c : After-push_if g)
-    → HasTurned (state_inside c.self.inside) c.turn_at-outlook.new.hub (length c.self.inside.stock.items) (woken_with c.pop.new.self c.unwrap-entry.result c.match-matches.matches) c.self.inside.has_begun
+    → HasTurned (state_inside c.self.inside) c.turn_at-outlook.new.hub (length c.self.inside.stock.items) (woken_with c.pop.new.self c.unwrap-entry.result c.match-matches.matches) c.self.inside.beginning
     c.unwrap-name.result c.turn_at-outlook.new.seen.signals c.turn_at-outlook.result
 done g c =
     let again : c.match-matches.matches ≡ is_again c.turn_at-outlook.result = elim c.match-matches.branch [

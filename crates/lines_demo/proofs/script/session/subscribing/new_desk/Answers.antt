@@ -9,13 +9,13 @@ use Rattle.lines_demo.proofs.script.session.subscribing.new_desk.Goals.{then-num
 
 pub returns-after-number-gt0-clause-ok : goal.returns-after-number-gt0-clause-ok
 returns-after-number-gt0-clause-ok g c =
-    let new : c.in-Ok.desk ≡ desk_at_start c.args.capacity = search rules in
+    let new : c.in-Ok.desk ≡ desk_at_start c.args.order c.args.capacity = search rules in
     let bound = c.requires.bounded in
     elim c.if-number-gt0.branch [
       | then-number-gt0 w ↦
           let some = w.if-number-gt0.true in
-          w.desk-is ∙ w.request.ensures.requested ∙ (λ i. desk_after_request (small_signed c.args.number (omega arith) i) (new i)) ∙ requests_demand c.args.number c.args.capacity (omega arith)
+          w.desk-is ∙ w.request.ensures.requested ∙ (λ i. desk_after_request (small_signed c.args.number (omega arith) i) (new i)) ∙ requests_demand c.args.order c.args.number c.args.capacity (omega arith)
       | else-number-gt0 w ↦
           let none : 0 ≡ c.args.number = omega (arith, w.if-number-gt0.false) in
-          w.desk-is ∙ new ∙ ap (λ n. desk_after_demand n (desk_at_start c.args.capacity)) none
+          w.desk-is ∙ new ∙ ap (λ n. desk_after_demand n (desk_at_start c.args.order c.args.capacity)) none
     ]

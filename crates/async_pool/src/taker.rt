@@ -1,0 +1,12 @@
+//! What the loop of a worker takes its jobs with. It does nothing by itself.
+use crate::inbox::InboxPass;
+use crate::queue::Queue;
+
+/// A worker with its own queue and its pass of the inbox. A loop makes one, since to make a pass at each look would cost a load of a
+/// word that callers of `execute` write.
+#[derive(Drop)]
+pub(crate) struct Taker<J: Drop> {
+    pub worker: usize,
+    pub own: Queue<J>,
+    pub pass: InboxPass<J>,
+}

@@ -1,0 +1,6 @@
+pub mod Command
+pub mod Line
+pub mod Number
+pub mod Reply
+pub mod Word
+pub mod Writing

@@ -1,0 +1,26 @@
+//! The commands by which people and programs drive a publisher, a line each: how a line is cut into words, numbers and texts, which command
+//! it spells, and how an answer is written. What a command does is not said here: `lines_demo` plays it on plain state, `console` on a
+//! publisher with threads.
+//!
+//! ```
+//! let (line, rest) = split_line(b"request a 3\r\nclose\n");   // b"request a 3\r" and b"close\n"
+//! let command = Command::parse(strip_return(line));          // Command::Request, of the name `a` and 3
+//! write_line(&mut writer, &mut line_buffer, Reply::Done)?;   // ok
+//! ```
+#![tactic(auto)]
+
+mod command;
+mod line;
+mod number;
+mod reply;
+mod text_bytes;
+mod word;
+mod writing;
+
+pub use command::Command;
+pub use line::{LONGEST_LINE, split_at_byte, split_line, strip_return};
+pub use number::{parse_code, parse_digits, parse_number, parse_signed};
+pub use reply::Reply;
+pub use text_bytes::TextBytes;
+pub use word::{parse_text, split_word};
+pub use writing::{OutputFault, write_line, write_whole};

@@ -1,0 +1,32 @@
+//! What is said at the end: how each subscription stands, and whether all have ended.
+use crate::screen::Screen;
+use commands::OutputFault;
+use flow_rules::How;
+use publisher::Outcome;
+use std::sync::Wait;
+use std::time::Clock;
+
+/// Says of each subscription, in order, how it ended and how many items it was told, and then whether all have ended.
+pub fn report<B, R: Print + Clock + Wait>(
+    screen: &Screen<R>,
+    outcome: &Outcome<B>,
+) -> Result<(), OutputFault> {
+    for left in outcome.lanes.as_slice() {
+        let word = word_of(left.lane.ending);
+        screen.say(format_args!("= {} {word} {}", left.name, left.lane.given))?;
+    }
+    let drained = u8::from(outcome.drained);
+    screen.say(format_args!("= drained {drained}"))
+}
+
+/// How a subscription ended, in a word.
+fn word_of(ending: Option<How>) -> &'static str {
+    match ending {
+        None => "open",
+        Some(How::Completed) => "complete",
+        Some(How::Errored(_)) => "error",
+        Some(How::Cancelled) => "cancelled",
+        Some(How::Failed(_)) => "failed",
+        Some(How::OutOfMemory) => "memory",
+    }
+}

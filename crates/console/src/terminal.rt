@@ -1,0 +1,209 @@
+//! The terminal: it obeys one line after the other, and answers each at once.
+mod acting;
+mod ending;
+mod publishing;
+
+use crate::echo::Echoes;
+use crate::fault::ConsoleFault;
+use crate::input::Heard;
+use crate::order::Order;
+use crate::queue::Queue;
+use crate::source::Texts;
+use crate::stage::Stage;
+use commands::{Command, OutputFault, Reply};
+use flow_rules::{Ending, Name, Refusal};
+use publisher::{Submitter, Subscription};
+use std::sync::atomic::AtomicU64;
+use std::sync::ledger::Ledger;
+use std::sync::{Arc, Wait};
+use std::thread::{Scope, Threads};
+use std::time::Clock;
+
+/// What `help` prints.
+const HELP: [&str; 14] = [
+    "sub NAME N          subscribes with this name, and requests N items",
+    "request NAME N      the latest of this name requests N items more; an N below 1 is a bad request",
+    "cancel NAME         cancels the latest of this name",
+    "offer TEXT          publishes, and drops the text where there is no room",
+    "retry TEXT          publishes, tries once more where there is no room, and then drops it there",
+    "submit SOURCE TEXT  a thread of this source publishes, after its texts before, and waits for room",
+    "close               each subscriber completes after its items",
+    "fail C              closes with the error C, before the items that wait",
+    "lag                 the longest backlog of any subscriber",
+    "subscribers         how many subscriptions are live",
+    "closed              whether the publisher is closed, and how",
+    "help                this",
+    "quit                the end, as at the end of the input",
+    "A number has 19 digits at most, a line 4,200 bytes, a text 4,096, a name 32; SOURCE and C go up to 4,294,967,295.",
+];
+
+/// A subscription of the terminal.
+#[derive(Drop)]
+pub struct Named<
+    L: Ledger + Send,
+    D: Ledger + Send,
+    R: Print + Clock + Wait + Copy + Send + Sync + 'static,
+> {
+    name: Name,
+    subscription: Subscription<L, D, Echoes<R>>,
+    /// How many items its subscriber was told.
+    told: Arc<AtomicU64>,
+    /// Whether it ends at its next turn: it was cancelled, or a request was bad, or its name was subscribed a second time.
+    is_ending: bool,
+}
+
+/// A source that the terminal has started.
+#[derive(Drop)]
+struct Source {
+    /// The number that it has on the terminal.
+    number: u32,
+    texts: Arc<Texts>,
+}
+
+/// What the terminal has for itself: its own source, its subscriptions, and the sources that it has started.
+#[derive(Drop)]
+pub struct Terminal<
+    'e,
+    L: Ledger + Send,
+    D: Ledger + Send,
+    R: Print + Clock + Wait + Copy + Send + Sync + 'static,
+> {
+    stage: &'e Stage<L, D, R>,
+    submitter: Submitter<L, D, Echoes<R>>,
+    named: Vec<Named<L, D, R>>,
+    sources: Vec<Source>,
+}
+
+impl<
+    'e,
+    L: Ledger + Send + Sync + 'static,
+    D: Ledger + Send + Sync + 'static,
+    R: Print + Clock + Threads + Wait + Copy + Send + Sync + 'static,
+> Terminal<'e, L, D, R> {
+    /// A terminal without subscriptions. Refused as [`Publisher::submitter`](publisher::Publisher::submitter) is.
+    pub fn new(stage: &'e Stage<L, D, R>) -> Result<Terminal<'e, L, D, R>, Refusal> {
+        Ok(Terminal {
+            stage,
+            submitter: stage.submitter()?,
+            named: Vec::new(stage.alloc),
+            sources: Vec::new(stage.alloc),
+        })
+    }
+
+    /// Obeys the lines of the input up to its end, or up to `quit`, and has the sources end then.
+    pub fn run<'s, 'v: 's>(
+        &mut self,
+        scope: &'s Scope<'s, &'v ()>,
+        input: &Queue<Heard>,
+    ) -> Result<(), ConsoleFault>
+    where
+        'e: 's,
+    {
+        let heard = self.obey_all(scope, input);
+        input.cut(&self.stage.rt);
+        self.end_sources();
+        heard
+    }
+
+    /// Obeys line after line.
+    fn obey_all<'s, 'v: 's>(
+        &mut self,
+        scope: &'s Scope<'s, &'v ()>,
+        input: &Queue<Heard>,
+    ) -> Result<(), ConsoleFault>
+    where
+        'e: 's,
+    {
+        for _ in self.stage.rt.forever() {
+            match input.pop(&self.stage.rt) {
+                None => break,
+                Some(Heard::ReadFault) => return Err(ConsoleFault::Read),
+                Some(Heard::NoMemory) => return Err(ConsoleFault::Memory),
+                Some(Heard::LongLine) => self.refuse(Refusal::LineTooLong)?,
+                Some(Heard::Line(line)) => {
+                    if !line.is_empty() && !self.hear(scope, line.as_slice())? {
+                        break;
+                    }
+                }
+            }
+        }
+        Ok(())
+    }
+
+    /// Obeys a line, and tells whether another one may come.
+    fn hear<'s, 'v: 's>(
+        &mut self,
+        scope: &'s Scope<'s, &'v ()>,
+        line: &[u8],
+    ) -> Result<bool, OutputFault>
+    where
+        'e: 's,
+    {
+        match Order::parse(line) {
+            Ok(Order::Quit) => return Ok(false),
+            Ok(Order::Script(command)) => match self.call(command) {
+                Ok(reply) => self.stage.screen.say(format_args!("= {reply}"))?,
+                Err(refusal) => self.refuse(refusal)?,
+            },
+            Ok(Order::Submit(number, text)) => {
+                if let Err(refusal) = self.submit(scope, number, text.as_bytes()) {
+                    let answer = format_args!("= submit {number} {refusal}");
+                    self.stage.screen.say(answer)?;
+                }
+            }
+            Ok(look) => self.look(look)?,
+            Err(refusal) => self.refuse(refusal)?,
+        }
+        Ok(true)
+    }
+
+    /// Does what a command asks for that scripts have, too.
+    fn call(&mut self, command: Command<'_>) -> Result<Reply, Refusal> {
+        match command {
+            Command::Sub(name, number) => self.subscribe(name, number),
+            Command::Offer(text) => self.offer(text.as_bytes()),
+            Command::Retry(text) => self.retry(text.as_bytes()),
+            Command::Request(name, number) => self.request(name, number),
+            Command::Cancel(name) => self.cancel(name),
+            Command::Close => self.close(Ending::Normal),
+            Command::Fail(code) => self.close(Ending::Failed(code)),
+            _ => Err(Refusal::BadCommand),
+        }
+    }
+
+    /// Prints what is asked for and changes nothing.
+    fn look(&self, order: Order<'_>) -> Result<(), OutputFault> {
+        let Stage {
+            rt,
+            publisher,
+            screen,
+            ..
+        } = self.stage;
+        match order {
+            Order::Lag => {
+                let lag = publisher.estimate_maximum_lag(rt);
+                screen.say(format_args!("= lag {lag}"))
+            }
+            Order::Subscribers => {
+                let live = publisher.number_of_subscribers(rt);
+                screen.say(format_args!("= subscribers {live}"))
+            }
+            Order::Closed => match publisher.closed_with(&mut publisher.note()) {
+                None => screen.say("= closed 0"),
+                Some(Ending::Normal) => screen.say("= closed 1"),
+                Some(Ending::Failed(code)) => screen.say(format_args!("= closed 1 error {code}")),
+            },
+            _ => {
+                for line in HELP {
+                    screen.say(format_args!("= {line}"))?;
+                }
+                Ok(())
+            }
+        }
+    }
+
+    /// Answers a line with a refusal.
+    fn refuse(&self, refusal: Refusal) -> Result<(), OutputFault> {
+        self.stage.screen.say(format_args!("= {refusal}"))
+    }
+}

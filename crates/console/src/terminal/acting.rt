@@ -1,0 +1,78 @@
+//! What concerns one subscription: `sub`, `request` and `cancel`.
+use super::{Named, Terminal};
+use crate::echo::Echo;
+use commands::Reply;
+use flow_rules::{Name, Refusal, Watching};
+use std::sync::atomic::AtomicU64;
+use std::sync::ledger::Ledger;
+use std::sync::{Arc, Wait};
+use std::thread::Threads;
+use std::time::Clock;
+
+impl<
+    'e,
+    L: Ledger + Send + Sync + 'static,
+    D: Ledger + Send + Sync + 'static,
+    R: Print + Clock + Threads + Wait + Copy + Send + Sync + 'static,
+> Terminal<'e, L, D, R> {
+    /// Subscribes an echo of this name, and requests this many items for it.
+    pub(super) fn subscribe(&mut self, name: Name, number: u64) -> Result<Reply, Refusal> {
+        let stage = self.stage;
+        self.named.reserve(1)?;
+        let told = Arc::new(stage.alloc, AtomicU64::new(0))?;
+        let echo = Echo {
+            name,
+            screen: Arc::try_clone(&stage.screen)?,
+            told: Arc::try_clone(&told)?,
+        };
+        let subscribed = stage
+            .publisher
+            .subscribe(&stage.rt, stage.alloc, name, Watching::new(echo));
+        let subscription = match subscribed {
+            Ok(subscription) => subscription,
+            Err((refusal, _)) => {
+                if refusal == Refusal::Duplicate {
+                    self.latest(name)?.is_ending = true;
+                }
+                return Err(refusal);
+            }
+        };
+        self.named.push(Named {
+            name,
+            subscription,
+            told,
+            is_ending: false,
+        })?;
+        if let Ok(number @ 1..) = i64::try_from(number) {
+            return self.request(name, number).map(|_| Reply::Name(name));
+        }
+        Ok(Reply::Name(name))
+    }
+
+    /// Requests items for the latest subscription of this name. Refused 10 if there is none.
+    pub(super) fn request(&mut self, name: Name, number: i64) -> Result<Reply, Refusal> {
+        let rt = self.stage.rt;
+        let named = self.latest(name)?;
+        named.subscription.request(&rt, number)?;
+        named.is_ending |= number < 1;
+        Ok(Reply::Done)
+    }
+
+    /// Cancels the latest subscription of this name. Refused 10 if there is none.
+    pub(super) fn cancel(&mut self, name: Name) -> Result<Reply, Refusal> {
+        let rt = self.stage.rt;
+        let named = self.latest(name)?;
+        named.subscription.cancel(&rt)?;
+        named.is_ending = true;
+        Ok(Reply::Done)
+    }
+
+    /// The latest subscription of this name, ended or not. Refused 10 if there is none.
+    fn latest(&mut self, name: Name) -> Result<&mut Named<L, D, R>, Refusal> {
+        let mut latest_first = self.named.iter_mut().rev();
+        match latest_first.find(|named| named.name == name) {
+            Some(named) => Ok(named),
+            None => Err(Refusal::Unknown),
+        }
+    }
+}

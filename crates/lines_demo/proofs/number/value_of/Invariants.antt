@@ -1,7 +1,0 @@
-use Rattle.std.proofs.Common.{◌≡◌, ◌^◌, ◌<◌, take}
-use Rattle.lines_demo.specs.Number.{value_of_digits}
-use Rattle.lines_demo.proofs.number.value_of.Given as goal
-
--- the value is that of the digits so far, and has no more digits than those
-abbrev pub invariant-loop-digit : goal.invariant-loop-digit
-invariant-loop-digit l = (l.value ≡ value_of_digits (take l.digit-index l.digits)) × (l.value < 10 ^ l.digit-index)

@@ -1,0 +1,31 @@
+-- What is left of a subscription that was reclaimed keeps the rules of Flow, and has ended.
+use Rattle.std.proofs.Common.{◌≡◌, ℕ, Bool, true, false, Option, None, Some, List, [], refl, sym, subst, ◌∙◌}
+use Rattle.std.specs.Prelude.{IsSome}
+use Rattle.feed_core.specs.Prelude.{How, Signal}
+use Rattle.publisher.specs.Finishing.{IsCountedIn}
+use Rattle.publisher.specs.Leaving.{IsLaneOfTaken}
+use Rattle.publisher.specs.Reclaiming.{IsReclaimed}
+use Rattle.publisher.specs.declared.outcome.NamedLane.{NamedLane}
+use Rattle.publisher.specs.declared.state.finding.Taken.{Taken}
+use Rattle.publisher.proofs.Outcomes.{is_lane_of}
+
+module _ {B : Type 0} (told : B → List Signal) where
+  -- it has ended, so it doesn't run
+  pub reclaimed_is : (published dropping number : ℕ) (taken : Taken B) (left : NamedLane B) → IsLaneOfTaken told number taken left → IsCountedIn published dropping taken → taken.producer.end.over ≡ true → IsReclaimed told left
+  reclaimed_is published dropping number taken left is counted over = by (subst (λ n. IsLaneOfTaken told n taken left) (sym is.number_is) is) where
+    none_some : (ending : Option How) → ending ≡ None → IsSome ending → ⊥
+    none_some None none some = cc
+    none_some (Some how) none some = cc
+
+    by : IsLaneOfTaken told left.entry taken left → IsReclaimed told left
+    by it = record {
+      published = published;
+      lane = it.lane.lane;
+      is = is_lane_of told published dropping [] left taken it counted;
+      rests = rests left.lane.running refl;
+      ended = it.lane.over over;
+      late = λ late. it.since ∙ counted.late (sym it.late ∙ late);
+    } where
+      rests : (running : Bool) → left.lane.running ≡ running → left.lane.running ≡ false
+      rests false at = at
+      rests true at = absurd (none_some left.lane.ending (it.lane.is.unended at) (it.lane.over over))

@@ -1,0 +1,121 @@
+//! How a subscription that has ended is taken out from behind the lock before the end of its publisher.
+ghost use Rattle.std.specs.Prelude.{◌≡◌, IfErr, IfOk, IfSome};
+ghost use Rattle.publisher.specs.Reclaiming.{Knows, NamesOne, Reclaims, RefusesReclaim, TakesEnd};
+
+use super::State;
+use super::finding::{Taken, is_late};
+use super::tickets::keep_last;
+use feed_cell::{Handle, Producer, is_shared};
+use flow_rules::{Listener, Name, Refusal};
+use std::alloc::Global;
+use std::sync::ledger::Ledger;
+
+/// What a publisher knows of a subscription without its ends.
+#[derive(Drop)]
+pub struct Known {
+    name: Name,
+    /// The serial number of the next publication when it was subscribed.
+    since: u64,
+    /// How many publications found its buffer full.
+    dropped: u64,
+    /// Whether it was subscribed after the close.
+    late: bool,
+}
+
+impl Known {
+    /// Both ends of the subscription, with what is known of it.
+    fn with<B: Listener>(self, producer: Producer<B>, handle: Handle<B>) -> Taken<B>
+        ensures { result ≡ record {
+          name = self.name;
+          since = self.since;
+          dropped = self.dropped;
+          late = self.late;
+          producer = producer;
+          handle = handle;
+        } }
+    {
+        Taken {
+            name: self.name,
+            since: self.since,
+            dropped: self.dropped,
+            late: self.late,
+            producer,
+            handle,
+        }
+    }
+}
+
+impl<L: Ledger, D: Ledger, B: Listener> State<L, D, B> {
+    /// Takes the producer's end of the subscription of this number out, if that has ended, for its handle, which this is. Its ticket is
+    /// spent, if it wasn't.
+    ///
+    /// Refused, with the handle back: 9 if a look shows that it has not ended, by its name; 8 if a thread has its task still; and 5 if the
+    /// memory for the list of that one name is refused, or if no subscription has the number. Nothing has changed then but by looks.
+    pub fn reclaim(
+        &mut self,
+        alloc: Global,
+        entry: u32,
+        handle: Handle<B>,
+    ) -> Result<Taken<B>, (Refusal, Handle<B>)>
+        ensures ok { IfOk result (λ taken. Reclaims entry handle taken self.old self.new) }
+        ensures back { IfErr result (λ refused. refused.1 ≡ handle) }
+        ensures refused { IfErr result (λ refused.
+            RefusesReclaim entry refused.0 self.old self.new) }
+    {
+        let has_ended = self.has_ended(entry);
+        let Some(known) = self.known(entry) else {
+            return Err((Refusal::NoMemory, handle));
+        };
+        if !has_ended {
+            return Err((unsettled(alloc, known.name), handle));
+        }
+        let is_held = match self.hub.feed(entry) {
+            Some(producer) => is_shared(producer, &handle),
+            None => false,
+        };
+        if is_held {
+            return Err((Refusal::StillHeld(known.name), handle));
+        }
+        match self.take_end(entry) {
+            Some(producer) => Ok(known.with(producer, handle)),
+            None => Err((unsettled(alloc, known.name), handle)),
+        }
+    }
+
+    /// What is known of the subscription of this number, if there is one.
+    fn known(&self, entry: u32) -> Option<Known>
+        ensures { IfSome result (Knows self.now entry) }
+    {
+        Some(Known {
+            name: self.hub.name_of(entry)?,
+            since: self.hub.since(entry)?,
+            dropped: self.hub.dropped(entry)?,
+            late: is_late(self.counted, entry),
+        })
+    }
+
+    /// Looks at the subscription of this number. If that shows that it has ended, its producer's end is taken out, and its ticket is spent.
+    fn take_end(&mut self, entry: u32) -> Option<Producer<B>>
+        ensures { TakesEnd entry result self.old self.new }
+    {
+        let (producer, ticket) = self.hub.take_ended(entry)?;
+        if let Some(ticket) = ticket {
+            let is_closed = self.hub.ending().is_some();
+            keep_last(&mut self.last, ticket.spend(), is_closed);
+        }
+        Some(producer)
+    }
+}
+
+/// The refusal of a subscription of this name that has not ended: 9, or 5 if the memory for the list of its name is refused.
+fn unsettled(alloc: Global, name: Name) -> Refusal
+    ensures { NamesOne name result }
+{
+    match Vec::with_capacity(alloc, 1) {
+        Ok(mut names) => {
+            names.push_reserved(name);
+            Refusal::Unsettled(names)
+        }
+        Err(_) => Refusal::NoMemory,
+    }
+}

@@ -1,0 +1,316 @@
+"""Drives consoles by hand, as it were, and looks at each line.
+
+usage: rows.py PROGRAM
+
+Each part types lines and takes what is printed then; lines that come from several threads may come in any order.
+"""
+
+import os
+import signal
+import subprocess
+import sys
+import threading
+
+sys.dont_write_bytecode = True
+from drive import SECONDS, Console, Stopped
+
+REFUSED = b"= refused 12 command"
+
+
+def commands(program):
+    """Each command, and what it is answered."""
+    with Console(program, ["--workers", "2", "--cap", "3"]) as it:
+        it.say(b"lag", b"= lag 0")
+        it.say(b"subscribers", b"= subscribers 0")
+        it.say(b"closed", b"= closed 0")
+        it.say(b"offer x", b"= offer 0")
+        it.say(b"sub a 1", b"= sub a", b"a subscribed")
+        it.say(b"subscribers", b"= subscribers 1")
+        it.say(b"offer  x y", b"= offer 1", b"a next  x y")
+        it.say(b"offer 1", b"= offer 1")
+        it.say(b"retry 2", b"= retry 2 calls 0")
+        it.say(b"offer 3", b"= offer 3")
+        it.say(b"offer 4", b"= offer 4")
+        it.say(b"lag", b"= lag 4")
+        it.say(b"offer 5", b"= offer -1")
+        it.say(b"retry 5", b"= retry -1 calls 1")
+        it.say(b"request a 2", b"= ok", b"a next 1", b"a next 2")
+        it.say(b"lag", b"= lag 2")
+        it.say(b"submit 4294967295 6", b"= submit 4294967295 3")
+        it.say(b"cancel a", b"= ok")
+        it.say(b"request a 9", b"= ok")
+        it.say(b"close", b"= ok")
+        it.say(b"closed", b"= closed 1")
+        it.say(b"offer 7", b"= refused 2 closed")
+        it.say(b"submit 1 7", b"= submit 1 refused 2 closed")
+        it.say(b"sub b 3", b"= sub b", b"b subscribed", b"b complete")
+        it.say(b"fail 7", b"= ok")
+        it.say(b"closed", b"= closed 1")
+        it.end(b"= a cancelled 3", b"= b complete 0", b"= drained 1")
+
+
+def refusals(program):
+    """Lines that are refused, as in scripts, and lines that are none."""
+    with Console(program) as it:
+        for line in (
+            b"cap 3", b"late", b"run", b"submit x", b"submit", b"submit 1", b"submit 1 ", b"submit -1 x", b"submit 4294967296 x", b"sub a", b"sub a -1",
+            b"sub a b 1", b"sub  a 1", b"request a +1", b"offer", b"offer ", b"Offer x", b" lag", b"lag ", b"quit now", b"help me", b"\tlag",
+            b"\xff", b"fail 4294967296", b"fail -1", b"close 1", b"sub " + b"n" * 33 + b" 1", b"x" * 4200,
+        ):
+            it.say(line, REFUSED)
+        it.say(b"request a 1", b"= refused 10 unknown")
+        it.say(b"cancel a", b"= refused 10 unknown")
+        it.say(b"x" * 4201, b"= refused 6 line")
+        it.say(b"x" * 4201 + b"\r", b"= refused 6 line")
+        it.say(b"x" * 1000000, b"= refused 6 line")
+        it.say(b"offer " + b"x" * 4097, b"= refused 6 line")
+        it.say(b"submit 3 " + b"x" * 4097, b"= submit 3 refused 6 line")
+        it.say(b"\n\r\n\nlag\r", b"= lag 0")
+        it.say(b"sub a 1", b"= sub a", b"a subscribed")
+        it.say(b"offer " + b"x" * 4096, b"= offer 1", b"a next " + b"x" * 4096)
+        it.say(b"request a 0", b"= ok", b"a error argument")
+        it.until(b"subscribers", b"= subscribers 0")
+        it.say(b"sub a 0", b"= sub a", b"a subscribed")
+        it.say(b"sub a 0", b"= refused 3 duplicate", b"a error state")
+        it.say(b"fail 4294967295", b"= ok")
+        it.say(b"closed", b"= closed 1 error 4294967295")
+        it.say(b"sub b 0", b"= sub b", b"b subscribed", b"b error published 4294967295")
+        it.it.stdin.write(b"lag")
+        it.end(b"= lag 0", b"= a error 1", b"= a error 0", b"= b error 0", b"= drained 1")
+
+
+def sources(program):
+    """Sixteen sources, and no more."""
+    with Console(program) as it:
+        it.say(b"sub a 99", b"= sub a", b"a subscribed")
+        for source in range(16):
+            it.say(b"submit %d x" % source, b"= submit %d 1" % source, b"a next x")
+        it.say(b"submit 16 x", b"= submit 16 refused 4 many")
+        it.say(b"submit 015 y", b"= submit 15 1", b"a next y")
+        it.end(b"a complete", b"= a complete 17", b"= drained 1")
+
+
+def demands(program):
+    """Two subscribers of different demand."""
+    with Console(program, ["--cap", "4"]) as it:
+        it.say(b"sub fast 9223372036854775807", b"= sub fast", b"fast subscribed")
+        it.say(b"sub slow 1", b"= sub slow", b"slow subscribed")
+        it.say(b"offer 1", b"= offer 1", b"fast next 1", b"slow next 1")
+        for text in (b"2", b"3", b"4", b"5"):
+            it.say(b"offer " + text, b"= offer %d" % (int(text) - 1), b"fast next " + text)
+        it.say(b"offer 6", b"= offer -1", b"fast next 6")
+        it.say(b"request slow 2", b"= ok", b"slow next 2", b"slow next 3")
+        it.say(b"fail 3", b"= ok", b"fast error published 3", b"slow error published 3")
+        it.end(b"= fast error 6", b"= slow error 3", b"= drained 1")
+
+
+def late_errors(program):
+    """An error waits for the items, and is told when the last of them was requested."""
+    with Console(program, ["--late"]) as it:
+        it.say(b"sub a 1", b"= sub a", b"a subscribed")
+        it.say(b"offer x", b"= offer 1", b"a next x")
+        it.say(b"offer y", b"= offer 1")
+        it.say(b"fail 7", b"= ok")
+        it.quiet()
+        it.say(b"request a 1", b"= ok", b"a next y", b"a error published 7")
+        it.end(b"= a error 2", b"= drained 1")
+
+
+def waiting(program):
+    """A submit waits for room, and the terminal goes on meanwhile; the next one of its source waits behind it."""
+    with Console(program, ["--cap", "1", "--workers", "1"]) as it:
+        it.say(b"sub a 0", b"= sub a", b"a subscribed")
+        it.say(b"submit 7 x", b"= submit 7 1")
+        it.type(b"submit 7 y")
+        it.type(b"submit 7 z")
+        it.quiet()
+        it.say(b"lag", b"= lag 1")
+        it.say(b"offer v", b"= offer -1")
+        it.say(b"request a 1", b"= ok", b"a next x", b"= submit 7 1")
+        it.quiet()
+        it.say(b"request a 1", b"= ok", b"a next y", b"= submit 7 1")
+        it.say(b"request a 1", b"= ok", b"a next z")
+        it.end(b"a complete", b"= a complete 3", b"= drained 1")
+
+
+def cancelling(program):
+    """A cancel in the middle: at most one item more is told, and who waited for that room goes on."""
+    with Console(program, ["--cap", "2"]) as it:
+        it.say(b"sub a 0", b"= sub a", b"a subscribed")
+        it.say(b"sub b 9", b"= sub b", b"b subscribed")
+        for text in (b"1", b"2"):
+            it.say(b"submit 1 " + text, b"= submit 1 " + text, b"b next " + text)
+        it.type(b"submit 1 3")
+        it.quiet()
+        it.say(b"cancel a", b"= ok", b"= submit 1 1", b"b next 3")
+        it.until(b"subscribers", b"= subscribers 1")
+        it.say(b"cancel a", b"= ok")
+        it.say(b"sub a 1", b"= sub a", b"a subscribed")
+        it.say(b"offer 4", b"= offer 1", b"a next 4", b"b next 4")
+        it.say(b"close", b"= ok", b"a complete", b"b complete")
+        it.end(b"= a cancelled 0", b"= b complete 4", b"= a complete 1", b"= drained 1")
+
+
+def ends(program):
+    """The end of the input with a submit that waits, and with one that doesn't; `quit` ends as the end of the input does."""
+    for end in (b"", b"quit\nlag\n"):
+        with Console(program, ["--cap", "1"]) as it:
+            it.say(b"sub a 0", b"= sub a", b"a subscribed")
+            it.say(b"submit 7 x", b"= submit 7 1")
+            it.type(b"submit 7 y")
+            it.type(b"submit 7 z")
+            it.quiet()
+            it.it.stdin.write(end)
+            it.end(b"= submit 7 refused 2 closed", b"= submit 7 refused 2 closed", b"= a open 0", b"= drained 0")
+        with Console(program, ["--cap", "1"]) as it:
+            it.it.stdin.write(b"sub a 3\nsubmit 7 x\nsubmit 8 y\nsubmit 7 z\nsubmit 8 w\nsubmit 8 v\n" + end)
+            it.it.stdin.close()
+            lines = []
+            while (line := it.line()) is not None:
+                lines.append(line)
+            it.waited(0, b"")
+            told = [line[7:] for line in lines if line.startswith(b"a next ")]
+            done = sum(line in (b"= submit 7 1", b"= submit 8 1") for line in lines)
+            over = sum(line in (b"= submit 7 refused 2 closed", b"= submit 8 refused 2 closed") for line in lines)
+            if len(told) != 3 or done != 4 or over != 1 or lines[-2:] != [b"= a open 3", b"= drained 0"]:
+                raise Stopped(f"at the end of the input came {lines}")
+            for order in (b"xz", b"ywv"):
+                got = b"".join(text for text in told if text in order)
+                if not order.startswith(got):
+                    raise Stopped(f"a was told {told}")
+
+
+def many(program):
+    """10,000 lines through a pipe, of four sources, and as many offers of the terminal; each line that comes out is looked at."""
+    count = 10000
+    for cap, workers in ((1, 1), (16, 4), (65536, 8)):
+        typed = [b"sub a 9223372036854775807", b"sub b 9223372036854775807", b"sub late %d" % count]
+        typed += [b"submit %d text %d of %d" % (it % 4, it, it % 4) for it in range(count)]
+        typed += [b"request late %d" % count]
+        with Console(program, ["--cap", str(cap), "--workers", str(workers)]) as it:
+            writer = threading.Thread(target=lambda: (it.it.stdin.write(b"\n".join(typed) + b"\n"), it.it.stdin.close()))
+            writer.start()
+            lines = []
+            while (line := it.line()) is not None:
+                lines.append(line)
+            writer.join()
+            it.waited(0, b"")
+        told = {name: [line.split(b" ", 2)[2] for line in lines if line.startswith(name + b" next ")] for name in (b"a", b"b", b"late")}
+        wanted = [[b"text %d of %d" % (it, source) for it in range(source, count, 4)] for source in range(4)]
+        for name, texts in told.items():
+            for source, own in enumerate(wanted):
+                if [text for text in texts if text.endswith(b" of %d" % source)] != own:
+                    raise Stopped(f"{name} was told other lines of source {source}, or in another order")
+        if told[b"a"] != told[b"b"] or told[b"a"] != told[b"late"]:
+            raise Stopped("two subscribers were told the items in two orders")
+        for source in range(4):
+            lags = [line for line in lines if line.startswith(b"= submit %d " % source)]
+            if len(lags) != count // 4 or any(not 1 <= int(line.split()[-1]) <= max(cap, 1) for line in lags):
+                raise Stopped(f"source {source} was answered {len(lags)} times, for instance {lags[:3]}")
+        rest = sorted(line for line in lines if b" next " not in line and not line.startswith(b"= submit "))
+        if rest != sorted(
+            [b"= sub a", b"= sub b", b"= sub late", b"= ok", b"= drained 1"]
+            + [b"%s subscribed" % name for name in told]
+            + [b"%s complete" % name for name in told]
+            + [b"= %s complete %d" % (name, count) for name in told]
+        ):
+            raise Stopped(f"beside the items came {rest}")
+
+
+def stamps(program):
+    """Each line begins with a time, which doesn't go back."""
+    with Console(program, ["--stamp"]) as it:
+        it.it.stdin.write(b"sub a 9\noffer x\nsubmit 1 y\nlag\nhelp\n")
+        it.it.stdin.close()
+        stamped = []
+        while (line := it.line()) is not None:
+            stamped.append(line)
+        it.waited(0, b"")
+        times = [int(line.split(b" ", 1)[0]) for line in stamped]
+        lines = [line.split(b" ", 1)[1] for line in stamped]
+        if times != sorted(times) or times[-1] > 20_000_000:
+            raise Stopped(f"the times are {times}")
+        for line in (b"= sub a", b"a subscribed", b"a next x", b"a next y", b"a complete", b"= a complete 2", b"= drained 1"):
+            if line not in lines:
+                raise Stopped(f"{line!r} is missing")
+
+
+def closed_output(program):
+    """Standard output is closed: by the answer to the next line, by a callback while no line comes, and while a submit waits."""
+    begin, waits = (b"sub a 9\n", 2), (b"sub a 0\nsubmit 7 x\nsubmit 7 y\n", 3)
+    for (typed, lines), last in ((begin, b"lag"), (begin, b"submit 7 x"), (waits, b"lag"), (waits, b"request a 1")):
+        pipe = subprocess.PIPE
+        with subprocess.Popen([program, "--cap", "1"], stdin=pipe, stdout=pipe, stderr=pipe, bufsize=0) as it:
+            try:
+                it.stdin.write(typed)
+                for _ in range(lines):
+                    it.stdout.readline()
+                it.stdout.close()
+                it.stdin.write(last + b"\n")
+                ended = it.wait(SECONDS), it.stderr.read()
+            except subprocess.TimeoutExpired:
+                ended = "no end"
+            finally:
+                it.kill()
+        if ended != (1, b"console: write fault\n"):
+            raise Stopped(f"after {typed + last!r} it ended with {ended}")
+
+
+def signals(program):
+    """A signal ends it: while it waits for a line, and while a submit waits for room."""
+    for number in (signal.SIGTERM, signal.SIGINT):
+        with Console(program) as it:
+            it.say(b"sub a 9", b"= sub a", b"a subscribed")
+            it.it.send_signal(number)
+            it.ended(-number)
+        with Console(program, ["--cap", "1"]) as it:
+            it.say(b"sub a 0", b"= sub a", b"a subscribed")
+            it.say(b"submit 7 x", b"= submit 7 1")
+            it.type(b"submit 7 y")
+            it.quiet()
+            it.it.send_signal(number)
+            it.ended(-number)
+
+
+def command_lines(program):
+    """Wrong command lines, and an input that can't be read."""
+    for words, status, error in (
+        (["--workers", "0"], 2, b"console: refused 7 workers\n"),
+        (["--workers", "9"], 2, b"console: refused 7 workers\n"),
+        (["--cap", "0"], 2, b"console: refused 1 capacity\n"),
+        (["--cap", "x"], 2, b"console: refused 12 command\n"),
+        (["--workers", "1" * 20], 2, b"console: refused 12 command\n"),
+        ([b"--cap=\xff"], 2, b"console: an argument is not UTF-8\n"),
+    ):
+        with Console(program, words) as it:
+            it.ended(status, error)
+    folder = os.open("/", os.O_RDONLY)
+    ran = subprocess.run([program], stdin=folder, capture_output=True, timeout=SECONDS)
+    os.close(folder)
+    if (ran.returncode, ran.stdout, ran.stderr) != (1, b"", b"console: read fault\n"):
+        raise Stopped(f"a folder as standard input: {ran}")
+    for words in (["--nothing"], ["word"]):
+        ran = subprocess.run([program, *words], stdin=subprocess.DEVNULL, capture_output=True, timeout=SECONDS)
+        if ran.returncode != 2 or ran.stdout or not ran.stderr.startswith(b"error: "):
+            raise Stopped(f"{words}: {ran}")
+    ran = subprocess.run([program, "--help"], stdin=subprocess.DEVNULL, capture_output=True, timeout=SECONDS)
+    if ran.returncode or not ran.stdout.startswith(b"A publisher at a terminal") or ran.stderr:
+        raise Stopped(f"--help: {ran}")
+
+
+PARTS = (commands, refusals, sources, demands, late_errors, waiting, cancelling, ends, many, stamps, closed_output, signals, command_lines)
+
+
+def main(program):
+    faults = []
+    for part in PARTS:
+        try:
+            part(program)
+        except Stopped as stopped:
+            faults.append(f"{part.__name__}: {stopped}")
+    print("\n".join([*faults, f"{len(PARTS)} parts, {len(faults)} faults"]))
+    return 1 if faults else 0
+
+
+if __name__ == "__main__":
+    sys.exit(main(os.path.realpath(sys.argv[1])))
