@@ -1,15 +1,19 @@
 -- Who is called of those that sleep, and whom to wake then.
-use Rattle.std.specs.Prelude.{◌≡◌, ◌+◌, ◌<◌, ◌≤◌}
+use Rattle.std.specs.Prelude.{◌≡◌, ◌<◌, ◌⊎◌}
 use Rattle.async_pool.specs.declared.sleepers.Sleepers.{Sleepers}
 use Rattle.async_pool.specs.declared.sleepers.Wake.{Wake}
 use Rattle.async_pool.specs.declared.sleepers.Wake.TheVariants.{Nobody, One, All}
 
--- one more was called, where one sleeps that was not called, and is to be woken; else nobody
+-- whether one may be called for a job that came: somebody sleeps, and each that was called has got up
+abbrev pub MayCall : Sleepers → Type 0
+MayCall sleepers = (0 < sleepers.asleep) × (sleepers.called ≡ 0)
+
+-- one was called, where one may be, and is to be woken; else nobody
 pub record CallsOne (old : Sleepers) (wake : Wake) (new : Sleepers) : Type 0 where
-  pub called : old.called < old.asleep → new.called ≡ old.called + 1
-  pub woken : old.called < old.asleep → wake ≡ One
-  pub unchanged : old.asleep ≤ old.called → new.called ≡ old.called
-  pub nobody : old.asleep ≤ old.called → wake ≡ Nobody
+  pub called : MayCall old → new.called ≡ 1
+  pub woken : MayCall old → wake ≡ One
+  pub unchanged : (old.asleep ≡ 0) ⊎ (0 < old.called) → new.called ≡ old.called
+  pub nobody : (old.asleep ≡ 0) ⊎ (0 < old.called) → wake ≡ Nobody
   pub asleep : new.asleep ≡ old.asleep
 
 -- all that sleep were called, and are to be woken

@@ -124,7 +124,7 @@ impl<J: Drop> Crew<J> {
         self.sleepers.get_up(sleeper);
     }
 
-    /// Calls a worker that sleeps, if there is one that was not called, since a job came.
+    /// Calls a worker that sleeps, if there is one and each that was called has got up, since a job came.
     pub fn call_one(&mut self) -> Wake
         ensures called { CallsOne self.old.sleepers result self.new.sleepers }
         ensures others { self.new ≡ record self.old { sleepers = self.new.sleepers } }

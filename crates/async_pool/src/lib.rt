@@ -11,9 +11,10 @@
 //! else it steals one of another worker's queue. None of this takes a lock. What was put into the inbox, and into each queue,
 //! is what was taken from it, followed by what it holds, in the order in which that happened: the rule of both.
 //!
-//! A worker that found no job a bounded number of times sleeps until one comes or the pool is shut. One lock keeps who sleeps,
-//! whose loop runs, and whether the pool was shut. Whom to wake, and that a loop may end, is said by values that can't be
-//! dropped, and a worker lies down only after it looked while it held the lock. All room is made by [`Pool::new`], but that a
+//! A worker that found no job a bounded number of times sleeps until one comes or the pool is shut. A job that comes wakes one
+//! worker, if nobody searches; the last that searches wakes the next once it has found a job. So jobs that come together wake no
+//! more workers than find work. One lock keeps who sleeps, whose loop runs, and whether the pool was shut. Whom to wake, and that
+//! a loop may end, is said by values that can't be dropped, and a worker lies down only after it looked while it held the lock. All room is made by [`Pool::new`], but that a
 //! worker's queue may have to grow while a thief is stopped in the middle of a steal.
 //!
 //! ```

@@ -1,27 +1,24 @@
 //! The pool: how jobs are handed in, and what the loop of a worker does. It starts no threads, and takes its lock only for
 //! workers that have nothing to do.
+mod searching;
+
 ghost use Rattle.std.specs.Prelude.{◌≡◌, ◌<◌, ◌↔◌, ◌⊎◌, IfOk, IfErr, Err};
 ghost use Rattle.flow_rules.specs.declared.refusal.Refusal.TheVariants as Refusal;
 ghost use Rattle.async_pool.specs.Crew.{IsWorkerCount};
 
-use crate::crew::{Crew, Look, MOST_WORKERS, Over};
+use crate::crew::{Crew, MOST_WORKERS, Over};
 use crate::inbox::Inbox;
 use crate::job::{Gate, Job};
 use crate::jobs::Jobs;
 use crate::left::Left;
 use crate::queue::Queue;
-use crate::sleepers::Wake;
 use crate::taker::Taker;
-use crossbeam_utils::Backoff;
 use flow_rules::{NoMemory, Refusal};
 use std::alloc::Global;
+use std::fmt;
 use std::sync::atomic::Ordering::SeqCst;
 use std::sync::atomic::{AtomicBool, AtomicU64};
-use std::sync::{Condvar, Mutex, MutexGuard, Wait};
-use std::{fmt, thread};
-
-/// How often a worker looks for a job before it sleeps. From the eighth look on it yields to other threads in between.
-const LOOKS: u32 = 12;
+use std::sync::{Condvar, Mutex, Wait};
 
 /// A pool of workers (`ForkJoinPool` in `asyncMode`). Threads share it by reference or in an `Arc`.
 #[derive(Drop)]
@@ -33,6 +30,9 @@ pub struct Pool<J: Job> {
     moved: Condvar,
     /// How many workers sleep, or are about to. Only if there are any, whoever puts a job somewhere takes the lock.
     idle: AtomicU64,
+    /// How many workers look for a job again and again. While there are any nobody is called: they look after a job came, and the last of
+    /// them that finds one calls the next worker. So one wake-up serves all jobs that come together.
+    searching: AtomicU64,
     /// Whether the pool was shut, as `execute` sees it without the lock.
     shut: AtomicBool,
     /// How many calls of `execute` may put a job in still. Each is counted before it sees whether the pool was shut: so once that was
@@ -52,7 +52,6 @@ impl<J: Job> Pool<J> {
     ghost use Rattle.std.specs.Prelude.{OnOk, OnErr};
     ghost use Rattle.async_pool.specs.Bag.{after_put};
     ghost use Rattle.async_pool.specs.Jobs.{IsTakerOf};
-    ghost use Rattle.async_pool.specs.Looks.{Looks};
     ghost use Rattle.async_pool.specs.Queue.{queue_view};
     ghost use Rattle.async_pool.specs.Pool.{pool_workers};
 
@@ -84,6 +83,7 @@ impl<J: Job> Pool<J> {
             crew: Mutex::new(crew),
             moved: Condvar::new(),
             idle: AtomicU64::new(0),
+            searching: AtomicU64::new(0),
             shut: AtomicBool::new(false),
             entering: AtomicU64::new(0),
             left: Mutex::new(Left::new(alloc)?),
@@ -167,6 +167,7 @@ impl<J: Job> Pool<J> {
             crew: _,
             moved: _,
             idle: _,
+            searching: _,
             shut: _,
             entering: _,
             left,
@@ -219,82 +220,5 @@ impl<J: Job> Pool<J> {
         own.push(job)?;
         self.call_one(rt);
         Ok(())
-    }
-
-    /// Takes the next job, or says that the pool is over. It takes the lock only after it found no job several times.
-    fn next_job<R: Wait>(&self, rt: &R, taker: &mut Taker<J>) -> Result<J, Over>
-        requires { IsTakerOf self.now.jobs taker.old }
-        ensures { IsTakerOf self.now.jobs taker.new }
-    {
-        let backoff = Backoff::new();
-        for _ in 0..LOOKS {
-            if let Some(job) = self.jobs.next(rt, taker) {
-                return Ok(job);
-            }
-            backoff.snooze();
-        }
-        self.idle.fetch_add(1, SeqCst);
-        let next = self.wait_for_job(rt, taker);
-        self.idle.fetch_sub(1, SeqCst);
-        next
-    }
-
-    /// Sleeps until there is a job, or the pool is over.
-    ///
-    /// The worker was counted as idle, and then looks while it holds the lock. So whoever puts a job somewhere after that look
-    /// finds it counted, and takes the lock to call it; and the lock is free only once the worker sleeps.
-    fn wait_for_job<R: Wait>(&self, rt: &R, taker: &mut Taker<J>) -> Result<J, Over>
-        requires { IsTakerOf self.now.jobs taker.old }
-        ensures { IsTakerOf self.now.jobs taker.new }
-    {
-        let mut crew = self.crew.lock(rt);
-        for _ in rt.forever() {
-            match self.look(rt, taker, &*crew) {
-                Look::Found(job) => return Ok(job),
-                Look::Over(over) => return Err(over),
-                Look::Nothing(searched) => {
-                    let sleeper = crew.lie_down(&searched);
-                    crew = self.moved.wait(rt, crew);
-                    crew.get_up(sleeper);
-                }
-                Look::OnItsWay => {
-                    drop(crew);
-                    thread::yield_now();
-                    crew = self.crew.lock(rt);
-                }
-            }
-        }
-        unreachable!()
-    }
-
-    /// Looks once for a job, of a worker that holds the lock.
-    fn look<R: Wait>(&self, rt: &R, taker: &mut Taker<J>, crew: &Crew<J>) -> Look<J>
-        requires { IsTakerOf self.now.jobs taker.old }
-        ensures of { IsTakerOf self.now.jobs taker.new }
-        ensures looks { Looks crew.now result }
-    {
-        // Read before the search, which then finds what a call has put in that is counted no more.
-        let comes = self.entering.load(SeqCst) > 0;
-        crew.look(self.jobs.next(rt, taker), comes)
-    }
-
-    /// Wakes a worker that sleeps, if there is one, since a job came.
-    fn call_one<R: Wait>(&self, rt: &R) {
-        if self.idle.load(SeqCst) == 0 {
-            return;
-        }
-        let mut crew = self.crew.lock(rt);
-        let wake = crew.call_one();
-        self.wake(crew, wake);
-    }
-
-    /// Lets go of the lock, and wakes whom the lock said.
-    fn wake(&self, crew: MutexGuard<'_, Crew<J>>, wake: Wake) {
-        drop(crew);
-        match wake {
-            Wake::Nobody => {}
-            Wake::One => self.moved.notify_one(),
-            Wake::All => self.moved.notify_all(),
-        }
     }
 }

@@ -55,14 +55,14 @@ impl Sleepers {
         self.asleep = self.asleep.saturating_sub(1);
     }
 
-    /// Calls one more, or nobody if each that sleeps was called.
+    /// Calls one that sleeps, or nobody if one that was called did not get up yet: that one looks, and calls the next.
     pub fn call_one(&mut self) -> Wake
         ensures { CallsOne self.old result self.new }
     {
-        if self.called == self.asleep {
+        if self.asleep == 0 || self.called > 0 {
             return Wake::Nobody;
         }
-        self.called += 1;
+        self.called = 1;
         Wake::One
     }
 

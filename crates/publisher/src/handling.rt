@@ -20,7 +20,7 @@ impl<L: Ledger, D: Ledger, B: Listener, F: FailHandler> Shared<L, D, B, F> {
     /// Tells the handler, if there is one, that the `onNext` of the subscription of this number failed with this code. The lock of the
     /// publisher is free meanwhile.
     pub fn tell_failure<R: Wait>(&self, rt: &R, entry: u32, code: u32) {
-        let name = self.state.lock(rt).name_of(entry);
+        let name = self.lock(rt).name_of(entry);
         tell(&mut *self.handler.lock(rt), name, code);
     }
 }

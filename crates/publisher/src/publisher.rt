@@ -98,17 +98,17 @@ impl<L: Ledger + Send, D: Ledger + Send, B: Listener + Send, F: FailHandler + Se
 
     /// Tells the longest backlog of any live subscription, in items, and 0 if there is none (`SubmissionPublisher.estimateMaximumLag`).
     pub fn estimate_maximum_lag<R: Wait>(&self, rt: &R) -> u64 {
-        self.shared.state.lock(rt).max_lag()
+        self.shared.lock(rt).max_lag()
     }
 
     /// Tells how many subscriptions are live (`SubmissionPublisher.getNumberOfSubscribers`).
     pub fn number_of_subscribers<R: Wait>(&self, rt: &R) -> usize {
-        self.shared.state.lock(rt).number_of_subscribers()
+        self.shared.lock(rt).number_of_subscribers()
     }
 
     /// Tells whether a live subscription has this name (`SubmissionPublisher.isSubscribed`).
     pub fn is_subscribed<R: Wait>(&self, rt: &R, name: Name) -> bool {
-        self.shared.state.lock(rt).is_subscribed(name)
+        self.shared.lock(rt).is_subscribed(name)
     }
 
     /// Subscribes a subscriber that was told nothing (`SubmissionPublisher.subscribe`).
@@ -134,7 +134,6 @@ impl<L: Ledger + Send, D: Ledger + Send, B: Listener + Send, F: FailHandler + Se
         let mut due = Vec::new(alloc);
         let subscribed = self
             .shared
-            .state
             .lock(rt)
             .subscribe(alloc, name, self.shared.order, subscriber, &mut due);
         caller.start_all(rt, &mut due);
@@ -167,7 +166,7 @@ impl<L: Ledger + Send, D: Ledger + Send, B: Listener + Send, F: FailHandler + Se
     {
         let caller = Caller::new(alloc, &self.shared, &self.pool)?;
         let closing = Arc::try_clone(&self.shared.closing)?;
-        let own = self.shared.state.lock(rt).next_source()?;
+        let own = self.shared.lock(rt).next_source()?;
         Ok(Submitter::new(alloc, caller, closing, own, note.again()))
     }
 }

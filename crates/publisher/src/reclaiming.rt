@@ -40,7 +40,7 @@ impl<L: Ledger + Send, D: Ledger + Send, B: Listener + Send, F: FailHandler + Se
         ensures refusals { IfErr result (λ refused. IsRefusalOfReclaim refused.0) }
     {
         let (caller, entry, handle) = subscription.into_all();
-        let taken = self.shared.state.lock(rt).reclaim(alloc, entry, handle);
+        let taken = self.shared.lock(rt).reclaim(alloc, entry, handle);
         match taken {
             Ok(taken) => Ok(close_ended(rt, entry, taken)),
             Err((refusal, handle)) => Err((refusal, Subscription::new(caller, entry, handle))),

@@ -1,6 +1,7 @@
 //! What a publisher's threads share, and what its pool runs.
 use crate::state::{Reason, State, Wake};
 use async_pool::Job;
+use crossbeam_utils::Backoff;
 use feed_cell::{Task, Turn};
 use feed_core::{Seen, failed_item};
 use flow_rules::{Ending, ErrorOrder, FailHandler, Listener, NoMemory};
@@ -12,6 +13,9 @@ use std::sync::atomic::Ordering::SeqCst;
 use std::sync::ledger::Ledger;
 use std::sync::{Arc, Condvar, Mutex, MutexGuard, Wait};
 
+/// How often a thread tries the lock before it sleeps for it. From the eighth try on it yields to other threads in between.
+const TRIES: u32 = 40;
+
 /// What a publisher's threads share.
 #[derive(Drop)]
 pub struct Shared<L: Ledger, D: Ledger, B: Listener, F: FailHandler> {
@@ -19,6 +23,7 @@ pub struct Shared<L: Ledger, D: Ledger, B: Listener, F: FailHandler> {
     pub capacity: usize,
     /// In which order a closing error and the items are told.
     pub order: ErrorOrder,
+    /// Taken by [`Shared::lock`].
     pub state: Mutex<State<L, D, B>>,
     /// A turn was run, the publisher was closed, or the loop of a worker has ended.
     pub changed: Condvar,
@@ -31,6 +36,19 @@ pub struct Shared<L: Ledger, D: Ledger, B: Listener, F: FailHandler> {
 }
 
 impl<L: Ledger, D: Ledger, B: Listener, F: FailHandler> Shared<L, D, B, F> {
+    /// Takes the lock. It is held for some hundred nanoseconds at a time, and to sleep for it costs a hundred times that; so it is tried
+    /// again and again before.
+    pub fn lock<R: Wait>(&self, rt: &R) -> MutexGuard<'_, State<L, D, B>> {
+        let backoff = Backoff::new();
+        for _ in 0..TRIES {
+            if let Some(state) = self.state.try_lock() {
+                return state;
+            }
+            backoff.snooze();
+        }
+        self.state.lock(rt)
+    }
+
     /// Lets go of the lock, and wakes those who wait, if anybody does.
     pub fn tell(&self, state: MutexGuard<'_, State<L, D, B>>) {
         let wake = state.wake();
@@ -60,7 +78,7 @@ impl<L: Ledger, D: Ledger, B: Listener, F: FailHandler> Shared<L, D, B, F> {
     /// free only once this thread sleeps.
     pub fn wait_for_room<R: Wait>(&self, rt: &R) {
         self.awaiting.fetch_add(1, SeqCst);
-        let mut state = self.state.lock(rt);
+        let mut state = self.lock(rt);
         if let Err(reason) = state.look_for_room() {
             state = self.wait(rt, state, reason);
         }
@@ -70,7 +88,7 @@ impl<L: Ledger, D: Ledger, B: Listener, F: FailHandler> Shared<L, D, B, F> {
 
     /// Sleeps until the subscription of this number has ended.
     pub fn wait_for_end<R: Wait>(&self, rt: &R, entry: u32) {
-        let mut state = self.state.lock(rt);
+        let mut state = self.lock(rt);
         for _ in rt.forever() {
             match state.look_for_end(entry) {
                 Ok(()) => return,
@@ -81,7 +99,7 @@ impl<L: Ledger, D: Ledger, B: Listener, F: FailHandler> Shared<L, D, B, F> {
 
     /// Sleeps until the last ticket of the count is spent.
     pub fn wait_for_drain<R: Wait>(&self, rt: &R) {
-        let mut state = self.state.lock(rt);
+        let mut state = self.lock(rt);
         for _ in rt.forever() {
             match state.look_for_drain() {
                 Ok(()) => return,
@@ -96,7 +114,7 @@ impl<L: Ledger, D: Ledger, B: Listener, F: FailHandler> Shared<L, D, B, F> {
         if !has_ended && self.awaiting.load(SeqCst) == 0 {
             return;
         }
-        let mut state = self.state.lock(rt);
+        let mut state = self.lock(rt);
         if has_ended {
             state.spend_ticket(entry);
         }

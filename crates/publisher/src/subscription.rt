@@ -101,7 +101,7 @@ impl<L: Ledger + Send, D: Ledger + Send, B: Listener + Send, F: FailHandler + Se
 
     /// Tells how many items wait for the subscriber; 0 once the subscription has ended.
     pub fn lag<R: Wait>(&self, rt: &R) -> u64 {
-        self.caller.worker.shared.state.lock(rt).lag(self.entry)
+        self.caller.worker.shared.lock(rt).lag(self.entry)
     }
 
     /// Tells how many items were requested with this subscription, saturated at 2^63-1. What the subscriber requests by its answers is not
@@ -115,12 +115,7 @@ impl<L: Ledger + Send, D: Ledger + Send, B: Listener + Send, F: FailHandler + Se
     /// Tells whether the subscription has ended: the subscriber was told `onComplete` or `onError`, a turn has obeyed a cancel, or a callback
     /// failed or was refused memory.
     pub fn has_ended<R: Wait>(&self, rt: &R) -> bool {
-        self.caller
-            .worker
-            .shared
-            .state
-            .lock(rt)
-            .has_ended(self.entry)
+        self.caller.worker.shared.lock(rt).has_ended(self.entry)
     }
 
     /// Waits until the subscription has ended. It requests and cancels nothing by itself: if items or a completion wait for demand that nobody

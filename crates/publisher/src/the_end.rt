@@ -58,7 +58,6 @@ pub fn finish<
     let handler = publisher.shared.take_handler(rt);
     let books = publisher
         .shared
-        .state
         .lock(rt)
         .take_out(alloc, submitters, subscriptions);
     match books {

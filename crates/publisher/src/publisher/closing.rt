@@ -82,7 +82,7 @@ impl<L: Ledger + Send, D: Ledger + Send, B: Listener + Send, F: FailHandler + Se
         let mut made = Box::new(alloc, ending)?;
         let mut caller = Caller::new(alloc, &self.shared, &self.pool)?;
         let mut due = Vec::new(alloc);
-        let mut state = self.shared.state.lock(rt);
+        let mut state = self.shared.lock(rt);
         *made = state.close(ending, &mut due)?;
         note.learn(&self.shared.closing, made);
         self.shared.tell(state);

@@ -30,7 +30,7 @@ impl<
     {
         let mut context = Worker::new(alloc, &self.shared)?;
         let pool = Arc::try_clone(&self.pool)?;
-        self.shared.state.lock(&rt).begin_loop();
+        self.shared.lock(&rt).begin_loop();
         let run = move ||
             requires { worker < pool_workers (arc_value pool) }
         {
@@ -54,7 +54,7 @@ impl<L: Ledger + Send, D: Ledger + Send, B: Listener + Send, F: FailHandler + Se
     /// Ends the workers, and drops the tasks that are left.
     pub(crate) fn stop<R: Wait>(&self, rt: &R) {
         self.pool.shut(rt);
-        let mut state = self.shared.state.lock(rt);
+        let mut state = self.shared.lock(rt);
         for _ in rt.forever() {
             match state.look_for_loops() {
                 Ok(()) => break,
@@ -75,7 +75,7 @@ fn end_loop<L: Ledger, D: Ledger, B: Listener, F: FailHandler, R: Wait>(
     rt: &R,
     shared: &Shared<L, D, B, F>,
 ) {
-    let mut state = shared.state.lock(rt);
+    let mut state = shared.lock(rt);
     state.end_loop();
     shared.tell(state);
 }

@@ -82,6 +82,7 @@ impl<L: Ledger, D: Ledger, B: Listener> State<L, D, B> {
         ensures refusals { IfErr result
             (λ why. RefusesItem producer_end DoesCall text self.old.hub self.new.hub why) }
         ensures reasons { IfErr result (λ why. IsHubReason why) }
+        ensures nothing_due { OnErr result (due.new.items ≡ due.old.items) }
         ensures one_more { OnOk result
             (own.new.publications.amount ≡ own.old.publications.amount + 1) }
         ensures none { OnErr result (own.new.publications.amount ≡ own.old.publications.amount) }
