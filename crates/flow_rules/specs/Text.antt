@@ -6,10 +6,10 @@ use Rattle.flow_rules.specs.declared.text.Bytes.TheVariants.{Inside, Shared}
 
 -- the bytes of a text, wherever they lie
 abbrev pub bytes_of : Bytes → List ℕ
-bytes_of (Inside array len) = take len array
+bytes_of (Inside len array) = take len array
 bytes_of (Shared bytes) = bytes.value.items
 
 -- no more bytes than there is room in the value, or than a text may have
 abbrev pub Fits : Bytes → Type 0
-Fits (Inside array len) = len ≤ LONGEST_INSIDE
+Fits (Inside len array) = len ≤ LONGEST_INSIDE
 Fits (Shared bytes) = length bytes.value.items ≤ LONGEST

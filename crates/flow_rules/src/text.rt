@@ -21,10 +21,10 @@ pub struct Text {
 /// Where the bytes of a text lie.
 #[derive(Drop)]
 enum Bytes {
-    /// In this value: the first `len` bytes of the array.
+    /// In this value: the first `len` bytes of the array. `len` lies before it, so that the array is copied in fewer parts.
     Inside {
-        array: [u8; Text::LONGEST_INSIDE],
         len: u8,
+        array: [u8; Text::LONGEST_INSIDE],
     },
     /// In memory that the owners of the text share.
     Shared(Arc<Vec<u8>>),
@@ -71,8 +71,8 @@ impl Text {
         array[..bytes.len()].copy_from_slice(bytes);
         Text {
             bytes: Bytes::Inside {
-                array,
                 len: bytes.len() as u8,
+                array,
             },
         }
     }
@@ -82,9 +82,9 @@ impl Text {
         ensures { IfOk result (λ text. text ≡ self.now) }
     {
         let bytes = match &self.bytes {
-            Bytes::Inside { array, len } => Bytes::Inside {
-                array: *array,
+            Bytes::Inside { len, array } => Bytes::Inside {
                 len: *len,
+                array: *array,
             },
             Bytes::Shared(bytes) => Bytes::Shared(Arc::try_clone(bytes)?),
         };
@@ -97,7 +97,7 @@ impl Text {
         ensures short { length self.now ≤ Text.LONGEST }
     {
         match &self.bytes {
-            Bytes::Inside { array, len } => &array[..usize::from(*len)],
+            Bytes::Inside { len, array } => &array[..usize::from(*len)],
             Bytes::Shared(bytes) => bytes.as_slice(),
         }
     }
