@@ -13,7 +13,7 @@ trap 'rm -rf "$work"' EXIT
 gcc -O1 -Wall -Wextra -Werror -o "$work/peak" tests/ship/peak.c
 
 # How many bytes may stay of a subscription of capacity 1: docs/GUIDE.md has what they are.
-MOST=5120
+MOST=6752
 
 # How many bytes may stay of one that was reclaimed, with a capacity of 16.
 MOST_RECLAIMED=1024

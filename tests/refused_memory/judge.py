@@ -10,9 +10,10 @@ subscriber is told nothing more. One request is refused in a run, so of a run
 - it is that with ample memory: what was refused was not needed; or
 - it is a beginning of that, with status 1 and `lines_demo: memory` on standard error: the script was stopped.
 
-Each `sub`, `offer`, `retry` and `submit` that comes to a point with ample memory has to be refused it in some run, and so has
-some callback; some run has to be stopped. Where SCRIPT has a file .expected beside it, some run has to give just that. Of all
-the scripts together, each kind of signal that is told with ample memory has to be refused it in some run.
+Each `sub`, and each `offer`, `retry` and `submit` of a text that takes memory of its own, that comes to a point with ample memory has to
+be refused it in some run, and so has some callback; some run has to be stopped. Where SCRIPT has a file .expected beside it, some run
+has to give just that. Of all the scripts together, each kind of signal that is told with ample memory has to be refused it in some
+run.
 With --forget the subscriber keeps nothing, so no callback may be refused memory.
 """
 
@@ -25,7 +26,9 @@ sys.dont_write_bytecode = True
 from definition import play
 
 MOST = 20000
-HAVE_TO_BE_REFUSED = ("sub", "offer", "retry", "submit")
+PUBLICATIONS = ("offer", "retry", "submit")
+# The number of bytes of the longest text that takes no memory.
+LONGEST_INSIDE = 30
 CALLBACKS = ("subscribed", "next", "complete", "error argument", "error state", "error published")
 
 
@@ -72,9 +75,15 @@ class Script:
         self.refused_at.update(points)
         return None
 
+    def has_to_be_refused(self, point):
+        """Whether the call of this point can't do without memory."""
+        line, kind = point
+        text = self.lines[line].rstrip(b"\r\n").partition(b" ")[2]
+        return kind == "sub" or kind in PUBLICATIONS and len(text) > LONGEST_INSIDE
+
     def never_met(self):
         """What no refusal hit."""
-        asks = [it for it in self.points if it[1] in HAVE_TO_BE_REFUSED and it not in self.refused_at]
+        asks = [it for it in self.points if self.has_to_be_refused(it) and it not in self.refused_at]
         missing = [f"line {line + 1}, {self.lines[line].decode(errors='replace').strip()}" for line, _ in asks]
         needed = ["stopped"] if self.forgets else ["stopped", "callback"]
         return missing + [it for it in needed if not self.met[it]]

@@ -1,9 +1,9 @@
 #!/bin/sh
-# Runs native tests of counts, pools, Hubs, cells and publishers with the Nth request for memory refused, for N from 1 up to a run
+# Runs native tests of texts, counts, pools, Hubs, cells and publishers with the Nth request for memory refused, for N from 1 up to a run
 # that meets none. Each run has to end by itself, within a minute, either well or with the error that a refusal gives.
 #
 # It fails, too, where a run does not say that its test was run, and where no request of a test was refused, as when the
-# library that refuses is not loaded.
+# library that refuses is not loaded; and where a text that has to do without memory asks for some.
 #
 # It needs the native tests, which `rt test` leaves in crates/call_tests/out, and gcc. TESTS names another program.
 set -eu
@@ -74,6 +74,20 @@ each() {
     failures=$((failures + 1))
 }
 
+# asks_for_none PROGRAM TEST: its first request would be refused, and there is none.
+asks_for_none() {
+    tried=$((tried + 1))
+    answer=$(one "$1" "$2" 1)
+    if [ "$answer" = none ]; then
+        echo "$2: no request"
+    else
+        echo "$2: it asks for memory: $answer"
+        failures=$((failures + 1))
+    fi
+}
+
+asks_for_none "$tests" tests::texts::a_short_text_asks_for_no_memory
+each "$tests" tests::texts::a_long_text_asks_for_memory
 for name in a_refusal_is_answered the_last_of_three_is_true no_two_of_one_count_are_the_last of_all_one_is_the_last; do
     each "$tests" "tests::count::$name"
 done

@@ -276,9 +276,9 @@ fn name_of(letter: u8) -> Result<Name, Refusal> {
     Name::new(&[letter]).ok_or(Refusal::Unknown)
 }
 
-/// A text.
+/// A text that takes memory of its own.
 fn text_of(alloc: Global) -> Result<Text, NoMemory> {
-    Text::new(alloc, b"x")
+    Text::new(alloc, b"a text of more than thirty bytes")
 }
 
 impl From<Refusal> for Why {

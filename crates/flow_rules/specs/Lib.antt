@@ -10,4 +10,5 @@ pub mod Padding
 pub mod Printed
 pub mod Refusal
 pub mod Signals
+pub mod Text
 pub mod Watched

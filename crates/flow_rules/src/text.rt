@@ -1,4 +1,4 @@
-//! A text: the bytes of an item, which its owners share.
+//! A text: the bytes of an item.
 ghost use Rattle.std.specs.Prelude.{◌≡◌, ◌≤◌, ◌==◌, ◌↔◌, [], length, IfOk, true};
 ghost use Rattle.std.specs.Cmp.Lexicographic.{pointwise};
 ghost use Rattle.std.specs.Cmp.Rules.{comparing};
@@ -7,48 +7,88 @@ ghost use Rattle.std.proofs.Common.{rules};
 use crate::refusal::NoMemory;
 use std::alloc::Global;
 use std::convert::AsSlice;
+use std::fmt;
 use std::marker::Model;
 use std::sync::Arc;
 
-/// A text of up to [`Text::LONGEST`] bytes that its owners share: to share it copies no byte.
-#[derive(Debug, Drop)]
+/// A text of up to [`Text::LONGEST`] bytes. One of up to [`Text::LONGEST_INSIDE`] bytes lies in this value: it takes no memory, and its
+/// shares are copies. The bytes of a longer one lie in memory that its shares have in common.
+#[derive(Drop)]
 pub struct Text {
-    bytes: Arc<Vec<u8>>,
+    bytes: Bytes,
+}
+
+/// Where the bytes of a text lie.
+#[derive(Drop)]
+enum Bytes {
+    /// In this value: the first `len` bytes of the array. `len` lies before it, so that the array is copied in fewer parts.
+    Inside {
+        len: u8,
+        array: [u8; Text::LONGEST_INSIDE],
+    },
+    /// In memory that the owners of the text share.
+    Shared(Arc<Vec<u8>>),
 }
 
 impl Model for Text {
-    ghost use Rattle.std.specs.Prelude.{List, ℕ, ◌≤◌, length};
-    ghost use Rattle.flow_rules.specs.declared.text.TheConstants.Text.{LONGEST};
+    ghost use Rattle.std.specs.Prelude.{List, ℕ};
+    ghost use Rattle.flow_rules.specs.Text.{bytes_of, Fits};
 
     ghost Value = { List ℕ };
 
-    ghost view = { λ t. t.bytes.value.items };
+    ghost view = { λ t. bytes_of t.bytes };
 
-    ghost invariant = { λ t. length t.bytes.value.items ≤ LONGEST };
+    ghost invariant = { λ t. Fits t.bytes };
 }
 
 impl Text {
     /// The number of bytes of the longest text.
     pub const LONGEST: usize = 4096;
 
-    /// A text of these bytes, which need be no text in any encoding.
+    /// The number of bytes of the longest text that takes no memory.
+    pub const LONGEST_INSIDE: usize = 30;
+
+    /// A text of these bytes, which need be no text in any encoding. One of [`Text::LONGEST_INSIDE`] bytes or fewer is never refused.
     pub fn new(alloc: Global, bytes: &[u8]) -> Result<Text, NoMemory>
         requires { length bytes.now ≤ Text.LONGEST }
         ensures { IfOk result (λ text. text ≡ bytes.now) }
     {
+        if bytes.len() <= Text::LONGEST_INSIDE {
+            return Ok(Text::inside(bytes));
+        }
         let copy = Vec::from_slice(alloc, bytes)?;
         Ok(Text {
-            bytes: Arc::new(alloc, copy)?,
+            bytes: Bytes::Shared(Arc::new(alloc, copy)?),
         })
     }
 
-    /// One more owner of the same bytes. It may be refused, as any growth.
+    /// A text that lies in this value.
+    fn inside(bytes: &[u8]) -> Text
+        requires { length bytes.now ≤ Text.LONGEST_INSIDE }
+        ensures { result ≡ bytes.now }
+    {
+        let mut array = [0; Text::LONGEST_INSIDE];
+        array[..bytes.len()].copy_from_slice(bytes);
+        Text {
+            bytes: Bytes::Inside {
+                len: bytes.len() as u8,
+                array,
+            },
+        }
+    }
+
+    /// The same text once more. It may be refused, as any growth, if the text has more than [`Text::LONGEST_INSIDE`] bytes.
     pub fn share(&self) -> Result<Text, NoMemory>
         ensures { IfOk result (λ text. text ≡ self.now) }
     {
-        Ok(Text {
-            bytes: Arc::try_clone(&self.bytes)?,
-        })
+        let bytes = match &self.bytes {
+            Bytes::Inside { len, array } => Bytes::Inside {
+                len: *len,
+                array: *array,
+            },
+            Bytes::Shared(bytes) => Bytes::Shared(Arc::try_clone(bytes)?),
+        };
+        Ok(Text { bytes })
     }
 
     /// The bytes of the text.
@@ -56,7 +96,10 @@ impl Text {
         ensures value { result.now ≡ self.now }
         ensures short { length self.now ≤ Text.LONGEST }
     {
-        self.bytes.as_slice()
+        match &self.bytes {
+            Bytes::Inside { len, array } => &array[..usize::from(*len)],
+            Bytes::Shared(bytes) => bytes.as_slice(),
+        }
     }
 
     /// The number of bytes.
@@ -64,14 +107,22 @@ impl Text {
         ensures value { result ≡ length self.now }
         ensures short { result ≤ Text.LONGEST }
     {
-        self.bytes.len()
+        self.as_bytes().len()
     }
 
     /// Whether the text has no byte.
     pub fn is_empty(&self) -> bool
         ensures { (result ≡ true) ↔ (self.now ≡ []) }
     {
-        self.bytes.is_empty()
+        self.as_bytes().is_empty()
+    }
+}
+
+impl fmt::Debug for Text {
+    fn fmt<W: fmt::Write>(&self, f: &mut fmt::Formatter<W>) -> fmt::Result {
+        f.debug_struct("Text")
+            .field("bytes", &self.as_bytes())
+            .finish()
     }
 }
 

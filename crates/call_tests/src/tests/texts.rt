@@ -5,9 +5,19 @@ use crate::item_with;
 use flow_rules::{Item, NoMemory, Put, Text};
 use std::alloc::Global;
 use std::convert::AsSlice;
+use std::mem::size_of;
 use std::test::Fail;
 
-const TEXTS: [&[u8]; 4] = [b"", b" x", b"\xff\0", &[b'f'; 4096]];
+// The longest that lies in its value, one byte less, one byte more, and the longest of all.
+const TEXTS: [&[u8]; 7] = [
+    b"",
+    b" x",
+    b"\xff\0",
+    &[b'd'; 29],
+    &[b'e'; 30],
+    &[b'f'; 31],
+    &[b'g'; 4096],
+];
 
 /// The parts of items, and whether those of `item_with` are the same with the text `x`.
 const ITEMS: [(u32, u64, u64, &[u8; 1], bool); 5] = [
@@ -43,10 +53,47 @@ fn is_shared(alloc: Global, bytes: &[u8]) -> Result<bool, NoMemory>
 
 #[test]
 fn a_text_holds_its_bytes(rt: HostRuntime) -> Result<(), Fail> {
-    assert!(rt; Text::LONGEST == 4096);
+    assert!(rt; Text::LONGEST == 4096 && Text::LONGEST_INSIDE == 30);
     for bytes in TEXTS {
         assert!(rt; bytes.len() <= Text::LONGEST && is_shared(rt.alloc(), bytes)?);
     }
+    Ok(())
+}
+
+// Each slot of a buffer has room for one.
+#[test]
+fn a_text_has_32_bytes(rt: HostRuntime) {
+    assert!(rt; size_of::<Text>() == 32 && size_of::<Item>() == 56);
+}
+
+// Run from outside, too, with each request for memory refused in turn: there is none.
+#[test]
+fn a_short_text_asks_for_no_memory(rt: HostRuntime) -> Result<(), Fail> {
+    for bytes in [TEXTS[0], TEXTS[1], TEXTS[4]] {
+        assert!(rt; bytes.len() <= Text::LONGEST && is_shared(rt.alloc(), bytes)?);
+    }
+    Ok(())
+}
+
+// Run from outside, too, with each request for memory refused in turn.
+#[test]
+fn a_long_text_asks_for_memory(rt: HostRuntime) -> Result<(), Fail> {
+    assert!(rt; is_shared(rt.alloc(), &[b'f'; 31])?);
+    Ok(())
+}
+
+#[test]
+fn a_text_prints_its_bytes_for_a_programmer(rt: HostRuntime) -> Result<(), Fail> {
+    let short = Text::new(rt.alloc(), b" x")?;
+    let long = Text::new(rt.alloc(), &[b'f'; 31])?;
+    let printed = format!(in rt.alloc(); "{short:?}")?;
+    assert!(rt; printed.as_str() == "Text { bytes: [32, 120] }");
+    let printed = format!(in rt.alloc(); "{long:?}")?;
+    assert!(rt;
+        printed
+            .as_str()
+            .starts_with("Text { bytes: [102, 102, 102,")
+    );
     Ok(())
 }
 

@@ -108,7 +108,8 @@ fn relay<R: Threads + Wait + Send + Copy + 'static>(
     let Ok((producer, handle, task)) = Cell::new(alloc, capacity(asked)?, InOrder::new()) else {
         return Err(NoMemory.into());
     };
-    let text = Text::new(alloc, b"x")?;
+    // It takes memory of its own, which the threads share.
+    let text = Text::new(alloc, b"a text of more than thirty bytes")?;
     let board = Arc::new(alloc, Board::of(task))?;
     let putting = Putting::new(producer);
     let (of_producer, of_handle) = (Arc::try_clone(&board)?, Arc::try_clone(&board)?);

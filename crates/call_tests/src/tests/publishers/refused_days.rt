@@ -8,7 +8,7 @@ use super::day::Step::{
 // Each with what it reports else where memory was refused to a callback of one subscriber. A call that is refused is made once more, and is
 // answered then as if it had not been refused before.
 pub const REFUSED: [(Day, [&str; 2]); 5] = [
-    // A day that ends in completions.
+    // A day that ends in completions. Its text takes memory of its own.
     (
         Day {
             capacity: 1,
@@ -17,18 +17,18 @@ pub const REFUSED: [(Day, [&str; 2]); 5] = [
                 Subscribe("a", 9),
                 Subscribe("b", 0),
                 Source,
-                Submit(0, 1),
+                Submit(0, 40),
                 Close,
                 Request(1, 1),
             ],
-            report: "sub a; sub b; lag 1; ok; done, published 1, drained; a Some(Completed) 1 + 0 of 9: s 0.0.1 c; b Some(Completed) 1 + 0 of 1: s 0.0.1 c",
+            report: "sub a; sub b; lag 1; ok; done, published 1, drained; a Some(Completed) 1 + 0 of 9: s 0.0.40 c; b Some(Completed) 1 + 0 of 1: s 0.0.40 c",
         },
         [
-            "sub a; sub b; lag 1; ok; done, published 1, drained; a refused; b Some(Completed) 1 + 0 of 1: s 0.0.1 c",
-            "sub a; sub b; lag 1; ok; done, published 1, drained; a Some(Completed) 1 + 0 of 9: s 0.0.1 c; b refused",
+            "sub a; sub b; lag 1; ok; done, published 1, drained; a refused; b Some(Completed) 1 + 0 of 1: s 0.0.40 c",
+            "sub a; sub b; lag 1; ok; done, published 1, drained; a Some(Completed) 1 + 0 of 9: s 0.0.40 c; b refused",
         ],
     ),
-    // One that ends in a cancel and an error.
+    // One that ends in a cancel and an error. The first of its texts takes memory of its own, and no other one does on these days.
     (
         Day {
             capacity: 4,
@@ -37,7 +37,7 @@ pub const REFUSED: [(Day, [&str; 2]); 5] = [
                 Subscribe("a", 0),
                 Subscribe("b", 0),
                 Source,
-                Offer(0, 1),
+                Offer(0, 40),
                 Offer(0, 1),
                 Cancel(0),
                 Fail(7),
