@@ -96,7 +96,7 @@ static void *put_all(void *nothing) {
         held->tag = 1;
         held->item = all[i];
         atomic_store(&TAIL, ++tail);
-        signal_with(ITEM);
+        if ((atomic_load(&CONTROL) & ITEM) != ITEM) signal_with(ITEM);
     }
     signal_with(COMPLETE);
     return nothing;
@@ -114,14 +114,17 @@ static void clear(void) {
     seen_count = 0;
 }
 
-/* One turn: 1 where another is owed, 0 at rest, -1 at the end. */
-static int turn(void) {
+/* One turn: 1 where another is owed, 0 at rest, -1 at the end. While more items wait it peeks before each, and looks before it rests.
+   The first look of a task that a put started is none of these. */
+static int turn(int more) {
     clear();
     for (int i = 0; i < ITEMS_IN_A_TURN; i++) {
-        uint64_t word = atomic_fetch_and(&CONTROL, QUIET);
+        uint64_t word = more ? atomic_load(&CONTROL) : atomic_fetch_and(&CONTROL, QUIET) & QUIET;
+    again:
         if (word & STOPS) abort();
         uint64_t tail = atomic_load(&TAIL);
         uint64_t asked = atomic_load(&ASKED);
+        more = given + 1 < tail;
         if (given < tail && given < asked) {
             Held *held = slot(given);
             Item item = held->item;
@@ -133,9 +136,11 @@ static int turn(void) {
         } else if ((word & COMPLETE & ~(uint64_t)ITEM) && given == tail) {
             atomic_store(&HEAD, given + MARK);
             return -1;
+        } else if (word & ~QUIET) {
+            word = atomic_fetch_and(&CONTROL, QUIET) & QUIET;
+            goto again;
         } else {
-            uint64_t look = word & QUIET;
-            return !atomic_compare_exchange_strong(&CONTROL, &look, look & RESTING);
+            return !atomic_compare_exchange_strong(&CONTROL, &word, word & RESTING);
         }
     }
     return 1;
@@ -145,8 +150,8 @@ static void run_all(void) {
     for (;;) {
         uint64_t task;
         if (!pick(&task)) continue;
-        int found = 1;
-        while (found == 1) found = turn();
+        int found = turn(0);
+        while (found == 1) found = turn(1);
         atomic_fetch_sub(&shares.owners, 1);
         if (found < 0) return;
     }

@@ -16,9 +16,18 @@ impl<B: Listener> Play<Held<B>, View> for EnterStep {
 pub(crate) struct LookStep;
 
 impl<B: Listener> Play<Held<B>, View> for LookStep {
-    ghost use Rattle.feed_cell.specs.TaskPlays.{LooksOut};
+    ghost use Rattle.feed_cell.specs.TaskPlays.{LooksOut, cleared};
 
-    ghost then = { λ _. LooksOut };
+    ghost then = { λ _. LooksOut cleared };
+}
+
+/// The task peeks, with its subscriber: a load of control.
+pub(crate) struct PeekStep;
+
+impl<B: Listener> Play<Held<B>, View> for PeekStep {
+    ghost use Rattle.feed_cell.specs.TaskPlays.{LooksOut, untouched};
+
+    ghost then = { λ _. LooksOut untouched };
 }
 
 /// A task that was handed over looks for the first time, and takes its subscriber with it.
