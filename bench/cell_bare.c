@@ -25,16 +25,19 @@ typedef struct {
     Item item;
 } Held;
 
-/* Head, tail, asked and control lie side by side, and so do the slots, as in the table. With -DAPART=8 each word
-   has a cache line of its own. */
+/* Head, tail and asked lie side by side, control lies 128 bytes behind them, and the slots lie side by side, as in the table. With
+   -DAPART=8 each word has a cache line of its own, and with -DBEHIND=1 all four lie side by side. */
 #ifndef APART
 #define APART 1
+#endif
+#ifndef BEHIND
+#define BEHIND 16
 #endif
 static _Atomic uint64_t *words;
 #define HEAD (words[0])
 #define TAIL (words[APART])
 #define ASKED (words[2 * APART])
-#define CONTROL (words[3 * APART])
+#define CONTROL (words[2 * APART + BEHIND])
 static char *slots;
 static uint64_t capacity, items, slot_bytes;
 static Item *all;
@@ -169,7 +172,7 @@ int main(int count, char **argument) {
     items = strtoull(argument[2], NULL, 10);
     slot_bytes = strtoull(argument[3], NULL, 10);
     if (!capacity || slot_bytes < sizeof(Held)) return 2;
-    words = calloc(4 * APART, sizeof *words);
+    words = calloc(2 * APART + BEHIND + 1, sizeof *words);
     slots = malloc((capacity + 1) * slot_bytes);
     all = malloc(items * sizeof *all);
     if (!words || !slots || !all) return 1;

@@ -12,7 +12,7 @@ use Rattle.feed_cell.proofs.TaskRest.{rests}
 use Rattle.feed_cell.proofs.TaskSee.{measures}
 use Rattle.feed_cell.proofs.TaskTake.{takes_item}
 use Rattle.feed_cell.specs.Cell.{CellRule}
-use Rattle.feed_cell.specs.Control.{MARK, QUIET, RESTING}
+use Rattle.feed_cell.specs.Control.{MARK, QUIET, RESTING, CONTROL}
 use Rattle.feed_cell.specs.Parties.{IsGoing, IsHome}
 use Rattle.feed_cell.specs.Seats.{SeatOf, own_out, answers_out}
 use Rattle.feed_cell.specs.TaskPlays.{cleared, untouched, LooksOut, LooksFirst, Measures, IsTake, IsRest, IsEnd}
@@ -26,13 +26,13 @@ quiet_bit word = let both = bit_at_and word QUIET 1 in let clear : bit_at QUIET 
 
 module _ {B : Type 0} (told : B → List Signal) where
   -- a look with the subscriber
-  pub looks_going : (cap n id : ℕ) (me : SeatOf B) → IsRunner me.0 → me.0.item ≡ [] → IsGoing told me → Allows (CellRule told cap) n id me 3 (λ n. bit_and n QUIET) (LooksOut cleared me)
-  looks_going cap n id me is none_out g = subst (λ (slots : List (ℕ × Held B)). Allows (CellRule told cap) n id (me.0, slots) 3 (λ n. bit_and n QUIET) (LooksOut cleared (me.0, slots))) (sym g.slot)
+  pub looks_going : (cap n id : ℕ) (me : SeatOf B) → IsRunner me.0 → me.0.item ≡ [] → IsGoing told me → Allows (CellRule told cap) n id me CONTROL (λ n. bit_and n QUIET) (LooksOut cleared me)
+  looks_going cap n id me is none_out g = subst (λ (slots : List (ℕ × Held B)). Allows (CellRule told cap) n id (me.0, slots) CONTROL (λ n. bit_and n QUIET) (LooksOut cleared (me.0, slots))) (sym g.slot)
       (looks told cap n id me.0 me.0.capacity g.guest [] g.answer is g.away none_out g.may g.own g.answers)
 
   -- and a peek
-  pub peeks_going : (cap n id : ℕ) (me : SeatOf B) → IsRunner me.0 → me.0.item ≡ [] → IsGoing told me → Allows (CellRule told cap) n id me 3 (λ n. n) (LooksOut untouched me)
-  peeks_going cap n id me is none_out g = subst (λ (slots : List (ℕ × Held B)). Allows (CellRule told cap) n id (me.0, slots) 3 (λ n. n) (LooksOut untouched (me.0, slots))) (sym g.slot)
+  pub peeks_going : (cap n id : ℕ) (me : SeatOf B) → IsRunner me.0 → me.0.item ≡ [] → IsGoing told me → Allows (CellRule told cap) n id me CONTROL (λ n. n) (LooksOut untouched me)
+  peeks_going cap n id me is none_out g = subst (λ (slots : List (ℕ × Held B)). Allows (CellRule told cap) n id (me.0, slots) CONTROL (λ n. n) (LooksOut untouched (me.0, slots))) (sym g.slot)
       (peeks told cap n id me.0 me.0.capacity g.guest [] g.answer is g.away none_out g.may g.own g.answers)
 
   pub looked_going : (left_of : ℕ → ℕ) (before after : SeatOf B) (found : ℕ) → IsRunner before.0 → before.0.item ≡ [] → IsGoing told before → LooksOut left_of before found after → HasLookedAt told (left_of found) after
@@ -75,8 +75,8 @@ module _ {B : Type 0} (told : B → List Signal) where
 
   -- a compare-and-exchange of control, from the word after the last look
   pub rests_there : (cap n id : ℕ) (me : SeatOf B) (look new : ℕ) → Carries told me → MayRest (length me.0.taken) me.0.runner → me.0.look ≡ look → bit_at look 1 ≡ 0 → new ≡ bit_and look RESTING
-      → Allows (CellRule told cap) n id me 3 (λ (m : ℕ). either (m == look) new m) (IsRest look me)
-  rests_there cap n id me look new c may looked quiet new_is = subst (λ (slots : List (ℕ × Held B)). Allows (CellRule told cap) n id (me.0, slots) 3 (λ (m : ℕ). either (m == look) new m) (IsRest look (me.0, slots))) (sym c.slot)
+      → Allows (CellRule told cap) n id me CONTROL (λ (m : ℕ). either (m == look) new m) (IsRest look me)
+  rests_there cap n id me look new c may looked quiet new_is = subst (λ (slots : List (ℕ × Held B)). Allows (CellRule told cap) n id (me.0, slots) CONTROL (λ (m : ℕ). either (m == look) new m) (IsRest look (me.0, slots))) (sym c.slot)
       (rests told cap n id me.0 c.guest [] look new c.is c.away may c.none_out (sym looked) quiet new_is c.given c.own c.answers c.how c.text)
 
   -- a store of head with its mark
