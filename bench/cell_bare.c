@@ -117,9 +117,9 @@ static void clear(void) {
     seen_count = 0;
 }
 
-/* One turn: 1 where another is owed, 0 at rest, -1 at the end. While more items wait it peeks before each, and looks before it rests.
-   The first look of a task that a put started is none of these. */
-static int turn(int more) {
+/* One turn: 1 where another is owed, 0 at rest, -1 at the end. While more items wait it peeks before each, and it looks before it rests. */
+static int turn(void) {
+    int more = 1;
     clear();
     for (int i = 0; i < ITEMS_IN_A_TURN; i++) {
         uint64_t word = more ? atomic_load(&CONTROL) : atomic_fetch_and(&CONTROL, QUIET) & QUIET;
@@ -153,8 +153,8 @@ static void run_all(void) {
     for (;;) {
         uint64_t task;
         if (!pick(&task)) continue;
-        int found = turn(0);
-        while (found == 1) found = turn(1);
+        int found = 1;
+        while (found == 1) found = turn();
         atomic_fetch_sub(&shares.owners, 1);
         if (found < 0) return;
     }

@@ -1,5 +1,5 @@
 -- The handle's stores of asked.
-use Rattle.std.proofs.Common.{◌≡◌, ℕ, ◌+◌, ◌≤◌, true, false, true≢false, List, [], ◌∷◌, set, sym, refl, ap, ◌∙◌, inl, inr}
+use Rattle.std.proofs.Common.{◌≡◌, ℕ, ◌+◌, ◌≤◌, true, false, true≢false, List, set, sym, refl, ap, ◌∙◌, inl, inr}
 use Rattle.atomic_table.specs.Table.{keeps, Allows}
 use Rattle.feed_core.specs.Prelude.{Signal, total_after}
 use Rattle.feed_core.specs.World.Table.{is_over, after}

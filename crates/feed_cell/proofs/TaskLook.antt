@@ -17,7 +17,7 @@ use Rattle.feed_cell.specs.Cell.{Lies, CellRule, AsProducer, AsRunner, LodgesAt,
 use Rattle.feed_cell.specs.Control.{Flags, Reads, causes_of, marked, QUIET, CONTROL}
 use Rattle.feed_cell.specs.Outlooks.{IsReachedBy}
 use Rattle.feed_cell.specs.Seats.{SeatOf}
-use Rattle.feed_cell.specs.TaskPlays.{after_causes, cleared, untouched, LooksOut, LooksFirst}
+use Rattle.feed_cell.specs.TaskPlays.{after_causes, cleared, untouched, LooksOut, PeeksFirst}
 use Rattle.feed_cell.specs.TaskAnswers.{own_after, answers_after}
 use Rattle.feed_cell.specs.Views.{IsRunner, has_put, has_ask, has_run}
 use Rattle.feed_cell.specs.declared.cell.Held.{Held}
@@ -145,9 +145,9 @@ module _ {B : Type 0} (told : B → List Signal) where
       looks_by cap id v i g more answer (Peek answer) c.cell.world.active untouched is out none_out own_is answers_are s c at (subst (MayLook answer) k.stands may) (peek_effect answer c.cell.world c.cell.flags c.cell.answers c.shows.causes)
       (subst (λ (b : Bool). Reads found (record c.cell.flags { active = b })) c.shows.new (control_found c))
 
-  -- the first look of a task that was handed over takes the subscriber's slot out
-  pub looks_first : (cap n id : ℕ) (me : SeatOf B) → IsRunner me.0 → me.0.away ≡ false → me.0.runner ≡ Ready → Allows (CellRule told cap) n id me CONTROL (λ n. bit_and n QUIET) (LooksFirst told me)
-  looks_first cap n id me is home ready s c wide at small =
+  -- the first peek of a task that was handed over takes the subscriber's slot out
+  pub peeks_first : (cap n id : ℕ) (me : SeatOf B) → IsRunner me.0 → me.0.away ≡ false → me.0.runner ≡ Ready → Allows (CellRule told cap) n id me CONTROL (λ n. n) (PeeksFirst told me)
+  peeks_first cap n id me is home ready s c wide at small =
       let v : View = me.0 in
       let k = (c.runners id v at is.2).1 in
       let p = c.cell.world in
@@ -157,19 +157,19 @@ module _ {B : Type 0} (told : B → List Signal) where
       let g = lodge.guest in
       let here : MayLook Answer.Go p.runner = inl (inl stage) in
       let none_out : c.cell.item ≡ [] = c.shows.none_out (ap may_hold stage) in
-      let word : ℕ = cleared (slice_index s.words CONTROL) in
-      let reads : Reads word (record c.cell.flags { active = false }) = reads_look small (control_found c) in
+      let word : ℕ = slice_index s.words CONTROL in
+      let reads : Reads word (record c.cell.flags { active = p.active }) = subst (λ (b : Bool). Reads word (record c.cell.flags { active = b })) c.shows.new (control_found c) in
       let same_order : c.cell.answers.order ≡ g.answers.order = ap (λ (z : Causes). z.order) (sym lodge.answers_are) in
       let w : View = after_causes v word c.cell.flags g.own g.answers c.cell.taken in
-      let reached : IsReachedBy (set s.views id w) (looked_with false g.own (causes_of c.cell.flags g.answers) p) =
-      subst (IsReachedBy (set s.views id w)) (look_effect Answer.Go p c.cell.flags c.cell.answers c.shows.causes ∙ ap₂ (λ (a : ℕ) (b : Causes). looked_with false a (causes_of c.cell.flags b) p) (sym lodge.own_is) (sym lodge.answers_are))
-      (reached_more (Look Answer.Go) id v w c.reached here at (inr (inr is.2)) (refl, refl, refl) (stays_on p.runner (after (Look Answer.Go) p).runner (seated p.runner k.seated).over refl (λ e. cc))) in (
+      let reached : IsReachedBy (set s.views id w) (looked_with p.active g.own (causes_of c.cell.flags g.answers) p) =
+      subst (IsReachedBy (set s.views id w)) (peek_effect Answer.Go p c.cell.flags c.cell.answers c.shows.causes ∙ ap₂ (λ (a : ℕ) (b : Causes). looked_with p.active a (causes_of c.cell.flags b) p) (sym lodge.own_is) (sym lodge.answers_are))
+      (reached_more (Peek Answer.Go) id v w c.reached here at (inr (inr is.2)) (refl, refl, refl) (stays_on p.runner (after (Peek Answer.Go) p).runner (seated p.runner k.seated).over refl (λ e. cc))) in (
         w,
         takes v.capacity (Held.Guest g),
         ap (λ (j : ℕ). get_elem? s.homes j) k.sized ∙ lodge.at,
-        look_kept told cap s c id v w false word g.own g.answers (set s.homes v.capacity none) same_order at is is.0 is.1 none_out reads reached
+        look_kept told cap s c id v w p.active word g.own g.answers (set s.homes v.capacity none) same_order at is is.0 is.1 none_out reads reached
             (subst (λ (j : ℕ). Lies cap c.cell.log (length c.cell.taken) (length c.cell.taken + length c.cell.item) c.cell.free (set s.homes j none)) (sym k.sized)
             (lies_guest cap c.cell.log s.homes (length c.cell.taken) (length c.cell.taken + length c.cell.item) c.cell.free none c.lists.sized c.lies))
             (record { sized = k.sized; ordered = k.ordered ∙ same_order; seated = refl; stands = refl; out = refl; knows = λ _. record { taken_is = refl; own_is = refl; answers_are = refl }; fresh = λ e. cc; item_is = k.item_is; latest = λ _ _. refl }),
-        record { flags = record c.cell.flags { active = false }; reads = reads; started = c.shows.started ∙ (seated p.runner k.seated).runs; guest = g; taken = c.cell.taken; told_is = lodge.told_is; given = lodge.given_is; how = lodge.how_is; few = few_taken told cap s c refl; ordered = sym (k.ordered ∙ same_order); looked = refl },
+        record { flags = record c.cell.flags { active = p.active }; reads = reads; started = c.shows.started ∙ (seated p.runner k.seated).runs; guest = g; taken = c.cell.taken; told_is = lodge.told_is; given = lodge.given_is; how = lodge.how_is; few = few_taken told cap s c refl; ordered = sym (k.ordered ∙ same_order); looked = refl },
       )

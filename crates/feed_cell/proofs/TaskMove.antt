@@ -1,5 +1,5 @@
 -- What a task that has its subscriber with it keeps in every step.
-use Rattle.std.proofs.Common.{◌≡◌, ℕ, ◌+◌, true, false, List, [], ◌∷◌, length, set, sym, ap, ◌∙◌, subst}
+use Rattle.std.proofs.Common.{◌≡◌, ℕ, ◌+◌, true, false, List, [], length, set, sym, ap, ◌∙◌, subst}
 use mathlib.Core.Option as slot
 use mathlib.Core.Option.{some}
 use lib.ListN.{get_elem?}

@@ -15,7 +15,7 @@ use Rattle.feed_cell.specs.Cell.{CellRule}
 use Rattle.feed_cell.specs.Control.{MARK, QUIET, RESTING, CONTROL}
 use Rattle.feed_cell.specs.Parties.{IsGoing, IsHome}
 use Rattle.feed_cell.specs.Seats.{SeatOf, own_out, answers_out}
-use Rattle.feed_cell.specs.TaskPlays.{cleared, untouched, LooksOut, LooksFirst, Measures, IsTake, IsRest, IsEnd}
+use Rattle.feed_cell.specs.TaskPlays.{cleared, untouched, LooksOut, PeeksFirst, Measures, IsTake, IsRest, IsEnd}
 use Rattle.feed_cell.specs.TaskSteps.{HasItem, Carries, HasLookedAt, IsEnding}
 use Rattle.feed_cell.specs.Views.{IsRunner}
 use Rattle.feed_cell.specs.declared.cell.Held.{Held}
@@ -49,9 +49,9 @@ module _ {B : Type 0} (told : B → List Signal) where
         few = look.few;
       })
 
-  -- the first look of a task that was handed over
-  pub looked_first : (before after : SeatOf B) (found : ℕ) → IsRunner before.0 → before.0.item ≡ [] → IsHome before → LooksFirst told before found after → HasLookedAt told (cleared found) after
-  looked_first before after found is none_out home look = subst (λ (m : SeatOf B). HasLookedAt told (cleared found) m) (sym look.looked) (record {
+  -- the first peek of a task that was handed over
+  pub peeked_first : (before after : SeatOf B) (found : ℕ) → IsRunner before.0 → before.0.item ≡ [] → IsHome before → PeeksFirst told before found after → HasLookedAt told found after
+  peeked_first before after found is none_out home look = subst (λ (m : SeatOf B). HasLookedAt told found m) (sym look.looked) (record {
     carries = record { guest = look.guest; slot = ap (λ (l : List (ℕ × Held B)). (before.0.capacity, Held.Guest look.guest) ∷ l) home.slot; is = is; away = refl; none_out = none_out; text = look.told_is; given = look.given; own = refl; answers = refl; how = look.how };
     flags = look.flags;
     reads = look.reads;

@@ -41,10 +41,10 @@ pub record LooksOut {B : Type 0} (left_of : ℕ → ℕ) (before : SeatOf B) (fo
   pub ordered : (answers_out before.1).order ≡ before.0.order
   pub looked : after ≡ (after_causes before.0 (left_of found) flags (own_out before.1) (answers_out before.1) before.0.taken, before.1)
 
--- a task that was handed over looks for the first time, and takes its subscriber with it
-pub record LooksFirst {B : Type 0} (told : B → List Signal) (before : SeatOf B) (found : ℕ) (after : SeatOf B) : Type 0 where
+-- a task that was handed over peeks for the first time, and takes its subscriber with it
+pub record PeeksFirst {B : Type 0} (told : B → List Signal) (before : SeatOf B) (found : ℕ) (after : SeatOf B) : Type 0 where
   pub flags : Flags
-  pub reads : Reads (cleared found) flags
+  pub reads : Reads found flags
   pub started : flags.run ≡ true
   pub guest : Lodger B
   pub taken : List Item
@@ -53,7 +53,7 @@ pub record LooksFirst {B : Type 0} (told : B → List Signal) (before : SeatOf B
   pub how : guest.how ≡ None
   pub few : length taken ≤ UNBOUNDED
   pub ordered : guest.answers.order ≡ before.0.order
-  pub looked : after ≡ (after_causes before.0 (cleared found) flags guest.own guest.answers taken, (before.0.capacity, Held.Guest guest) ∷ before.1)
+  pub looked : after ≡ (after_causes before.0 found flags guest.own guest.answers taken, (before.0.capacity, Held.Guest guest) ∷ before.1)
 
 -- the task found this number of items put: where there is one that it did not take, the next slot is out with it
 pub record SeesPut {B : Type 0} (before : SeatOf B) (found : ℕ) (after : SeatOf B) : Type 0 where

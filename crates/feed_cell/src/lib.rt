@@ -41,7 +41,7 @@
 //! - The task loads tail. If more items were put than taken, slot head has one, and that load takes it out. A load of asked
 //!   follows: if no more are requested, it gives the slot back as it was. Otherwise the task moves the item out, and the store of
 //!   head + 1 gives the slot back, free.
-//! - The subscriber's slot is out with the task from its first look until it rests or ends the subscription. What the answers of
+//! - The subscriber's slot is out with the task from its first peek until it rests or ends the subscription. What the answers of
 //!   callbacks have requested, the causes that they brought about, and whether a closing error waits for the items lie beside the
 //!   subscriber there.
 //!
@@ -88,7 +88,7 @@
 //!  Fresh, Taken, Looked, Measured -- end: head, with its mark --> Over
 //! ```
 //!
-//! For a look a peek may stand, but at `Ready`: a load of control. From `Measured` a look may lead back to `Looked`, which it does
+//! For a look a peek may stand, which is a load of control. From `Measured` a look may lead back to `Looked`, which it does
 //! after a peek with nothing to do. An end comes from `Looked` if the look showed a cause that ends the subscription at
 //! once, from `Measured` if every item was given and a close waited for that, and from `Fresh` or `Taken` if a callback answered an
 //! end or was refused memory. A task that was handed over is `Ready`; the first task of a subscription is `Fresh`.

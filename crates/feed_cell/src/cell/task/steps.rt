@@ -17,7 +17,7 @@ ghost use Rattle.feed_cell.specs.Views.{RunsFree, RunsAway};
 ghost use Rattle.feed_cell.specs.declared.cell.Held.TheVariants as Held;
 
 use super::plays::{
-    EndStep, LookFirstStep, LookStep, MeasureNoneStep, MeasureStep, PeekStep, RestStep, SeeStep,
+    EndStep, LookStep, MeasureNoneStep, MeasureStep, PeekFirstStep, PeekStep, RestStep, SeeStep,
     TakeStep,
 };
 use crate::cell::seated::Seated;
@@ -51,8 +51,8 @@ pub(crate) fn peek<B: Listener>(party: &mut Seated<B>) -> u64
     table.load::<PeekStep>(&mut party.seat, CONTROL)
 }
 
-/// The first look of a task that was handed over. It takes the subscriber out of its slot. Answers the word that this leaves.
-pub(crate) fn look_first<B: Listener>(party: &mut Seated<B>) -> u64
+/// The first peek of a task that was handed over. It takes the subscriber out of its slot. Answers the word that it found.
+pub(crate) fn peek_first<B: Listener>(party: &mut Seated<B>) -> u64
     requires runner { RunsFree party.old.seat.me.0 }
     requires home { IsHome party.old.seat.me }
     ensures seat { IsSameSeat party.old.seat party.new.seat }
@@ -60,7 +60,7 @@ pub(crate) fn look_first<B: Listener>(party: &mut Seated<B>) -> u64
     ensures counts { KeepsCounts party.old.seat.me.0 party.new.seat.me.0 }
 {
     let table = &party.table.shared;
-    table.fetch_and::<LookFirstStep>(&mut party.seat, CONTROL, QUIET) & QUIET
+    table.load::<PeekFirstStep>(&mut party.seat, CONTROL)
 }
 
 /// Sees how many items were put, and takes the slot of the next one out if there is one.

@@ -12,7 +12,7 @@ ghost use Rattle.feed_cell.specs.TaskTurns.{MayGoOn, OnAgain, outlook_of, IsBefo
 ghost use Rattle.feed_cell.specs.Views.{RunsFree};
 
 use super::looks::{Served, serve};
-use super::steps::{end, look, look_first, peek};
+use super::steps::{end, look, peek, peek_first};
 use super::{Spent, Stage, Task};
 use crate::cell::Held;
 use crate::cell::seated::Seated;
@@ -141,8 +141,8 @@ fn greet<B: Listener>(party: &mut Seated<B>, stage: Stage, seen: &mut Seen) -> R
     }
 }
 
-/// Looks at the marks and causes; the first look of a task that a signal started takes its subscriber with it. If more items
-/// are likely to wait, it peeks, which is cheaper: a look is needed only before rest.
+/// Looks at the marks and causes. If more items are likely to wait, it peeks, which is cheaper: a look is needed only before
+/// rest. The first peek of a task that a signal started takes its subscriber with it.
 fn look_next<B: Listener>(party: &mut Seated<B>, stage: Stage, more: bool) -> u64
     requires runner { RunsFree party.old.seat.me.0 }
     requires may { MayLookNext B.told stage party.old.seat.me }
@@ -154,6 +154,6 @@ fn look_next<B: Listener>(party: &mut Seated<B>, stage: Stage, more: bool) -> u6
     match stage {
         Stage::Going if more => peek(party),
         Stage::Going => look(party),
-        _ => look_first(party),
+        _ => peek_first(party),
     }
 }

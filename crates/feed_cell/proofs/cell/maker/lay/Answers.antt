@@ -1,4 +1,4 @@
-use Rattle.std.proofs.Common.{◌∷◌, [], List, sym, subst}
+use Rattle.std.proofs.Common.{List, sym, subst}
 use Rattle.atomic_table.specs.Table.{opening}
 use Rattle.feed_cell.proofs.FirstSeats.{opens}
 use Rattle.feed_cell.specs.Cell.{CellRule, words_by}
