@@ -142,9 +142,9 @@ pub enum Held<B> {
     Guest(BoxedLodger<B>),
 }
 
-/// By what the task took an item: its own look before it, and its own measure after that. No value of it is made.
+/// By what the task took an item: its own look or peek before it, and its own measure after that. No value of it is made.
 pub struct Grant {
-    /// The causes that the look showed.
+    /// The causes that the look or peek showed.
     pub causes: Causes,
     /// How many items were requested in all, as the measure showed.
     pub asked: u64,
@@ -192,7 +192,7 @@ pub struct View {
     pub runs: bool,
     /// Where the task stands.
     pub runner: Runner,
-    /// The control word after its last look.
+    /// The control word after its last look or peek.
     pub look: u64,
     /// Whether it has the subscriber with it.
     pub away: bool,
@@ -202,9 +202,9 @@ pub struct View {
     pub item: LinkedList<Item>,
     /// By what it took each of the items that it took, in order.
     pub grants: LinkedList<Grant>,
-    /// How many items the answers requested, by what it brought to its last look.
+    /// How many items the answers requested, by what it brought to its last look or peek.
     pub own: u64,
-    /// The causes that the answers brought about, by what it brought to its last look.
+    /// The causes that the answers brought about, by what it brought to its last look or peek.
     pub answers: Causes,
     /// How often it could not rest, since something was new.
     pub misses: u64,

@@ -34,7 +34,7 @@ pub enum Turn<B: Listener> {
 impl<B: Listener> Task<B> {
     /// Tells the subscriber what is owed: `onSubscribe` first of all, then items below the demand, 64 at most, then the
     /// terminal signal. What it was told is what `seen` then holds (`Flow.Subscriber`; Reactive Streams 1.0, rules 1.1, 1.3,
-    /// 1.5, 1.7 and 1.9). Before each item it looks: that look showed no cancel, bad request, second subscribing or error that
+    /// 1.5, 1.7 and 1.9). Before each item it looks or peeks: that showed no cancel, bad request, second subscribing or error that
     /// overtakes the items, and a measure after it showed that the item was requested. What a callback answers is done at once;
     /// one that is refused memory ends the subscription. It goes on only after 64 items, or if something was new when it would
     /// have rested.
