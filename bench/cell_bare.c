@@ -25,16 +25,19 @@ typedef struct {
     Item item;
 } Held;
 
-/* Head, tail, asked and control lie side by side, and so do the slots, as in the table. With -DAPART=8 each word
-   has a cache line of its own. */
+/* Head, tail and asked lie side by side, control lies 128 bytes behind them, and the slots lie side by side, as in the table. With
+   -DAPART=8 each word has a cache line of its own, and with -DBEHIND=1 all four lie side by side. */
 #ifndef APART
 #define APART 1
+#endif
+#ifndef BEHIND
+#define BEHIND 16
 #endif
 static _Atomic uint64_t *words;
 #define HEAD (words[0])
 #define TAIL (words[APART])
 #define ASKED (words[2 * APART])
-#define CONTROL (words[3 * APART])
+#define CONTROL (words[2 * APART + BEHIND])
 static char *slots;
 static uint64_t capacity, items, slot_bytes;
 static Item *all;
@@ -96,7 +99,7 @@ static void *put_all(void *nothing) {
         held->tag = 1;
         held->item = all[i];
         atomic_store(&TAIL, ++tail);
-        signal_with(ITEM);
+        if ((atomic_load(&CONTROL) & ITEM) != ITEM) signal_with(ITEM);
     }
     signal_with(COMPLETE);
     return nothing;
@@ -114,14 +117,17 @@ static void clear(void) {
     seen_count = 0;
 }
 
-/* One turn: 1 where another is owed, 0 at rest, -1 at the end. */
+/* One turn: 1 where another is owed, 0 at rest, -1 at the end. While more items wait it peeks before each, and it looks before it rests. */
 static int turn(void) {
+    int more = 1;
     clear();
     for (int i = 0; i < ITEMS_IN_A_TURN; i++) {
-        uint64_t word = atomic_fetch_and(&CONTROL, QUIET);
+        uint64_t word = more ? atomic_load(&CONTROL) : atomic_fetch_and(&CONTROL, QUIET) & QUIET;
+    again:
         if (word & STOPS) abort();
         uint64_t tail = atomic_load(&TAIL);
         uint64_t asked = atomic_load(&ASKED);
+        more = given + 1 < tail;
         if (given < tail && given < asked) {
             Held *held = slot(given);
             Item item = held->item;
@@ -133,9 +139,11 @@ static int turn(void) {
         } else if ((word & COMPLETE & ~(uint64_t)ITEM) && given == tail) {
             atomic_store(&HEAD, given + MARK);
             return -1;
+        } else if (word & ~QUIET) {
+            word = atomic_fetch_and(&CONTROL, QUIET) & QUIET;
+            goto again;
         } else {
-            uint64_t look = word & QUIET;
-            return !atomic_compare_exchange_strong(&CONTROL, &look, look & RESTING);
+            return !atomic_compare_exchange_strong(&CONTROL, &word, word & RESTING);
         }
     }
     return 1;
@@ -164,7 +172,7 @@ int main(int count, char **argument) {
     items = strtoull(argument[2], NULL, 10);
     slot_bytes = strtoull(argument[3], NULL, 10);
     if (!capacity || slot_bytes < sizeof(Held)) return 2;
-    words = calloc(4 * APART, sizeof *words);
+    words = calloc(2 * APART + BEHIND + 1, sizeof *words);
     slots = malloc((capacity + 1) * slot_bytes);
     all = malloc(items * sizeof *all);
     if (!words || !slots || !all) return 1;

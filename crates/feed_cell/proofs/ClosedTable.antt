@@ -1,5 +1,5 @@
 -- What the words and slots of a closed table show is what is left of the subscription.
-use Rattle.std.proofs.Common.{◌≡◌, ℕ, ◌+◌, ◌-◌, ◌%◌, ◌<◌, ◌≤◌, ◌⊎◌, Bool, true, false, List, [], ◌∷◌, length, Option, IfSome, sym, refl, ap, ◌∙◌, subst, inl, inr, ⊎_elim, arith}
+use Rattle.std.proofs.Common.{◌≡◌, ℕ, ◌+◌, ◌-◌, ◌%◌, ◌<◌, ◌≤◌, ◌⊎◌, Bool, true, false, List, length, Option, IfSome, sym, refl, ap, ◌∙◌, subst, inl, inr, ⊎_elim, arith}
 use mathlib.Core.Option as slot
 use mathlib.Core.Option.{some}
 use lib.ListN.{get_elem?}
@@ -10,8 +10,8 @@ use Rattle.feed_core.specs.declared.lane.Lane.{Lane}
 use Rattle.feed_core.specs.World.Table.{is_started, is_over, total_of, MayBegin}
 use Rattle.feed_core.proofs.Interleavings.Signalling.{starts_nobody}
 use Rattle.feed_cell.proofs.Outlooks.{reached_kept}
-use Rattle.feed_cell.specs.Cell.{CellRule}
-use Rattle.feed_cell.specs.Control.{MARK, number, marked}
+use Rattle.feed_cell.specs.Cell.{CellRule, words_by}
+use Rattle.feed_cell.specs.Control.{MARK, number, marked, CONTROL}
 use Rattle.feed_cell.specs.Left.{OnGuest, lane_with, lane_without, IsLeftOf}
 use Rattle.flow_rules.specs.Feed.{End}
 use Rattle.feed_cell.specs.Parties.{HandleState, KnowsHandle, known_end}
@@ -27,7 +27,7 @@ of_guest P held g is on = subst (λ h. OnGuest h P) is on
 
 module _ {B : Type 0} (told : B → List Signal) (cap id : ℕ) (v : View) (words : List ℕ) (slots : List (Held B)) (last : Final (Seen (CellRule told cap) id v) words slots) (puts : v.puts ≡ true) (begins : MayBegin v.producing)
     (head tail asked control : ℕ) (held : Held B) (left : Lane B)
-    (heads : get_elem? words 0 ≡ some head) (tails : get_elem? words 1 ≡ some tail) (asks : get_elem? words 2 ≡ some asked) (controls : get_elem? words 3 ≡ some control)
+    (heads : get_elem? words 0 ≡ some head) (tails : get_elem? words 1 ≡ some tail) (asks : get_elem? words 2 ≡ some asked) (controls : get_elem? words CONTROL ≡ some control)
     (holds : get_elem? slots (length slots - 1) ≡ some held)
     (there : (MARK ≤ head) ⊎ (bit_at control 0 ≡ 0) → OnGuest held (λ guest. (running : Bool) × (running ≡ false → (MARK ≤ head) ⊎ (MARK ≤ asked)) × (running ≡ true → (head < MARK) × (asked < MARK)) × (left ≡ lane_with guest (head % MARK) tail (asked % MARK) running)))
     (away : head < MARK → bit_at control 0 ≡ 1 → left ≡ lane_without (head % MARK) tail (asked % MARK)) (end : End) (end_is : end ≡ known_end v end.ready)
@@ -38,7 +38,7 @@ module _ {B : Type 0} (told : B → List Signal) (cap id : ℕ) (v : View) (word
   abbrev c : CellRule told cap s
   c = last.1.0
 
-  words_are : words ≡ marked (is_over c.cell.world.runner) c.cell.world.given ∷ c.cell.world.accepted ∷ marked c.cell.left c.cell.world.asked ∷ c.cell.control ∷ []
+  words_are : words ≡ words_by (marked (is_over c.cell.world.runner) c.cell.world.given) c.cell.world.accepted (marked c.cell.left c.cell.world.asked) c.cell.control
   words_are = sym last.2 ∙ c.words
 
   head_is : head ≡ marked (is_over c.cell.world.runner) c.cell.world.given
@@ -51,7 +51,7 @@ module _ {B : Type 0} (told : B → List Signal) (cap id : ℕ) (v : View) (word
   asked_is = slot.some-injective asked (marked c.cell.left c.cell.world.asked) (sym asks ∙ ap (λ ws. get_elem? ws 2) words_are)
 
   control_is : control ≡ c.cell.control
-  control_is = slot.some-injective control c.cell.control (sym controls ∙ ap (λ ws. get_elem? ws 3) words_are)
+  control_is = slot.some-injective control c.cell.control (sym controls ∙ ap (λ ws. get_elem? ws CONTROL) words_are)
 
   given_small : c.cell.world.given < MARK
   given_small = let kept = reached_kept c.reached in let asked : c.cell.world.given ≤ total_of c.cell.world = kept.requested in omega arith

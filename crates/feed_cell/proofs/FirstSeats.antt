@@ -14,7 +14,7 @@ use Rattle.feed_cell.proofs.Lists.{at_replicate}
 use Rattle.feed_cell.proofs.Outlooks.{reached_made, reached_too, reached_with}
 use Rattle.feed_cell.proofs.Places.{lies_guest}
 use Rattle.feed_cell.proofs.Seats.{alone, mine, other, added, moved}
-use Rattle.feed_cell.specs.Cell.{Lies, CellRule, AsProducer, AsHandle, AsRunner, LodgesAt}
+use Rattle.feed_cell.specs.Cell.{Lies, CellRule, AsProducer, AsHandle, AsRunner, LodgesAt, words_by}
 use Rattle.feed_cell.specs.Parties.{IsUngreeted}
 use Rattle.feed_cell.specs.Seats.{SeatOf}
 use Rattle.feed_cell.specs.TaskPlays.{Enters}
@@ -23,6 +23,7 @@ use Rattle.feed_cell.specs.ProducerSteps.{IsProducerOf}
 use Rattle.feed_cell.specs.Views.{IsRunner, RunsFree, first_view, has_put, has_ask, has_run, without_asking, asking_alone, without_running, running_alone}
 use Rattle.feed_cell.specs.declared.cell.Held.{Held}
 use Rattle.feed_cell.specs.declared.cell.View.{View}
+use Rattle.feed_cell.specs.Control.{CONTROL}
 
 -- a capacity is positive
 pub holds_one : (cap : ℕ) → IsCapacity cap → 0 < cap
@@ -33,7 +34,7 @@ holds_one cap capacity =
 
 module _ {B : Type 0} (told : B → List Signal) where
   -- the table at the start
-  pub opens : (cap : ℕ) (order : ErrorOrder) → IsCapacity cap → CellRule told cap (opening (0 ∷ 0 ∷ 0 ∷ 1 ∷ []) (replicate (cap + 1) Held.Empty) (first_view cap order))
+  pub opens : (cap : ℕ) (order : ErrorOrder) → IsCapacity cap → CellRule told cap (opening (words_by 0 0 0 1) (replicate (cap + 1) Held.Empty) (first_view cap order))
   opens cap order capacity =
       let sized : 0 < cap = holds_one cap capacity in
       let slots : List (Held B) = replicate (cap + 1) Held.Empty in
@@ -117,7 +118,7 @@ module _ {B : Type 0} (told : B → List Signal) where
       }
 
   -- a load takes the subscriber's slot out
-  pub enters : (cap n id : ℕ) (v : View) (more : List (ℕ × Held B)) → IsRunner v → v.runner ≡ Fresh → v.away ≡ false → Allows (CellRule told cap) n id (v, more) 3 (λ n. n) (λ _. Enters (v, more))
+  pub enters : (cap n id : ℕ) (v : View) (more : List (ℕ × Held B)) → IsRunner v → v.runner ≡ Fresh → v.away ≡ false → Allows (CellRule told cap) n id (v, more) CONTROL (λ n. n) (λ _. Enters (v, more))
   enters cap n id v more is fresh home s c wide at small =
       let k = (c.runners id v at is.2).1 in
       let stage : c.cell.world.runner ≡ Fresh = sym k.stands ∙ fresh in
@@ -134,7 +135,7 @@ module _ {B : Type 0} (told : B → List Signal) where
           lists = c.lists;
           shows = record { sized = c.shows.sized; accepted = c.shows.accepted; given = c.shows.given; none_out = c.shows.none_out; started = c.shows.started; new = c.shows.new; causes = c.shows.causes; home = λ e. (let h = k.seated in cc); settled = c.shows.settled };
           reads = c.reads;
-          words = ap (λ (ws : List ℕ). set ws 3 (slice_index ws 3)) c.words;
+          words = ap (λ (ws : List ℕ). set ws CONTROL (slice_index ws CONTROL)) c.words;
           lies = subst (λ (j : ℕ). Lies cap c.cell.log (length c.cell.taken) (length c.cell.taken + length c.cell.item) c.cell.free (set s.homes j none)) (sym k.sized)
               (lies_guest cap c.cell.log s.homes (length c.cell.taken) (length c.cell.taken + length c.cell.item) c.cell.free none c.lists.sized c.lies);
           lodges = λ e. cc;

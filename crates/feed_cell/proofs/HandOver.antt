@@ -10,7 +10,7 @@ use Rattle.feed_core.specs.World.Table.{is_started, is_over}
 use Rattle.feed_cell.specs.Types.{Hand, Producer, Handle, Producing, Free, Hands, Requesting, Idle, HandsOver, Runner, Coming, Ready}
 use Rattle.feed_cell.proofs.Outlooks.{reached_hand, reached_with, reached_lawful}
 use Rattle.feed_cell.proofs.Seats.{mine, other, added, comes}
-use Rattle.feed_cell.specs.Cell.{Only, CellRule, AsProducer, AsHandle, has_seat, may_hold, LodgesAt}
+use Rattle.feed_cell.specs.Cell.{Only, CellRule, AsProducer, AsHandle, has_seat, may_hold, LodgesAt, words_by}
 use Rattle.feed_cell.specs.Control.{marked}
 use Rattle.feed_cell.specs.Outlooks.{IsReachedBy}
 use Rattle.feed_cell.specs.Signals.{MustHandOver}
@@ -35,7 +35,7 @@ module _ {B : Type 0} (told : B → List Signal) (cap : ℕ) where
         lists = c.lists;
         shows = record { sized = c.shows.sized; accepted = c.shows.accepted; given = c.shows.given; none_out = λ _. none_out; started = c.shows.started ∙ ap is_started coming; new = c.shows.new; causes = c.shows.causes; home = λ _. inside; settled = settled };
         reads = c.reads;
-        words = c.words ∙ ap (λ (r : Runner). marked (is_over r) p.given ∷ p.accepted ∷ marked c.cell.left p.asked ∷ c.cell.control ∷ []) coming;
+        words = c.words ∙ ap (λ (r : Runner). words_by (marked (is_over r) p.given) p.accepted (marked c.cell.left p.asked) c.cell.control) coming;
         lies = c.lies;
         lodges = λ e. (let g : LodgesAt told cap Coming c.cell.taken p.own c.cell.answers s.homes = subst (λ (r : Runner). LodgesAt told cap r c.cell.taken p.own c.cell.answers s.homes) coming (c.lodges e) in record { guest = g.guest; at = g.at; given_is = g.given_is; own_is = g.own_is; answers_are = g.answers_are; how_is = g.how_is; told_is = g.told_is });
         producers = added has_put c.cell.producer _ (set s.views id left) (running_handed v) producers refl;

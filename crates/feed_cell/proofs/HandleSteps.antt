@@ -1,5 +1,5 @@
 -- The handle's stores of asked.
-use Rattle.std.proofs.Common.{◌≡◌, ℕ, ◌+◌, ◌≤◌, true, false, true≢false, List, [], ◌∷◌, set, sym, refl, ap, ◌∙◌, inl, inr}
+use Rattle.std.proofs.Common.{◌≡◌, ℕ, ◌+◌, ◌≤◌, true, false, true≢false, List, set, sym, refl, ap, ◌∙◌, inl, inr}
 use Rattle.atomic_table.specs.Table.{keeps, Allows}
 use Rattle.feed_core.specs.Prelude.{Signal, total_after}
 use Rattle.feed_core.specs.World.Table.{is_over, after}
@@ -7,7 +7,7 @@ use Rattle.feed_cell.specs.Types.{Ask, Idle, HasAsked}
 use Rattle.feed_cell.proofs.Outlooks.{reached_more, reached_too}
 use Rattle.feed_cell.proofs.Seats.{mine, other}
 use Rattle.feed_cell.proofs.Tallies.{stays_same}
-use Rattle.feed_cell.specs.Cell.{CellRule}
+use Rattle.feed_cell.specs.Cell.{CellRule, words_by}
 use Rattle.feed_cell.specs.Control.{MARK, marked}
 use Rattle.feed_cell.specs.HandleSteps.{IsAsk, Leaves}
 use Rattle.feed_cell.specs.Seats.{SeatOf}
@@ -33,7 +33,7 @@ module _ {B : Type 0} (told : B → List Signal) where
           lists = c.lists;
           shows = record { sized = c.shows.sized; accepted = c.shows.accepted; given = c.shows.given; none_out = c.shows.none_out; started = c.shows.started; new = c.shows.new; causes = c.shows.causes; home = c.shows.home; settled = λ e. absurd (true≢false (sym e ∙ here)) };
           reads = c.reads;
-          words = ap (λ (ws : List ℕ). set ws 2 new) c.words ∙ ap (λ (a : ℕ). marked (is_over p.runner) p.given ∷ p.accepted ∷ a ∷ c.cell.control ∷ []) (total ∙ ap (λ b. marked b (total_after p.asked m)) (sym here));
+          words = ap (λ (ws : List ℕ). set ws 2 new) c.words ∙ ap (λ (a : ℕ). words_by (marked (is_over p.runner) p.given) p.accepted a c.cell.control) (total ∙ ap (λ b. marked b (total_after p.asked m)) (sym here));
           lies = c.lies;
           lodges = c.lodges;
           producers = other has_put c.cell.producer _ _ s.views id w c.producers is.0 (λ d k. k);
@@ -60,7 +60,7 @@ module _ {B : Type 0} (told : B → List Signal) where
           lists = c.lists;
           shows = record { sized = c.shows.sized; accepted = c.shows.accepted; given = c.shows.given; none_out = c.shows.none_out; started = c.shows.started; new = c.shows.new; causes = c.shows.causes; home = c.shows.home; settled = λ _. sym k.stands ∙ idle };
           reads = c.reads;
-          words = ap (λ (ws : List ℕ). set ws 2 new) c.words ∙ ap (λ (a : ℕ). marked (is_over p.runner) p.given ∷ p.accepted ∷ a ∷ c.cell.control ∷ []) total;
+          words = ap (λ (ws : List ℕ). set ws 2 new) c.words ∙ ap (λ (a : ℕ). words_by (marked (is_over p.runner) p.given) p.accepted a c.cell.control) total;
           lies = c.lies;
           lodges = c.lodges;
           producers = other has_put c.cell.producer _ _ s.views id w c.producers is.0 (λ d k. k);

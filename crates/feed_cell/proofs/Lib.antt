@@ -17,6 +17,7 @@ pub mod ProducerCalls
 pub mod ProducerPut
 pub mod ProducerRoom
 pub mod Seats
+pub mod SignalMarks
 pub mod SignalSent
 pub mod SignalStep
 pub mod Stages
@@ -27,6 +28,7 @@ pub mod TaskItem
 pub mod TaskLook
 pub mod TaskLooks
 pub mod TaskMove
+pub mod TaskPasses
 pub mod TaskRest
 pub mod TaskSee
 pub mod TaskSteps

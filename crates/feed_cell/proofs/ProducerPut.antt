@@ -11,7 +11,7 @@ use Rattle.feed_cell.proofs.Places.{lies_put, stays_home}
 use Rattle.feed_cell.proofs.Seats.{mine, other}
 use Rattle.feed_cell.proofs.Stages.{lodges_else}
 use Rattle.feed_cell.proofs.Tallies.{stays_same}
-use Rattle.feed_cell.specs.Cell.{Lies, CellRule}
+use Rattle.feed_cell.specs.Cell.{Lies, CellRule, words_by}
 use Rattle.feed_cell.specs.Control.{marked}
 use Rattle.feed_cell.specs.ProducerSteps.{IsPut}
 use Rattle.feed_cell.specs.Seats.{SeatOf}
@@ -47,7 +47,7 @@ module _ {B : Type 0} (told : B → List Signal) where
           lists = record { sized = c.lists.sized; begins = c.lists.begins ∙ sym (take-append-le (length c.cell.taken + length c.cell.item) c.cell.log (x ∷ []) within); one_out = c.lists.one_out; within = omega arith; above = omega arith; below = omega arith };
           shows = record { sized = c.shows.sized; accepted = omega arith; given = c.shows.given; none_out = c.shows.none_out; started = c.shows.started; new = c.shows.new; causes = c.shows.causes; home = c.shows.home; settled = c.shows.settled };
           reads = c.reads;
-          words = ap (λ (ws : List ℕ). set ws 1 new) c.words ∙ ap (λ (m : ℕ). marked (is_over p.runner) p.given ∷ m ∷ marked c.cell.left p.asked ∷ c.cell.control ∷ []) (omega arith);
+          words = ap (λ (ws : List ℕ). set ws 1 new) c.words ∙ ap (λ (m : ℕ). words_by (marked (is_over p.runner) p.given) m (marked c.cell.left p.asked) c.cell.control) (omega arith);
           lies = lies_put cap c.cell.log s.homes (length c.cell.taken) (length c.cell.taken + length c.cell.item) i x c.lists.sized (omega arith) (omega arith) (omega arith) slot_is
               (subst (λ (m : ℕ). Lies cap c.cell.log (length c.cell.taken) (length c.cell.taken + length c.cell.item) m s.homes) free_is c.lies);
           lodges = λ e. lodges_else told cap p.runner c.cell.taken p.own c.cell.answers s.homes (set s.homes i (some (Held.Item x))) (λ y at. stays_home cap c.cell.log s.homes i (length c.cell.log) (some (Held.Item x)) y c.lists.sized slot_is at) (c.lodges e);

@@ -12,7 +12,7 @@ use Rattle.feed_cell.specs.declared.cell.View.{View}
 use Rattle.feed_cell.proofs.SignalStep.{sent_stays}
 
 -- whether the task was started, by the bit that was found
-started_by : (b : Bool) (word : ℕ) → bit_at word 0 ≡ number b → bit_at word 0 ≡ 1 → b ≡ true
+pub started_by : (b : Bool) (word : ℕ) → bit_at word 0 ≡ number b → bit_at word 0 ≡ 1 → b ≡ true
 started_by true word e one = refl
 started_by false word e one = absurd (omega arith)
 

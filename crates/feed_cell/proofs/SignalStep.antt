@@ -1,5 +1,5 @@
 -- Signals, of both sides.
-use Rattle.std.proofs.Common.{◌≡◌, ℕ, ◌⊎◌, Bool, true, false, true≢false, List, [], ◌∷◌, slice_index, set, bit_or, Option, Some, None, sym, refl, ap, ◌∙◌, subst, inl, inr}
+use Rattle.std.proofs.Common.{◌≡◌, ℕ, ◌⊎◌, Bool, true, false, true≢false, List, slice_index, set, bit_or, Option, Some, None, sym, refl, ap, ◌∙◌, subst, inl, inr}
 use Rattle.std.specs.Int.{bit_at}
 use Rattle.atomic_table.specs.Table.{State, keeps, Allows}
 use Rattle.feed_core.specs.Prelude.{Item, Ending, ErrorOrder, Signal}
@@ -10,8 +10,8 @@ use Rattle.feed_cell.proofs.ControlWord.{reads_or, adds}
 use Rattle.feed_cell.proofs.Seats.{mine, other}
 use Rattle.feed_cell.proofs.Stages.{starts, lodges_started}
 use Rattle.feed_cell.proofs.Tallies.{stays_started}
-use Rattle.feed_cell.specs.Cell.{Only, CellRule, AsProducer, AsHandle}
-use Rattle.feed_cell.specs.Control.{Flags, number, Reads, signal_of, both, marked}
+use Rattle.feed_cell.specs.Cell.{Only, CellRule, AsProducer, AsHandle, words_by}
+use Rattle.feed_cell.specs.Control.{Flags, number, Reads, signal_of, both, marked, CONTROL}
 use Rattle.feed_cell.specs.Outlooks.{IsReachedBy}
 use Rattle.feed_cell.specs.Seats.{SeatOf}
 use Rattle.feed_cell.specs.Signals.{sent, Signals}
@@ -42,7 +42,7 @@ module _ {B : Type 0} (told : B → List Signal) (cap : ℕ) where
       → (c.cell.left ≡ true → handle ≡ Idle) → has_run w ≡ false
       → Only has_put c.cell.producer (AsProducer cap c.cell.answers.order c.cell.log c.cell.world.given c.cell.free (is_over (started c.cell.world.runner)) (both (signal_of cause) c.cell.flags).closing (both (signal_of cause) c.cell.flags).state producer) (set s.views id w)
       → Only has_ask c.cell.handle (AsHandle cap c.cell.answers.order c.cell.world.asked (both (signal_of cause) c.cell.flags).cancel (both (signal_of cause) c.cell.flags).argument c.cell.left handle) (set s.views id w)
-      → CellRule told cap (record { words = set s.words 3 (bit_or (slice_index s.words 3) mask); homes = s.homes; views = set s.views id w })
+      → CellRule told cap (record { words = set s.words CONTROL (bit_or (slice_index s.words CONTROL) mask); homes = s.homes; views = set s.views id w })
   signal_kept s c cause mask producer handle id w sets one reached settled runs producers handles =
       let p = c.cell.world in
       let a = adds cause c.cell.flags c.cell.answers in
@@ -57,7 +57,7 @@ module _ {B : Type 0} (told : B → List Signal) (cap : ℕ) where
         lists = c.lists;
         shows = record { sized = c.shows.sized; accepted = c.shows.accepted; given = c.shows.given; none_out = λ e. c.shows.none_out (sym st.holds ∙ e); started = a.run ∙ sym st.runs; new = a.active; causes = ap (joined cause) c.shows.causes ∙ a.causes; home = λ e. c.shows.home (sym st.seat ∙ e); settled = settled };
         reads = reads_or c.reads sets one;
-        words = ap (λ (ws : List ℕ). set ws 3 (bit_or (slice_index ws 3) mask)) c.words ∙ ap (λ b. marked b p.given ∷ p.accepted ∷ marked c.cell.left p.asked ∷ bit_or c.cell.control mask ∷ []) (sym st.over);
+        words = ap (λ (ws : List ℕ). set ws CONTROL (bit_or (slice_index ws CONTROL) mask)) c.words ∙ ap (λ b. words_by (marked b p.given) p.accepted (marked c.cell.left p.asked) (bit_or c.cell.control mask)) (sym st.over);
         lies = c.lies;
         lodges = λ e. lodges_started told cap p.runner c.cell.taken p.own c.cell.answers s.homes (c.lodges e);
         producers = producers;
@@ -112,12 +112,12 @@ producer_knows cap order log given free over f p h (Some (Closing ending)) d may
 
 module _ {B : Type 0} (told : B → List Signal) where
   -- the mark of the task, in the word that is found
-  mark_found : {cap : ℕ} {s : State (Held B) View} (c : CellRule told cap s) → bit_at (slice_index s.words 3) 0 ≡ number (is_started c.cell.world.runner)
-  mark_found c = ap (λ ws. bit_at (slice_index ws 3) 0) c.words ∙ c.reads.run ∙ ap number c.shows.started
+  mark_found : {cap : ℕ} {s : State (Held B) View} (c : CellRule told cap s) → bit_at (slice_index s.words CONTROL) 0 ≡ number (is_started c.cell.world.runner)
+  mark_found c = ap (λ ws. bit_at (slice_index ws CONTROL) 0) c.words ∙ c.reads.run ∙ ap number c.shows.started
 
   -- a fetch-or of control, with the producer's cause
   producer_signals : (cap n id : ℕ) (me : SeatOf B) (mask : ℕ) (cause : Option Cause) → IsProducer me.0 → ProducerMay cause me.0.producing me.0.closing → Reads mask (signal_of cause)
-      → Allows (CellRule told cap) n id me 3 (λ n. bit_or n mask) (Signals cause me)
+      → Allows (CellRule told cap) n id me CONTROL (λ n. bit_or n mask) (Signals cause me)
   producer_signals cap n id me mask cause is may sets s c wide at small =
       let v : View = me.0 in
       let k = (c.producers id v at is.0).1 in
@@ -142,7 +142,7 @@ module _ {B : Type 0} (told : B → List Signal) where
 
   -- and with the handle's
   handle_signals : (cap n id : ℕ) (me : SeatOf B) (mask : ℕ) (cause : Option Cause) → IsHandle me.0 → HandleMay cause me.0.requesting → me.0.left ≡ false → Reads mask (signal_of cause)
-      → Allows (CellRule told cap) n id me 3 (λ n. bit_or n mask) (Signals cause me)
+      → Allows (CellRule told cap) n id me CONTROL (λ n. bit_or n mask) (Signals cause me)
   handle_signals cap n id me mask cause is may stays_on sets s c wide at small =
       let v : View = me.0 in
       let k = (c.handles id v at is.1).1 in
@@ -164,6 +164,6 @@ module _ {B : Type 0} (told : B → List Signal) where
       )
 
   -- of either
-  pub signals : (cap n id : ℕ) (me : SeatOf B) (mask : ℕ) (cause : Option Cause) → MaySignal cause me.0 → Reads mask (signal_of cause) → Allows (CellRule told cap) n id me 3 (λ n. bit_or n mask) (Signals cause me)
+  pub signals : (cap n id : ℕ) (me : SeatOf B) (mask : ℕ) (cause : Option Cause) → MaySignal cause me.0 → Reads mask (signal_of cause) → Allows (CellRule told cap) n id me CONTROL (λ n. bit_or n mask) (Signals cause me)
   signals cap n id me mask cause (inl may) sets = producer_signals cap n id me mask cause may.0 may.1 sets
   signals cap n id me mask cause (inr may) sets = handle_signals cap n id me mask cause may.0 may.1 may.2 sets

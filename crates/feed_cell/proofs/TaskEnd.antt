@@ -12,7 +12,7 @@ use Rattle.feed_cell.proofs.ControlWord.{or_true}
 use Rattle.feed_cell.proofs.Seats.{other, spent}
 use Rattle.feed_cell.proofs.Stages.{seated}
 use Rattle.feed_cell.proofs.Tallies.{has_none}
-use Rattle.feed_cell.specs.Cell.{Lies, CellRule, IsToldAtEnd}
+use Rattle.feed_cell.specs.Cell.{Lies, CellRule, IsToldAtEnd, words_by}
 use Rattle.feed_cell.specs.Control.{Flags, MARK, causes_of, marked}
 use Rattle.feed_cell.specs.TaskPlays.{outlook_by, IsEnd}
 use Rattle.feed_cell.specs.Views.{IsRunner, has_put, has_ask, has_run}
@@ -61,7 +61,7 @@ module _ {B : Type 0} (told : B → List Signal) where
           lists = c.lists;
           shows = record { sized = c.shows.sized; accepted = c.shows.accepted; given = c.shows.given; none_out = λ _. item_is; started = c.shows.started ∙ seat.runs; new = c.shows.new; causes = ap (with_cause_of how) c.shows.causes ∙ ends_causes how c.cell.flags c.cell.answers ∙ ap (causes_of c.cell.flags) answers_there; home = λ _. refl; settled = c.shows.settled };
           reads = c.reads;
-          words = ap (λ (ws : List ℕ). set ws 0 new) c.words ∙ ap (λ (m : ℕ). m ∷ p.accepted ∷ marked c.cell.left p.asked ∷ c.cell.control ∷ []) (new_is ∙ ap (λ (m : ℕ). m + MARK) same);
+          words = ap (λ (ws : List ℕ). set ws 0 new) c.words ∙ ap (λ (m : ℕ). words_by m p.accepted (marked c.cell.left p.asked) c.cell.control) (new_is ∙ ap (λ (m : ℕ). m + MARK) same);
           lies = subst (λ (j : ℕ). Lies cap c.cell.log (length c.cell.taken) (length c.cell.taken + length c.cell.item) c.cell.free (set s.homes j (some (Held.Guest g)))) (sym k.sized)
               (lies_guest cap c.cell.log s.homes (length c.cell.taken) (length c.cell.taken + length c.cell.item) c.cell.free (some (Held.Guest g)) c.lists.sized c.lies);
           lodges = λ _. record { guest = g; at = changed s.homes v.capacity cap (some (Held.Guest g)) (sym k.sized) (let wide = c.lies.wide in let sized : v.capacity ≡ cap = k.sized in omega arith); given_is = given_is ∙ ap length know.taken_is; own_is = own_is ∙ know.own_is; answers_are = refl; how_is = how_is; told_is = subst (λ (l : List Item). IsToldAtEnd how l (told g.subscriber)) know.taken_is told_is };

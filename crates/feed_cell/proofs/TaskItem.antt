@@ -8,7 +8,7 @@ use Rattle.feed_cell.proofs.Marks.{unmark}
 use Rattle.feed_cell.specs.Control.{MARK}
 use Rattle.feed_cell.specs.Seats.{SeatOf}
 use Rattle.feed_cell.specs.TaskPlays.{SeesPut, Measures, MeasuresNone, grants_by}
-use Rattle.feed_cell.specs.TaskSteps.{FindsNone, TakesNext}
+use Rattle.feed_cell.specs.TaskSteps.{IsInOrder, FindsNone, TakesNext}
 
 module _ {B : Type 0} where
   -- it saw an item, and measured that more were requested than were taken
@@ -40,7 +40,7 @@ module _ {B : Type 0} where
       let same : total ≡ total_after m.asked before.0.own = ap (λ (t : SeatOf B). total_after m.asked t.0.own) saw.1 in
       let enough : length before.0.taken < total = subst (λ (n : ℕ). length before.0.taken < n) (sym same) wanted in
       record {
-        granted = record { causes = may.0; asked = total; stage = may.1; runs_on = may.2; wanted = enough };
+        granted = record { causes = may.0; asked = total; ordered = λ stood. subst (IsInOrder before.0.order) may.1 stood; runs_on = may.2; wanted = enough };
         few = few;
         took = took
             ∙ ap (λ (t : SeatOf B). (record t.0 { taken = t.0.taken ++ x ∷ []; item = []; grants = t.0.grants ++ grants_by t.0.runner; runner = Taken }, rest t.1)) (m.wanted (subst (λ (t : SeatOf B). length t.0.taken < total) (sym saw.1) enough))

@@ -1,5 +1,5 @@
 -- What the task does after a look: its steps, put together.
-use Rattle.std.proofs.Common.{◌≡◌, ◌⊎◌, Some, ℕ, ◌+◌, false, List, [], ◌∷◌, ◌++◌, length, sym, refl, ap, ◌∙◌, subst, inl, inr, append-nil, arith}
+use Rattle.std.proofs.Common.{◌≡◌, ◌⊎◌, Option, Some, None, ℕ, ◌+◌, false, List, [], ◌∷◌, ◌++◌, length, sym, refl, ap, ◌∙◌, subst, inl, inr, append-nil, arith}
 use Rattle.feed_core.specs.Cause.{IsNoFailure}
 use Rattle.feed_core.specs.PlainTurn.{terminal_of}
 use Rattle.feed_core.specs.Steps.{HasTerminal}
@@ -14,7 +14,7 @@ use Rattle.feed_cell.specs.TaskPauses.{told_out}
 use Rattle.feed_cell.specs.Seats.{SeatOf, how_out}
 use Rattle.feed_cell.specs.TaskPlays.{outlook_by}
 use Rattle.feed_cell.specs.TaskSteps.{Carries, IsEnding, IsInOrder, IsQuietEnd, HasTaken, FindsNone, KeepsOrder, TakesNext, grant_of}
-use Rattle.feed_cell.specs.TaskLooks.{MissesRest, RestsNow, Serves, GivesAs, FinishesAs, EndsOrRests}
+use Rattle.feed_cell.specs.TaskLooks.{HasPassed, MissesRest, RestsNow, Serves, ServesOnce, GivesAs, FinishesAs, EndsOrRests}
 use Rattle.feed_cell.specs.Views.{IsRunner}
 use Rattle.feed_cell.specs.declared.cell.task.looks.Served.{Served}
 use Rattle.feed_cell.specs.declared.cell.View.{View}
@@ -33,7 +33,7 @@ module _ {B : Type 0} (told : B → List Signal) where
   -- a rest that was missed
   pub misses_rest : (before after : SeatOf B) → Carries told before → after ≡ (record before.0 { runner = Ready; misses = before.0.misses + 1 }, before.1) → MissesRest told before after
   misses_rest before after c e = subst (λ (m : SeatOf B). MissesRest told before m) (sym e) (record {
-    going = record { guest = c.guest; answer = Answer.Go; slot = c.slot; away = c.away; may = inl refl; text = c.text; given = c.given; own = c.own; answers = c.answers; how = c.how };
+    going = record { guest = c.guest; answer = Answer.Go; slot = c.slot; away = c.away; may = inl (inl refl); text = c.text; given = c.given; own = c.own; answers = c.answers; how = c.how };
     is = c.is;
     none_out = c.none_out;
     taken = refl;
@@ -154,9 +154,23 @@ module _ {B : Type 0} (told : B → List Signal) where
   )
 
   -- there was no item to give
-  pub serves_none : (tail : ℕ) (result : Served) (before middle after : SeatOf B) (seen later : SeenState) → FindsNone tail before middle → EndsOrRests told result middle after seen later → Serves told result before after seen later
-  serves_none tail Served.Gave before middle after seen later f t = absurd t
-  serves_none tail Served.Rested before middle after seen later f t = (
+  pub serves_none : (tail word : ℕ) (result : Option Served) (before middle after : SeatOf B) (seen later : SeenState) → Carries told middle → FindsNone tail before middle → EndsOrRests told word result middle after seen later → ServesOnce told word result before after seen later
+  serves_none tail word None before middle after seen later c f t = (
+    t.0.0,
+    subst (λ (m : SeatOf B). HasPassed told before m) (sym t.0.1) (record {
+      carries = c;
+      measured = (f.causes, tail, f.asked, ap (λ (m : SeatOf B). m.0.runner) f.found);
+      taken = ap (λ (m : SeatOf B). m.0.taken) f.found;
+      text = ap (λ (m : SeatOf B). told_out told m.1) f.found;
+      misses = ap (λ (m : SeatOf B). m.0.misses) f.found;
+      grants = ap (λ (m : SeatOf B). m.0.grants) f.found;
+      sized = ap (λ (m : SeatOf B). m.0.capacity) f.found;
+      ordered = ap (λ (m : SeatOf B). m.0.order) f.found;
+    }),
+    t.1,
+  )
+  serves_none tail word (Some Served.Gave) before middle after seen later c f t = absurd t
+  serves_none tail word (Some Served.Rested) before middle after seen later c f t = (
     record {
       text = sym (ap (λ (m : SeatOf B). told_out told m.1) f.found) ∙ t.0.text ∙ ap (λ (m : SeatOf B). greeted m.0.taken) f.found;
       taken = t.0.taken ∙ ap (λ (m : SeatOf B). m.0.taken) f.found;
@@ -169,7 +183,7 @@ module _ {B : Type 0} (told : B → List Signal) where
     },
     t.1,
   )
-  serves_none tail Served.Missed before middle after seen later f t = (
+  serves_none tail word (Some Served.Missed) before middle after seen later c f t = (
     record {
       going = t.0.going;
       is = t.0.is;
@@ -183,4 +197,4 @@ module _ {B : Type 0} (told : B → List Signal) where
     },
     t.1,
   )
-  serves_none tail (Served.Ended how) before middle after seen later f t = serves_finish t.0 (Served.Ended how) before middle after seen later (ap (λ (m : SeatOf B). m.1) f.found) (ap (λ (m : SeatOf B). m.0.taken) f.found) (ap (λ (m : SeatOf B). m.0.misses) f.found) (ap (λ (m : SeatOf B). m.0.grants) f.found) (measured_order tail before middle f) t.1 t.2
+  serves_none tail word (Some (Served.Ended how)) before middle after seen later c f t = serves_finish t.0 (Served.Ended how) before middle after seen later (ap (λ (m : SeatOf B). m.1) f.found) (ap (λ (m : SeatOf B). m.0.taken) f.found) (ap (λ (m : SeatOf B). m.0.misses) f.found) (ap (λ (m : SeatOf B). m.0.grants) f.found) (measured_order tail before middle f) t.1 t.2

@@ -17,8 +17,8 @@ use Rattle.feed_cell.proofs.ControlWord.{reads_rest}
 use Rattle.feed_cell.proofs.Seats.{other, spent}
 use Rattle.feed_cell.proofs.Stages.{seated}
 use Rattle.feed_cell.proofs.Tallies.{has_none}
-use Rattle.feed_cell.specs.Cell.{Lies, CellRule, AsProducer, greeted, has_looked}
-use Rattle.feed_cell.specs.Control.{Reads, number, marked, RESTING}
+use Rattle.feed_cell.specs.Cell.{Lies, CellRule, AsProducer, greeted, has_looked, words_by}
+use Rattle.feed_cell.specs.Control.{Reads, number, marked, RESTING, CONTROL}
 use Rattle.feed_cell.specs.Outlooks.{IsReachedBy, miss_between, hand_between}
 use Rattle.feed_cell.specs.TaskPlays.{IsRest}
 use Rattle.feed_cell.specs.Views.{IsRunner, has_put, has_ask, has_run}
@@ -32,7 +32,7 @@ quiet_by false word e none_there = refl
 quiet_by true word e none_there = absurd (omega arith)
 
 module _ {B : Type 0} (told : B → List Signal) (cap : ℕ) (s : State (Held B) View) (c : CellRule told cap s) (id : ℕ) (v : View) (g : Lodger B) (more : List (ℕ × Held B)) (look : ℕ) (at : get_elem? s.views id ≡ some v)
-    (is : IsRunner v) (out : v.away ≡ true) (may : MayRest (length v.taken) v.runner) (none_out : v.item ≡ []) (look_is : look ≡ v.look) (small : slice_index s.words 3 < 18446744073709551616) where
+    (is : IsRunner v) (out : v.away ≡ true) (may : MayRest (length v.taken) v.runner) (none_out : v.item ≡ []) (look_is : look ≡ v.look) (small : slice_index s.words CONTROL < 18446744073709551616) where
   there : MayRest c.cell.world.given c.cell.world.runner
   there =
       let k = (c.runners id v at is.2).1 in
@@ -40,14 +40,14 @@ module _ {B : Type 0} (told : B → List Signal) (cap : ℕ) (s : State (Held B)
       subst (MayRest c.cell.world.given) k.stands (subst (λ (m : ℕ). MayRest m v.runner) (ap length know.taken_is ∙ sym c.shows.given) may)
 
   abbrev Outcome : ℕ → Type 0
-  Outcome new = (w : View) × (a : Act (Held B)) × Valid s.homes ((v.capacity, Held.Guest g) ∷ more) a × CellRule told cap (stepped s 3 new id ((v.capacity, Held.Guest g) ∷ more) w a)
-      × IsRest look (v, (v.capacity, Held.Guest g) ∷ more) (slice_index s.words 3) (w, carried_after ((v.capacity, Held.Guest g) ∷ more) a)
+  Outcome new = (w : View) × (a : Act (Held B)) × Valid s.homes ((v.capacity, Held.Guest g) ∷ more) a × CellRule told cap (stepped s CONTROL new id ((v.capacity, Held.Guest g) ∷ more) w a)
+      × IsRest look (v, (v.capacity, Held.Guest g) ∷ more) (slice_index s.words CONTROL) (w, carried_after ((v.capacity, Held.Guest g) ∷ more) a)
 
-  found_is : slice_index s.words 3 ≡ c.cell.control
-  found_is = ap (λ ws. slice_index ws 3) c.words
+  found_is : slice_index s.words CONTROL ≡ c.cell.control
+  found_is = ap (λ ws. slice_index ws CONTROL) c.words
 
   -- nothing is new: the task rests
-  hit : (new : ℕ) → new ≡ bit_and look RESTING → bit_at look 1 ≡ 0 → g.given ≡ length v.taken → g.own ≡ v.own → g.answers ≡ v.answers → g.how ≡ None → told g.subscriber ≡ greeted v.taken → slice_index s.words 3 ≡ look → Outcome new
+  hit : (new : ℕ) → new ≡ bit_and look RESTING → bit_at look 1 ≡ 0 → g.given ≡ length v.taken → g.own ≡ v.own → g.answers ≡ v.answers → g.how ≡ None → told g.subscriber ≡ greeted v.taken → slice_index s.words CONTROL ≡ look → Outcome new
   hit new new_is quiet given_is own_is answers_are how_is told_is same =
       let k = (c.runners id v at is.2).1 in
       let p = c.cell.world in
@@ -68,7 +68,7 @@ module _ {B : Type 0} (told : B → List Signal) (cap : ℕ) (s : State (Held B)
           lists = c.lists;
           shows = record { sized = c.shows.sized; accepted = c.shows.accepted; given = c.shows.given; none_out = λ _. item_is; started = refl; new = c.shows.new; causes = c.shows.causes; home = λ _. refl; settled = c.shows.settled };
           reads = subst (λ (m : ℕ). Reads m (record c.cell.flags { run = false })) (ap (λ (m : ℕ). bit_and m RESTING) (sym look_here) ∙ sym new_is) (reads_rest (subst (λ (m : ℕ). m < 18446744073709551616) found_is small) c.reads);
-          words = ap (λ (ws : List ℕ). set ws 3 new) c.words ∙ ap (λ b. marked b p.given ∷ p.accepted ∷ marked c.cell.left p.asked ∷ new ∷ []) seat.over;
+          words = ap (λ (ws : List ℕ). set ws CONTROL new) c.words ∙ ap (λ b. words_by (marked b p.given) p.accepted (marked c.cell.left p.asked) new) seat.over;
           lies = subst (λ (j : ℕ). Lies cap c.cell.log (length c.cell.taken) (length c.cell.taken + length c.cell.item) c.cell.free (set s.homes j (some (Held.Guest g)))) (sym k.sized)
               (lies_guest cap c.cell.log s.homes (length c.cell.taken) (length c.cell.taken + length c.cell.item) c.cell.free (some (Held.Guest g)) c.lists.sized c.lies);
           lodges = λ _. record { guest = g; at = changed s.homes v.capacity cap (some (Held.Guest g)) (sym k.sized) (let wide = c.lies.wide in let sized : v.capacity ≡ cap = k.sized in omega arith); given_is = given_is ∙ ap length know.taken_is; own_is = own_is ∙ know.own_is; answers_are = answers_are ∙ know.answers_are; how_is = how_is; told_is = told_is ∙ ap greeted know.taken_is };
@@ -80,7 +80,7 @@ module _ {B : Type 0} (told : B → List Signal) (cap : ℕ) (s : State (Held B)
       )
 
   -- something is new
-  missed : (slice_index s.words 3 ≡ look → ⊥) → Outcome (slice_index s.words 3)
+  missed : (slice_index s.words CONTROL ≡ look → ⊥) → Outcome (slice_index s.words CONTROL)
   missed differs =
       let k = (c.runners id v at is.2).1 in
       let p = c.cell.world in
@@ -95,7 +95,7 @@ module _ {B : Type 0} (told : B → List Signal) (cap : ℕ) (s : State (Held B)
         w,
         keeps,
         tt,
-        move_kept told cap s c id v w Ready c.cell.item _ s.homes at is is.0 is.1 refl reached (λ _. item_is) c.lists c.lies (ap (λ (ws : List ℕ). set ws 3 (slice_index ws 3)) c.words)
+        move_kept told cap s c id v w Ready c.cell.item _ s.homes at is is.0 is.1 refl reached (λ _. item_is) c.lists c.lies (ap (λ (ws : List ℕ). set ws CONTROL (slice_index ws CONTROL)) c.words)
             (record { sized = k.sized; ordered = k.ordered; seated = refl; stands = refl; out = out; knows = λ _. knows_too c.cell.taken p.own c.cell.answers v w refl refl refl know; fresh = λ e. cc; item_is = k.item_is; latest = λ e. cc }),
         record { rested = λ same. absurd (differs same); missed = λ _. refl; sized = refl },
       )
@@ -108,8 +108,8 @@ module _ {B : Type 0} (told : B → List Signal) where
   -- a compare-and-exchange of control, from the word after the last look to the same without the mark of the task
   pub rests : (cap n id : ℕ) (v : View) (g : Lodger B) (more : List (ℕ × Held B)) (look new : ℕ) → IsRunner v → v.away ≡ true → MayRest (length v.taken) v.runner → v.item ≡ [] → look ≡ v.look → bit_at look 1 ≡ 0 → new ≡ bit_and look RESTING
       → g.given ≡ length v.taken → g.own ≡ v.own → g.answers ≡ v.answers → g.how ≡ None → told g.subscriber ≡ greeted v.taken
-      → Allows (CellRule told cap) n id (v, (v.capacity, Held.Guest g) ∷ more) 3 (λ (m : ℕ). either (m == look) new m) (IsRest look (v, (v.capacity, Held.Guest g) ∷ more))
+      → Allows (CellRule told cap) n id (v, (v.capacity, Held.Guest g) ∷ more) CONTROL (λ (m : ℕ). either (m == look) new m) (IsRest look (v, (v.capacity, Held.Guest g) ∷ more))
   rests cap n id v g more look new is out may none_out look_is quiet new_is given_is own_is answers_are how_is told_is s c wide at small =
-      exchanged (slice_index s.words 3) look new (Outcome told cap s c id v g more look at is out may none_out look_is small)
+      exchanged (slice_index s.words CONTROL) look new (Outcome told cap s c id v g more look at is out may none_out look_is small)
       (hit told cap s c id v g more look at is out may none_out look_is small new new_is quiet given_is own_is answers_are how_is told_is)
       (missed told cap s c id v g more look at is out may none_out look_is small)

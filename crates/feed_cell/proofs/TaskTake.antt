@@ -11,7 +11,7 @@ use Rattle.feed_cell.proofs.Seats.{mine, other}
 use Rattle.feed_cell.proofs.TaskSee.{lies_at}
 use Rattle.feed_cell.proofs.Stages.{seated}
 use Rattle.feed_cell.proofs.Tallies.{stays_on}
-use Rattle.feed_cell.specs.Cell.{Lies, CellRule, KnowsAway}
+use Rattle.feed_cell.specs.Cell.{Lies, CellRule, KnowsAway, words_by}
 use Rattle.feed_cell.specs.Control.{marked}
 use Rattle.feed_cell.specs.TaskPlays.{IsTake, grants_by}
 use Rattle.feed_cell.specs.Views.{IsRunner, has_put, has_ask, has_run}
@@ -50,7 +50,7 @@ module _ {B : Type 0} (told : B → List Signal) where
           lists = record { sized = c.lists.sized; begins = append-nil taken ∙ c.lists.begins ∙ ap (λ (m : ℕ). take m c.cell.log) (omega arith); one_out = omega arith; within = omega arith; above = above; below = omega arith };
           shows = record { sized = c.shows.sized; accepted = c.shows.accepted; given = omega arith; none_out = λ _. refl; started = c.shows.started ∙ seat.runs; new = c.shows.new; causes = c.shows.causes; home = λ e. cc; settled = c.shows.settled };
           reads = c.reads;
-          words = ap (λ (ws : List ℕ). set ws 0 new) c.words ∙ ap (λ (m : ℕ). m ∷ p.accepted ∷ marked c.cell.left p.asked ∷ c.cell.control ∷ []) (omega arith);
+          words = ap (λ (ws : List ℕ). set ws 0 new) c.words ∙ ap (λ (m : ℕ). words_by m p.accepted (marked c.cell.left p.asked) c.cell.control) (omega arith);
           lies = subst (λ (m : ℕ). Lies cap c.cell.log m (m + 0) c.cell.free (set s.homes i (some Held.Empty))) (sym longer)
               (lies_at cap c.cell.log (length c.cell.taken + 1) (length c.cell.taken + 1) (length c.cell.taken + 1 + 0) c.cell.free _ (omega arith)
               (lies_taken cap c.cell.log s.homes (length c.cell.taken) c.cell.free i c.lists.sized (omega arith) (omega arith) slot_is (lies_at cap c.cell.log (length c.cell.taken) (length c.cell.taken + length c.cell.item) (length c.cell.taken + 1) c.cell.free s.homes (omega arith) c.lies)));

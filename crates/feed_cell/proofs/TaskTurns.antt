@@ -180,7 +180,7 @@ module _ {B : Type 0} (told : B → List Signal) where
         let counted = t.counted in
         let one_each = t.one_each in
         let wanted = granted.wanted in
-        granted_more before.0.order (length t.base) t.grants (grant_of mid granted ∷ []) t.granted (subst (IsInOrder before.0.order) granted.stage stood, granted.runs_on, (omega arith), tt)
+        granted_more before.0.order (length t.base) t.grants (grant_of mid granted ∷ []) t.granted (granted.ordered (subst (λ (order : ErrorOrder). IsInOrder order mid.0.runner) (sym t.ordered) stood) ∙ t.ordered, granted.runs_on, (omega arith), tt)
 
     -- one more item was given
     pub gave_on : GivesItem told mid after seen later → IsBeforeLook told Stage.Going (count + 1) before after later.signals

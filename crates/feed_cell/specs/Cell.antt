@@ -91,9 +91,12 @@ pub record ShowsParts (capacity : ℕ) (w : Parts) (log taken item : List Item) 
   pub home : has_seat w.runner ≡ false → away ≡ false
   pub settled : left ≡ true → w.handle ≡ Idle
 
--- the words
+-- the words: head, tail and asked side by side, and control behind words that nobody uses
+abbrev pub words_by : ℕ → ℕ → ℕ → ℕ → List ℕ
+words_by head tail asked control = head ∷ tail ∷ asked ∷ 0 ∷ 0 ∷ 0 ∷ 0 ∷ 0 ∷ 0 ∷ 0 ∷ 0 ∷ 0 ∷ 0 ∷ 0 ∷ 0 ∷ 0 ∷ 0 ∷ 0 ∷ control ∷ []
+
 abbrev pub words_of : Parts → Bool → ℕ → List ℕ
-words_of w left control = marked (is_over w.runner) w.given ∷ w.accepted ∷ marked left w.asked ∷ control ∷ []
+words_of w left control = words_by (marked (is_over w.runner) w.given) w.accepted (marked left w.asked) control
 
 -- the subscriber is at home, with what is kept beside it
 pub record Lodges {B : Type 0} (told : B → List Signal) (capacity : ℕ) (runner : Runner) (taken : List Item) (own : ℕ) (answers : Causes) (homes : List (slot.Option (Held B))) : Type 0 where

@@ -1,12 +1,12 @@
 -- Signals of both ends, and the hand-over of the task that one has started: what they ask of a seat, and what they tell it.
-use Rattle.std.specs.Prelude.{◌≡◌, ◌⊎◌, ℕ, Bool, true, false, [], Option, Some, None}
+use Rattle.std.specs.Prelude.{◌≡◌, ◌≢◌, ◌⊎◌, ℕ, bit_and, Bool, true, false, [], Option, Some, None}
 use Rattle.std.specs.Int.{bit_at}
 use Rattle.feed_core.specs.Prelude.{ErrorOrder}
 use Rattle.feed_core.specs.World.Table.{producing_after, requesting_after, ProducerMay, HandleMay}
 use Rattle.feed_cell.specs.Types.{Cause, Cancel, Argument, State, Closing, Free, Idle, Hands, HandsOver}
 use Rattle.feed_cell.specs.declared.cell.View.{View}
 use Rattle.feed_cell.specs.Views.{starts_after, IsProducer, IsHandle, handed, ready_view}
-use Rattle.feed_cell.specs.Control.{RUNNING, number}
+use Rattle.feed_cell.specs.Control.{ITEM, RUNNING, number}
 use Rattle.atomic_table.specs.Seated.{TableId}
 use Rattle.feed_cell.specs.Seats.{SeatOf, CellSeat}
 
@@ -33,6 +33,13 @@ pub record Signals {B : Type 0} (cause : Option Cause) (before : SeatOf B) (foun
   pub signalled : after ≡ (sent cause started before.0, before.1)
   pub sized : after.0.capacity ≡ before.0.capacity
   pub ordered : after.0.order ≡ before.0.order
+
+-- a party that has an item or a request to signal finds this word: if both marks are set, the signal would change nothing, and is made
+-- with that; else it is yet to be made
+pub record FindsMarks {B : Type 0} (before : SeatOf B) (found : ℕ) (after : SeatOf B) : Type 0 where
+  pub marked : bit_and found ITEM ≡ ITEM → after ≡ (sent None true before.0, before.1)
+  pub unmarked : bit_and found ITEM ≢ ITEM → after ≡ before
+  pub sized : after.0.capacity ≡ before.0.capacity
 
 -- a party may signal this cause
 abbrev pub MaySignal : Option Cause → View → Type 0

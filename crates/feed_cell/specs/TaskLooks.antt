@@ -1,18 +1,20 @@
 -- What the task does after a look.
-use Rattle.std.specs.Prelude.{◌≡◌, ℕ, Some, ◌+◌, ◌≤◌, ◌⊎◌, false, List, [], ◌∷◌, ◌++◌, length}
+use Rattle.std.specs.Prelude.{◌≡◌, ℕ, Option, Some, None, ◌+◌, ◌≤◌, ◌⊎◌, false, List, [], ◌∷◌, ◌++◌, length}
+use Rattle.std.specs.Int.{bit_at}
 use Rattle.feed_core.specs.Cause.{IsNoFailure}
 use Rattle.feed_core.specs.Prelude.{How, Item, Signal, Next}
 use Rattle.feed_core.specs.Seen.{SeenState, seen_with}
 use Rattle.feed_core.specs.Turn.{EndsInObeyed}
-use Rattle.feed_core.specs.World.Table.{MayEnd}
+use Rattle.feed_core.specs.World.Table.{HasMeasuredAll, MayEnd}
 use Rattle.feed_core.specs.declared.turn.outlook.Outlook.TheVariants.{Resting, Ended}
 use Rattle.feed_cell.specs.Types.{Nobody}
 use Rattle.feed_cell.specs.declared.cell.task.looks.Served.{Served}
 use Rattle.feed_cell.specs.Cell.{greeted, IsToldAtEnd}
+use Rattle.feed_cell.specs.Control.{NEW}
 use Rattle.feed_cell.specs.Parties.{IsGoing}
 use Rattle.feed_cell.specs.TaskPauses.{told_out}
 use Rattle.feed_cell.specs.Seats.{SeatOf}
-use Rattle.feed_cell.specs.TaskSteps.{HasLeft, IsGranted, KeepsOrder, grant_of, EndsThere, FinishesThere, GoesOnThere}
+use Rattle.feed_cell.specs.TaskSteps.{Carries, HasLeft, IsGranted, KeepsOrder, grant_of, EndsThere, FinishesThere, GoesOnThere}
 use Rattle.feed_cell.specs.Views.{IsRunner}
 
 -- the last item, if one was taken, and by what
@@ -22,6 +24,17 @@ IsLastGrant before after took =
     ⊎ ((length took ≡ 1) × ((granted : IsGranted before) × (after.0.grants ≡ before.0.grants ++ grant_of before granted ∷ [])))
 
 module _ {B : Type 0} (told : B → List Signal) where
+  -- it found nothing to do after a peek, and has to look before it may rest
+  pub record HasPassed (before after : SeatOf B) : Type 0 where
+    pub carries : Carries told after
+    pub measured : HasMeasuredAll after.0.runner
+    pub taken : after.0.taken ≡ before.0.taken
+    pub text : told_out told after.1 ≡ told_out told before.1
+    pub misses : after.0.misses ≡ before.0.misses
+    pub grants : after.0.grants ≡ before.0.grants
+    pub sized : after.0.capacity ≡ before.0.capacity
+    pub ordered : after.0.order ≡ before.0.order
+
   -- it gave this item, and goes on
   pub record GivesItem (before after : SeatOf B) (seen later : SeenState) : Type 0 where
     pub item : Item
@@ -76,12 +89,17 @@ module _ {B : Type 0} (told : B → List Signal) where
     pub may : MayEnd how (length after.0.taken) after.0.runner
     pub failed : (code : ℕ) → how ≡ How.Failed code → EndsInObeyed last
 
-  -- what it did after a look
+  -- what it did after a look, or after a peek and a look
   abbrev pub Serves : Served → SeatOf B → SeatOf B → SeenState → SeenState → Type 0
   Serves Served.Gave before after seen later = GivesItem before after seen later
   Serves Served.Rested before after seen later = RestsNow before after × (later ≡ seen)
   Serves Served.Missed before after seen later = MissesRest before after × (later ≡ seen)
   Serves (Served.Ended how) before after seen later = EndsAs how before after seen later
+
+  -- what it did after a look or a peek that left this word: it may find nothing to do only after a peek that found something new
+  abbrev pub ServesOnce : ℕ → Option Served → SeatOf B → SeatOf B → SeenState → SeenState → Type 0
+  ServesOnce word None before after seen later = (bit_at word NEW ≡ 1) × HasPassed before after × (later ≡ seen)
+  ServesOnce word (Some served) before after seen later = Serves served before after seen later
 
   -- by the answer of the callback for an item that was taken
   abbrev pub GivesAs : Item → Served → SeatOf B → SeatOf B → SeenState → SeenState → Type 0
@@ -101,11 +119,17 @@ module _ {B : Type 0} (told : B → List Signal) where
   TriesRest Served.Missed before after = MissesRest before after
   TriesRest _ before after = ⊥
 
+  -- where it is not known that nothing is new, it does not try to
+  abbrev pub RestsIfQuiet : ℕ → Option Served → SeatOf B → SeatOf B → Type 0
+  RestsIfQuiet word None before after = (bit_at word NEW ≡ 1) × (after ≡ before)
+  RestsIfQuiet word (Some served) before after = TriesRest served before after
+
   -- where there was no item to give
-  abbrev pub EndsOrRests : Served → SeatOf B → SeatOf B → SeenState → SeenState → Type 0
-  EndsOrRests Served.Gave before after seen later = ⊥
-  EndsOrRests Served.Rested before after seen later = TriesRest Served.Rested before after × (later ≡ seen)
-  EndsOrRests Served.Missed before after seen later = TriesRest Served.Missed before after × (later ≡ seen)
-  EndsOrRests (Served.Ended how) before after seen later = (due : How)
+  abbrev pub EndsOrRests : ℕ → Option Served → SeatOf B → SeatOf B → SeenState → SeenState → Type 0
+  EndsOrRests word None before after seen later = RestsIfQuiet word None before after × (later ≡ seen)
+  EndsOrRests word (Some Served.Gave) before after seen later = ⊥
+  EndsOrRests word (Some Served.Rested) before after seen later = TriesRest Served.Rested before after × (later ≡ seen)
+  EndsOrRests word (Some Served.Missed) before after seen later = TriesRest Served.Missed before after × (later ≡ seen)
+  EndsOrRests word (Some (Served.Ended how)) before after seen later = (due : How)
       × IsNoFailure (Some due)
       × FinishesAs due (Served.Ended how) before after seen later

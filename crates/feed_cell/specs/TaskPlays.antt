@@ -19,22 +19,30 @@ use Rattle.feed_cell.specs.Seats.{SeatOf, own_out, answers_out, how_out}
 abbrev pub Enters : {B : Type 0} → SeatOf B → SeatOf B → Type 0
 Enters before after = after ≡ (record before.0 { away = true }, (before.0.capacity, Held.Empty) ∷ before.1)
 
--- the task after a look that found this word, with this from the answers of callbacks
-abbrev pub after_causes : View → ℕ → Flags → ℕ → Causes → List Item → View
-after_causes v found f own answers taken =
-    record v { runner = Looked (causes_of f answers); look = bit_and found QUIET; away = true; own = own; answers = answers; taken = taken }
+-- what a look leaves of the word that it finds: all but its mark of something new
+abbrev pub cleared : ℕ → ℕ
+cleared found = bit_and found QUIET
 
--- the task looks, with its subscriber
-pub record LooksOut {B : Type 0} (before : SeatOf B) (found : ℕ) (after : SeatOf B) : Type 0 where
+-- and what a peek leaves: all of it
+abbrev pub untouched : ℕ → ℕ
+untouched found = found
+
+-- the task after a look or a peek that left this word, with this from the answers of callbacks
+abbrev pub after_causes : View → ℕ → Flags → ℕ → Causes → List Item → View
+after_causes v word f own answers taken =
+    record v { runner = Looked (causes_of f answers); look = word; away = true; own = own; answers = answers; taken = taken }
+
+-- the task looks or peeks, with its subscriber, by what that leaves of the word
+pub record LooksOut {B : Type 0} (left_of : ℕ → ℕ) (before : SeatOf B) (found : ℕ) (after : SeatOf B) : Type 0 where
   pub flags : Flags
-  pub reads : Reads found flags
+  pub reads : Reads (left_of found) flags
   pub started : flags.run ≡ true
   pub few : length before.0.taken ≤ UNBOUNDED
   pub ordered : (answers_out before.1).order ≡ before.0.order
-  pub looked : after ≡ (after_causes before.0 found flags (own_out before.1) (answers_out before.1) before.0.taken, before.1)
+  pub looked : after ≡ (after_causes before.0 (left_of found) flags (own_out before.1) (answers_out before.1) before.0.taken, before.1)
 
--- a task that was handed over looks for the first time, and takes its subscriber with it
-pub record LooksFirst {B : Type 0} (told : B → List Signal) (before : SeatOf B) (found : ℕ) (after : SeatOf B) : Type 0 where
+-- a task that was handed over peeks for the first time, and takes its subscriber with it
+pub record PeeksFirst {B : Type 0} (told : B → List Signal) (before : SeatOf B) (found : ℕ) (after : SeatOf B) : Type 0 where
   pub flags : Flags
   pub reads : Reads found flags
   pub started : flags.run ≡ true

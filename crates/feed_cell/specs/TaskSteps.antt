@@ -1,5 +1,5 @@
 -- Where a task stands in the middle of a turn.
-use Rattle.std.specs.Prelude.{◌≡◌, ℕ, ◌+◌, ◌%◌, ◌<◌, ◌≤◌, ◌⊎◌, true, false, List, [], ◌∷◌, ◌++◌, length, Option, None, Some, bit_and}
+use Rattle.std.specs.Prelude.{◌≡◌, ℕ, ◌+◌, ◌%◌, ◌<◌, ◌≤◌, ◌⊎◌, true, false, List, [], ◌∷◌, ◌++◌, length, Option, None, Some}
 use Rattle.atomic_table.specs.Table.{rest}
 use Rattle.feed_core.specs.Cause.{stops, closes, with_cause_of}
 use Rattle.feed_core.specs.PlainTurn.{terminal_of}
@@ -14,7 +14,7 @@ use Rattle.feed_cell.specs.declared.cell.Held.{Held}
 use Rattle.feed_cell.specs.declared.cell.Lodger.{Lodger}
 use Rattle.feed_cell.specs.declared.cell.View.{View}
 use Rattle.feed_cell.specs.Cell.{greeted, IsToldAtEnd}
-use Rattle.feed_cell.specs.Control.{Flags, Reads, causes_of, QUIET}
+use Rattle.feed_cell.specs.Control.{Flags, Reads, causes_of}
 use Rattle.feed_cell.specs.TaskPauses.{told_out}
 use Rattle.feed_cell.specs.Seats.{SeatOf, how_out}
 use Rattle.feed_cell.specs.TaskPlays.{grants_by, outlook_by}
@@ -100,14 +100,14 @@ module _ {B : Type 0} (told : B → List Signal) where
     pub answers : guest.answers ≡ me.0.answers
     pub how : guest.how ≡ None
 
-  -- it has looked, and found this word
+  -- it has looked or peeked, and this is the word that it left
   pub record HasLookedAt (word : ℕ) (me : SeatOf B) : Type 0 where
     pub carries : Carries me
     pub flags : Flags
     pub reads : Reads word flags
     pub stage : me.0.runner ≡ Looked (causes_of flags me.0.answers)
     pub ordered : me.0.answers.order ≡ me.0.order
-    pub look : me.0.look ≡ bit_and word QUIET
+    pub look : me.0.look ≡ word
     pub few : length me.0.taken ≤ UNBOUNDED
 
   -- its subscriber has ended so, and it may end the subscription
@@ -209,11 +209,11 @@ module _ {B : Type 0} where
     pub put : length before.0.taken ≤ tail
     pub found : after ≡ (record before.0 { runner = Measured causes tail asked; item = [] }, before.1)
 
-  -- one more item was requested than were taken, by a measure after a look that found no end at once
+  -- one more item was requested than were taken, by a measure after a look or a peek that found no end at once
   pub record IsGranted (before : SeatOf B) : Type 0 where
     pub causes : Causes
     pub asked : ℕ
-    pub stage : before.0.runner ≡ Looked causes
+    pub ordered : IsInOrder before.0.order before.0.runner → causes.order ≡ before.0.order
     pub runs_on : stops causes ≡ None
     pub wanted : length before.0.taken < asked
 

@@ -30,7 +30,7 @@ AreGivenOf outlook given took = (given ≡ took) ⊎ ((outlook ≡ Ended How.Out
 abbrev pub IsToldBefore : List Item → List Signal → Type 0
 IsToldBefore base start = ((start ≡ []) × (base ≡ [])) ⊎ (start ≡ greeted base)
 
--- each of these items was taken by a look that showed no end at once (no cancel, bad request or second subscribing, and no error that
+-- each of these items was taken by a look or a peek that showed no end at once (no cancel, bad request or second subscribing, and no error that
 -- overtakes the items), and by a measure that showed more items requested than were taken before it
 abbrev pub AreGranted : ErrorOrder → ℕ → List Grant → Type 0
 AreGranted order given [] = Unit {0}

@@ -28,8 +28,9 @@ pub(crate) const TAIL: usize = 1;
 /// The word of the number of items that the handle requested. Bit 63 says that the handle makes no step any more.
 pub(crate) const ASKED: usize = 2;
 
-/// The word of the marks and causes.
-pub(crate) const CONTROL: usize = 3;
+/// The word of the marks and causes. It lies 128 bytes from asked, so that it shares no cache line with the three others, which
+/// change with each item. Nobody uses the words between.
+pub(crate) const CONTROL: usize = ASKED + 16;
 
 /// The mark of head and of asked, which is their bit 63.
 pub(crate) const MARK: u64 = 1 << 63;
@@ -86,7 +87,9 @@ pub(crate) const ERROR: u64 = ITEM | 1 << FAILED;
 pub(crate) const COMPLETE: u64 = ITEM | 1 << COMPLETED;
 
 /// What the words are at first: nothing was taken, put or asked for, and the task is started.
-pub(crate) const FIRST_WORDS: [u64; 4] = [0, 0, 0, RUN];
+pub(crate) const FIRST_WORDS: [u64; 19] = [
+    0, 0, 0, 0, 0, 0, 0, 0, 0, 0, 0, 0, 0, 0, 0, 0, 0, 0, RUN,
+];
 
 /// Who is told, and what lies beside it while nobody runs the task.
 #[derive(Drop)]
@@ -139,9 +142,9 @@ pub enum Held<B> {
     Guest(BoxedLodger<B>),
 }
 
-/// By what the task took an item: its own look before it, and its own measure after that. No value of it is made.
+/// By what the task took an item: its own look or peek before it, and its own measure after that. No value of it is made.
 pub struct Grant {
-    /// The causes that the look showed.
+    /// The causes that the look or peek showed.
     pub causes: Causes,
     /// How many items were requested in all, as the measure showed.
     pub asked: u64,
@@ -189,7 +192,7 @@ pub struct View {
     pub runs: bool,
     /// Where the task stands.
     pub runner: Runner,
-    /// The control word after its last look.
+    /// The control word after its last look or peek.
     pub look: u64,
     /// Whether it has the subscriber with it.
     pub away: bool,
@@ -199,9 +202,9 @@ pub struct View {
     pub item: LinkedList<Item>,
     /// By what it took each of the items that it took, in order.
     pub grants: LinkedList<Grant>,
-    /// How many items the answers requested, by what it brought to its last look.
+    /// How many items the answers requested, by what it brought to its last look or peek.
     pub own: u64,
-    /// The causes that the answers brought about, by what it brought to its last look.
+    /// The causes that the answers brought about, by what it brought to its last look or peek.
     pub answers: Causes,
     /// How often it could not rest, since something was new.
     pub misses: u64,
@@ -218,7 +221,7 @@ pub struct Terms {
     pub order: ErrorOrder,
 }
 
-/// The table of a subscription: the four words, a slot for each place, and a slot for the subscriber.
+/// The table of a subscription: its words, a slot for each place, and a slot for the subscriber.
 pub type CellTable<B> = Table<Held<B>, View, Terms, InCell<B>, Global>;
 
 /// The table, as its parties share it. How many share it changes with each task, so that number stands in a cache line of its

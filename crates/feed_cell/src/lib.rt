@@ -19,12 +19,14 @@
 //! | Bit of control | What it says | Who sets it | Who clears it |
 //! |---|---|---|---|
 //! | 0, the mark of the task | the task was started and is not at rest since | each signal | the rest of the task |
-//! | 1, the mark of something new | there was a signal since the task's last look | each signal | each look |
+//! | 1, the mark of something new | there was a signal since the task's last look | each signal | each look, but no peek |
 //! | 2 | the owner cancelled | the handle | nobody |
 //! | 3 | a number was requested that is not positive | the handle | nobody |
 //! | 4 | the subscriber subscribed a second time | the producer | nobody |
 //! | 5 | it was closed with an error, whose code is in bits 32 to 63 | the producer | nobody |
 //! | 6 | it was closed without an error | the producer | nobody |
+//!
+//! Control lies apart from the three others, in a cache line of its own, behind words that nobody uses.
 //!
 //! Each of the first three words has one writer, which keeps the number beside its seat and never reads its own word. None of
 //! the numbers ever falls, so what a load shows is at most what there is.
@@ -39,7 +41,7 @@
 //! - The task loads tail. If more items were put than taken, slot head has one, and that load takes it out. A load of asked
 //!   follows: if no more are requested, it gives the slot back as it was. Otherwise the task moves the item out, and the store of
 //!   head + 1 gives the slot back, free.
-//! - The subscriber's slot is out with the task from its first look until it rests or ends the subscription. What the answers of
+//! - The subscriber's slot is out with the task from its first peek until it rests or ends the subscription. What the answers of
 //!   callbacks have requested, the causes that they brought about, and whether a closing error waits for the items lie beside the
 //!   subscriber there.
 //!
@@ -47,13 +49,17 @@
 //!
 //! A signal sets the mark of the task, the mark of something new, and its cause, in one step. If it finds the mark of the task
 //! clear, it has started the task: the side that made it splits a seat off for the task and hands it over. Therefore at most one
-//! task serves a subscription. An item is signalled after its tail is stored, and a request after asked is.
+//! task serves a subscription. An item is signalled after its tail is stored, and a request after asked is. These two have no
+//! cause, so where both marks are set already the signal is a load that finds them so.
 //!
-//! A look clears the mark of something new and tells the causes. The task loads tail and asked after the look, never before. If
-//! it finds nothing to do, it rests by one compare-and-exchange: from the word after its look to the same without the mark of the
-//! task. That fails exactly if there was a signal since the look, and then the task looks again. Thus nothing is forgotten: a
-//! subscription at rest was told all that its demand and its ending allow, or somebody is between a store and its signal, and
-//! that signal will start the task.
+//! A look clears the mark of something new and tells the causes. A peek tells the causes and leaves the mark, so it is a load. The
+//! task makes one of them before each item, and loads tail and asked after it, never before. If it finds nothing to do after a
+//! peek that found something new, it looks, and loads the two once more. If it finds nothing to do then, it rests by one
+//! compare-and-exchange: from the word after its look to the same without the mark of the task. That fails exactly if there was a
+//! signal since the look, and then the task goes on. Thus nothing is forgotten: a subscription at rest was told all that its
+//! demand and its ending allow, or somebody is between a store and its signal, and that signal will start the task.
+//!
+//! While items wait, the task peeks, and the mark stays set: then neither it nor the other two change control.
 //!
 //! The mark of the task stays set after the end, so nothing starts the task of a subscription that has ended.
 //!
@@ -82,7 +88,8 @@
 //!  Fresh, Taken, Looked, Measured -- end: head, with its mark --> Over
 //! ```
 //!
-//! An end comes from `Looked` if the look showed a cause that ends the subscription at
+//! For a look a peek may stand, which is a load of control. From `Measured` a look may lead back to `Looked`, which it does
+//! after a peek with nothing to do. An end comes from `Looked` if the look showed a cause that ends the subscription at
 //! once, from `Measured` if every item was given and a close waited for that, and from `Fresh` or `Taken` if a callback answered an
 //! end or was refused memory. A task that was handed over is `Ready`; the first task of a subscription is `Fresh`.
 //!

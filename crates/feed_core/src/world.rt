@@ -20,9 +20,12 @@
 //! after the runner had counted is signalled after the look, so either that step fails or the signal comes after it and starts the
 //! task. Hence nothing is forgotten ([`worlds_at_rest_forget_nothing`]).
 //!
+//! **Peeking.** A peek shows the causes as a look does, and leaves the second mark, so it is only a load. A runner may peek in place of each
+//! look. But where the mark was set it can't rest then: it looks, and counts once more, before it does.
+//!
 //! **Ending.** A closing is signalled after the last put. The runner counts the items after the look that showed it a completion, or an
-//! error that waits for the items, so it has counted all of them, and tells that end only when these were given. A cancel is seen at the next look, and there is one before each
-//! item: at most one more is given ([`at_most_one_item_follows_an_end`]).
+//! error that waits for the items, so it has counted all of them, and tells that end only when these were given. A cancel is seen at the next look or peek, and there is
+//! one before each item: at most one more is given ([`at_most_one_item_follows_an_end`]).
 mod events;
 mod laws;
 mod parts;

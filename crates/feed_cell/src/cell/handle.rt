@@ -8,9 +8,9 @@ ghost use Rattle.feed_cell.specs.Views.{starts_after};
 
 use self::steps::ask_more;
 use super::seated::Seated;
-use super::signal::{signal, start};
+use super::signal::{signal, signal_more, start};
 use super::task::Task;
-use super::{ARGUMENT, CANCEL, ITEM, SharedTable};
+use super::{ARGUMENT, CANCEL, SharedTable};
 use flow_rules::{Listener, NoMemory};
 use std::fmt;
 use std::marker::Model;
@@ -100,7 +100,7 @@ impl<B: Listener> Handle<B> {
         }
         let task = if n > 0 {
             self.asked = ask_more(&mut self.party, self.asked, n.unsigned_abs());
-            signal(&mut self.party, ITEM)
+            signal_more(&mut self.party)
         } else {
             signal(&mut self.party, ARGUMENT)
         };

@@ -5,9 +5,9 @@ pub mod steps;
 
 use self::steps::{Found, find_room, look, place, signal_end};
 use super::seated::Seated;
-use super::signal::{signal, start};
+use super::signal::{signal, signal_more, start};
 use super::task::Task;
-use super::{ITEM, MARK, STATE, SharedTable};
+use super::{MARK, STATE, SharedTable};
 use flow_rules::{Ending, Feed, Item, Listener, NoMemory, Put, Standing};
 use std::fmt;
 use std::marker::Model;
@@ -78,7 +78,7 @@ impl<B: Listener> Feed for Producer<B> {
             Found::Room(held) => held,
         };
         place(&mut self.party, self.tail, item);
-        let task = signal(&mut self.party, ITEM);
+        let task = signal_more(&mut self.party);
         self.tail += 1;
         Put::Accepted {
             lag: held + 1,

@@ -11,7 +11,7 @@ ghost use Rattle.feed_cell.specs.Views.{starts_after};
 
 use super::seated::Seated;
 use super::task::{Stage, Task};
-use super::{CONTROL, CellSeat, Held, RUN, SharedTable, View};
+use super::{CONTROL, CellSeat, Held, ITEM, RUN, SharedTable, View};
 use atomic_table::{Play, Split};
 use flow_rules::Listener;
 
@@ -25,6 +25,15 @@ impl<B: Listener> Play<Held<B>, View> for SignalStep {
     ghost then = { λ step. Signals (cause_in step.first) };
 }
 
+/// A party that has an item or a request to signal looks whether both marks are set: a load of control.
+pub(crate) struct MarksStep;
+
+impl<B: Listener> Play<Held<B>, View> for MarksStep {
+    ghost use Rattle.feed_cell.specs.Signals.{FindsMarks};
+
+    ghost then = { λ _. FindsMarks };
+}
+
 /// The task that a signal has started gets a seat.
 pub(crate) struct HandOver;
 
@@ -34,6 +43,24 @@ impl Split<View> for HandOver {
     ghost left = { handed };
 
     ghost right = { running_handed };
+}
+
+/// Signals an item or a request. If both marks are set already, a load is all that it takes: to set them again would change
+/// nothing. That load must not overtake the store of tail or of asked before it, and the task's loads of these must not
+/// overtake its look. Each step of a table is sequentially consistent, and without that the task could come to rest with an
+/// item that nobody signalled. If the task was at rest, its seat comes back.
+pub(crate) fn signal_more<B: Listener>(party: &mut Seated<B>) -> Option<CellSeat<B>>
+    requires may { MaySignal None party.old.seat.me.0 }
+    ensures sent { StepsTo party.old.seat (IsSent None result party.old.seat.me) party.new.seat }
+    ensures starts { IfSome result
+        (IsReadySeat party.old.seat.table_id party.old.capacity party.old.seat.me.0.order) }
+{
+    let table = &party.table.shared;
+    let found = table.load::<MarksStep>(&mut party.seat, CONTROL);
+    if found & ITEM == ITEM {
+        return None;
+    }
+    signal(party, ITEM)
 }
 
 /// Signals what this mask says. If the task was at rest, its seat comes back.

@@ -3,7 +3,7 @@ use Rattle.std.proofs.Common.{◌≡◌, ℕ, zero, suc, ℤ, pos, negsuc, ◌+�
 use Rattle.std.specs.Prelude.{IsSome}
 use Rattle.feed_core.specs.Prelude.{Answer, How}
 use Rattle.feed_core.specs.Cause.{stops, no_causes_in}
-use Rattle.feed_core.specs.World.Types.{Producer, Handle, Cause, Event, Make, Room, Put, See, Take, Ask, Signal, Hand, Look, Measure, Rest, End, Runner, Nobody, Coming, Fresh, Ready, Looked, Saw, Measured, Taken, Over, Parts}
+use Rattle.feed_core.specs.World.Types.{Producer, Handle, Cause, Event, Make, Room, Put, See, Take, Ask, Signal, Hand, Look, Peek, Measure, Rest, End, Runner, Nobody, Coming, Fresh, Ready, Looked, Saw, Measured, Taken, Over, Parts}
 use Rattle.feed_core.specs.World.Table.{IsPossible, joined, requested, answered, started, seeing, resting_after, after}
 use Rattle.feed_core.specs.World.Runs.{given_before, cut_where, cut_by, cut_after}
 use Rattle.feed_core.specs.World.Kept.{IsCut, IsCutAt, may_follow, one_where}
@@ -40,16 +40,17 @@ look_cut w v cut stopped given runner few =
     let one = one_where_some (stops v.causes) stopped in let is = ap may_follow runner in let most = may_follow_few w.runner in
     record { stopped = stopped; few = omega arith }
 
-requested_cut : (n : ℤ) (w : Parts) (cut : ℕ) → IsCut w cut → IsCut (after (Look (Answer.Request n)) w) cut
-requested_cut (pos zero) w cut c = look_cut w _ cut (stops_within (within_argument w.causes) c.stopped) refl refl c.few
-requested_cut (pos (suc n)) w cut c = look_cut w _ cut c.stopped refl refl c.few
-requested_cut (negsuc n) w cut c = look_cut w _ cut (stops_within (within_argument w.causes) c.stopped) refl refl c.few
+-- an end at once that was among the causes stays there, whatever a callback answered
+requested_stops : (n : ℤ) (w : Parts) → IsSome (stops w.causes) → IsSome (stops (requested n w).causes)
+requested_stops (pos zero) w some = stops_within (within_argument w.causes) some
+requested_stops (pos (suc n)) w some = some
+requested_stops (negsuc n) w some = stops_within (within_argument w.causes) some
 
-answered_cut : (answer : Answer) (w : Parts) (cut : ℕ) → IsCut w cut → IsCut (after (Look answer) w) cut
-answered_cut Answer.Go w cut c = look_cut w _ cut c.stopped refl refl c.few
-answered_cut (Answer.Request n) w cut c = requested_cut n w cut c
-answered_cut Answer.Cancel w cut c = look_cut w _ cut c.stopped refl refl c.few
-answered_cut (Answer.Fail _) w cut c = look_cut w _ cut c.stopped refl refl c.few
+answered_stops : (answer : Answer) (w : Parts) → IsSome (stops w.causes) → IsSome (stops (answered answer w).causes)
+answered_stops Answer.Go w some = some
+answered_stops (Answer.Request n) w some = requested_stops n w some
+answered_stops Answer.Cancel w some = some
+answered_stops (Answer.Fail _) w some = some
 
 requested_given : (n : ℤ) (w : Parts) → (requested n w).given ≡ w.given
 requested_given (pos zero) w = refl
@@ -84,7 +85,8 @@ cut_kept (Signal Producer cause) w cut may c = signal_cut w _ cut (stops_within 
 cut_kept (Signal Handle cause) w cut may c = signal_cut w _ cut (stops_within (within_handle cause w.handle w.causes may) c.stopped) refl refl c.few
 cut_kept (Hand Producer) w cut may c = let few = c.few in let most = may_follow_few w.runner in record { stopped = c.stopped; few = omega arith }
 cut_kept (Hand Handle) w cut may c = let few = c.few in let most = may_follow_few w.runner in record { stopped = c.stopped; few = omega arith }
-cut_kept (Look answer) w cut may c = answered_cut answer w cut c
+cut_kept (Look answer) w cut may c = look_cut w _ cut (answered_stops answer w c.stopped) (answered_given answer w) refl c.few
+cut_kept (Peek answer) w cut may c = look_cut w _ cut (answered_stops answer w c.stopped) (answered_given answer w) refl c.few
 cut_kept Measure w cut may c =
     let few = c.few in let before : may_follow w.runner ≡ 0 = ap may_follow may.2 in
     record { stopped = c.stopped; few = omega arith }
@@ -145,6 +147,7 @@ new_cut (Signal Producer cause) w = first_cut cause w _ refl refl refl
 new_cut (Signal Handle cause) w = first_cut cause w _ refl refl refl
 new_cut (Hand side) w = tt
 new_cut (Look answer) w = tt
+new_cut (Peek answer) w = tt
 new_cut Measure w = tt
 new_cut Rest w = tt
 new_cut (End how) w = tt
@@ -175,6 +178,7 @@ adds_stop event w may none stopped = by event may stopped where
   by (Hand Producer) may some = absurd (never some)
   by (Hand Handle) may some = absurd (never some)
   by (Look answer) may some = look_cut w _ _ some (answered_given answer w) refl few
+  by (Peek answer) may some = look_cut w _ _ some (answered_given answer w) refl few
   by Measure may some = absurd (never some)
   by Rest may some = absurd (never some)
   by (End how) may some = let before = few in let most = may_follow_few w.runner in record { stopped = some; few = omega arith }

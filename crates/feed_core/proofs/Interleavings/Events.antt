@@ -2,7 +2,7 @@
 use Rattle.std.proofs.Common.{ℕ, refl, arith}
 use Rattle.feed_core.specs.Prelude.{ErrorOrder}
 use Rattle.feed_core.specs.LaneCalls.{IsCapacity}
-use Rattle.feed_core.specs.World.Types.{Producer, Handle, Event, Make, Room, Put, See, Take, Ask, Signal, Hand, Look, Measure, Rest, End, Parts}
+use Rattle.feed_core.specs.World.Types.{Producer, Handle, Event, Make, Room, Put, See, Take, Ask, Signal, Hand, Look, Peek, Measure, Rest, End, Parts}
 use Rattle.feed_core.specs.World.Table.{IsPossible, after}
 use Rattle.feed_core.specs.World.Runs.{made}
 use Rattle.feed_core.specs.World.Kept.{IsKeptParts}
@@ -11,7 +11,7 @@ use Rattle.feed_core.proofs.Interleavings.Ending.{end_kept}
 use Rattle.feed_core.proofs.Interleavings.Handing.{producer_hand_kept, handle_hand_kept}
 use Rattle.feed_core.proofs.Interleavings.Putting.{room_kept, put_kept}
 use Rattle.feed_core.proofs.Interleavings.Resting.{rest_kept}
-use Rattle.feed_core.proofs.Interleavings.Running.{look_kept, see_kept, measure_kept, take_kept}
+use Rattle.feed_core.proofs.Interleavings.Running.{look_kept, peek_kept, see_kept, measure_kept, take_kept}
 use Rattle.feed_core.proofs.Interleavings.Signalling.{producer_signal_kept, handle_signal_kept}
 
 -- a new subscription has it
@@ -42,6 +42,7 @@ event_kept (Signal Handle cause) w k may = handle_signal_kept cause w k may
 event_kept (Hand Producer) w k may = producer_hand_kept w k may
 event_kept (Hand Handle) w k may = handle_hand_kept w k may
 event_kept (Look answer) w k may = look_kept answer w k may
+event_kept (Peek answer) w k may = peek_kept answer w k may
 event_kept Measure w k may = measure_kept w k may
 event_kept Rest w k may = rest_kept w k may
 event_kept (End how) w k may = end_kept how w k may

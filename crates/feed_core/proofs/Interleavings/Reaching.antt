@@ -2,7 +2,7 @@
 use Rattle.std.proofs.Common.{◌≡◌, ℕ, ◌↔◌, Bool, true, false, refl, sym, subst, Option, Some, None, List, [], ◌∷◌, ◌++◌, inl, inr}
 use Rattle.feed_core.specs.Prelude.{ErrorOrder}
 use Rattle.feed_core.specs.LaneCalls.{IsCapacity}
-use Rattle.feed_core.specs.World.Types.{Event, Make, Room, Put, See, Take, Ask, Signal, Hand, Look, Measure, Rest, End, Parts}
+use Rattle.feed_core.specs.World.Types.{Event, Make, Room, Put, See, Take, Ask, Signal, Hand, Look, Peek, Measure, Rest, End, Parts}
 use Rattle.feed_core.specs.World.Table.{IsPossible, after}
 use Rattle.feed_core.specs.World.Runs.{WorldState, nothing, world_of, made, IsPossibleIn, cut_after, next_of, Steps, Leads, IsReached}
 use Rattle.feed_core.specs.World.Kept.{IsKeptParts, IsKeptIn}
@@ -23,6 +23,7 @@ next_kept (Ask n) None cut k may = absurd may
 next_kept (Signal side cause) None cut k may = absurd may
 next_kept (Hand side) None cut k may = absurd may
 next_kept (Look answer) None cut k may = absurd may
+next_kept (Peek answer) None cut k may = absurd may
 next_kept Measure None cut k may = absurd may
 next_kept Rest None cut k may = absurd may
 next_kept (End how) None cut k may = absurd may

@@ -1,8 +1,8 @@
--- The runner looks, sees how many items were put, sees how many were requested, and takes one.
-use Rattle.std.proofs.Common.{◌≡◌, ℕ, zero, suc, ℤ, pos, negsuc, ◌≤◌, true, false, refl, sym, ap, subst, ◌∙◌, arith, inl, inr}
+-- The runner looks or peeks, sees how many items were put, sees how many were requested, and takes one.
+use Rattle.std.proofs.Common.{◌≡◌, ℕ, zero, suc, ℤ, pos, negsuc, ◌≤◌, Bool, true, false, refl, sym, ap, subst, ◌∙◌, arith, inl, inr}
 use Rattle.feed_core.specs.Prelude.{UNBOUNDED, Answer, total_after}
-use Rattle.feed_core.specs.World.Types.{Causes, Look, See, Measure, Take, Runner, Looked, Saw, Measured, Parts}
-use Rattle.feed_core.specs.World.Table.{total_of, is_over, MayLook, IsPossible, requested, answered, looking, seeing, measuring, after}
+use Rattle.feed_core.specs.World.Types.{Causes, Look, Peek, See, Measure, Take, Runner, Looked, Saw, Measured, Parts}
+use Rattle.feed_core.specs.World.Table.{total_of, is_over, MayLook, IsPossible, requested, answered, seeing, measuring, after}
 use Rattle.feed_core.specs.World.Kept.{IsAt, IsKeptParts, HasSeen, HasMeasured, coming}
 use Rattle.feed_core.proofs.Interleavings.Causing.{within_same}
 use Rattle.feed_core.proofs.Interleavings.Growing.{stage_at}
@@ -26,11 +26,11 @@ moved_kept w r k before after unended stage =
       stage = stage;
     }
 
--- after a look, which may bring a request or the cause of a bad one
-looked_kept : (w : Parts) (own : ℕ) (causes : Causes) → IsKeptParts w → coming w.runner ≡ 0 → is_over w.runner ≡ false
+-- after a look or a peek, which may bring a request or the cause of a bad one
+looked_kept : (w : Parts) (active : Bool) (own : ℕ) (causes : Causes) → IsKeptParts w → coming w.runner ≡ 0 → is_over w.runner ≡ false
     → own ≤ UNBOUNDED → w.own ≤ own → causes.failed ≡ w.causes.failed → causes.memory ≡ w.causes.memory
-    → IsKeptParts (record w { own = own; causes = causes; active = false; runner = Looked causes })
-looked_kept w own causes k quiet unended bounded grows failed memory =
+    → IsKeptParts (record w { own = own; causes = causes; active = active; runner = Looked causes })
+looked_kept w active own causes k quiet unended bounded grows failed memory =
     let handed = k.handed in let requested = k.requested in
     record {
       sized = k.sized;
@@ -48,7 +48,8 @@ looked_kept w own causes k quiet unended bounded grows failed memory =
 
 -- who may look has the task
 looks : (answer : Answer) (r : Runner) → MayLook answer r → (coming r ≡ 0) × (is_over r ≡ false)
-looks Answer.Go r (inl e) = (ap coming e, ap is_over e)
+looks Answer.Go r (inl (inl e)) = (ap coming e, ap is_over e)
+looks Answer.Go r (inl (inr (c, t, a, e))) = (ap coming e, ap is_over e)
 looks Answer.Go r (inr (inl e)) = (ap coming e, ap is_over e)
 looks Answer.Go r (inr (inr e)) = (ap coming e, ap is_over e)
 looks (Answer.Request n) r (inl e) = (ap coming e, ap is_over e)
@@ -56,20 +57,28 @@ looks (Answer.Request n) r (inr e) = (ap coming e, ap is_over e)
 looks Answer.Cancel r may = absurd may
 looks (Answer.Fail _) r may = absurd may
 
-requested_kept : (n : ℤ) (w : Parts) → IsKeptParts w → coming w.runner ≡ 0 → is_over w.runner ≡ false → IsKeptParts (looking (requested n w))
-requested_kept (pos zero) w k quiet unended = looked_kept w w.own (record w.causes { argument = true }) k quiet unended k.own_bounded (omega arith) refl refl
-requested_kept (pos (suc n)) w k quiet unended =
+-- what there is after a look or a peek: in the second case what is new stays new
+abbrev learning : Bool → Parts → Parts
+learning active w = record w { active = active; runner = Looked w.causes }
+
+requested_kept : (n : ℤ) (w : Parts) (active : Bool) → IsKeptParts w → coming w.runner ≡ 0 → is_over w.runner ≡ false → IsKeptParts (learning active (requested n w))
+requested_kept (pos zero) w active k quiet unended = looked_kept w active w.own (record w.causes { argument = true }) k quiet unended k.own_bounded (omega arith) refl refl
+requested_kept (pos (suc n)) w active k quiet unended =
     let bounded = k.own_bounded in
-    looked_kept w (total_after w.own (suc n)) w.causes k quiet unended (omega arith) (omega arith) refl refl
-requested_kept (negsuc n) w k quiet unended = looked_kept w w.own (record w.causes { argument = true }) k quiet unended k.own_bounded (omega arith) refl refl
+    looked_kept w active (total_after w.own (suc n)) w.causes k quiet unended (omega arith) (omega arith) refl refl
+requested_kept (negsuc n) w active k quiet unended = looked_kept w active w.own (record w.causes { argument = true }) k quiet unended k.own_bounded (omega arith) refl refl
+
+answered_kept : (answer : Answer) (w : Parts) (active : Bool) → IsKeptParts w → (coming w.runner ≡ 0) × (is_over w.runner ≡ false) → IsKeptParts (learning active (answered answer w))
+answered_kept Answer.Go w active k has = looked_kept w active w.own w.causes k has.0 has.1 k.own_bounded (omega arith) refl refl
+answered_kept (Answer.Request n) w active k has = requested_kept n w active k has.0 has.1
+answered_kept Answer.Cancel w active k has = looked_kept w active w.own w.causes k has.0 has.1 k.own_bounded (omega arith) refl refl
+answered_kept (Answer.Fail _) w active k has = looked_kept w active w.own w.causes k has.0 has.1 k.own_bounded (omega arith) refl refl
 
 pub look_kept : (answer : Answer) (w : Parts) → IsKeptParts w → IsPossible (Look answer) w → IsKeptParts (after (Look answer) w)
-look_kept answer w k may = by answer (looks answer w.runner may) where
-  by : (answer : Answer) → (coming w.runner ≡ 0) × (is_over w.runner ≡ false) → IsKeptParts (looking (answered answer w))
-  by Answer.Go has = looked_kept w w.own w.causes k has.0 has.1 k.own_bounded (omega arith) refl refl
-  by (Answer.Request n) has = requested_kept n w k has.0 has.1
-  by Answer.Cancel has = looked_kept w w.own w.causes k has.0 has.1 k.own_bounded (omega arith) refl refl
-  by (Answer.Fail _) has = looked_kept w w.own w.causes k has.0 has.1 k.own_bounded (omega arith) refl refl
+look_kept answer w k may = answered_kept answer w false k (looks answer w.runner may)
+
+pub peek_kept : (answer : Answer) (w : Parts) → IsKeptParts w → IsPossible (Peek answer) w → IsKeptParts (after (Peek answer) w)
+peek_kept answer w k may = answered_kept answer w (answered answer w).active k (looks answer w.runner may)
 
 pub see_kept : (w : Parts) → IsKeptParts w → IsPossible See w → IsKeptParts (after See w)
 see_kept w k may =

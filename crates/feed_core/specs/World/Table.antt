@@ -2,7 +2,7 @@
 use Rattle.std.specs.Prelude.{◌≡◌, ℕ, zero, suc, ℤ, pos, negsuc, ◌+◌, ◌-◌, ◌<◌, ◌≤◌, ◌⊎◌, nat_lt, Bool, true, false, ◌&&◌, not, Option, None, Some}
 use Rattle.feed_core.specs.Prelude.{Answer, Ending, How, total_after}
 use Rattle.feed_core.specs.Cause.{stops, closes, with_cause_of}
-use Rattle.feed_core.specs.World.Types.{Causes, Producer, Handle, Cause, Cancel, Argument, State, Closing, Event, Make, Room, Put, See, Take, Ask, Signal, Hand, Look, Measure, Rest, End, Producing, Free, HasRoom, HasPut, Hands, Requesting, Idle, HasAsked, HandsOver, Runner, Nobody, Coming, Fresh, Ready, Looked, Saw, Measured, Taken, Over, Parts}
+use Rattle.feed_core.specs.World.Types.{Causes, Producer, Handle, Cause, Cancel, Argument, State, Closing, Event, Make, Room, Put, See, Take, Ask, Signal, Hand, Look, Peek, Measure, Rest, End, Producing, Free, HasRoom, HasPut, Hands, Requesting, Idle, HasAsked, HandsOver, Runner, Nobody, Coming, Fresh, Ready, Looked, Saw, Measured, Taken, Over, Parts}
 
 -- all that was requested, by the handle and by the answers of callbacks (`Flow.Subscription.request`, Java SE 17)
 abbrev pub total_of : Parts → ℕ
@@ -38,9 +38,14 @@ HandleMay (Some Argument) handle = handle ≡ Idle
 HandleMay (Some State) handle = ⊥
 HandleMay (Some (Closing _)) handle = ⊥
 
--- where the runner may look, by what the callback before that answered; where it is only ready there was none
+-- it has seen how many items were put, and how many requested
+abbrev pub HasMeasuredAll : Runner → Type 0
+HasMeasuredAll runner = (c : Causes) × (t : ℕ) × (a : ℕ) × (runner ≡ Measured c t a)
+
+-- where the runner may look or peek, by what the callback before that answered; where it is only ready, and where it has measured, there
+-- was none
 abbrev pub MayLook : Answer → Runner → Type 0
-MayLook Answer.Go runner = (runner ≡ Ready) ⊎ ((runner ≡ Fresh) ⊎ (runner ≡ Taken))
+MayLook Answer.Go runner = ((runner ≡ Ready) ⊎ HasMeasuredAll runner) ⊎ ((runner ≡ Fresh) ⊎ (runner ≡ Taken))
 MayLook (Answer.Request _) runner = (runner ≡ Fresh) ⊎ (runner ≡ Taken)
 MayLook Answer.Cancel runner = ⊥
 MayLook (Answer.Fail _) runner = ⊥
@@ -101,6 +106,7 @@ IsPossible (Signal Handle cause) w = HandleMay cause w.handle
 IsPossible (Hand Producer) w = w.producer ≡ Hands
 IsPossible (Hand Handle) w = w.handle ≡ HandsOver
 IsPossible (Look answer) w = MayLook answer w.runner
+IsPossible (Peek answer) w = MayLook answer w.runner
 IsPossible Measure w = MayMeasure w.runner
 IsPossible Rest w = MayRest w.given w.runner
 IsPossible (End how) w = MayEnd how w.given w.runner
@@ -154,6 +160,10 @@ answered (Answer.Fail _) w = w
 abbrev pub looking : Parts → Parts
 looking w = record w { active = false; runner = Looked w.causes }
 
+-- a peek: the runner knows the causes, and what is new stays new
+abbrev pub peeking : Parts → Parts
+peeking w = record w { runner = Looked w.causes }
+
 -- what the runner knows after it has seen that there are t items
 abbrev pub seeing : ℕ → Runner → Runner
 seeing t (Looked c) = Saw c t
@@ -182,6 +192,7 @@ after (Signal Handle cause) w = record w { causes = joined cause w.causes; activ
 after (Hand Producer) w = record w { producer = Free; runner = Ready }
 after (Hand Handle) w = record w { handle = Idle; runner = Ready }
 after (Look answer) w = looking (answered answer w)
+after (Peek answer) w = peeking (answered answer w)
 after Measure w = record w { runner = measuring (total_of w) w.runner }
 after Rest w = record w { runner = resting_after w.active }
 after (End how) w = record w { causes = with_cause_of how w.causes; runner = Over how }

@@ -44,6 +44,9 @@ pub enum Event {
     Hand(Side),
     /// The runner clears the mark of something new, and learns the causes. It brings what the callback before it answered.
     Look(Answer),
+    /// The runner learns the causes, as by a look, and leaves the mark of something new as it is. It brings what the callback
+    /// before it answered.
+    Peek(Answer),
     /// The runner loads how many items were requested.
     Measure,
     /// The runner clears the mark of the task, unless something is new since its look.

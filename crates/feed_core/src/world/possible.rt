@@ -33,7 +33,7 @@ impl Parts {
             Event::Signal(Side::Handle, cause) => handle_may(cause, self.handle),
             Event::Hand(Side::Producer) => self.producer == Producing::Hands,
             Event::Hand(Side::Handle) => self.handle == Requesting::HandsOver,
-            Event::Look(answer) => may_look(answer, self.runner),
+            Event::Look(answer) | Event::Peek(answer) => may_look(answer, self.runner),
             Event::See => may_see(self.runner),
             Event::Measure => may_measure(self.runner),
             Event::Take => may_take(self.given, self.runner),
@@ -73,12 +73,15 @@ fn handle_may(cause: Option<Cause>, handle: Requesting) -> bool
     }
 }
 
-/// Whether the runner may look, after a callback with this answer, or after none.
+/// Whether the runner may look or peek, after a callback with this answer, or after none.
 fn may_look(answer: Answer, runner: Runner) -> bool
     ensures { (result ≡ true) ↔ MayLook answer runner }
 {
     match answer {
-        Answer::Go => matches!(runner, Runner::Fresh | Runner::Ready | Runner::Taken),
+        Answer::Go => matches!(
+            runner,
+            Runner::Fresh | Runner::Ready | Runner::Taken | Runner::Measured(_, _, _)
+        ),
         Answer::Request(_) => matches!(runner, Runner::Fresh | Runner::Taken),
         Answer::Cancel | Answer::Fail(_) => false,
     }

@@ -4,7 +4,7 @@ ghost use Rattle.feed_core.specs.Prelude.{UNBOUNDED};
 ghost use Rattle.feed_core.specs.World.Kept.{IsKeptParts};
 ghost use Rattle.feed_core.specs.World.Runs.{given_before};
 ghost use Rattle.feed_core.specs.World.Table.{IsPossible, total_of, is_started, is_over, has_room, shown_room, joined, producing_after, requesting_after, started, answered, seeing, measuring, resting_after, after};
-ghost use Rattle.feed_core.specs.World.Types.{Signal, Look};
+ghost use Rattle.feed_core.specs.World.Types.{Signal, Look, Peek};
 
 use super::events::{Cause, Event, Side};
 use super::parts::{Parts, Producing, Requesting, Runner};
@@ -48,6 +48,7 @@ impl Parts {
                 self.runner = Runner::Ready;
             }
             Event::Look(answer) => self.look(answer),
+            Event::Peek(answer) => self.peek(answer),
             Event::See => self.runner = self.runner.seeing(self.accepted),
             Event::Measure => self.runner = self.runner.measuring(self.total()),
             Event::Take => {
@@ -96,6 +97,15 @@ impl Parts {
     {
         self.obey(answer);
         self.active = false;
+        self.runner = Runner::Looked(self.causes);
+    }
+
+    /// A peek: the runner knows the causes, and what is new stays new.
+    fn peek(&mut self, answer: Answer)
+        requires own { self.old.own ≤ UNBOUNDED }
+        ensures { self.new ≡ after (Peek answer) self.old }
+    {
+        self.obey(answer);
         self.runner = Runner::Looked(self.causes);
     }
 

@@ -6,7 +6,7 @@ use std::process::Abort;
 use std::test::Fail;
 
 /// Each kind of event, those of a turn and of a put more than once.
-const EVENTS: [Event; 48] = [
+const EVENTS: [Event; 54] = [
     Event::Room,
     Event::Room,
     Event::Put,
@@ -31,6 +31,12 @@ const EVENTS: [Event; 48] = [
     Event::Look(Answer::Request(0)),
     Event::Look(Answer::Cancel),
     Event::Look(Answer::Fail(5)),
+    Event::Peek(Answer::Go),
+    Event::Peek(Answer::Go),
+    Event::Peek(Answer::Request(1)),
+    Event::Peek(Answer::Request(0)),
+    Event::Peek(Answer::Cancel),
+    Event::Peek(Answer::Fail(5)),
     Event::See,
     Event::See,
     Event::See,
@@ -73,7 +79,7 @@ fn list_of(number: u64, capacity: usize, order: ErrorOrder) -> ([Event; LENGTH],
     let mut number = number;
     for place in 1..LENGTH {
         number = next_number(number);
-        events[place] = EVENTS[(number >> 33) as usize % 48];
+        events[place] = EVENTS[(number >> 33) as usize % 54];
     }
     (events, number)
 }

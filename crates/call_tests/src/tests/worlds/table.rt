@@ -68,19 +68,8 @@ fn of_a_side(now: Parts, event: Event) -> Option<Parts> {
 /// Lines of the runner, but for its end.
 fn of_the_runner(now: Parts, event: Event) -> Option<Parts> {
     match (event, now.runner) {
-        (Event::Look(Answer::Go), Runner::Fresh | Runner::Ready | Runner::Taken) => {
-            Some(look(now, now.own, now.causes))
-        }
-        (Event::Look(Answer::Request(n)), Runner::Fresh | Runner::Taken) => Some(if n <= 0 {
-            let causes = Causes {
-                argument: true,
-                ..now.causes
-            };
-            look(now, now.own, causes)
-        } else {
-            let own = UNBOUNDED.min(now.own.saturating_add(n.unsigned_abs()));
-            look(now, own, now.causes)
-        }),
+        (Event::Look(answer), _) => look(now, answer, false),
+        (Event::Peek(answer), _) => look(now, answer, now.active),
         (Event::See, Runner::Looked(causes)) if first_end(causes) == None => Some(Parts {
             runner: Runner::Saw(causes, now.accepted),
             ..now
@@ -110,15 +99,32 @@ fn of_the_runner(now: Parts, event: Event) -> Option<Parts> {
     }
 }
 
-/// A look, with what was requested by answers and the causes.
-fn look(now: Parts, own: u64, causes: Causes) -> Parts {
-    Parts {
+/// A look or a peek after this answer, if it is possible. Something is new after it or not.
+fn look(now: Parts, answer: Answer, active: bool) -> Option<Parts> {
+    let (own, causes) = match (answer, now.runner) {
+        (Answer::Go, Runner::Fresh | Runner::Ready | Runner::Taken | Runner::Measured(_, _, _)) => (
+            now.own, now.causes,
+        ),
+        (Answer::Request(n), Runner::Fresh | Runner::Taken) if n <= 0 => {
+            let causes = Causes {
+                argument: true,
+                ..now.causes
+            };
+            (now.own, causes)
+        }
+        (Answer::Request(n), Runner::Fresh | Runner::Taken) => {
+            let own = UNBOUNDED.min(now.own.saturating_add(n.unsigned_abs()));
+            (own, now.causes)
+        }
+        _ => return None,
+    };
+    Some(Parts {
         own,
         causes,
-        active: false,
+        active,
         runner: Runner::Looked(causes),
         ..now
-    }
+    })
 }
 
 /// A rest that is due: it fails where a signal was made since the look.

@@ -1,21 +1,23 @@
-//! What the task does after a look: it gives one item, or ends the subscription, or rests. It never looks again by itself.
-ghost use Rattle.std.specs.Prelude.{◌≡◌, ◌+◌, ◌≤◌, ◌<◌, length, bit_and, IfSome, IfNone};
+//! What the task does after a look or a peek: it gives one item, or ends the subscription, or rests. If it finds nothing to do
+//! after a peek, it looks once more, for it rests only after a look.
+ghost use Rattle.std.specs.Prelude.{◌≡◌, ◌+◌, ◌≤◌, ◌<◌, length, ◌==◌, IfSome, IfNone};
+ghost use Rattle.std.specs.Int.{bit_at};
 ghost use Rattle.feed_core.specs.Prelude.{UNBOUNDED};
 ghost use Rattle.feed_core.specs.World.Table.{MayRest, MaySee};
 ghost use Rattle.feed_core.specs.declared.turn.TheConstants.{SIGNALS_IN_A_TURN};
-ghost use Rattle.feed_cell.specs.Control.{QUIET};
+ghost use Rattle.feed_cell.specs.Control.{NEW};
 ghost use Rattle.feed_cell.specs.TaskSteps.{notes_of, MayFinish, Carries, HasLookedAt, HasTaken, HasNoneToGive, FindsNone, TakesNext};
-ghost use Rattle.feed_cell.specs.TaskLooks.{Serves, GivesAs, FinishesAs, TriesRest, EndsOrRests};
+ghost use Rattle.feed_cell.specs.TaskLooks.{Serves, ServesOnce, GivesAs, FinishesAs, RestsIfQuiet, EndsOrRests};
 ghost use Rattle.feed_cell.specs.Seats.{IsSameSeat};
 
 use super::causes::causes_in;
-use super::steps::{end, measure, measure_none, see, take, try_rest};
+use super::steps::{end, look, measure, measure_none, see, take, try_rest};
 use crate::cell::seated::Seated;
-use crate::cell::{Held, MARK};
+use crate::cell::{Held, MARK, NEW};
 use feed_core::{Causes, Seen};
 use flow_rules::{How, Item, Listener, UNBOUNDED};
 
-/// What the task did after a look.
+/// What the task did after a look, or after a peek and a look.
 #[derive(Clone, Copy, Debug, PartialEq, Eq)]
 pub(crate) enum Served {
     /// It gave an item.
@@ -28,22 +30,51 @@ pub(crate) enum Served {
     Ended(How),
 }
 
-/// Does what a look that found this word allows: the end at once, or the next item, or the end that waits for the items, or
-/// rest.
-pub(crate) fn serve<B: Listener>(party: &mut Seated<B>, word: u64, seen: &mut Seen) -> Served
+/// Does what a look or a peek that left this word allows: the end at once, or the next item, or the end that waits for the
+/// items, or rest. To rest after a peek, it looks first, which may show something else to do.
+pub(crate) fn serve<B: Listener>(
+    party: &mut Seated<B>,
+    word: u64,
+    more: &mut bool,
+    seen: &mut Seen,
+) -> Served
     requires looked { HasLookedAt B.told word party.old.seat.me }
     requires room { length seen.old.signals < SIGNALS_IN_A_TURN }
     ensures seat { IsSameSeat party.old.seat party.new.seat }
     ensures serves { Serves B.told result party.old.seat.me party.new.seat.me seen.old seen.new }
 {
+    if let Some(served) = serve_once(party, word, more, seen) {
+        return served;
+    }
+    let word = look(party);
+    match serve_once(party, word, more, seen) {
+        Some(served) => served,
+        None => unreachable!(),
+    }
+}
+
+/// Does what a look or a peek that left this word allows. Answers nothing if that is to rest, and something was new at the peek.
+fn serve_once<B: Listener>(
+    party: &mut Seated<B>,
+    word: u64,
+    more: &mut bool,
+    seen: &mut Seen,
+) -> Option<Served>
+    requires looked { HasLookedAt B.told word party.old.seat.me }
+    requires room { length seen.old.signals < SIGNALS_IN_A_TURN }
+    ensures seat { IsSameSeat party.old.seat party.new.seat }
+    ensures serves { ServesOnce B.told word result
+        party.old.seat.me party.new.seat.me seen.old seen.new }
+{
     let (given, own, answers) = notes(party);
     let causes = causes_in(word, answers);
     if let Some(due) = causes.stops() {
-        return finish(party, given, due, seen);
+        return Some(finish(party, given, due, seen));
     }
     let (tail, next) = next_item(party, given, own);
+    *more = given.saturating_add(1) < tail;
     match next {
-        Some(item) => give(party, given, item, seen),
+        Some(item) => Some(give(party, given, item, seen)),
         None => close_or_rest(party, given, tail, causes.closes(), word, seen),
     }
 }
@@ -112,6 +143,7 @@ fn give<B: Listener>(party: &mut Seated<B>, given: u64, item: Item, seen: &mut S
 }
 
 /// Does what is left to do if no item is to be given: the end that waits for the items, if all of them were given, or rest.
+/// Answers nothing if that is to rest, and something was new at the peek.
 fn close_or_rest<B: Listener>(
     party: &mut Seated<B>,
     given: u64,
@@ -119,35 +151,44 @@ fn close_or_rest<B: Listener>(
     due: Option<How>,
     word: u64,
     seen: &mut Seen,
-) -> Served
+) -> Option<Served>
     requires carries { Carries B.told party.old.seat.me }
     requires measured { HasNoneToGive tail due party.old.seat.me }
     requires counted { (length party.old.seat.me.0.taken ≡ given) × (given ≤ UNBOUNDED) }
-    requires look { party.old.seat.me.0.look ≡ bit_and word QUIET }
+    requires look { party.old.seat.me.0.look ≡ word }
     requires room { length seen.old.signals < SIGNALS_IN_A_TURN }
     ensures seat { IsSameSeat party.old.seat party.new.seat }
-    ensures concludes { EndsOrRests B.told result
+    ensures concludes { EndsOrRests B.told word result
         party.old.seat.me party.new.seat.me seen.old seen.new }
 {
     match due {
-        Some(due) if given == tail => finish(party, given, due, seen),
+        Some(due) if given == tail => Some(finish(party, given, due, seen)),
         _ => rest(party, word),
     }
 }
 
-/// Rests, unless something is new since the look that found this word.
-fn rest<B: Listener>(party: &mut Seated<B>, word: u64) -> Served
+/// Rests, unless something is new since the look that left this word. After a peek that found something new it answers nothing.
+fn rest<B: Listener>(party: &mut Seated<B>, word: u64) -> Option<Served>
     requires carries { Carries B.told party.old.seat.me }
     requires may { MayRest (length party.old.seat.me.0.taken) party.old.seat.me.0.runner }
-    requires look { party.old.seat.me.0.look ≡ bit_and word QUIET }
+    requires look { party.old.seat.me.0.look ≡ word }
     ensures seat { IsSameSeat party.old.seat party.new.seat }
-    ensures rests { TriesRest B.told result party.old.seat.me party.new.seat.me }
+    ensures rests { RestsIfQuiet B.told word result party.old.seat.me party.new.seat.me }
 {
-    if try_rest(party, word) {
-        Served::Rested
+    if has_news(word) {
+        None
+    } else if try_rest(party, word) {
+        Some(Served::Rested)
     } else {
-        Served::Missed
+        Some(Served::Missed)
     }
+}
+
+/// Whether this word has the mark of something new.
+fn has_news(word: u64) -> bool
+    ensures { result ≡ (bit_at word NEW == 1) }
+{
+    (word >> NEW) & 1 == 1
 }
 
 /// Tells the end that is due, and ends the subscription.

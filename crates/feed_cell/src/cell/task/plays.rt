@@ -16,18 +16,27 @@ impl<B: Listener> Play<Held<B>, View> for EnterStep {
 pub(crate) struct LookStep;
 
 impl<B: Listener> Play<Held<B>, View> for LookStep {
-    ghost use Rattle.feed_cell.specs.TaskPlays.{LooksOut};
+    ghost use Rattle.feed_cell.specs.TaskPlays.{LooksOut, cleared};
 
-    ghost then = { λ _. LooksOut };
+    ghost then = { λ _. LooksOut cleared };
 }
 
-/// A task that was handed over looks for the first time, and takes its subscriber with it.
-pub(crate) struct LookFirstStep;
+/// The task peeks, with its subscriber: a load of control.
+pub(crate) struct PeekStep;
 
-impl<B: Listener> Play<Held<B>, View> for LookFirstStep {
-    ghost use Rattle.feed_cell.specs.TaskPlays.{LooksFirst};
+impl<B: Listener> Play<Held<B>, View> for PeekStep {
+    ghost use Rattle.feed_cell.specs.TaskPlays.{LooksOut, untouched};
 
-    ghost then = { λ _. LooksFirst B.told };
+    ghost then = { λ _. LooksOut untouched };
+}
+
+/// A task that was handed over peeks for the first time, and takes its subscriber with it.
+pub(crate) struct PeekFirstStep;
+
+impl<B: Listener> Play<Held<B>, View> for PeekFirstStep {
+    ghost use Rattle.feed_cell.specs.TaskPlays.{PeeksFirst};
+
+    ghost then = { λ _. PeeksFirst B.told };
 }
 
 /// The task looks for an item: a load of tail, which takes its slot out if there is one.

@@ -1,5 +1,5 @@
 //! The steps of the task, each on one word. They are put together in `looks.rt` and `turns.rt`.
-ghost use Rattle.std.specs.Prelude.{◌≡◌, ◌+◌, ◌%◌, ◌<◌, ◌⊎◌, ℕ, [], ◌∷◌, ◌++◌, length, true, false, None, IfSome, IfNone, bit_and};
+ghost use Rattle.std.specs.Prelude.{◌≡◌, ◌+◌, ◌%◌, ◌<◌, ◌⊎◌, ℕ, [], ◌∷◌, ◌++◌, length, true, false, None, IfSome, IfNone};
 ghost use Rattle.std.specs.Int.{bit_at};
 ghost use Rattle.atomic_table.specs.Table.{rest};
 ghost use Rattle.feed_core.specs.Cause.{stops};
@@ -7,7 +7,7 @@ ghost use Rattle.feed_core.specs.Prelude.{Item, How, UNBOUNDED};
 ghost use Rattle.feed_core.specs.World.Table.{MaySee, MayMeasure, MayTake, MayRest};
 ghost use Rattle.feed_core.specs.declared.turn.outlook.Outlook.TheVariants.{Resting};
 ghost use Rattle.feed_cell.specs.Types.{Nobody, Ready, Taken};
-ghost use Rattle.feed_cell.specs.Control.{MARK, QUIET};
+ghost use Rattle.feed_cell.specs.Control.{MARK, NEW};
 ghost use Rattle.feed_cell.specs.Parties.{IsGoing, IsHome};
 ghost use Rattle.feed_cell.specs.Seats.{how_out};
 ghost use Rattle.feed_cell.specs.TaskPlays.{SeesPut, Measures, MeasuresNone, grants_by, outlook_by};
@@ -17,14 +17,29 @@ ghost use Rattle.feed_cell.specs.Views.{RunsFree, RunsAway};
 ghost use Rattle.feed_cell.specs.declared.cell.Held.TheVariants as Held;
 
 use super::plays::{
-    EndStep, LookFirstStep, LookStep, MeasureNoneStep, MeasureStep, RestStep, SeeStep, TakeStep,
+    EndStep, LookStep, MeasureNoneStep, MeasureStep, PeekFirstStep, PeekStep, RestStep, SeeStep,
+    TakeStep,
 };
 use crate::cell::seated::Seated;
 use crate::cell::{ASKED, CONTROL, CellSeat, HEAD, Held, MARK, QUIET, RESTING, TAIL};
 use flow_rules::{Item, Listener};
 
-/// Looks at the marks and causes, and clears the mark of something new. Answers the word that it found.
+/// Looks at the marks and causes, and clears the mark of something new. Answers the word that this leaves.
 pub(crate) fn look<B: Listener>(party: &mut Seated<B>) -> u64
+    requires runner { RunsFree party.old.seat.me.0 }
+    requires going { IsGoing B.told party.old.seat.me }
+    ensures seat { IsSameSeat party.old.seat party.new.seat }
+    ensures looked { HasLookedAt B.told result party.new.seat.me }
+    ensures counts { KeepsCounts party.old.seat.me.0 party.new.seat.me.0 }
+    ensures keeps { KeepsSubscriber party.old.seat.me party.new.seat.me }
+    ensures quiet { bit_at result NEW ≡ 0 }
+{
+    let table = &party.table.shared;
+    table.fetch_and::<LookStep>(&mut party.seat, CONTROL, QUIET) & QUIET
+}
+
+/// Peeks at the marks and causes: a look that leaves the mark of something new, and is a load. Answers the word that it found.
+pub(crate) fn peek<B: Listener>(party: &mut Seated<B>) -> u64
     requires runner { RunsFree party.old.seat.me.0 }
     requires going { IsGoing B.told party.old.seat.me }
     ensures seat { IsSameSeat party.old.seat party.new.seat }
@@ -33,11 +48,11 @@ pub(crate) fn look<B: Listener>(party: &mut Seated<B>) -> u64
     ensures keeps { KeepsSubscriber party.old.seat.me party.new.seat.me }
 {
     let table = &party.table.shared;
-    table.fetch_and::<LookStep>(&mut party.seat, CONTROL, QUIET)
+    table.load::<PeekStep>(&mut party.seat, CONTROL)
 }
 
-/// The first look of a task that was handed over. It takes the subscriber out of its slot.
-pub(crate) fn look_first<B: Listener>(party: &mut Seated<B>) -> u64
+/// The first peek of a task that was handed over. It takes the subscriber out of its slot. Answers the word that it found.
+pub(crate) fn peek_first<B: Listener>(party: &mut Seated<B>) -> u64
     requires runner { RunsFree party.old.seat.me.0 }
     requires home { IsHome party.old.seat.me }
     ensures seat { IsSameSeat party.old.seat party.new.seat }
@@ -45,7 +60,7 @@ pub(crate) fn look_first<B: Listener>(party: &mut Seated<B>) -> u64
     ensures counts { KeepsCounts party.old.seat.me.0 party.new.seat.me.0 }
 {
     let table = &party.table.shared;
-    table.fetch_and::<LookFirstStep>(&mut party.seat, CONTROL, QUIET)
+    table.load::<PeekFirstStep>(&mut party.seat, CONTROL)
 }
 
 /// Sees how many items were put, and takes the slot of the next one out if there is one.
@@ -100,18 +115,18 @@ pub(crate) fn take<B: Listener>(party: &mut Seated<B>, given: u64) -> Item
     }
 }
 
-/// Rests, unless something is new since the look that found this word. Answers whether it rests.
+/// Rests, unless something is new since the look that left this word. Answers whether it rests.
 pub(crate) fn try_rest<B: Listener>(party: &mut Seated<B>, word: u64) -> bool
     requires carries { Carries B.told party.old.seat.me }
     requires may { MayRest (length party.old.seat.me.0.taken) party.old.seat.me.0.runner }
-    requires look { party.old.seat.me.0.look ≡ bit_and word QUIET }
+    requires look { party.old.seat.me.0.look ≡ word }
+    requires quiet { bit_at word NEW ≡ 0 }
     ensures seat { IsSameSeat party.old.seat party.new.seat }
     ensures rests { result ≡ true → ComesToRest party.old.seat.me party.new.seat.me }
     ensures missed { result ≡ false → HasMissed party.old.seat.me party.new.seat.me }
 {
     let table = &party.table.shared;
-    let look = word & QUIET;
-    table.compare_exchange::<RestStep>(&mut party.seat, CONTROL, look, look & RESTING) == look
+    table.compare_exchange::<RestStep>(&mut party.seat, CONTROL, word, word & RESTING) == word
 }
 
 /// Ends the subscription: stores head with its mark, and gives the subscriber back.
