@@ -64,6 +64,6 @@ pub use outcome::{NamedLane, Outcome};
 pub use publisher::Publisher;
 pub use publisher_hub::{MOST_ENTRIES, MOST_LIVE, MOST_SOURCES};
 pub use state::PARTS;
-pub use submitter::{Submitter, Unsent};
+pub use submitter::Submitter;
 pub use subscription::Subscription;
 pub use the_end::finish;

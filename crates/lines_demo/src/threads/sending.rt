@@ -1,15 +1,12 @@
 //! The sources of a run: each publishes its lines from a thread of its own.
 use super::input::{Input, Publication};
-use flow_rules::{FailHandler, Listener, NoMemory, Refusal, Text};
+use flow_rules::{FailHandler, Listener, NoMemory};
 use publisher::Submitter;
 use std::alloc::Global;
 use std::sync::Wait;
 use std::sync::ledger::Ledger;
 use std::thread;
 use std::thread::Threads;
-
-/// How many lines of a source are published by one call, at most.
-const AT_ONCE: usize = 64;
 
 /// A submitter, and the source whose lines it publishes.
 #[derive(Drop)]
@@ -28,45 +25,14 @@ impl<L: Ledger + Send, D: Ledger + Send, B: Listener + Send, F: FailHandler + Se
 > {
     /// Publishes the lines of its source in order, up to one that is refused.
     fn send<R: Wait>(&mut self, rt: &R, alloc: Global, publications: &[Publication<'_>]) {
-        self.is_refused = self.send_all(rt, alloc, publications).is_err();
-    }
-
-    /// Publishes the lines of its source in order, [`AT_ONCE`] by one call.
-    fn send_all<R: Wait>(
-        &mut self,
-        rt: &R,
-        alloc: Global,
-        publications: &[Publication<'_>],
-    ) -> Result<(), Refusal> {
-        let mut texts = Vec::with_capacity(alloc, AT_ONCE)?;
         for publication in publications {
             if publication.source == self.source {
-                let bytes = publication.text.as_bytes();
-                if bytes.len() > Text::LONGEST {
-                    return Err(Refusal::LineTooLong);
-                }
-                texts.push(Text::new(alloc, bytes)?)?;
-                if texts.len() == AT_ONCE {
-                    self.publish(rt, alloc, &mut texts)?;
+                let text = publication.text.as_bytes();
+                if self.submitter.submit(rt, alloc, text).is_err() {
+                    self.is_refused = true;
+                    return;
                 }
             }
-        }
-        self.publish(rt, alloc, &mut texts)
-    }
-
-    /// Publishes these texts in order. None of them is left then.
-    fn publish<R: Wait>(
-        &mut self,
-        rt: &R,
-        alloc: Global,
-        texts: &mut Vec<Text>,
-    ) -> Result<(), Refusal> {
-        match self.submitter.submit_all(rt, alloc, texts.as_slice()) {
-            Ok(_) => {
-                texts.clear();
-                Ok(())
-            }
-            Err(unsent) => Err(unsent.refusal),
         }
     }
 }
