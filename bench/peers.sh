@@ -1,8 +1,8 @@
 #!/bin/sh
 # Measures this publisher beside the JDK's SubmissionPublisher (bench/java), and beside a plain fan-out in Rust (bench/rust/fan_out.rs): the
-# threads program on 4 sources of 50,000 lines with 4 subscribers, whose reports have to be the same to the byte; and deliveries in one
-# process. Runs are interleaved, and a row has the medians and the ratios of this one's time to the others'. A JVM that answers for itself
-# alone is warmed up by earlier rounds; the threads program begins cold, as a program does.
+# threads program on 4 sources of 50,000 lines with 4 subscribers, whose reports have to be the same to the byte; deliveries in one process;
+# and how long one item takes to a subscriber at rest. Runs are interleaved, and a row has the medians and the ratios of this one's time to
+# the others'. A JVM that answers for itself alone is warmed up by earlier rounds; the threads program begins cold, as a program does.
 # What isn't there (javac, rustc) is left out. The table and a picture of the ratios go to bench/results, with the machine's name.
 # Usage: PROGRAM=FILE DELIVERIES=FILE bench/peers.sh [RUNS [ITEMS]] (5 and 400,000). The files are the native programs of lines_demo and
 # deliveries_bench; without a name they are those that `rt ci` leaves in crates/*/out.
@@ -61,6 +61,16 @@ fast() {
     row "$1, $2 workers, capacity $5, $6 bytes"
 }
 
+# alone NAME WORKERS PAUSE: a row of one item at a time to one subscriber at rest, with a pause before each, in microseconds.
+alone() {
+    rm -f "$work"/*.times
+    for _ in $(seq "$runs"); do
+        "$deliveries" alone "$2" 2000 "$3" >>"$work/this.times"
+        case $peers in *java*) java -cp "$work" Alone "$2" 2000 "$3" >>"$work/java.times" ;; esac
+    done
+    row "$1, $2 workers, a pause of $3 us"
+}
+
 # median NAME: the number in the middle of its times, or 0.
 median() {
     if [ -f "$work/$1.times" ]; then
@@ -86,6 +96,8 @@ fast '1 submitter to 4' 4 1 4 256 16
 fast '4 submitters to 4' 4 4 4 256 16
 fast '4 submitters to 4' 4 4 4 256 256
 fast '4 submitters to 4' 4 4 4 4 16
+alone 'one item at a time, 2,000 of them' 1 10
+alone 'one item at a time, 2,000 of them' 1 1000
 mkdir -p bench/results
 machine="$(uname -m), $(nproc) processors, $(sed -n 's/^model name[^:]*: //p' /proc/cpuinfo | head -n 1)"
 bench/picture.py --results "$work/rows" "$(date +%F)" "$machine" "$runs"

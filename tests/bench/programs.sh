@@ -30,6 +30,7 @@ prints cell_bench '[0-9]+' queue 4 1000
 prints pool_bench '[0-9]+' 2 4 1000 9
 prints deliveries_bench '[0-9]+' fast 1 4 4 16 256 400
 prints deliveries_bench '[0-9]+ [0-9]+' slow 2
+prints deliveries_bench '[0-9]+' alone 1 20 100
 
 soak_room "$work"
 (cd "$work/crates/soak" && rt fmt) >"$work/said" 2>&1

@@ -1,15 +1,19 @@
 //! Prints the nanoseconds in which a publisher gives items to its subscribers. `deliveries_bench fast WORKERS SUBMITTERS SUBSCRIBERS
 //! CAPACITY BYTES ITEMS` measures subscribers that count, with the items of all submitters; `deliveries_bench slow WORKERS` measures two that
-//! sleep, and prints the nanoseconds of the longest call of `number_of_subscribers`, too.
+//! sleep, and prints the nanoseconds of the longest call of `number_of_subscribers`, too; `deliveries_bench alone WORKERS ITEMS PAUSE` measures one
+//! subscriber at rest, who is told one item at a time, with a pause of so many microseconds before each.
 #![tactic(auto)]
 
 ghost use Rattle.std.specs.Prelude.{◌<◌};
 
+mod alone;
+mod bell;
 mod ends;
 mod fast;
 mod sleeper;
 mod slow;
 
+use alone::measure_alone;
 use fast::{Plan, measure_fast};
 use publisher::PARTS;
 use slow::measure_slow;
@@ -41,6 +45,34 @@ fn slow_run<R: Threads + Wait + Clock + Copy + Send + Sync + 'static>(
     measure_slow::<Brand, Brand, R>(rt, alloc, workers, Blank::new(PARTS), Blank::new(PARTS))
 }
 
+/// Measures one subscriber at rest, on a publisher with two new ledgers.
+fn alone_run<R: Threads + Wait + Clock + Copy + Send + Sync + 'static>(
+    rt: R,
+    alloc: Global,
+    workers: usize,
+    items: usize,
+    pause: usize,
+) -> Option<u128> {
+    let (publications, drops) = (Blank::new(PARTS), Blank::new(PARTS));
+    measure_alone::<Brand, Brand, R>(rt, alloc, workers, items, pause as u64, publications, drops)
+}
+
+/// What is measured.
+enum Kind {
+    Fast,
+    Slow,
+    Alone,
+}
+
+/// Reads the first word of the command line; a missing one is `fast`.
+fn read_kind(word: Option<String>) -> Kind {
+    match word {
+        Some(word) if word.as_str() == "slow" => Kind::Slow,
+        Some(word) if word.as_str() == "alone" => Kind::Alone,
+        _ => Kind::Fast,
+    }
+}
+
 /// Reads a word of the command line. A missing word, or one that is no number, is 0.
 fn number(text: Option<String>) -> usize {
     text.and_then(|text| text.as_str().parse::<usize>().ok())
@@ -49,7 +81,7 @@ fn number(text: Option<String>) -> usize {
 
 fn main(rt: HostRuntime) -> io::Result<()> {
     let mut words = env::args(&rt)?.skip(1);
-    let is_slow = words.next().is_some_and(|word| word.as_str() == "slow");
+    let kind = read_kind(words.next());
     let plan = Plan {
         workers: number(words.next()),
         submitters: number(words.next()),
@@ -59,14 +91,24 @@ fn main(rt: HostRuntime) -> io::Result<()> {
         items: number(words.next()),
     };
     let alloc = rt.alloc();
-    if is_slow {
-        if let Some((spent, longest)) = slow_run(rt, alloc, plan.workers) {
-            println!(rt; "{spent} {longest}")?;
+    match kind {
+        Kind::Slow => {
+            if let Some((spent, longest)) = slow_run(rt, alloc, plan.workers) {
+                println!(rt; "{spent} {longest}")?;
+            }
         }
-    } else if plan.submitters != 0 {
-        if let Some(spent) = fast_run(rt, alloc, &plan) {
-            println!(rt; "{spent}")?;
+        Kind::Alone => {
+            let (items, pause) = (plan.submitters, plan.subscribers);
+            if let Some(spent) = alone_run(rt, alloc, plan.workers, items, pause) {
+                println!(rt; "{spent}")?;
+            }
         }
+        Kind::Fast if plan.submitters != 0 => {
+            if let Some(spent) = fast_run(rt, alloc, &plan) {
+                println!(rt; "{spent}")?;
+            }
+        }
+        Kind::Fast => {}
     }
     Ok(())
 }
