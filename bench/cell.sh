@@ -1,7 +1,7 @@
 #!/bin/sh
 # Measures the time for each item that one thread puts into a subscription of feed_cell and that turns in another thread give to its
 # subscriber, at several capacities (crates/cell_bench). All items are requested before. Beside it stand peers: the same steps on bare
-# words in C (bench/cell_bare.c), with the words as in the cell, and apart, each in a cache line of its own; and the kit's
+# words in C (bench/cell_bare.c), with the words side by side as in the cell, and apart, each in a cache line of its own; and the kit's
 # crossbeam_queue::ArrayQueue, through which the items go with no subscriber, no demand and no task. It prints the time of each, and the
 # ratios. A task that a put starts goes to the other thread through a queue of one place, in C too. Both threads try again at once, and the
 # order is checked. The runs alternate.
@@ -18,7 +18,7 @@ trap 'rm -rf "$work"' EXIT
 . bench/build.sh
 
 cc -O2 -pthread -o "$work/bare" bench/cell_bare.c
-cc -O2 -pthread -DAPART=8 -o "$work/apart" bench/cell_bare.c
+cc -O2 -pthread -DAPART=8 -DBEHIND=8 -o "$work/apart" bench/cell_bare.c
 build cell_bench . "$work/cell_bench" size
 program=$work/cell_bench
 slot=$("$program" size)

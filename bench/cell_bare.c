@@ -25,13 +25,13 @@ typedef struct {
     Item item;
 } Held;
 
-/* Head, tail and asked lie side by side, control lies 128 bytes behind them, and the slots lie side by side, as in the table. With
-   -DAPART=8 each word has a cache line of its own, and with -DBEHIND=1 all four lie side by side. */
+/* Head, tail, asked and control lie side by side, and so do the slots, as in the table. With -DAPART=8 -DBEHIND=8 each word
+   has a cache line of its own, and with -DBEHIND=16 control alone. */
 #ifndef APART
 #define APART 1
 #endif
 #ifndef BEHIND
-#define BEHIND 16
+#define BEHIND 1
 #endif
 static _Atomic uint64_t *words;
 #define HEAD (words[0])

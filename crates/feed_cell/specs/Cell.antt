@@ -91,9 +91,9 @@ pub record ShowsParts (capacity : ℕ) (w : Parts) (log taken item : List Item) 
   pub home : has_seat w.runner ≡ false → away ≡ false
   pub settled : left ≡ true → w.handle ≡ Idle
 
--- the words: head, tail and asked side by side, and control behind words that nobody uses
+-- the words, in the order in which they lie
 abbrev pub words_by : ℕ → ℕ → ℕ → ℕ → List ℕ
-words_by head tail asked control = head ∷ tail ∷ asked ∷ 0 ∷ 0 ∷ 0 ∷ 0 ∷ 0 ∷ 0 ∷ 0 ∷ 0 ∷ 0 ∷ 0 ∷ 0 ∷ 0 ∷ 0 ∷ 0 ∷ 0 ∷ control ∷ []
+words_by head tail asked control = head ∷ tail ∷ asked ∷ control ∷ []
 
 abbrev pub words_of : Parts → Bool → ℕ → List ℕ
 words_of w left control = words_by (marked (is_over w.runner) w.given) w.accepted (marked left w.asked) control

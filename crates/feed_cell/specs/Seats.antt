@@ -53,9 +53,9 @@ module _ {B : Type 0} where
 abbrev pub CellSeat : Type 0 → Type 0
 CellSeat B = Seat (Held B) View
 
--- a subscription's table has as many words as lie up to control
-abbrev pub HasAllWords : TableId → Type 0
-HasAllWords table = table.words ≡ 19
+-- a subscription's table has four words
+abbrev pub HasFourWords : TableId → Type 0
+HasFourWords table = table.words ≡ 4
 
 -- the same seat of the same table
 abbrev pub IsSameSeat : {B : Type 0} → CellSeat B → CellSeat B → Type 0

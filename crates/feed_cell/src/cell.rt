@@ -28,9 +28,8 @@ pub(crate) const TAIL: usize = 1;
 /// The word of the number of items that the handle requested. Bit 63 says that the handle makes no step any more.
 pub(crate) const ASKED: usize = 2;
 
-/// The word of the marks and causes. It lies 128 bytes from asked, so that it shares no cache line with the three others, which
-/// change with each item. Nobody uses the words between.
-pub(crate) const CONTROL: usize = ASKED + 16;
+/// The word of the marks and causes.
+pub(crate) const CONTROL: usize = 3;
 
 /// The mark of head and of asked, which is their bit 63.
 pub(crate) const MARK: u64 = 1 << 63;
@@ -87,9 +86,7 @@ pub(crate) const ERROR: u64 = ITEM | 1 << FAILED;
 pub(crate) const COMPLETE: u64 = ITEM | 1 << COMPLETED;
 
 /// What the words are at first: nothing was taken, put or asked for, and the task is started.
-pub(crate) const FIRST_WORDS: [u64; 19] = [
-    0, 0, 0, 0, 0, 0, 0, 0, 0, 0, 0, 0, 0, 0, 0, 0, 0, 0, RUN,
-];
+pub(crate) const FIRST_WORDS: [u64; 4] = [0, 0, 0, RUN];
 
 /// Who is told, and what lies beside it while nobody runs the task.
 #[derive(Drop)]
@@ -221,7 +218,7 @@ pub struct Terms {
     pub order: ErrorOrder,
 }
 
-/// The table of a subscription: its words, a slot for each place, and a slot for the subscriber.
+/// The table of a subscription: the four words, a slot for each place, and a slot for the subscriber.
 pub type CellTable<B> = Table<Held<B>, View, Terms, InCell<B>, Global>;
 
 /// The table, as its parties share it. How many share it changes with each task, so that number stands in a cache line of its

@@ -26,8 +26,6 @@
 //! | 5 | it was closed with an error, whose code is in bits 32 to 63 | the producer | nobody |
 //! | 6 | it was closed without an error | the producer | nobody |
 //!
-//! Control lies apart from the three others, in a cache line of its own, behind words that nobody uses.
-//!
 //! Each of the first three words has one writer, which keeps the number beside its seat and never reads its own word. None of
 //! the numbers ever falls, so what a load shows is at most what there is.
 //!

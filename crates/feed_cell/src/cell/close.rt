@@ -13,7 +13,7 @@ ghost use Rattle.flow_rules.specs.Feed.{End};
 ghost use Rattle.feed_cell.specs.Left.{IsLeftOf, OnGuest, IsHomeBy, IsLaneWith, lane_without};
 ghost use Rattle.feed_cell.specs.Parties.{HandleState, KnowsEnd, KnowsHandle, not_ready};
 ghost use Rattle.feed_cell.specs.ProducerSteps.{MayOffer};
-ghost use Rattle.feed_cell.specs.Seats.{HasAllWords};
+ghost use Rattle.feed_cell.specs.Seats.{HasFourWords};
 
 use self::joined::{Gather, join_if_of_one_table};
 use super::handle::Handle;
@@ -68,7 +68,7 @@ fn step_out<B: Listener>(handle: Handle<B>) -> CellSeat<B>
 fn unshared<B: Listener>(producer: Producer<B>) -> Result<(CellTable<B>, CellSeat<B>), Producer<B>>
     ensures seat { IfOk result (λ parts. parts.1.table_id ≡ parts.0.shared.table_id) }
     ensures table { IfOk result (λ parts. parts.1.table_id ≡ producer.table) }
-    ensures words { IfOk result (λ parts. HasAllWords parts.1.table_id) }
+    ensures words { IfOk result (λ parts. HasFourWords parts.1.table_id) }
     ensures may { IfOk result (λ parts. MayOffer parts.1.me) }
     ensures knows { IfOk result (λ parts. KnowsEnd producer.end parts.1.me.0) }
     ensures back { IfErr result (λ back. back ≡ not_ready producer) }
@@ -102,7 +102,7 @@ fn unshared<B: Listener>(producer: Producer<B>) -> Result<(CellTable<B>, CellSea
 
 /// Takes a subscription apart that nobody shares any more, with the producer's seat, which may have taken the handle's in.
 fn take_apart<B: Listener>(table: CellTable<B>, seat: CellSeat<B>) -> Lane<B>
-    requires table { (seat.table_id ≡ table.shared.table_id) × HasAllWords seat.table_id }
+    requires table { (seat.table_id ≡ table.shared.table_id) × HasFourWords seat.table_id }
     requires may { (seat.me.0.puts ≡ true) × MayBegin seat.me.0.producing }
     ensures left { (end : End) (handle : Option HandleState)
         → KnowsEnd end seat.me.0 → IfSome handle (λ handle. KnowsHandle handle seat.me.0)

@@ -4,7 +4,7 @@ ghost use Rattle.std.specs.Arc.{arc_value};
 ghost use Rattle.crossbeam_utils.specs.Padded.{padded_value};
 ghost use Rattle.feed_core.specs.LaneCalls.{IsCapacity};
 ghost use Rattle.feed_cell.specs.Parties.{new_producer, new_producer_in, new_handle, new_handle_in, IsNewTask, IsNewTaskIn};
-ghost use Rattle.feed_cell.specs.Seats.{HasAllWords, StepsTo};
+ghost use Rattle.feed_cell.specs.Seats.{HasFourWords, StepsTo};
 ghost use Rattle.feed_cell.specs.TaskPlays.{IsUnlodged, HasLodged};
 ghost use Rattle.feed_cell.specs.TaskAnswers.{new_lodger};
 ghost use Rattle.feed_cell.specs.Views.{first_view};
@@ -118,7 +118,7 @@ fn lay<B: Listener>(
     requires capacity { IsCapacity capacity }
     ensures { IfOk result (λ made.
         (made.1.table_id ≡ made.0.shared.table_id)
-        × HasAllWords made.1.table_id
+        × HasFourWords made.1.table_id
         × (made.1.me ≡ (first_view capacity order, []))) }
 {
     let slots = empty_slots::<B>(alloc, capacity + 1)?;

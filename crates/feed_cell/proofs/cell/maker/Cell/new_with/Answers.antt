@@ -15,7 +15,7 @@ invariant_of-producer g c =
     let first = producer_first g.B.Listener.told c.args.capacity c.args.order c.in-Ok.seat.me c.split_seat-running.new.seat.me c.split_seat-asking.new.seat.me c.in-Ok.ensures.2 c.split_seat-running.ensures.2 c.split_seat-asking.ensures.2 in
     record {
       its_table = search rules;
-      all_words = ap (λ (r : TableId). r.words) (c.split_seat-asking.ensures.0 ∙ c.split_seat-running.ensures.0) ∙ c.in-Ok.ensures.1;
+      four_words = ap (λ (r : TableId). r.words) (c.split_seat-asking.ensures.0 ∙ c.split_seat-running.ensures.0) ∙ c.in-Ok.ensures.1;
       sized = first.0;
       some_room = holds_one c.args.capacity c.requires.capacity;
     }
@@ -25,7 +25,7 @@ invariant_of-handle g c =
     let first = handle_first g.B.Listener.told c.args.capacity c.args.order c.in-Ok.seat.me c.split_seat-running.new.seat.me c.split_seat-asking.result.me c.in-Ok.ensures.2 c.split_seat-running.ensures.2 c.split_seat-asking.ensures.4 in
     record {
       its_table = search rules;
-      all_words = ap (λ (r : TableId). r.words) (c.split_seat-asking.ensures.3 ∙ c.split_seat-running.ensures.0) ∙ c.in-Ok.ensures.1;
+      four_words = ap (λ (r : TableId). r.words) (c.split_seat-asking.ensures.3 ∙ c.split_seat-running.ensures.0) ∙ c.in-Ok.ensures.1;
       sized = first.0;
       some_room = holds_one c.args.capacity c.requires.capacity;
     }
