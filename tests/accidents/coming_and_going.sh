@@ -16,7 +16,7 @@ gcc -O1 -Wall -Wextra -Werror -o "$work/peak" tests/ship/peak.c
 MOST=6752
 
 # How many bytes may stay of one that was reclaimed, with a capacity of 16.
-MOST_RECLAIMED=512
+MOST_RECLAIMED=1024
 
 # peak TEST ROUNDS: the KiB at the peak of so many rounds of 64 subscriptions.
 peak() {
