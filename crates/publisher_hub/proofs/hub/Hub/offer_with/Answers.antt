@@ -77,7 +77,7 @@ returns-clause-sound g c =
     (ap (λ (g : Gathering). g.lag) c.count.ensures.gathering ∙ c.drop_shares-2.ensures.lag) (ap (λ (g : Gathering). g.drops) c.count.ensures.gathering ∙ c.drop_shares-2.ensures.drops)).0
 
 -- what a caller asks for
-shown : (g : Over) (c : goal.After-drop-item-2 g)
+shown : (g : Over) (c : goal.Joined-item-3 g)
     → ReachesAllFrom c.args.source c.args.text (hub_of g.F.Feed.meaning c.args.self.now) (hub_of g.F.Feed.meaning c.count.new.self)
     × CountsOne c.args.source (hub_of g.F.Feed.meaning c.args.self.now).progress (hub_of g.F.Feed.meaning c.count.new.self).progress
 shown g c =

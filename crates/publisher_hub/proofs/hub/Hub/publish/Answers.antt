@@ -20,7 +20,7 @@ give-requires-clause-can g c =
     can_all_give meaning g.F.Feed.does (hub_of meaning seen) c.args.self.now.next glances.0 c.args.self.now.entries.items seen.entries.items sound refl
     (below_most seen.next sound.few_items c.in_default.ensures.1) glances.1.0
 
-whole : (g : Rattle.publisher_hub.proofs.hub.Hub.publish.Given.Over) (c : goal.After-drop-item-2 g)
+whole : (g : Rattle.publisher_hub.proofs.hub.Hub.publish.Given.Over) (c : goal.Joined-item-3 g)
     → IsSound (hub_of g.F.Feed.meaning c.count.new.self)
     × Publishes g.F.Feed.meaning g.F.Feed.does c.args.source c.args.text c.args.self.now c.count.new.self c.args.due.now.items c.give.new.due.items c.count.new.self.gathering.lag
 whole g c =
