@@ -18,8 +18,9 @@ impl<
     D: Ledger + Send + Sync + 'static,
     R: Print + Clock + Threads + Wait + Copy + Send + Sync + 'static,
 > Terminal<'e, L, D, R> {
-    /// Frees the latest subscription of the name that this word is, which has ended, and gives what is left of it. Refused 12 if the word is
-    /// no name, 10 if there is none of this name, and as [`Publisher::reclaim`](publisher::Publisher::reclaim) is; it stays then, and works on.
+    /// Frees the latest subscription of the name that this word is, which has ended, and gives what is left of it. Refused 12 if the word
+    /// is no name, 10 if no subscription has it, and as [`Publisher::reclaim`](publisher::Publisher::reclaim) is; it stays then, and works
+    /// on.
     pub(super) fn leave(&mut self, word: &[u8]) -> Result<NamedLane<Echoes<R>>, Refusal> {
         match Name::new(word) {
             Some(name) => leave_of(self.stage, &mut self.named, name),
