@@ -78,14 +78,16 @@ class Console:
         self.type(line)
         self.take(*wanted)
 
-    def until(self, line, wanted):
-        """Types a line again and again, until it is answered so."""
+    def until(self, line, wanted, before=None):
+        """Types a line again and again, until it is answered so; before, only with these answers, if they are named."""
         end = time.monotonic() + SECONDS
         while True:
             self.type(line)
             got = self.line()
             if got == wanted:
                 return
+            if before and got not in before:
+                raise Stopped(f"{line!r} is answered {got!r}, and not {wanted!r}")
             if time.monotonic() > end:
                 raise Stopped(f"{line!r} is still answered {got!r}, and not {wanted!r}")
 

@@ -14,7 +14,7 @@ import threading
 sys.dont_write_bytecode = True
 from drive import SECONDS, Console, Stopped
 
-REFUSED = b"= refused 12 command"
+REFUSED, UNKNOWN, UNSETTLED, HELD = b"= refused 12 command", b"= refused 10 unknown", b"= refused 9 unsettled", b"= refused 8 held"
 
 
 def commands(program):
@@ -55,11 +55,12 @@ def refusals(program):
         for line in (
             b"cap 3", b"late", b"run", b"submit x", b"submit", b"submit 1", b"submit 1 ", b"submit -1 x", b"submit 4294967296 x", b"sub a", b"sub a -1",
             b"sub a b 1", b"sub  a 1", b"request a +1", b"offer", b"offer ", b"Offer x", b" lag", b"lag ", b"quit now", b"help me", b"\tlag",
-            b"\xff", b"fail 4294967296", b"fail -1", b"close 1", b"sub " + b"n" * 33 + b" 1", b"x" * 4200,
+            b"\xff", b"fail 4294967296", b"fail -1", b"close 1", b"leave", b"leave ", b"leave a b", b"leave  a", b"sub " + b"n" * 33 + b" 1", b"x" * 4200,
         ):
             it.say(line, REFUSED)
         it.say(b"request a 1", b"= refused 10 unknown")
         it.say(b"cancel a", b"= refused 10 unknown")
+        it.say(b"leave a", b"= refused 10 unknown")
         it.say(b"x" * 4201, b"= refused 6 line")
         it.say(b"x" * 4201 + b"\r", b"= refused 6 line")
         it.say(b"x" * 1000000, b"= refused 6 line")
@@ -149,6 +150,82 @@ def cancelling(program):
         it.say(b"offer 4", b"= offer 1", b"a next 4", b"b next 4")
         it.say(b"close", b"= ok", b"a complete", b"b complete")
         it.end(b"= a cancelled 0", b"= b complete 4", b"= a complete 1", b"= drained 1")
+
+
+def left(it, name, wanted):
+    """A subscription leaves that has ended, or does so in its next turn: until a thread has let go of its task, it stays."""
+    it.until(b"leave " + name, wanted, (UNSETTLED, HELD))
+    for line in (b"leave " + name, b"request " + name + b" 1", b"cancel " + name):
+        it.say(line, UNKNOWN)
+
+
+def leaving(program):
+    """Subscriptions leave, however they ended, and their names are free; those that live stay, and the others are where they were."""
+    with Console(program, ["--cap", "2"]) as it:
+        it.say(b"leave a", UNKNOWN)
+        it.say(b"sub b 9", b"= sub b", b"b subscribed")
+        # At rest, with nothing and with items that wait, it stays, and goes on.
+        it.say(b"sub a 1", b"= sub a", b"a subscribed")
+        it.say(b"sub c 9", b"= sub c", b"c subscribed")
+        it.say(b"leave a", UNSETTLED)
+        it.say(b"offer 1", b"= offer 1", b"a next 1", b"b next 1", b"c next 1")
+        it.say(b"offer 2", b"= offer 1", b"b next 2", b"c next 2")
+        it.say(b"leave a", UNSETTLED)
+        it.say(b"request a 1", b"= ok", b"a next 2")
+        it.say(b"leave b", UNSETTLED)
+        it.say(b"leave d", UNKNOWN)
+        # Cancelled, also while a submit waits for its room.
+        for text in (b"3", b"4"):
+            it.say(b"submit 1 " + text, b"= submit 1 " + text.translate(bytes.maketrans(b"34", b"12")), b"b next " + text, b"c next " + text)
+        it.type(b"submit 1 5")
+        it.quiet()
+        it.say(b"leave a", UNSETTLED)
+        it.say(b"cancel a", b"= ok", b"= submit 1 1", b"b next 5", b"c next 5")
+        left(it, b"a", b"= a cancelled 2")
+        it.say(b"subscribers", b"= subscribers 2")
+        # A bad request, and a second subscribing.
+        it.say(b"sub a 0", b"= sub a", b"a subscribed")
+        it.say(b"offer 6", b"= offer 1", b"b next 6", b"c next 6")
+        it.say(b"request a 0", b"= ok", b"a error argument")
+        left(it, b"a", b"= a error 0")
+        it.say(b"sub a 0", b"= sub a", b"a subscribed")
+        it.say(b"sub a 0", b"= refused 3 duplicate", b"a error state")
+        left(it, b"a", b"= a error 0")
+        # Of two of one name the latest leaves first.
+        it.say(b"sub a 1", b"= sub a", b"a subscribed")
+        it.say(b"offer 7", b"= offer 1", b"a next 7", b"b next 7", b"c next 7")
+        it.say(b"cancel a", b"= ok")
+        it.until(b"subscribers", b"= subscribers 2")
+        it.say(b"sub a 0", b"= sub a", b"a subscribed")
+        it.say(b"leave a", UNSETTLED)
+        it.say(b"cancel a", b"= ok")
+        it.until(b"leave a", b"= a cancelled 0", (UNSETTLED, HELD))
+        left(it, b"a", b"= a cancelled 1")
+        # Completed, and after the close.
+        it.say(b"request b 1", b"= ok")
+        it.say(b"sub a 0", b"= sub a", b"a subscribed")
+        it.say(b"close", b"= ok", b"a complete", b"b complete", b"c complete")
+        left(it, b"b", b"= b complete 7")
+        it.say(b"sub b 0", b"= sub b", b"b subscribed", b"b complete")
+        left(it, b"b", b"= b complete 0")
+        it.say(b"sub b 3", b"= sub b", b"b subscribed", b"b complete")
+        it.end(b"= c complete 7", b"= a complete 0", b"= b complete 0", b"= drained 1")
+    for word, error in ((b"fail 7", b"error"), (b"close", b"complete")):
+        with Console(program) as it:
+            it.say(b"sub a 1", b"= sub a", b"a subscribed")
+            it.say(word, b"= ok", b"a error published 7" if error == b"error" else b"a complete")
+            left(it, b"a", b"= a " + error + b" 0")
+            it.end(b"= drained 1")
+    # One name comes and goes more often than subscriptions may live, and one that waits for demand stays to the end.
+    with Console(program, ["--workers", "1", "--cap", "1"]) as it:
+        it.say(b"sub a 0", b"= sub a", b"a subscribed")
+        for _ in range(100):
+            it.say(b"sub b 0", b"= sub b", b"b subscribed")
+            it.say(b"cancel b", b"= ok")
+            it.until(b"leave b", b"= b cancelled 0", (UNSETTLED, HELD))
+        it.say(b"submit 7 x", b"= submit 7 1")
+        it.type(b"submit 7 y")
+        it.end(b"= submit 7 refused 2 closed", b"= a open 0", b"= drained 0")
 
 
 def ends(program):
@@ -298,7 +375,7 @@ def command_lines(program):
         raise Stopped(f"--help: {ran}")
 
 
-PARTS = (commands, refusals, sources, demands, late_errors, waiting, cancelling, ends, many, stamps, closed_output, signals, command_lines)
+PARTS = (commands, refusals, sources, demands, late_errors, waiting, cancelling, leaving, ends, many, stamps, closed_output, signals, command_lines)
 
 
 def main(program):

@@ -22,7 +22,7 @@ const HELP: &str =
 What a subscriber is told stands on a line of its own as its callback runs: `NAME subscribed`, `NAME next TEXT`, `NAME complete`,
 `NAME error published C` (of `fail`), `NAME error argument` (of a bad request), `NAME error state` (of a second `sub` of NAME). `submit` is
 done by a thread of its source, and answered when it returns. At the end of the input the sources publish what they can, the publisher
-is closed, and it is said of each subscriber how it ended and how many items it was told.";
+is closed, and it is said of each subscriber that did not leave how it ended and how many items it was told.";
 
 /// What the command line asks for.
 #[derive(Clone, Copy)]

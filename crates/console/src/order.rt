@@ -9,6 +9,8 @@ pub enum Order<'a> {
     Script(Command<'a>),
     /// `submit SOURCE TEXT`: the thread of this source submits the text, after those that it was handed before.
     Submit(u32, TextBytes<'a>),
+    /// `leave NAME`: the latest subscription of this name, which has ended, is freed. What stands for the name is read where it is obeyed.
+    Leave(&'a [u8]),
     /// `lag`: the longest backlog of any subscriber.
     Lag,
     /// `subscribers`: how many subscriptions are live.
@@ -28,6 +30,9 @@ impl<'a> Order<'a> {
         let (word, rest) = split_word(line);
         if word == b"submit".as_slice() {
             return parse_submit(rest);
+        }
+        if word == b"leave".as_slice() {
+            return Ok(Order::Leave(rest));
         }
         if let Some(order) = parse_word(line) {
             return Ok(order);

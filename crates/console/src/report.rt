@@ -1,8 +1,8 @@
-//! What is said at the end: how each subscription stands, and whether all have ended.
+//! What is said of what is left: how each subscription stands, and at the end whether all have ended.
 use crate::screen::Screen;
 use commands::OutputFault;
 use flow_rules::How;
-use publisher::Outcome;
+use publisher::{NamedLane, Outcome};
 use std::sync::Wait;
 use std::time::Clock;
 
@@ -12,11 +12,19 @@ pub fn report<B, R: Print + Clock + Wait>(
     outcome: &Outcome<B>,
 ) -> Result<(), OutputFault> {
     for left in outcome.lanes.as_slice() {
-        let word = word_of(left.lane.ending);
-        screen.say(format_args!("= {} {word} {}", left.name, left.lane.given))?;
+        say_left(screen, left)?;
     }
     let drained = u8::from(outcome.drained);
     screen.say(format_args!("= drained {drained}"))
+}
+
+/// Says how a subscription ended, and how many items it was told.
+pub fn say_left<B, R: Print + Clock + Wait>(
+    screen: &Screen<R>,
+    left: &NamedLane<B>,
+) -> Result<(), OutputFault> {
+    let word = word_of(left.lane.ending);
+    screen.say(format_args!("= {} {word} {}", left.name, left.lane.given))
 }
 
 /// How a subscription ended, in a word.

@@ -1,6 +1,7 @@
 //! The terminal: it obeys one line after the other, and answers each at once.
 mod acting;
 mod ending;
+mod leaving;
 mod publishing;
 
 use crate::echo::Echoes;
@@ -8,6 +9,7 @@ use crate::fault::ConsoleFault;
 use crate::input::Heard;
 use crate::order::Order;
 use crate::queue::Queue;
+use crate::report::say_left;
 use crate::source::Texts;
 use crate::stage::Stage;
 use commands::{Command, OutputFault, Reply};
@@ -20,10 +22,11 @@ use std::thread::{Scope, Threads};
 use std::time::Clock;
 
 /// What `help` prints.
-const HELP: [&str; 14] = [
+const HELP: [&str; 15] = [
     "sub NAME N          subscribes with this name, and requests N items",
     "request NAME N      the latest of this name requests N items more; an N below 1 is a bad request",
     "cancel NAME         cancels the latest of this name",
+    "leave NAME          frees the latest of this name once it has ended, and says how it did",
     "offer TEXT          publishes, and drops the text where there is no room",
     "retry TEXT          publishes, tries once more where there is no room, and then drops it there",
     "submit SOURCE TEXT  a thread of this source publishes, after its texts before, and waits for room",
@@ -151,6 +154,10 @@ impl<
                     self.stage.screen.say(answer)?;
                 }
             }
+            Ok(Order::Leave(word)) => match self.leave(word) {
+                Ok(left) => say_left(&self.stage.screen, &left)?,
+                Err(refusal) => self.refuse(refusal)?,
+            },
             Ok(look) => self.look(look)?,
             Err(refusal) => self.refuse(refusal)?,
         }

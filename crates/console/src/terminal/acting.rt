@@ -1,4 +1,5 @@
 //! What concerns one subscription: `sub`, `request` and `cancel`.
+use super::leaving::latest_of;
 use super::{Named, Terminal};
 use crate::echo::Echo;
 use commands::Reply;
@@ -69,9 +70,8 @@ impl<
 
     /// The latest subscription of this name, ended or not. Refused 10 if there is none.
     fn latest(&mut self, name: Name) -> Result<&mut Named<L, D, R>, Refusal> {
-        let mut latest_first = self.named.iter_mut().rev();
-        match latest_first.find(|named| named.name == name) {
-            Some(named) => Ok(named),
+        match latest_of(self.named.as_slice(), name) {
+            Some(place) => Ok(&mut self.named[place]),
             None => Err(Refusal::Unknown),
         }
     }

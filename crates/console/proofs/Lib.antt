@@ -1,0 +1,2 @@
+mod LatestNames
+mod PutBack
