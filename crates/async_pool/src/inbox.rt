@@ -22,7 +22,7 @@ pub(crate) struct Inbox<J> {
 }
 
 impl<J: Drop> Inbox<J> {
-    ghost use Rattle.std.specs.Prelude.{[], ◌∷◌, ◌++◌, ◌≤◌, ◌⊎◌, IfOk, IfErr, OnErr, IfSome, IfNone, vec_len};
+    ghost use Rattle.std.specs.Prelude.{[], ◌∷◌, ◌++◌, ◌≤◌, ◌⊎◌, true, IfOk, IfErr, OnErr, IfSome, IfNone, vec_len};
     ghost use Rattle.std.specs.Vec.{vec_capacity};
     ghost use Rattle.crossbeam_queue.specs.Fifo.{Held};
     ghost use Rattle.crossbeam_queue.specs.Passes.{view, IsPassOf};
@@ -64,6 +64,16 @@ impl<J: Drop> Inbox<J> {
         ensures empty { IfNone result (Held 0 (Moment (view pass.old))) }
     {
         self.queue.pop_as::<Takes, R>(rt, pass)
+    }
+
+    /// Whether no job waited at one moment of the call, by this pass.
+    pub fn is_empty(&self, pass: &mut InboxPass<J>) -> bool
+        requires { IsPassOf self.now.queue pass.old }
+        ensures of { IsPassOf self.now.queue pass.new }
+        ensures same { view pass.new ≡ view pass.old }
+        ensures empty { result ≡ true → Held 0 (Moment (view pass.old)) }
+    {
+        self.queue.is_empty_as::<Takes>(pass)
     }
 
     /// Takes jobs from the front and appends them to `left`, until the inbox was empty at one moment or `left` has no more

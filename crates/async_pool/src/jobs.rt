@@ -13,7 +13,7 @@ pub(crate) struct Jobs<J: Drop> {
 }
 
 impl<J: Drop> Jobs<J> {
-    ghost use Rattle.std.specs.Prelude.{◌≡◌, ◌≤◌, ◌⊎◌, [], ◌∷◌, ◌++◌, IfOk, IfErr, OnErr, vec_len};
+    ghost use Rattle.std.specs.Prelude.{◌≡◌, ◌≤◌, ◌⊎◌, [], ◌∷◌, ◌++◌, true, IfOk, IfErr, OnErr, vec_len};
     ghost use Rattle.std.specs.Vec.{vec_capacity};
     ghost use Rattle.crossbeam_queue.specs.Fifo.{Held};
     ghost use Rattle.crossbeam_queue.specs.Passes.{view, IsPassOf};
@@ -59,6 +59,15 @@ impl<J: Drop> Jobs<J> {
             return job;
         }
         self.steal(rt, Some(taker.worker))
+    }
+
+    /// Whether no job waited in the inbox at one moment of the call, as this worker sees it.
+    pub fn is_inbox_empty(&self, taker: &mut Taker<J>) -> bool
+        requires { IsTakerOf self.now taker.old }
+        ensures of { IsTakerOf self.now taker.new }
+        ensures empty { result ≡ true → Held 0 (Moment (view taker.old.pass)) }
+    {
+        self.inbox.is_empty(&mut taker.pass)
     }
 
     /// Takes the first job of the inbox, else of a worker's queue.

@@ -1,5 +1,6 @@
 //! An item: what a publisher hands on.
-ghost use Rattle.std.specs.Prelude.{◌≡◌, IfOk};
+ghost use Rattle.std.specs.Prelude.{◌≡◌, ◌≤◌, IfOk, IsOk, length};
+ghost use Rattle.flow_rules.specs.declared.text.TheConstants.Text.{LONGEST_INSIDE};
 
 use crate::refusal::NoMemory;
 use crate::text::Text;
@@ -18,9 +19,10 @@ pub struct Item {
 }
 
 impl Item {
-    /// An equal item, which shares the text. It may be refused, as any growth.
+    /// An equal item, which shares the text. It may be refused, as any growth, if the text has more than [`Text::LONGEST_INSIDE`] bytes.
     pub fn share(&self) -> Result<Item, NoMemory>
-        ensures { IfOk result (λ item. item ≡ self.now) }
+        ensures same { IfOk result (λ item. item ≡ self.now) }
+        ensures not_refused { length self.now.text ≤ LONGEST_INSIDE → IsOk result }
     {
         Ok(Item {
             source: self.source,

@@ -1,5 +1,5 @@
 //! A text: the bytes of an item.
-ghost use Rattle.std.specs.Prelude.{◌≡◌, ◌≤◌, ◌==◌, ◌↔◌, [], length, IfOk, true};
+ghost use Rattle.std.specs.Prelude.{◌≡◌, ◌≤◌, ◌==◌, ◌↔◌, [], length, IfOk, IsOk, true};
 ghost use Rattle.std.specs.Cmp.Lexicographic.{pointwise};
 ghost use Rattle.std.specs.Cmp.Rules.{comparing};
 ghost use Rattle.std.proofs.Common.{rules};
@@ -51,7 +51,8 @@ impl Text {
     /// A text of these bytes, which need be no text in any encoding. One of [`Text::LONGEST_INSIDE`] bytes or fewer is never refused.
     pub fn new(alloc: Global, bytes: &[u8]) -> Result<Text, NoMemory>
         requires { length bytes.now ≤ Text.LONGEST }
-        ensures { IfOk result (λ text. text ≡ bytes.now) }
+        ensures bytes { IfOk result (λ text. text ≡ bytes.now) }
+        ensures not_refused { length bytes.now ≤ Text.LONGEST_INSIDE → IsOk result }
     {
         if bytes.len() <= Text::LONGEST_INSIDE {
             return Ok(Text::inside(bytes));
@@ -77,9 +78,11 @@ impl Text {
         }
     }
 
-    /// The same text once more. It may be refused, as any growth, if the text has more than [`Text::LONGEST_INSIDE`] bytes.
+    /// The same text once more. It may be refused, as any growth, if the text has more than [`Text::LONGEST_INSIDE`] bytes; a shorter one is
+    /// never refused.
     pub fn share(&self) -> Result<Text, NoMemory>
-        ensures { IfOk result (λ text. text ≡ self.now) }
+        ensures same { IfOk result (λ text. text ≡ self.now) }
+        ensures not_refused { length self.now ≤ Text.LONGEST_INSIDE → IsOk result }
     {
         let bytes = match &self.bytes {
             Bytes::Inside { len, array } => Bytes::Inside {

@@ -14,7 +14,7 @@ use std::alloc::Global;
 use std::sync::ledger::Ledger;
 use std::sync::{Arc, Wait};
 
-/// How often a blocked submitter looks for room before it sleeps.
+/// How often a blocked submitter looks for room before it sleeps. It spins in between, some 20 microseconds in all.
 const LOOKS: u32 = 12;
 
 /// What one thread hands tasks to the pool with, and runs those that come back.
@@ -115,7 +115,7 @@ impl<L: Ledger + Send, D: Ledger + Send, B: Listener + Send, F: FailHandler + Se
             return 0;
         }
         if looks < LOOKS {
-            backoff.snooze();
+            backoff.spin();
             return looks + 1;
         }
         self.worker.shared.wait_for_room(rt);
