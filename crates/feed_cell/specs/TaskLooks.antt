@@ -101,6 +101,11 @@ module _ {B : Type 0} (told : B → List Signal) where
   ServesOnce word None before after seen later = (bit_at word NEW ≡ 1) × HasPassed before after × (later ≡ seen)
   ServesOnce word (Some served) before after seen later = Serves served before after seen later
 
+  -- what it did after a peek, or after one of those that it made in the moment after that: it may find nothing to do at all of them
+  abbrev pub ServesSoon : Option Served → SeatOf B → SeatOf B → SeenState → SeenState → Type 0
+  ServesSoon None before after seen later = HasPassed before after × (later ≡ seen)
+  ServesSoon (Some served) before after seen later = Serves served before after seen later
+
   -- by the answer of the callback for an item that was taken
   abbrev pub GivesAs : Item → Served → SeatOf B → SeatOf B → SeenState → SeenState → Type 0
   GivesAs item Served.Gave before after seen later = GoesOnThere told (Next item) before after seen later

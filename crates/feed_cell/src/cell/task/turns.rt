@@ -12,7 +12,7 @@ ghost use Rattle.feed_cell.specs.TaskTurns.{MayGoOn, OnAgain, outlook_of, IsBefo
 ghost use Rattle.feed_cell.specs.Views.{RunsFree};
 
 use super::looks::{Served, serve};
-use super::steps::{end, look, peek, peek_first};
+use super::steps::{end, peek, peek_first};
 use super::{Spent, Stage, Task};
 use crate::cell::Held;
 use crate::cell::seated::Seated;
@@ -94,10 +94,9 @@ fn run<B: Listener>(party: &mut Seated<B>, stage: Stage, seen: &mut Seen) -> Out
         Ok(stage) => stage,
         Err(how) => return Outlook::Ended(how),
     };
-    let mut more = true;
     for _ in 0..ITEMS_IN_A_TURN {
-        let word = look_next(party, stage, more);
-        match serve(party, word, &mut more, seen) {
+        let word = peek_next(party, stage);
+        match serve(party, word, seen) {
             Served::Gave => stage = Stage::Going,
             Served::Rested => return Outlook::Resting,
             Served::Missed => return Outlook::Again,
@@ -141,9 +140,9 @@ fn greet<B: Listener>(party: &mut Seated<B>, stage: Stage, seen: &mut Seen) -> R
     }
 }
 
-/// Looks at the marks and causes. If more items are likely to wait, it peeks, which is cheaper: a look is needed only before
-/// rest. The first peek of a task that a signal started takes its subscriber with it.
-fn look_next<B: Listener>(party: &mut Seated<B>, stage: Stage, more: bool) -> u64
+/// Peeks at the marks and causes: a look, which is dearer, is needed only before rest. The first peek of a task that a signal started
+/// takes its subscriber with it.
+fn peek_next<B: Listener>(party: &mut Seated<B>, stage: Stage) -> u64
     requires runner { RunsFree party.old.seat.me.0 }
     requires may { MayLookNext B.told stage party.old.seat.me }
     ensures seat { IsSameSeat party.old.seat party.new.seat }
@@ -152,8 +151,7 @@ fn look_next<B: Listener>(party: &mut Seated<B>, stage: Stage, more: bool) -> u6
     ensures keeps { KeepsGoing stage party.old.seat.me party.new.seat.me }
 {
     match stage {
-        Stage::Going if more => peek(party),
-        Stage::Going => look(party),
+        Stage::Going => peek(party),
         _ => peek_first(party),
     }
 }
