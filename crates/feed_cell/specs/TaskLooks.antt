@@ -89,7 +89,7 @@ module _ {B : Type 0} (told : B → List Signal) where
     pub may : MayEnd how (length after.0.taken) after.0.runner
     pub failed : (code : ℕ) → how ≡ How.Failed code → EndsInObeyed last
 
-  -- what it did after a look, or after a peek and a look
+  -- what it did after a look, or after some peeks and a look
   abbrev pub Serves : Served → SeatOf B → SeatOf B → SeenState → SeenState → Type 0
   Serves Served.Gave before after seen later = GivesItem before after seen later
   Serves Served.Rested before after seen later = RestsNow before after × (later ≡ seen)

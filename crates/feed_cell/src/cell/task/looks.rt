@@ -18,11 +18,11 @@ use crossbeam_utils::Backoff;
 use feed_core::{Causes, Seen};
 use flow_rules::{How, Item, Listener, UNBOUNDED};
 
-/// How often a task that finds nothing to do peeks again before it looks and rests. It spins before each peek, about a microsecond in
-/// all.
-const PATIENCE: u32 = 4;
+/// How often a task that finds nothing to do peeks again before it looks and rests. It spins before each of these peeks, some 3 to 4
+/// microseconds in all: to rest and be started again costs more than the item that is likely to come meanwhile.
+const PATIENCE: u32 = 6;
 
-/// What the task did after a look, or after a peek and a look.
+/// What the task did after a look, or after some peeks and a look.
 #[derive(Clone, Copy, Debug, PartialEq, Eq)]
 pub(crate) enum Served {
     /// It gave an item.

@@ -36,8 +36,8 @@ impl<B: Listener> Task<B> {
     /// terminal signal. What it was told is what `seen` then holds (`Flow.Subscriber`; Reactive Streams 1.0, rules 1.1, 1.3,
     /// 1.5, 1.7 and 1.9). Before each item it looks or peeks: that showed no cancel, bad request, second subscribing or error that
     /// overtakes the items, and a measure after it showed that the item was requested. What a callback answers is done at once;
-    /// one that is refused memory ends the subscription. It goes on only after 64 items, or if something was new when it would
-    /// have rested.
+    /// one that is refused memory ends the subscription. If nothing is left to tell, it spins for a few microseconds in case more
+    /// comes. It goes on only after 64 items, or if something was new when it would have rested.
     pub fn turn(self, seen: &mut Seen) -> Turn<B>
 
         // What it tells, by what it takes each item, and what became of the task.
