@@ -117,6 +117,17 @@ static void clear(void) {
     seen_count = 0;
 }
 
+/* With -DFREES_LATE the task frees places an eighth of the buffer at a time, and when it knows of no more items: it stores head then, and reads
+   tail and asked only then. Places are free later, so a producer that waits for room behind a slow subscriber waits longer. */
+#ifdef FREES_LATE
+#define PLACES (capacity / 8 ? capacity / 8 : 1)
+#define KNOWS_MORE (given < known_tail && given < known_asked)
+#else
+#define PLACES 1
+#define KNOWS_MORE 0
+#endif
+static uint64_t freed, known_tail, known_asked;
+
 /* One turn: 1 where another is owed, 0 at rest, -1 at the end. While more items wait it peeks before each, and it looks before it rests. */
 static int turn(void) {
     int more = 1;
@@ -125,14 +136,17 @@ static int turn(void) {
         uint64_t word = more ? atomic_load(&CONTROL) : atomic_fetch_and(&CONTROL, QUIET) & QUIET;
     again:
         if (word & STOPS) abort();
-        uint64_t tail = atomic_load(&TAIL);
-        uint64_t asked = atomic_load(&ASKED);
+        if (!KNOWS_MORE) {
+            known_tail = atomic_load(&TAIL);
+            known_asked = atomic_load(&ASKED);
+        }
+        uint64_t tail = known_tail;
         more = given + 1 < tail;
-        if (given < tail && given < asked) {
+        if (given < tail && given < known_asked) {
             Held *held = slot(given);
             Item item = held->item;
             held->tag = 0;
-            atomic_store(&HEAD, ++given);
+            if (++given - freed >= PLACES || given == tail) atomic_store(&HEAD, freed = given);
             if (on_next(&item)) abort();
             seen[seen_count].tag = 1;
             seen[seen_count++].item = item;
