@@ -5,13 +5,20 @@ use std::alloc::Global;
 
 /// The items of one submitter in a list of signals.
 #[derive(Clone, Copy)]
-struct Chain {
-    /// The places of the first and of the last.
-    first: usize,
-    last: usize,
+pub struct Chain {
     /// How many there are.
-    items: usize,
+    pub items: usize,
+    /// The place of the first, if there is one.
+    pub first: usize,
+    last: usize,
 }
+
+/// That of a submitter with no item.
+const EMPTY: Chain = Chain {
+    items: 0,
+    first: 0,
+    last: 0,
+};
 
 /// The items of each submitter in a list of signals, by their places. Its room is made once, and serves one list after the other.
 #[derive(Drop)]
@@ -25,13 +32,8 @@ pub struct Chains {
 impl Chains {
     /// Room for this many submitters, and for lists of so many signals at most.
     pub fn with_room(alloc: Global, submitters: usize, signals: usize) -> Result<Chains, NoMemory> {
-        let empty = Chain {
-            first: 0,
-            last: 0,
-            items: 0,
-        };
         Ok(Chains {
-            chains: vec![in alloc; empty; submitters]?,
+            chains: vec![in alloc; EMPTY; submitters]?,
             next: vec![in alloc; 0; signals]?,
         })
     }
@@ -39,7 +41,7 @@ impl Chains {
     /// Finds the items of these signals. Those of the list before are forgotten.
     pub fn find(&mut self, told: &[Signal]) {
         for chain in self.chains.iter_mut() {
-            chain.items = 0;
+            *chain = EMPTY;
         }
         for (place, signal) in told.iter().enumerate() {
             if let Signal::Next(item) = signal {
@@ -62,12 +64,9 @@ impl Chains {
         chain.items = chain.items.saturating_add(1);
     }
 
-    /// How many items of this submitter were found, and the place of the first.
-    pub fn of(&self, submitter: usize) -> (usize, usize) {
-        match self.chains.get(submitter) {
-            Some(chain) => (chain.items, chain.first),
-            None => (0, 0),
-        }
+    /// The items of this submitter.
+    pub fn of(&self, submitter: usize) -> Chain {
+        self.chains.get(submitter).copied().unwrap_or(EMPTY)
     }
 
     /// The place of the next item of the same submitter.

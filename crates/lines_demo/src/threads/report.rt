@@ -89,8 +89,9 @@ fn write_items<W: Write>(
     submitter: usize,
 ) -> Result<(), OutputFault> {
     let beginning = line.len();
-    let (items, mut place) = chains.of(submitter);
-    for _ in 0..items {
+    let chain = chains.of(submitter);
+    let mut place = chain.first;
+    for _ in 0..chain.items {
         if let Some(Signal::Next(item)) = told.get(place) {
             line.truncate(beginning);
             if end_line(line, item.text.as_bytes()).is_err() {
