@@ -1,10 +1,10 @@
 #!/bin/sh
 # Measures the time for each item that one thread puts into a subscription of feed_cell and that turns in another thread give to its
 # subscriber, at several capacities (crates/cell_bench). All items are requested before. Beside it stand peers: the same steps on bare
-# words in C (bench/cell_bare.c), with the words side by side as in the cell, and apart, each in a cache line of its own; and the kit's
-# crossbeam_queue::ArrayQueue, through which the items go with no subscriber, no demand and no task. It prints the time of each, and the
-# ratios. A task that a put starts goes to the other thread through a queue of one place, in C too. Both threads try again at once, and the
-# order is checked. The runs alternate.
+# words in C (bench/cell_bare.c), with the words side by side as in the cell; apart, each in a cache line of its own; and apart with a task
+# that frees many places at a time (late), which the cell's doesn't; and the kit's crossbeam_queue::ArrayQueue, through which the items go
+# with no subscriber, no demand and no task. It prints the time of each, and the ratios. A task that a put starts goes to the other thread
+# through a queue of one place, in C too. Both threads try again at once, and the order is checked. The runs alternate.
 # The program is proved and built in a temporary folder. Usage: bench/cell.sh [ITEMS [RUNS [CAPACITY..]]]; each figure is the median of RUNS
 # runs of ITEMS items (1,000,000 and 5; 1, 4, 256 and 65,536). It needs a C compiler, and two processors that are free.
 set -eu
@@ -19,6 +19,7 @@ trap 'rm -rf "$work"' EXIT
 
 cc -O2 -pthread -o "$work/bare" bench/cell_bare.c
 cc -O2 -pthread -DAPART=8 -DBEHIND=8 -o "$work/apart" bench/cell_bare.c
+cc -O2 -pthread -DAPART=8 -DBEHIND=8 -DFREES_LATE -o "$work/late" bench/cell_bare.c
 build cell_bench . "$work/cell_bench" size
 program=$work/cell_bench
 slot=$("$program" size)
@@ -26,7 +27,7 @@ slot=$("$program" size)
 # once KIND CAPACITY: the nanoseconds of one run.
 once() {
     case $1 in
-    bare | apart) "$work/$1" "$2" "$items" "$slot" ;;
+    bare | apart | late) "$work/$1" "$2" "$items" "$slot" ;;
     *) "$program" "$1" "$2" "$items" ;;
     esac
 }
@@ -37,23 +38,23 @@ median() {
 }
 
 printf 'a slot has %s bytes\n' "$slot"
-printf 'capacity cell_ns bare_ns apart_ns queue_ns cell/bare apart/bare cell/queue\n'
+printf 'capacity cell_ns bare_ns apart_ns late_ns queue_ns cell/bare apart/bare late/bare cell/queue\n'
 for capacity in $capacities; do
     rm -f "$work"/times.*
     times=0
     while [ "$times" -lt "$runs" ]; do
-        for kind in cell bare apart queue; do
+        for kind in cell bare apart late queue; do
             once "$kind" "$capacity" >>"$work/times.$kind"
         done
         times=$((times + 1))
     done
-    for kind in cell bare apart queue; do
+    for kind in cell bare apart late queue; do
         # A run that failed printed nothing.
         [ "$(wc -l <"$work/times.$kind")" -eq "$runs" ] || {
             echo "a run of $kind failed"
             exit 1
         }
     done
-    for kind in cell bare apart queue; do median "$work/times.$kind"; echo; done | xargs |
-        awk -v capacity="$capacity" '{ printf "%8d %7.1f %7.1f %8.1f %8.1f %9.2f %10.2f %10.2f\n", capacity, $1, $2, $3, $4, $1 / $2, $3 / $2, $1 / $4 }'
+    for kind in cell bare apart late queue; do median "$work/times.$kind"; echo; done | xargs |
+        awk -v capacity="$capacity" '{ printf "%8d %7.1f %7.1f %8.1f %7.1f %8.1f %9.2f %10.2f %9.2f %10.2f\n", capacity, $1, $2, $3, $4, $5, $1 / $2, $3 / $2, $4 / $2, $1 / $5 }'
 done

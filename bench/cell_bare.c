@@ -117,6 +117,17 @@ static void clear(void) {
     seen_count = 0;
 }
 
+/* With -DFREES_LATE the task frees places an eighth of the buffer at a time, and when it knows of no more items: it stores head then, and reads
+   tail and asked only then. Places are free later, so a producer that waits for room behind a slow subscriber waits longer. */
+#ifdef FREES_LATE
+#define PLACES (capacity / 8 ? capacity / 8 : 1)
+#define KNOWS_MORE (given < known_tail && given < known_asked)
+#else
+#define PLACES 1
+#define KNOWS_MORE 0
+#endif
+static uint64_t freed, known_tail, known_asked;
+
 /* One turn: 1 where another is owed, 0 at rest, -1 at the end. It peeks before each item; with nothing to do it spins and peeks again, a few
    times, and it looks before it rests. */
 static int turn(void) {
@@ -126,13 +137,16 @@ static int turn(void) {
         int peeks = 0;
     again:
         if (word & STOPS) abort();
-        uint64_t tail = atomic_load(&TAIL);
-        uint64_t asked = atomic_load(&ASKED);
-        if (given < tail && given < asked) {
+        if (!KNOWS_MORE) {
+            known_tail = atomic_load(&TAIL);
+            known_asked = atomic_load(&ASKED);
+        }
+        uint64_t tail = known_tail;
+        if (given < tail && given < known_asked) {
             Held *held = slot(given);
             Item item = held->item;
             held->tag = 0;
-            atomic_store(&HEAD, ++given);
+            if (++given - freed >= PLACES || given == tail) atomic_store(&HEAD, freed = given);
             if (on_next(&item)) abort();
             seen[seen_count].tag = 1;
             seen[seen_count++].item = item;

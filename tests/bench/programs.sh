@@ -29,6 +29,7 @@ prints cell_bench '[0-9]+' cell 4 1000
 prints cell_bench '[0-9]+' queue 4 1000
 prints pool_bench '[0-9]+' 2 4 1000 9
 prints deliveries_bench '[0-9]+' fast 1 4 4 16 256 400
+prints deliveries_bench '[0-9]+ [0-9]+ [0-9]+' left 100 2 4 4 16 256 400
 prints deliveries_bench '[0-9]+ [0-9]+' slow 2
 prints deliveries_bench '[0-9]+' alone 1 20 100
 

@@ -1,4 +1,4 @@
-//! What both runs share: the submitters, what each publishes, and the end of the publisher. A run counts only if every subscriber was told
+//! What the runs share: the submitters, what each publishes, and the end of the publisher. A run counts only if every subscriber was told
 //! every item.
 ghost use Rattle.std.specs.Prelude.{◌≡◌};
 ghost use Rattle.publisher.specs.declared.state.TheConstants.{PARTS};
@@ -72,7 +72,7 @@ pub fn end_all<
 }
 
 /// Tells whether each of this many subscribers was told this many items, and completed.
-fn is_whole<B>(outcome: &Outcome<B>, subscribers: usize, items: u64) -> bool {
+pub fn is_whole<B>(outcome: &Outcome<B>, subscribers: usize, items: u64) -> bool {
     let mut all = outcome.drained && outcome.published == items;
     for left in outcome.lanes.iter() {
         all &= matches!(left.lane.ending, Some(How::Completed)) && left.lane.given == items;

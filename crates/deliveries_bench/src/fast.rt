@@ -1,5 +1,5 @@
 //! A run to subscribers that count. It takes from the start of the submitters' threads to the end of `finish`.
-ghost use Rattle.std.specs.Prelude.{◌≡◌, ◌<◌};
+ghost use Rattle.std.specs.Prelude.{◌≡◌};
 ghost use Rattle.publisher.specs.Blanks.{IsBlankOf};
 ghost use Rattle.publisher.specs.declared.state.TheConstants.{PARTS};
 
@@ -16,6 +16,8 @@ use std::time::{Clock, Instant};
 /// What a run is made of.
 #[derive(Drop)]
 pub struct Plan {
+    /// How many subscriptions are reclaimed before; none if the run is fast.
+    pub reclaimed: usize,
     pub workers: usize,
     pub submitters: usize,
     pub subscribers: usize,
@@ -34,10 +36,9 @@ pub fn measure_fast<
 >(rt: R, alloc: Global, plan: &Plan, publications: Blank, drops: Blank) -> Option<u128>
     requires publications { IsBlankOf publications L.name L.parts }
     requires drops { IsBlankOf drops D.name D.parts }
-    requires submitters { 0 < plan.now.submitters }
 {
     let text = vec![in alloc; b'x'; plan.bytes].ok()?;
-    let each = plan.items / plan.submitters;
+    let each = plan.items.checked_div(plan.submitters)?;
     let publisher: Publisher<L, D, Tally> = Publisher::new(
         rt,
         alloc,
@@ -61,7 +62,11 @@ pub fn measure_fast<
 }
 
 /// Subscribes this many subscribers that count, and requests all items for each.
-fn subscribe_tallies<L: Ledger + Send + Sync + 'static, D: Ledger + Send + Sync + 'static, R: Wait>(
+pub fn subscribe_tallies<
+    L: Ledger + Send + Sync + 'static,
+    D: Ledger + Send + Sync + 'static,
+    R: Wait,
+>(
     rt: &R,
     alloc: Global,
     publisher: &Publisher<L, D, Tally>,
@@ -109,7 +114,7 @@ fn time_fast<
 }
 
 /// Publishes this many items with each submitter, from a thread of its own.
-fn send_each<
+pub fn send_each<
     L: Ledger + Send + Sync + 'static,
     D: Ledger + Send + Sync + 'static,
     B: Listener + Send + 'static,

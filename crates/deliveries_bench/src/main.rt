@@ -1,20 +1,23 @@
 //! Prints the nanoseconds in which a publisher gives items to its subscribers. `deliveries_bench fast WORKERS SUBMITTERS SUBSCRIBERS
 //! CAPACITY BYTES ITEMS` measures subscribers that count, with the items of all submitters; `deliveries_bench slow WORKERS` measures two that
 //! sleep, and prints the nanoseconds of the longest call of `number_of_subscribers`, too; `deliveries_bench alone WORKERS ITEMS PAUSE` measures one
-//! subscriber at rest, who is told one item at a time, with a pause of so many microseconds before each.
+//! subscriber at rest, who is told one item at a time, with a pause of so many microseconds before each. `deliveries_bench left RECLAIMED
+//! WORKERS ..` measures as `fast` does, after this many subscriptions came, ended and were reclaimed, and prints the nanoseconds until all
+//! subscribers were told all, those of `finish` after that, and those of a `reclaim` before.
 #![tactic(auto)]
-
-ghost use Rattle.std.specs.Prelude.{◌<◌};
 
 mod alone;
 mod bell;
 mod ends;
 mod fast;
+mod left;
+mod reclaiming;
 mod sleeper;
 mod slow;
 
 use alone::measure_alone;
 use fast::{Plan, measure_fast};
+use left::{Spent, measure_left};
 use publisher::PARTS;
 use slow::measure_slow;
 use std::alloc::Global;
@@ -30,10 +33,17 @@ fn fast_run<R: Threads + Wait + Clock + Copy + Send + Sync + 'static>(
     rt: R,
     alloc: Global,
     plan: &Plan,
-) -> Option<u128>
-    requires { 0 < plan.now.submitters }
-{
+) -> Option<u128> {
     measure_fast::<Brand, Brand, R>(rt, alloc, plan, Blank::new(PARTS), Blank::new(PARTS))
+}
+
+/// Measures subscribers that count after others were reclaimed, on a publisher with two new ledgers.
+fn left_run<R: Threads + Wait + Clock + Copy + Send + Sync + 'static>(
+    rt: R,
+    alloc: Global,
+    plan: &Plan,
+) -> Option<Spent> {
+    measure_left::<Brand, Brand, R>(rt, alloc, plan, Blank::new(PARTS), Blank::new(PARTS))
 }
 
 /// Measures subscribers that sleep, on a publisher with two new ledgers.
@@ -58,8 +68,10 @@ fn alone_run<R: Threads + Wait + Clock + Copy + Send + Sync + 'static>(
 }
 
 /// What is measured.
+#[derive(Clone, Copy)]
 enum Kind {
     Fast,
+    Left,
     Slow,
     Alone,
 }
@@ -67,6 +79,7 @@ enum Kind {
 /// Reads the first word of the command line; a missing one is `fast`.
 fn read_kind(word: Option<String>) -> Kind {
     match word {
+        Some(word) if word.as_str() == "left" => Kind::Left,
         Some(word) if word.as_str() == "slow" => Kind::Slow,
         Some(word) if word.as_str() == "alone" => Kind::Alone,
         _ => Kind::Fast,
@@ -79,19 +92,31 @@ fn number(text: Option<String>) -> usize {
         .unwrap_or(0)
 }
 
-fn main(rt: HostRuntime) -> io::Result<()> {
-    let mut words = env::args(&rt)?.skip(1);
-    let kind = read_kind(words.next());
-    let plan = Plan {
-        workers: number(words.next()),
-        submitters: number(words.next()),
-        subscribers: number(words.next()),
-        capacity: number(words.next()),
-        bytes: number(words.next()),
-        items: number(words.next()),
-    };
-    let alloc = rt.alloc();
+/// Measures what this kind is, and prints it. A run that failed prints nothing.
+fn print_times<R: Threads + Wait + Clock + Print + Copy + Send + Sync + 'static>(
+    rt: R,
+    alloc: Global,
+    kind: Kind,
+    plan: &Plan,
+) -> io::Result<()> {
     match kind {
+        Kind::Fast => {
+            if let Some(spent) = fast_run(rt, alloc, plan) {
+                println!(rt; "{spent}")?;
+            }
+        }
+        Kind::Left => {
+            if let Some(
+                Spent {
+                    told,
+                    finish,
+                    reclaim,
+                },
+            ) = left_run(rt, alloc, plan)
+            {
+                println!(rt; "{told} {finish} {reclaim}")?;
+            }
+        }
         Kind::Slow => {
             if let Some((spent, longest)) = slow_run(rt, alloc, plan.workers) {
                 println!(rt; "{spent} {longest}")?;
@@ -103,12 +128,25 @@ fn main(rt: HostRuntime) -> io::Result<()> {
                 println!(rt; "{spent}")?;
             }
         }
-        Kind::Fast if plan.submitters != 0 => {
-            if let Some(spent) = fast_run(rt, alloc, &plan) {
-                println!(rt; "{spent}")?;
-            }
-        }
-        Kind::Fast => {}
     }
     Ok(())
+}
+
+fn main(rt: HostRuntime) -> io::Result<()> {
+    let mut words = env::args(&rt)?.skip(1);
+    let kind = read_kind(words.next());
+    let reclaimed = match kind {
+        Kind::Left => number(words.next()),
+        _ => 0,
+    };
+    let plan = Plan {
+        reclaimed,
+        workers: number(words.next()),
+        submitters: number(words.next()),
+        subscribers: number(words.next()),
+        capacity: number(words.next()),
+        bytes: number(words.next()),
+        items: number(words.next()),
+    };
+    print_times(rt, rt.alloc(), kind, &plan)
 }

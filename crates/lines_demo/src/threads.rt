@@ -1,4 +1,5 @@
 //! Threads: each source of lines publishes them from a thread of its own, and the subscribers are told by worker threads.
+mod chains;
 mod fault;
 mod input;
 mod plan;

@@ -1,6 +1,7 @@
 pub mod Admitted
 pub mod Answering
 pub mod AskedStates
+pub mod Batches
 pub mod Compared
 pub mod Concluding
 pub mod FindingRounds

@@ -1,10 +1,10 @@
 //! How a thread schedules tasks, runs turns of them, and publishes.
-ghost use Rattle.std.specs.Prelude.{◌≡◌, ◌+◌, [], IfErr, IfOk, OnErr, OnOk};
+ghost use Rattle.std.specs.Prelude.{◌≡◌, ◌+◌, ◌<◌, [], IfErr, IfOk, OnErr, OnOk, length};
 ghost use Rattle.publisher.specs.Handles.{IsHubReason, IsHubRefusal};
 ghost use Rattle.publisher.specs.Publishing.{drop_of};
 
 use crate::shared::{ConsumerTask, Shared, Worker};
-use crate::state::Own;
+use crate::state::{Own, Stopped};
 use async_pool::{Job, Pool};
 use crossbeam_utils::Backoff;
 use feed_cell::Task;
@@ -81,6 +81,28 @@ impl<L: Ledger + Send, D: Ledger + Send, B: Listener + Send, F: FailHandler + Se
         ensures drops { own.new.drops.amount ≡ own.old.drops.amount }
     {
         let published = self.worker.shared.lock(rt).publish(own, text, due);
+        self.start_all(rt, due);
+        published
+    }
+
+    /// Publishes texts in order while the lock is held once, up to one that is not published, and schedules the started tasks.
+    pub fn publish_all<R: Wait>(
+        &mut self,
+        rt: &R,
+        own: &mut Own<L, D>,
+        texts: &[Text],
+        due: &mut Vec<Work<Task<B>>>,
+    ) -> Result<u64, Stopped>
+        ensures less { IfErr result (λ stopped. stopped.published < length texts.now) }
+        ensures reasons { IfErr result (λ stopped. IsHubReason stopped.why) }
+        ensures all { OnOk result (own.new.publications.amount
+            ≡ own.old.publications.amount + length texts.now) }
+        ensures some { IfErr result (λ stopped. own.new.publications.amount
+            ≡ own.old.publications.amount + stopped.published) }
+        ensures source { own.new.source ≡ own.old.source }
+        ensures drops { own.new.drops.amount ≡ own.old.drops.amount }
+    {
+        let published = self.worker.shared.lock(rt).publish_all(own, texts, due);
         self.start_all(rt, due);
         published
     }

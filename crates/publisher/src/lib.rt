@@ -10,7 +10,7 @@
 //!
 //! | What | Who | Waits |
 //! |---|---|---|
-//! | a publication, a subscribing, a close | whoever calls it | for the publisher's lock, behind which stand the list of subscriptions and the numbers of the publications; and `submit`, as long as a buffer is full |
+//! | a publication, a subscribing, a close | whoever calls it | for the publisher's lock, behind which stand the list of subscriptions and the numbers of the publications; and `submit` and `submit_all`, as long as a buffer is full |
 //! | a request, a cancel | whoever has the subscription | only if that starts a task, which is handed to the pool |
 //! | a look: [`is_closed`](Publisher::is_closed), [`closed_with`](Publisher::closed_with), [`requested`](Subscription::requested) | whoever has it | never |
 //! | a look: [`lag`](Subscription::lag), [`has_ended`](Subscription::has_ended), the numbers of subscribers | whoever has it | for the publisher's lock |
@@ -64,6 +64,6 @@ pub use outcome::{NamedLane, Outcome};
 pub use publisher::Publisher;
 pub use publisher_hub::{MOST_ENTRIES, MOST_LIVE, MOST_SOURCES};
 pub use state::PARTS;
-pub use submitter::Submitter;
+pub use submitter::{Submitter, Unsent};
 pub use subscription::Subscription;
 pub use the_end::finish;

@@ -1,4 +1,5 @@
 //! What stands behind a publisher's lock. Each call of it is made while the lock is held once.
+mod batches;
 mod closing;
 mod finding;
 mod finishing;
@@ -15,6 +16,7 @@ ghost use Rattle.std.specs.Prelude.{◌≡◌, ◌⊎◌, ◌<◌, ◌↔◌, ze
 ghost use Rattle.flow_rules.specs.declared.refusal.Refusal.TheVariants as Refusal;
 ghost use Rattle.publisher.specs.Blanks.{IsBlankOf};
 
+pub(crate) use batches::Stopped;
 use close_count::{Count, Spent};
 use feed_cell::Producer;
 pub(crate) use finding::{Found, Taken};

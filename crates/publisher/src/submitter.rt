@@ -1,4 +1,6 @@
 //! One source of publications.
+mod several;
+
 ghost use Rattle.std.specs.Arc.{arc_value};
 ghost use Rattle.once_cell.specs.Once.{cell_name};
 ghost use Rattle.std.specs.Prelude.{◌≡◌, ◌+◌, ◌<◌, ◌≤◌, ◌↔◌, is_some, None, Err, IfErr, IfOk, IfSome, OnErr, OnOk, length};
@@ -17,6 +19,7 @@ use flow_rules::{
 };
 use once_cell::race::OnceBox;
 use publisher_hub::{Unpublished, Work};
+pub use several::Unsent;
 use std::alloc::Global;
 use std::fmt;
 use std::marker::Model;

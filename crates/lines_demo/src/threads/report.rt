@@ -1,4 +1,5 @@
 //! The report of a run: what each subscriber was told, and how its subscription ended.
+use super::chains::Chains;
 use commands::{OutputFault, write_line, write_whole};
 use flow_rules::{FailHandler, How, Name, Shown, Signal, Subscriber, Text};
 use publisher::{NamedLane, Outcome};
@@ -18,9 +19,12 @@ pub fn write_report<S: Subscriber, F: FailHandler, W: Write>(
     let Ok(mut line) = Vec::with_capacity(alloc, LONGEST_LINE) else {
         return Err(OutputFault::Memory);
     };
+    let Ok(mut chains) = Chains::with_room(alloc, sources.len(), most_told(&outcome.lanes)) else {
+        return Err(OutputFault::Memory);
+    };
     let mut all_complete = true;
     for left in outcome.lanes.as_slice() {
-        write_lane(writer, &mut line, sources, left)?;
+        write_lane(writer, &mut line, &mut chains, sources, left)?;
         all_complete &= is_complete(left);
     }
     write_handled(writer, &mut line, &outcome.handler)?;
@@ -33,15 +37,18 @@ pub fn write_report<S: Subscriber, F: FailHandler, W: Write>(
 fn write_lane<S: Subscriber, W: Write>(
     writer: &mut W,
     line: &mut Vec<u8>,
+    chains: &mut Chains,
     sources: &[u32],
     left: &NamedLane<Shown<S>>,
 ) -> Result<(), OutputFault> {
-    let told = told_of(left);
-    for place in 0..sources.len() {
-        write_items(writer, line, &left.name, sources[place], place, told)?;
-    }
     let name = &left.name;
-    let items = count_items(told);
+    let told = told_of(left);
+    chains.find(told);
+    for (submitter, source) in sources.iter().enumerate() {
+        begin_line(line, name, *source)?;
+        write_items(writer, line, told, chains, submitter)?;
+    }
+    let items = chains.items();
     if let Some(How::Failed(code)) = left.lane.ending {
         return write_line(writer, line, format_args!("{name} failed {code} {items}"));
     }
@@ -64,30 +71,35 @@ fn write_handled<F: FailHandler, W: Write>(
     write_line(writer, line, format_args!("handled {name} {code}"))
 }
 
-/// Writes the items of the submitter of this number, which published the lines of a source. How these lines begin is made up once.
+/// Makes up how the lines of a source begin.
+fn begin_line(line: &mut Vec<u8>, name: &Name, source: u32) -> Result<(), OutputFault> {
+    line.clear();
+    match write!(line, "{name} {source} ") {
+        Ok(()) => Ok(()),
+        Err(_) => Err(OutputFault::Memory),
+    }
+}
+
+/// Writes the items of the submitter of this number, a line each, which begins as `line` does.
 fn write_items<W: Write>(
     writer: &mut W,
     line: &mut Vec<u8>,
-    name: &Name,
-    source: u32,
-    submitter: usize,
     told: &[Signal],
+    chains: &Chains,
+    submitter: usize,
 ) -> Result<(), OutputFault> {
-    line.clear();
-    if write!(line, "{name} {source} ").is_err() {
-        return Err(OutputFault::Memory);
-    }
     let beginning = line.len();
-    for signal in told {
-        if let Signal::Next(item) = signal {
-            if item.source as usize == submitter {
-                line.truncate(beginning);
-                if end_line(line, item.text.as_bytes()).is_err() {
-                    return Err(OutputFault::Memory);
-                }
-                write_whole(writer, line.as_slice())?;
+    let chain = chains.of(submitter);
+    let mut place = chain.first;
+    for _ in 0..chain.items {
+        if let Some(Signal::Next(item)) = told.get(place) {
+            line.truncate(beginning);
+            if end_line(line, item.text.as_bytes()).is_err() {
+                return Err(OutputFault::Memory);
             }
+            write_whole(writer, line.as_slice())?;
         }
+        place = chains.after(place);
     }
     Ok(())
 }
@@ -107,11 +119,13 @@ fn told_of<S: Subscriber>(left: &NamedLane<Shown<S>>) -> &[Signal] {
     }
 }
 
-/// How many items are among the signals.
-fn count_items(told: &[Signal]) -> usize {
-    told.iter()
-        .filter(|signal| matches!(signal, Signal::Next(_)))
-        .count()
+/// How many signals were told to the subscriber that was told most.
+fn most_told<S: Subscriber>(lanes: &[NamedLane<Shown<S>>]) -> usize {
+    lanes
+        .iter()
+        .map(|left| told_of(left).len())
+        .max()
+        .unwrap_or(0)
 }
 
 /// How a subscription ended, as a report says it.

@@ -1,6 +1,6 @@
-//! The sources of a run: each publishes its lines from a thread of its own.
+//! The sources of a run: each publishes its lines in order from a thread of its own, 64 by one call.
 use super::input::{Input, Publication};
-use flow_rules::{FailHandler, Listener, NoMemory};
+use flow_rules::{FailHandler, Listener, NoMemory, Refusal, Text};
 use publisher::Submitter;
 use std::alloc::Global;
 use std::sync::Wait;
@@ -8,12 +8,15 @@ use std::sync::ledger::Ledger;
 use std::thread;
 use std::thread::Threads;
 
+/// How many lines of a source are published by one call, but for its last ones.
+const AT_ONCE: usize = 64;
+
 /// A submitter, and the source whose lines it publishes.
 #[derive(Drop)]
 struct Sender<L: Ledger + Send, D: Ledger + Send, B: Listener + Send, F: FailHandler + Send> {
     submitter: Submitter<L, D, B, F>,
     source: u32,
-    /// Whether a line was refused. The texts are short and the publisher is open, so that was for want of memory.
+    /// Whether a line was refused. The texts are short enough and the publisher is open, so memory was refused.
     is_refused: bool,
 }
 
@@ -25,16 +28,52 @@ impl<L: Ledger + Send, D: Ledger + Send, B: Listener + Send, F: FailHandler + Se
 > {
     /// Publishes the lines of its source in order, up to one that is refused.
     fn send<R: Wait>(&mut self, rt: &R, alloc: Global, publications: &[Publication<'_>]) {
+        self.is_refused = self.send_all(rt, alloc, publications).is_err();
+    }
+
+    /// Publishes the lines of its source in order, [`AT_ONCE`] by one call.
+    fn send_all<R: Wait>(
+        &mut self,
+        rt: &R,
+        alloc: Global,
+        publications: &[Publication<'_>],
+    ) -> Result<(), Refusal> {
+        let mut texts = Vec::with_capacity(alloc, AT_ONCE)?;
         for publication in publications {
             if publication.source == self.source {
-                let text = publication.text.as_bytes();
-                if self.submitter.submit(rt, alloc, text).is_err() {
-                    self.is_refused = true;
-                    return;
+                texts.push(text_of(alloc, publication)?)?;
+                if texts.len() == AT_ONCE {
+                    self.publish(rt, alloc, &mut texts)?;
                 }
             }
         }
+        self.publish(rt, alloc, &mut texts)
     }
+
+    /// Publishes these texts in order, and takes them out of the list.
+    fn publish<R: Wait>(
+        &mut self,
+        rt: &R,
+        alloc: Global,
+        texts: &mut Vec<Text>,
+    ) -> Result<(), Refusal> {
+        match self.submitter.submit_all(rt, alloc, texts.as_slice()) {
+            Ok(_) => {
+                texts.clear();
+                Ok(())
+            }
+            Err(unsent) => Err(unsent.refusal),
+        }
+    }
+}
+
+/// The text of a line. It is refused if it is too long.
+fn text_of(alloc: Global, publication: &Publication<'_>) -> Result<Text, Refusal> {
+    let bytes = publication.text.as_bytes();
+    if bytes.len() > Text::LONGEST {
+        return Err(Refusal::LineTooLong);
+    }
+    Ok(Text::new(alloc, bytes)?)
 }
 
 /// Publishes all lines: the submitters, in order, those of the sources, each from a thread of its own. The threads have ended then, and

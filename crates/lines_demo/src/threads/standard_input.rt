@@ -12,6 +12,9 @@ use std::io::{BufWriter, Read, Write};
 use std::sync::Wait;
 use std::thread::Threads;
 
+/// How many bytes of a report are written at once.
+const WRITTEN_AT_ONCE: usize = 65_536;
+
 /// Publishes the lines on standard input as the command line asks, and reports on standard output. The answer is the exit status.
 pub fn run_standard_input<
     R: Input + Print + AllocGlobal + Threads + Wait + Copy + Send + Sync + 'static,
@@ -19,7 +22,7 @@ pub fn run_standard_input<
     let alloc = rt.alloc();
     let plan = Plan::read(alloc, matches)?;
     let mut reader = rt.reader();
-    let Ok(mut writer) = BufWriter::new(alloc, io::writer(&rt)) else {
+    let Ok(mut writer) = BufWriter::with_capacity(alloc, WRITTEN_AT_ONCE, io::writer(&rt)) else {
         return Err(LinesFault::Refused(Refusal::NoMemory));
     };
     let status = run_on_collectors(rt, alloc, &plan, &mut reader, &mut writer);
