@@ -9,7 +9,7 @@
 #include <string.h>
 #include <time.h>
 
-enum { RUN = 1, ITEM = 3, COMPLETE = 67, STOPS = 4 | 8 | 16 | 32, ITEMS_IN_A_TURN = 64 };
+enum { RUN = 1, ITEM = 3, COMPLETE = 67, STOPS = 4 | 8 | 16 | 32, ITEMS_IN_A_TURN = 64, PATIENCE = 6 };
 #define QUIET (~(uint64_t)2)
 #define RESTING (~(uint64_t)1)
 #define MARK ((uint64_t)1 << 63)
@@ -128,12 +128,13 @@ static void clear(void) {
 #endif
 static uint64_t freed, known_tail, known_asked;
 
-/* One turn: 1 where another is owed, 0 at rest, -1 at the end. While more items wait it peeks before each, and it looks before it rests. */
+/* One turn: 1 where another is owed, 0 at rest, -1 at the end. It peeks before each item; with nothing to do it spins and peeks again, a few
+   times, and it looks before it rests. */
 static int turn(void) {
-    int more = 1;
     clear();
     for (int i = 0; i < ITEMS_IN_A_TURN; i++) {
-        uint64_t word = more ? atomic_load(&CONTROL) : atomic_fetch_and(&CONTROL, QUIET) & QUIET;
+        uint64_t word = atomic_load(&CONTROL);
+        int peeks = 0;
     again:
         if (word & STOPS) abort();
         if (!KNOWS_MORE) {
@@ -141,7 +142,6 @@ static int turn(void) {
             known_asked = atomic_load(&ASKED);
         }
         uint64_t tail = known_tail;
-        more = given + 1 < tail;
         if (given < tail && given < known_asked) {
             Held *held = slot(given);
             Item item = held->item;
@@ -154,7 +154,13 @@ static int turn(void) {
             atomic_store(&HEAD, given + MARK);
             return -1;
         } else if (word & ~QUIET) {
-            word = atomic_fetch_and(&CONTROL, QUIET) & QUIET;
+            if (peeks < PATIENCE) {
+                for (int pause = 0; pause < 1 << peeks; pause++) __builtin_ia32_pause();
+                peeks++;
+                word = atomic_load(&CONTROL);
+            } else {
+                word = atomic_fetch_and(&CONTROL, QUIET) & QUIET;
+            }
             goto again;
         } else {
             return !atomic_compare_exchange_strong(&CONTROL, &word, word & RESTING);

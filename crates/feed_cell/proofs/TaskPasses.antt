@@ -1,4 +1,4 @@
--- What the task does after a peek and a look, as one.
+-- What the task does after some peeks, and a look, as one.
 use Rattle.std.proofs.Common.{◌≡◌, ℕ, ◌+◌, ◌<◌, List, [], ◌∷◌, ◌++◌, length, sym, ap, ◌∙◌, subst, inl, inr}
 use Rattle.feed_core.specs.Prelude.{Answer, ErrorOrder, Item, Signal, Next}
 use Rattle.feed_core.specs.Seen.{SeenState}
@@ -28,7 +28,7 @@ module _ {B : Type 0} (told : B → List Signal) where
     how = h.carries.how;
   }
 
-  -- what it did after that look it did after the peek, too
+  -- what it did after that look, or after another peek, it did after the peek, too
   module _ (before passed mid after : SeatOf B) (word : ℕ) (h : HasPassed told before passed) (looked : HasLookedAt told word mid) (counts : KeepsCounts passed.0 mid.0) (keeps : KeepsSubscriber passed mid) where
     taken_too : mid.0.taken ≡ before.0.taken
     taken_too = keeps.1 ∙ h.taken

@@ -89,7 +89,7 @@ module _ {B : Type 0} (told : B → List Signal) where
     pub may : MayEnd how (length after.0.taken) after.0.runner
     pub failed : (code : ℕ) → how ≡ How.Failed code → EndsInObeyed last
 
-  -- what it did after a look, or after a peek and a look
+  -- what it did after a look, or after some peeks and a look
   abbrev pub Serves : Served → SeatOf B → SeatOf B → SeenState → SeenState → Type 0
   Serves Served.Gave before after seen later = GivesItem before after seen later
   Serves Served.Rested before after seen later = RestsNow before after × (later ≡ seen)
@@ -100,6 +100,11 @@ module _ {B : Type 0} (told : B → List Signal) where
   abbrev pub ServesOnce : ℕ → Option Served → SeatOf B → SeatOf B → SeenState → SeenState → Type 0
   ServesOnce word None before after seen later = (bit_at word NEW ≡ 1) × HasPassed before after × (later ≡ seen)
   ServesOnce word (Some served) before after seen later = Serves served before after seen later
+
+  -- what it did after a peek, or after one of those that it made in the moment after that: it may find nothing to do at all of them
+  abbrev pub ServesSoon : Option Served → SeatOf B → SeatOf B → SeenState → SeenState → Type 0
+  ServesSoon None before after seen later = HasPassed before after × (later ≡ seen)
+  ServesSoon (Some served) before after seen later = Serves served before after seen later
 
   -- by the answer of the callback for an item that was taken
   abbrev pub GivesAs : Item → Served → SeatOf B → SeatOf B → SeenState → SeenState → Type 0

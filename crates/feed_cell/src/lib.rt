@@ -51,13 +51,14 @@
 //! cause, so where both marks are set already the signal is a load that finds them so.
 //!
 //! A look clears the mark of something new and tells the causes. A peek tells the causes and leaves the mark, so it is a load. The
-//! task makes one of them before each item, and loads tail and asked after it, never before. If it finds nothing to do after a
-//! peek that found something new, it looks, and loads the two once more. If it finds nothing to do then, it rests by one
-//! compare-and-exchange: from the word after its look to the same without the mark of the task. That fails exactly if there was a
-//! signal since the look, and then the task goes on. Thus nothing is forgotten: a subscription at rest was told all that its
-//! demand and its ending allow, or somebody is between a store and its signal, and that signal will start the task.
+//! task peeks before each item, and loads tail and asked after that, never before. If it finds nothing to do after a peek that
+//! found something new, it waits a moment and does the same again, a few times, in case the next item is about to come. Then it
+//! looks, and loads the two once more. If it finds nothing to do then, it rests by one compare-and-exchange: from the word after
+//! its look to the same without the mark of the task. That fails exactly if there was a signal since the look, and then the task
+//! goes on. Thus nothing is forgotten: a subscription at rest was told all that its demand and its ending allow, or somebody is
+//! between a store and its signal, and that signal will start the task.
 //!
-//! While items wait, the task peeks, and the mark stays set: then neither it nor the other two change control.
+//! Until the task would rest, the mark stays set: then neither it nor the other two change control.
 //!
 //! The mark of the task stays set after the end, so nothing starts the task of a subscription that has ended.
 //!
@@ -86,8 +87,8 @@
 //!  Fresh, Taken, Looked, Measured -- end: head, with its mark --> Over
 //! ```
 //!
-//! For a look a peek may stand, which is a load of control. From `Measured` a look may lead back to `Looked`, which it does
-//! after a peek with nothing to do. An end comes from `Looked` if the look showed a cause that ends the subscription at
+//! For a look a peek may stand, which is a load of control. From `Measured` a peek or a look may lead back to `Looked`, which it
+//! does after a peek with nothing to do. An end comes from `Looked` if the look showed a cause that ends the subscription at
 //! once, from `Measured` if every item was given and a close waited for that, and from `Fresh` or `Taken` if a callback answered an
 //! end or was refused memory. A task that was handed over is `Ready`; the first task of a subscription is `Fresh`.
 //!

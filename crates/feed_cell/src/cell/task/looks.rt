@@ -1,5 +1,5 @@
 //! What the task does after a look or a peek: it gives one item, or ends the subscription, or rests. If it finds nothing to do
-//! after a peek, it looks once more, for it rests only after a look.
+//! after a peek, it waits a moment and peeks again, a few times, and then it looks, for it rests only after a look.
 ghost use Rattle.std.specs.Prelude.{◌≡◌, ◌+◌, ◌≤◌, ◌<◌, length, ◌==◌, IfSome, IfNone};
 ghost use Rattle.std.specs.Int.{bit_at};
 ghost use Rattle.feed_core.specs.Prelude.{UNBOUNDED};
@@ -7,17 +7,22 @@ ghost use Rattle.feed_core.specs.World.Table.{MayRest, MaySee};
 ghost use Rattle.feed_core.specs.declared.turn.TheConstants.{SIGNALS_IN_A_TURN};
 ghost use Rattle.feed_cell.specs.Control.{NEW};
 ghost use Rattle.feed_cell.specs.TaskSteps.{notes_of, MayFinish, Carries, HasLookedAt, HasTaken, HasNoneToGive, FindsNone, TakesNext};
-ghost use Rattle.feed_cell.specs.TaskLooks.{Serves, ServesOnce, GivesAs, FinishesAs, RestsIfQuiet, EndsOrRests};
+ghost use Rattle.feed_cell.specs.TaskLooks.{Serves, ServesOnce, ServesSoon, GivesAs, FinishesAs, RestsIfQuiet, EndsOrRests};
 ghost use Rattle.feed_cell.specs.Seats.{IsSameSeat};
 
 use super::causes::causes_in;
-use super::steps::{end, look, measure, measure_none, see, take, try_rest};
+use super::steps::{end, look, measure, measure_none, peek, see, take, try_rest};
 use crate::cell::seated::Seated;
 use crate::cell::{Held, MARK, NEW};
+use crossbeam_utils::Backoff;
 use feed_core::{Causes, Seen};
 use flow_rules::{How, Item, Listener, UNBOUNDED};
 
-/// What the task did after a look, or after a peek and a look.
+/// How often a task that finds nothing to do peeks again before it looks and rests. It spins before each of these peeks, some 3 to 4
+/// microseconds in all: to rest and be started again costs more than the item that is likely to come meanwhile.
+const PATIENCE: u32 = 6;
+
+/// What the task did after a look, or after some peeks and a look.
 #[derive(Clone, Copy, Debug, PartialEq, Eq)]
 pub(crate) enum Served {
     /// It gave an item.
@@ -30,36 +35,49 @@ pub(crate) enum Served {
     Ended(How),
 }
 
-/// Does what a look or a peek that left this word allows: the end at once, or the next item, or the end that waits for the
-/// items, or rest. To rest after a peek, it looks first, which may show something else to do.
-pub(crate) fn serve<B: Listener>(
-    party: &mut Seated<B>,
-    word: u64,
-    more: &mut bool,
-    seen: &mut Seen,
-) -> Served
+/// Does what a peek that left this word allows: the end at once, or the next item, or the end that waits for the items, or rest. To
+/// rest it waits a moment and looks first, which may show something else to do.
+pub(crate) fn serve<B: Listener>(party: &mut Seated<B>, word: u64, seen: &mut Seen) -> Served
     requires looked { HasLookedAt B.told word party.old.seat.me }
     requires room { length seen.old.signals < SIGNALS_IN_A_TURN }
     ensures seat { IsSameSeat party.old.seat party.new.seat }
     ensures serves { Serves B.told result party.old.seat.me party.new.seat.me seen.old seen.new }
 {
-    if let Some(served) = serve_once(party, word, more, seen) {
+    if let Some(served) = serve_soon(party, word, seen) {
         return served;
     }
     let word = look(party);
-    match serve_once(party, word, more, seen) {
+    match serve_once(party, word, seen) {
         Some(served) => served,
         None => unreachable!(),
     }
 }
 
+/// Does what a peek that left this word allows, or one of the peeks that it makes in the moment after that. Answers nothing if there
+/// was nothing to do until then, and something was new at each peek.
+fn serve_soon<B: Listener>(party: &mut Seated<B>, word: u64, seen: &mut Seen) -> Option<Served>
+    requires looked { HasLookedAt B.told word party.old.seat.me }
+    requires room { length seen.old.signals < SIGNALS_IN_A_TURN }
+    ensures seat { IsSameSeat party.old.seat party.new.seat }
+    ensures serves { ServesSoon B.told result
+        party.old.seat.me party.new.seat.me seen.old seen.new }
+{
+    if let Some(served) = serve_once(party, word, seen) {
+        return Some(served);
+    }
+    let backoff = Backoff::new();
+    for _ in 0..PATIENCE {
+        backoff.spin();
+        let word = peek(party);
+        if let Some(served) = serve_once(party, word, seen) {
+            return Some(served);
+        }
+    }
+    None
+}
+
 /// Does what a look or a peek that left this word allows. Answers nothing if that is to rest, and something was new at the peek.
-fn serve_once<B: Listener>(
-    party: &mut Seated<B>,
-    word: u64,
-    more: &mut bool,
-    seen: &mut Seen,
-) -> Option<Served>
+fn serve_once<B: Listener>(party: &mut Seated<B>, word: u64, seen: &mut Seen) -> Option<Served>
     requires looked { HasLookedAt B.told word party.old.seat.me }
     requires room { length seen.old.signals < SIGNALS_IN_A_TURN }
     ensures seat { IsSameSeat party.old.seat party.new.seat }
@@ -72,7 +90,6 @@ fn serve_once<B: Listener>(
         return Some(finish(party, given, due, seen));
     }
     let (tail, next) = next_item(party, given, own);
-    *more = given.saturating_add(1) < tail;
     match next {
         Some(item) => Some(give(party, given, item, seen)),
         None => close_or_rest(party, given, tail, causes.closes(), word, seen),

@@ -12,7 +12,7 @@ ghost use Rattle.feed_cell.specs.TaskTurns.{MayGoOn, OnAgain, outlook_of, IsBefo
 ghost use Rattle.feed_cell.specs.Views.{RunsFree};
 
 use super::looks::{Served, serve};
-use super::steps::{end, look, peek, peek_first};
+use super::steps::{end, peek, peek_first};
 use super::{Spent, Stage, Task};
 use crate::cell::Held;
 use crate::cell::seated::Seated;
@@ -36,8 +36,8 @@ impl<B: Listener> Task<B> {
     /// terminal signal. What it was told is what `seen` then holds (`Flow.Subscriber`; Reactive Streams 1.0, rules 1.1, 1.3,
     /// 1.5, 1.7 and 1.9). Before each item it looks or peeks: that showed no cancel, bad request, second subscribing or error that
     /// overtakes the items, and a measure after it showed that the item was requested. What a callback answers is done at once;
-    /// one that is refused memory ends the subscription. It goes on only after 64 items, or if something was new when it would
-    /// have rested.
+    /// one that is refused memory ends the subscription. If nothing is left to tell, it spins for a few microseconds in case more
+    /// comes. It goes on only after 64 items, or if something was new when it would have rested.
     pub fn turn(self, seen: &mut Seen) -> Turn<B>
 
         // What it tells, by what it takes each item, and what became of the task.
@@ -94,10 +94,9 @@ fn run<B: Listener>(party: &mut Seated<B>, stage: Stage, seen: &mut Seen) -> Out
         Ok(stage) => stage,
         Err(how) => return Outlook::Ended(how),
     };
-    let mut more = true;
     for _ in 0..ITEMS_IN_A_TURN {
-        let word = look_next(party, stage, more);
-        match serve(party, word, &mut more, seen) {
+        let word = peek_next(party, stage);
+        match serve(party, word, seen) {
             Served::Gave => stage = Stage::Going,
             Served::Rested => return Outlook::Resting,
             Served::Missed => return Outlook::Again,
@@ -141,9 +140,9 @@ fn greet<B: Listener>(party: &mut Seated<B>, stage: Stage, seen: &mut Seen) -> R
     }
 }
 
-/// Looks at the marks and causes. If more items are likely to wait, it peeks, which is cheaper: a look is needed only before
-/// rest. The first peek of a task that a signal started takes its subscriber with it.
-fn look_next<B: Listener>(party: &mut Seated<B>, stage: Stage, more: bool) -> u64
+/// Peeks at the marks and causes: a look, which is dearer, is needed only before rest. The first peek of a task that a signal started
+/// takes its subscriber with it.
+fn peek_next<B: Listener>(party: &mut Seated<B>, stage: Stage) -> u64
     requires runner { RunsFree party.old.seat.me.0 }
     requires may { MayLookNext B.told stage party.old.seat.me }
     ensures seat { IsSameSeat party.old.seat party.new.seat }
@@ -152,8 +151,7 @@ fn look_next<B: Listener>(party: &mut Seated<B>, stage: Stage, more: bool) -> u6
     ensures keeps { KeepsGoing stage party.old.seat.me party.new.seat.me }
 {
     match stage {
-        Stage::Going if more => peek(party),
-        Stage::Going => look(party),
+        Stage::Going => peek(party),
         _ => peek_first(party),
     }
 }

@@ -1,4 +1,4 @@
--- After a peek that found nothing to do it looks, and what it does after that look it does after the peek, too.
+-- After peeks that found nothing to do it looks, and what it does after that look it does after the first peek, too.
 use Rattle.std.proofs.Common.{subst}
 use Rattle.feed_core.specs.Seen.{SeenState}
 use Rattle.feed_cell.specs.TaskLooks.{Serves}
@@ -6,11 +6,11 @@ use Rattle.feed_cell.proofs.TaskPasses.{may_look_again, serves_too}
 use Rattle.feed_cell.proofs.cell.task.looks.serve.Goals as goal
 
 pub look-word-requires-clause-going : goal.look-word-requires-clause-going
-look-word-requires-clause-going g c = may_look_again g.B.Listener.told c.args.party.now.seat.me c.serve_once.new.party.seat.me c.in_default.ensures.serves.1
+look-word-requires-clause-going g c = may_look_again g.B.Listener.told c.args.party.now.seat.me c.serve_soon.new.party.seat.me c.in_default.ensures.serves.0
 
 pub returns-clause-serves : goal.returns-clause-serves
 returns-clause-serves g c =
     let passed = c.in_default.ensures.serves in
-    subst (λ (s : SeenState). Serves g.B.Listener.told c.in-Some-serve_once.served c.args.party.now.seat.me c.serve_once-2.new.party.seat.me s c.serve_once-2.new.seen) passed.2
-    (serves_too g.B.Listener.told c.args.party.now.seat.me c.serve_once.new.party.seat.me c.look-word.new.party.seat.me c.serve_once-2.new.party.seat.me c.look-word.result passed.1 c.look-word.ensures.looked c.look-word.ensures.counts c.look-word.ensures.keeps
-    c.in-Some-serve_once.served c.serve_once.new.seen c.serve_once-2.new.seen c.in-Some-serve_once.ensures.serves)
+    subst (λ (s : SeenState). Serves g.B.Listener.told c.in-Some-serve_once.served c.args.party.now.seat.me c.serve_once.new.party.seat.me s c.serve_once.new.seen) passed.1
+    (serves_too g.B.Listener.told c.args.party.now.seat.me c.serve_soon.new.party.seat.me c.look-word.new.party.seat.me c.serve_once.new.party.seat.me c.look-word.result passed.0 c.look-word.ensures.looked c.look-word.ensures.counts c.look-word.ensures.keeps
+    c.in-Some-serve_once.served c.serve_soon.new.seen c.serve_once.new.seen c.in-Some-serve_once.ensures.serves)
