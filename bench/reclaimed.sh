@@ -4,10 +4,12 @@
 # 100 to 100,000; and the bytes that stay of each, at the peak of the run and before `finish`.
 # What publishes and who subscribes is as in deliveries.sh, with capacity 256 and texts of 16 bytes. An item's time is from the start of the
 # submitters' threads until all subscribers were told all, by the number of items. A `reclaim` is the average of the last 64.
-# Without a subscriber nobody subscribes after the reclaims, and a publication still looks at the last 64.
+# Without a subscriber nobody subscribes after the reclaims, and a publication still makes shares for the last 64. With one worker and one
+# submitter all threads share a processor, since it makes more of a difference than what is measured on how many the system puts them.
 # Usage: bench/reclaimed.sh [RUNS [ITEMS]]. Each figure is the median of RUNS runs in turns, of ITEMS items (7 and 400,000); beside an item's
 # time is the least, which other work on the machine disturbs less, and each has its ratio to that after 0. The program
-# (crates/deliveries_bench) is proved and built as for deliveries.sh, and PROGRAM names one that was built before. It needs GNU time.
+# (crates/deliveries_bench) is proved and built as for deliveries.sh, and PROGRAM names one that was built before. It needs GNU time
+# and taskset.
 set -eu
 [ -z "${PROGRAM-}" ] || PROGRAM=$(realpath -e "$PROGRAM")
 cd "$(dirname "$0")/.."
@@ -23,12 +25,13 @@ else
 fi
 
 # measure WORD..: the figures of the runs with these words after each number $counts of reclaimed subscriptions, in $work/NUMBER.times.
+# $pinned is the command that pins them to a processor, or nothing.
 measure() {
     rm -f "$work"/*.times
     run=0
     while [ "$run" -lt "$runs" ]; do
         for count in $counts; do
-            "$work/this" left "$count" "$@" >>"$work/$count.times"
+            $pinned "$work/this" left "$count" "$@" >>"$work/$count.times"
         done
         run=$((run + 1))
     done
@@ -89,9 +92,11 @@ stay() {
 
 echo 'workers submitters subscribers reclaimed  ns/item ratio   least ratio finish_ms'
 counts='0 1000 100000'
+pinned='taskset -c 0'
 publishing 1 1 0
 publishing 1 1 1
 publishing 1 1 4
+pinned=
 publishing 4 4 4
 
 echo
