@@ -4,7 +4,7 @@
 # 100 to 100,000; and the bytes that stay of each, at the peak of the run and before `finish`.
 # What publishes and who subscribes is as in deliveries.sh, with capacity 256 and texts of 16 bytes. An item's time is from the start of the
 # submitters' threads until all subscribers were told all, by the number of items. A `reclaim` is the average of the last 64.
-# Without a subscriber nobody subscribes after the reclaims, and a publication still makes shares for the last 64. With one worker and one
+# Without a subscriber nobody subscribes after the reclaims, so that these alone leave out the numbers of the last 64. With one worker and one
 # submitter all threads share a processor, since it makes more of a difference than what is measured on how many the system puts them.
 # Usage: bench/reclaimed.sh [RUNS [ITEMS]]. Each figure is the median of RUNS runs in turns, of ITEMS items (7 and 400,000); beside an item's
 # time is the least, which other work on the machine disturbs less, and each has its ratio to that after 0. The program

@@ -52,13 +52,17 @@ stays_by v w rest keep = record {
   keep = keep;
 }
 
-pub stays_seen : (v w : HubState) → w ≡ record v { entries = w.entries; live = w.live } → Each (IsKept v.progress.next) v.entries w.entries → Stays v w
-stays_seen v w rest kept = record {
+-- also if numbers were left out of those that may be live
+pub stays_left : (v w : HubState) → w ≡ record v { entries = w.entries; live = w.live } → AllKeep v.entries w.entries → Stays v w
+stays_left v w rest keep = record {
   progress = ap (λ (h : HubState). h.progress) rest;
   sources = ap (λ (h : HubState). h.sources) rest;
   opening = ap (λ (h : HubState). h.opening) rest;
-  keep = all_looked v.progress.next v.entries w.entries kept;
+  keep = keep;
 }
+
+pub stays_seen : (v w : HubState) → w ≡ record v { entries = w.entries; live = w.live } → Each (IsKept v.progress.next) v.entries w.entries → Stays v w
+stays_seen v w rest kept = stays_left v w rest (all_looked v.progress.next v.entries w.entries kept)
 
 pub stays_looked : (v w : HubState) → IsLookedAt v w → Stays v w
 stays_looked v w looked = stays_by v w looked.rest (all_looked v.progress.next v.entries w.entries looked.entries)

@@ -32,7 +32,7 @@ use Rattle.publisher.specs.declared.state.finding.Taken.{Taken}
 use Rattle.publisher.specs.declared.state.reclaiming.Known.{Known}
 use Rattle.publisher.proofs.FindingRounds.{read_of}
 use Rattle.publisher.proofs.GrownStates.{state_with_last}
-use Rattle.publisher.proofs.KeptStates.{Stays, state_stays, stays_by, tickets_stay}
+use Rattle.publisher.proofs.KeptStates.{Stays, state_stays, stays_left, tickets_stay}
 use Rattle.publisher.proofs.TakenOut.{counted_of}
 use Rattle.publisher.proofs.Ticketed.{AllKeep, KeepsTicket, all_but_one, all_same, keeps_ended, keeps_over, keeps_same, of_count_after}
 
@@ -48,7 +48,7 @@ ended_keeps next (Some standing) (Some (feed, ticket)) before after both = keeps
 
 module _ (old new : Hub ProducerState) (number : ℕ) (taken : Option (ProducerState × Option Ticket)) (takes : TakesEndedAt producer_end DoesCall number taken old new) where
   stays_ended : Stays (hub_of producer_end old) (hub_of producer_end new)
-  stays_ended = stays_by (hub_of producer_end old) (hub_of producer_end new) takes.rest (by (slice_get old.entries.items number) refl) where
+  stays_ended = stays_left (hub_of producer_end old) (hub_of producer_end new) takes.rest (by (slice_get old.entries.items number) refl) where
     by : (before : Option (Entry ProducerState)) → slice_get old.entries.items number ≡ before → AllKeep (hub_of producer_end old).entries (hub_of producer_end new).entries
     by None at = subst (λ items. AllKeep (hub_of producer_end old).entries (map (entry_of producer_end) items)) (sym (takes.none at).1) (all_same (hub_of producer_end old).entries)
     by (Some before) at =

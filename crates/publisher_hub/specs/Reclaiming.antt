@@ -1,10 +1,12 @@
 -- What becomes of a Hub when the producer's end of a subscription that has ended is taken out.
-use Rattle.std.specs.Prelude.{◌≡◌, ℕ, true, false, Option, None, Some, slice_get, slice_set}
+use Rattle.std.specs.Prelude.{◌≡◌, ℕ, true, false, Option, None, Some, List, slice_get, slice_set}
 use Rattle.close_count.specs.declared.ticket.Ticket.{Ticket}
 use Rattle.flow_rules.specs.Call.{Call}
 use Rattle.flow_rules.specs.Feed.{End}
 use Rattle.flow_rules.specs.declared.feed.standing.Standing.{Standing}
-use Rattle.publisher_hub.specs.Hub.{OnlyEntriesChange, hub_of}
+use Rattle.publisher_hub.specs.Adding.{live_of}
+use Rattle.publisher_hub.specs.Entry.{EntryState}
+use Rattle.publisher_hub.specs.Hub.{OnlySubscriptionsChange, hub_of}
 use Rattle.publisher_hub.specs.Looking.{Stands}
 use Rattle.publisher_hub.specs.Taking.{entry_without_feed}
 use Rattle.publisher_hub.specs.declared.entry.Entry.{Entry}
@@ -39,10 +41,16 @@ module _ {F T : Type 0} (meaning : F → End) (does : F → Call T → F → Typ
   TakesEnded next None (Some taken) old new = ⊥
   TakesEnded next None None old new = (old.feed ≡ None) × (new ≡ old)
 
-  -- the subscription of this number in a Hub did, and nothing else changed
+  -- the numbers of those that may be live after that, of these before: if a producer's end came out, those of the retired ones are left out
+  abbrev pub live_after : Option (F × Option Ticket) → List EntryState → List ℕ → List ℕ
+  live_after None entries live = live
+  live_after (Some taken) entries live = live_of entries live
+
+  -- the subscription of this number in a Hub did, and nothing else changed but the numbers of those that may be live
   pub record TakesEndedAt (number : ℕ) (taken : Option (F × Option Ticket)) (old new : Hub F)
       : Type 0 where
-    pub rest : OnlyEntriesChange (hub_of meaning old) (hub_of meaning new)
+    pub rest : OnlySubscriptionsChange (hub_of meaning old) (hub_of meaning new)
+    pub live : new.live.items ≡ live_after taken (hub_of meaning new).entries old.live.items
     pub none : slice_get old.entries.items number ≡ None
         → (taken ≡ None) × (new.entries.items ≡ old.entries.items)
     pub there : (before : Entry F) → slice_get old.entries.items number ≡ Some before

@@ -94,7 +94,8 @@ impl<L: Ledger, D: Ledger, B: Listener> State<L, D, B> {
         })
     }
 
-    /// Looks at the subscription of this number. If that shows that it has ended, its producer's end is taken out, and its ticket is spent.
+    /// Looks at the subscription of this number. If that shows that it has ended, its producer's end is taken out, its number is none of those
+    /// that may be live, and its ticket is spent.
     fn take_end(&mut self, entry: u32) -> Option<Producer<B>>
         ensures { TakesEnd entry result self.old self.new }
     {

@@ -26,7 +26,8 @@ impl<F: Feed> Hub<F> {
     }
 
     /// Looks at the subscription of this number, also if it is retired. If that shows that it has ended, its producer's end is taken out as by
-    /// [`take_feed`](Hub::take_feed), and with it its ticket, if that is there still; whoever gets that has to spend it.
+    /// [`take_feed`](Hub::take_feed), and with it its ticket, if that is there still; whoever gets that has to spend it. The numbers of all
+    /// retired ones are then left out of those that may be live, so that a publication costs nothing for this one.
     ///
     /// `None`, with nothing changed but by the look, if it goes on, if the end was taken out before, or if no subscription has the number.
     #[must_use]
@@ -36,9 +37,8 @@ impl<F: Feed> Hub<F> {
         ensures sound { IsSound (hub_of F.meaning self.new) }
     {
         let next = self.next;
-        match self.entries.get_mut(entry as usize) {
-            Some(entry) => entry.take_ended(next),
-            None => None,
-        }
+        let taken = self.entries.get_mut(entry as usize)?.take_ended(next)?;
+        self.leave_out_retired();
+        Some(taken)
     }
 }
