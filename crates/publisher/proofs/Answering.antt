@@ -1,5 +1,5 @@
 -- What `finish` answers, clause by clause.
-use Rattle.std.proofs.Common.{◌≡◌, Result, Ok, Err, List, subst}
+use Rattle.std.proofs.Common.{Result, Ok, Err, List, subst}
 use Rattle.std.specs.Prelude.{IfErr, IfOk}
 use Rattle.flow_rules.specs.declared.refusal.Refusal.{Refusal}
 use Rattle.publisher.specs.Handles.{SubmitterState, SubscriptionState}

@@ -5,7 +5,6 @@ use Rattle.std.proofs.lemmas.List.{length-append}
 use Rattle.std.proofs.lemmas.Option.{slice_get_within}
 use Rattle.feed_core.specs.Prelude.{Signal}
 use Rattle.publisher_hub.proofs.AnswerLists.Updates.{get_grown}
-use Rattle.publisher_hub.proofs.AnswerLists.Places.{there}
 use Rattle.publisher.specs.Leaving.{ClosesAll, ClosesOne, FindsFirst, IsLeftOfTaken}
 use Rattle.publisher.specs.Outcome.{AreGiven, HasLane, IsFirstGap, IsHeld}
 use Rattle.publisher.specs.declared.leaving.Closed.TheVariants as Closed

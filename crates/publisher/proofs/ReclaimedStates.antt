@@ -2,7 +2,6 @@
 use Rattle.std.proofs.Common.{◌≡◌, ◌⊎◌, inl, inr, ℕ, Bool, true, false, is_some, Option, None, Some, option_map, List, map, length, refl, sym, ap, subst, ◌∙◌, arith}
 use Rattle.std.specs.Prelude.{IsSome, slice_get}
 use Rattle.std.proofs.lemmas.List.{map-set}
-use Rattle.std.proofs.lemmas.Option.{same_Some}
 use Rattle.close_count.specs.Count.{CountId}
 use Rattle.close_count.specs.Spent.{count_of_spent}
 use Rattle.close_count.specs.Ticket.{count_of_ticket}

@@ -1,5 +1,5 @@
 -- A subscription that has ended is reclaimed, and one that goes on by a look is refused.
-use Rattle.std.proofs.Common.{◌≡◌, true, false, Option, ap, subst}
+use Rattle.std.proofs.Common.{true, false, Option, ap, subst}
 use Rattle.feed_cell.specs.Parties.{ProducerState}
 use Rattle.publisher.specs.Reclaiming.{TakesEnd}
 use Rattle.publisher.specs.State.{PublisherState}

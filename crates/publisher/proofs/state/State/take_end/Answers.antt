@@ -1,5 +1,5 @@
 -- A subscription that has ended is taken out, and its ticket is spent.
-use Rattle.std.proofs.Common.{◌≡◌, Some, is_some, refl, sym, ap, ◌∙◌}
+use Rattle.std.proofs.Common.{Some, is_some, refl, sym, ap, ◌∙◌}
 use Rattle.publisher_hub.specs.Hub.{HubState}
 use Rattle.publisher.proofs.ReclaimedStates.{none_spent, spent_of, state_ended, state_ended_spent, takes_end}
 use Rattle.publisher.proofs.state.State.take_end.Goals as goal

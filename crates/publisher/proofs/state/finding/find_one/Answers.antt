@@ -1,5 +1,5 @@
 -- What is found of one subscription: both ends, or its name, or that it was reclaimed.
-use Rattle.std.proofs.Common.{rules, ◌≡◌, true, true≢false, refl, sym, ◌∙◌}
+use Rattle.std.proofs.Common.{true≢false, refl, sym, ◌∙◌}
 use Rattle.publisher_hub.specs.Entry.{EntryState}
 use Rattle.publisher.proofs.FindingRounds.{finds_both, finds_gone, finds_missing, finds_reclaimed, read_of}
 use Rattle.publisher.proofs.state.finding.find_one.Goals as goal
