@@ -31,7 +31,7 @@ pub struct Pool<J: Job> {
     /// How many workers sleep, or are about to. Only if there are any, whoever puts a job somewhere takes the lock.
     idle: AtomicU64,
     /// How many workers look for a job again and again. While there are any nobody is called: they look after a job came, and the last of
-    /// them that finds one calls the next worker. So one wake-up serves all jobs that come together.
+    /// them that finds one calls the next worker, if another job waits. So one wake-up serves all jobs that come together.
     searching: AtomicU64,
     /// Whether the pool was shut, as `execute` sees it without the lock.
     shut: AtomicBool,
