@@ -2,6 +2,8 @@
 # Runs the TCK of Reactive Streams 1.0.3, its tests of a publisher, on consoles: a publisher of Java (tck/ConsolePublisher.java) types
 # lines and reads what the program console prints. Prints which tests failed and which were skipped; the last line is
 # `N passed, M failed, K skipped`. It is no part of the gate.
+# With --spoilt it runs the tests once for each way in which tck/spoil.py spoils what the console prints, or for those that are named, and
+# prints how many tests fail; its status is 1 if none does in one of them.
 # It needs the native program, which `rt ci` leaves in crates/console/out, Java 17 (default-jdk-headless), and TestNG (the package testng).
 # TCK is the folder of the TCK's sources; without it they are fetched, as Debian's source package reactive-streams. PROGRAM names another
 # program.
@@ -31,4 +33,26 @@ fi
 jars=/usr/share/java/testng.jar:/usr/share/java/jcommander.jar:/usr/share/java/bsh.jar
 find "$TCK"/api/src/main/java "$TCK"/api/src/main/java9 "$TCK"/tck/src/main/java "$TCK"/tck-flow/src/main/java "$TCK"/examples/src/main/java -name '*.java' >"$work/sources"
 javac -nowarn -Xlint:none -cp "$jars" -d "$work/classes" @"$work/sources" tools/tck/*.java
-java -Dconsole="$program" -cp "$work/classes:$jars" Run "$work/results"
+
+# run PROGRAM
+run() {
+    java -Dconsole="$1" -cp "$work/classes:$jars" Run "$work/results"
+}
+
+if [ "${1-}" != --spoilt ]; then
+    run "$program"
+    exit
+fi
+shift
+if [ $# -eq 0 ]; then
+    # shellcheck disable=SC2046
+    set -- $(tools/tck/spoil.py)
+fi
+missed=0
+for kind; do
+    SPOILT=$kind CONSOLE=$program run "$PWD/tools/tck/spoil.py" >"$work/run" 2>"$work/said" || true
+    echo "$kind: $(tail -n 1 "$work/run")"
+    grep '^FAILED' "$work/run" | sed 's/^/    /'
+    grep -q '^FAILED' "$work/run" || missed=1
+done
+exit "$missed"

@@ -96,7 +96,7 @@ def bytes_of_names(accidents):
 
 
 def closed_output(accidents):
-    """The reader of standard output goes away, at once and in the middle."""
+    """The reader of standard output goes away, at once and in the middle: it ends in silence, as if by the signal SIGPIPE."""
     for words, given in ((["script"], b"run\n" * 100000), (["threads", "--workers", "2", "--cap", "4", "a:100000"], b"1 x\n" * 100000)):
         for taken in (0, 1, 10000):
             accidents.count("a closed output")
@@ -104,7 +104,7 @@ def closed_output(accidents):
             took = it.stdout.read(taken)
             it.stdout.close()
             ended = it.wait(SECONDS), it.stderr.read()
-            if ended != (1, b"lines_demo: write fault\n") or len(took) != taken:
+            if ended != (141, b"") or len(took) != taken:
                 accidents.faults.append(f"{words[0]} whose reader went away after {taken} bytes: {ended}")
 
 

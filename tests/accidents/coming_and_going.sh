@@ -2,12 +2,13 @@
 # Has 64 subscriptions at a time come and go, 6,400 and then 102,400 in all, and compares the memory at the peak: what stays of each until the
 # publisher is finished is bounded, and nothing else grows. Then it has 1,024 and 102,400 come, be told ten items by two threads, end in
 # one way after the other, and be reclaimed: what stays of each is its entry, and a place in the lists of `finish`, whatever its capacity.
-# It needs the native tests, which `rt test` leaves in crates/call_tests/out, and gcc. TESTS names another program.
+# It needs the native tests, which `rt test` leaves in crates/publisher_tests/out, and gcc. TESTS names another folder in the place of
+# crates.
 set -eu
 cd "$(dirname "$0")/../.."
 . tests/program.sh
-tests=${TESTS:-crates/call_tests/out/call_tests_tests}
-need call_tests "$tests"
+tests=${TESTS:-crates}/publisher_tests/out/publisher_tests_tests
+need publisher_tests "$tests"
 work=$(mktemp -d)
 trap 'rm -rf "$work"' EXIT
 gcc -O1 -Wall -Wextra -Werror -o "$work/peak" tests/ship/peak.c

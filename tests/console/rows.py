@@ -6,15 +6,81 @@ Each part types lines and takes what is printed then; lines that come from sever
 """
 
 import os
+import pty
+import select
 import signal
 import subprocess
 import sys
+import termios
 import threading
 
 sys.dont_write_bytecode = True
 from drive import SECONDS, Console, Stopped
 
 REFUSED, UNKNOWN, UNSETTLED, HELD = b"= refused 12 command", b"= refused 10 unknown", b"= refused 9 unsettled", b"= refused 8 held"
+
+# A text of one byte too many.
+LONG = b"x" * 4097
+
+# The commands that a wrong one is told of.
+LISTED = b"no such command (sub, request, cancel, leave, offer, retry, submit, close, fail, lag, subscribers, closed, help, quit)"
+
+DIGITS, NAME, SPACE = b"a number has digits alone", b"a name has 1 to 32 letters, digits, - and _", b"a space too many"
+SHOWN = b"x" * 60 + b" .."
+
+# Lines that spell no command, and what is said to be wrong with them.
+MISTAKES = (
+    (b"foo", b"foo: " + LISTED),
+    (b"cap 3", b"cap: " + LISTED),
+    (b"late", b"late: " + LISTED),
+    (b"run", b"run: " + LISTED),
+    (b"Offer x", b"Offer: " + LISTED),
+    (b"\tlag", b"\\tlag: " + LISTED),
+    (b"\xff", b"\\xff: " + LISTED),
+    (b"x" * 4200, SHOWN + b": " + LISTED),
+    (b"x" * 4200 + b"\r", SHOWN + b": " + LISTED),
+    (b"sub", b"sub NAME N: the name is missing"),
+    (b"sub a", b"sub NAME N: the number is missing"),
+    (b"sub a ", b"sub NAME N: the number is missing"),
+    (b"sub a -1", b"-1: " + DIGITS),
+    (b"sub a x", b"x: " + DIGITS),
+    (b"sub a 99999999999999999999", b"99999999999999999999: more than 19 digits"),
+    (b"sub a 9999999999999999999", b"9999999999999999999: more than 9223372036854775807"),
+    (b"sub a b 1", b"sub NAME N: too many words, 1"),
+    (b"sub a 1 2 3", b"sub NAME N: too many words, 2 3"),
+    (b"sub a 1 ", SPACE),
+    (b"sub  a 1", SPACE),
+    (b"sub a  1", SPACE),
+    (b"sub " + b"n" * 33 + b" 1", b"n" * 33 + b": " + NAME),
+    (b"sub a.b 1", b"a.b: " + NAME),
+    (b"request a +1", b"+1: " + DIGITS),
+    (b"request a -", b"-: " + DIGITS),
+    (b"request a 9223372036854775808", b"9223372036854775808: more than 9223372036854775807"),
+    (b"request a -9223372036854775809", b"-9223372036854775809: less than -9223372036854775808"),
+    (b"request a -99999999999999999999", b"-99999999999999999999: more than 19 digits"),
+    (b"cancel", b"cancel NAME: the name is missing"),
+    (b"offer", b"offer TEXT: the text is missing"),
+    (b"offer ", b"offer TEXT: the text is missing"),
+    (b"submit", b"submit SOURCE TEXT: the source is missing"),
+    (b"submit x", b"x: " + DIGITS),
+    (b"submit 1", b"submit SOURCE TEXT: the text is missing"),
+    (b"submit 1 ", b"submit SOURCE TEXT: the text is missing"),
+    (b"submit -1 x", b"-1: " + DIGITS),
+    (b"submit 4294967296 x", b"4294967296: more than 4294967295"),
+    (b"fail", b"fail C: the code is missing"),
+    (b"fail 4294967296", b"4294967296: more than 4294967295"),
+    (b"fail -1", b"-1: " + DIGITS),
+    (b"close 1", b"close: too many words, 1"),
+    (b"close ", SPACE),
+    (b" lag", SPACE),
+    (b"lag ", SPACE),
+    (b"quit now", b"quit: too many words, now"),
+    (b"help me", b"help: too many words, me"),
+    (b"leave", b"leave NAME: the name is missing"),
+    (b"leave ", b"leave NAME: the name is missing"),
+    (b"leave a b", b"leave NAME: too many words, b"),
+    (b"leave  a", SPACE),
+)
 
 
 def commands(program):
@@ -41,7 +107,9 @@ def commands(program):
         it.say(b"request a 9", b"= ok")
         it.say(b"close", b"= ok")
         it.say(b"closed", b"= closed 1")
+        it.say(b"offer " + LONG, b"= refused 6 line")
         it.say(b"offer 7", b"= refused 2 closed")
+        it.say(b"offer " + LONG, b"= refused 2 closed")
         it.say(b"submit 1 7", b"= submit 1 refused 2 closed")
         it.say(b"sub b 3", b"= sub b", b"b subscribed", b"b complete")
         it.say(b"fail 7", b"= ok")
@@ -52,20 +120,16 @@ def commands(program):
 def refusals(program):
     """Lines that are refused, as in scripts, and lines that are none."""
     with Console(program) as it:
-        for line in (
-            b"cap 3", b"late", b"run", b"submit x", b"submit", b"submit 1", b"submit 1 ", b"submit -1 x", b"submit 4294967296 x", b"sub a", b"sub a -1",
-            b"sub a b 1", b"sub  a 1", b"request a +1", b"offer", b"offer ", b"Offer x", b" lag", b"lag ", b"quit now", b"help me", b"\tlag",
-            b"\xff", b"fail 4294967296", b"fail -1", b"close 1", b"leave", b"leave ", b"leave a b", b"leave  a", b"sub " + b"n" * 33 + b" 1", b"x" * 4200,
-        ):
-            it.say(line, REFUSED)
+        for line, reason in MISTAKES:
+            it.say(line, REFUSED + b": " + reason)
         it.say(b"request a 1", b"= refused 10 unknown")
         it.say(b"cancel a", b"= refused 10 unknown")
         it.say(b"leave a", b"= refused 10 unknown")
         it.say(b"x" * 4201, b"= refused 6 line")
         it.say(b"x" * 4201 + b"\r", b"= refused 6 line")
         it.say(b"x" * 1000000, b"= refused 6 line")
-        it.say(b"offer " + b"x" * 4097, b"= refused 6 line")
-        it.say(b"submit 3 " + b"x" * 4097, b"= submit 3 refused 6 line")
+        it.say(b"offer " + LONG, b"= refused 6 line")
+        it.say(b"submit 3 " + LONG, b"= submit 3 refused 6 line")
         it.say(b"\n\r\n\nlag\r", b"= lag 0")
         it.say(b"sub a 1", b"= sub a", b"a subscribed")
         it.say(b"offer " + b"x" * 4096, b"= offer 1", b"a next " + b"x" * 4096)
@@ -122,7 +186,7 @@ def waiting(program):
     with Console(program, ["--cap", "1", "--workers", "1"]) as it:
         it.say(b"sub a 0", b"= sub a", b"a subscribed")
         it.say(b"submit 7 x", b"= submit 7 1")
-        it.type(b"submit 7 y")
+        it.say(b"submit 7 y", b"= submit 7 waits for a (1 of 1)")
         it.type(b"submit 7 z")
         it.quiet()
         it.say(b"lag", b"= lag 1")
@@ -134,6 +198,36 @@ def waiting(program):
         it.end(b"a complete", b"= a complete 3", b"= drained 1")
 
 
+def peak(it):
+    """The KiB that a console had at most."""
+    with open(f"/proc/{it.it.pid}/status", encoding="ascii") as status:
+        return next(int(line.split()[1]) for line in status if line.startswith("VmHWM:"))
+
+
+def full_source(program):
+    """64 texts wait for the thread of a source, and no more: one that only a later line could make room for is refused, and not kept."""
+    with Console(program, ["--cap", "1"]) as it:
+        it.say(b"sub a 0", b"= sub a", b"a subscribed")
+        it.say(b"submit 7 0", b"= submit 7 1")
+        it.say(b"submit 7 1", b"= submit 7 waits for a (1 of 1)")
+        it.quiet()
+        for text in range(2, 66):
+            it.type(b"submit 7 %d" % text)
+        it.quiet()
+        peaks = []
+        for count in (1000, 10000):
+            it.type(b"\n".join([b"submit 7 " + b"x" * 1000] * count))
+            it.take(*[b"= submit 7 refused 11 wait"] * count)
+            peaks.append(peak(it))
+        if peaks[1] > peaks[0] + 1024:
+            raise Stopped(f"it had {peaks[0]} KiB, and after 10,000 texts of 1,000 bytes more {peaks[1]}")
+        it.type(b"submit 8 66")
+        it.quiet()
+        it.say(b"request a 67", b"= ok", *[b"a next %d" % text for text in range(67)], *[b"= submit 7 1"] * 65, b"= submit 8 1")
+        it.say(b"submit 7 67", b"= submit 7 1")
+        it.end(b"= a open 67", b"= drained 0")
+
+
 def cancelling(program):
     """A cancel in the middle: at most one item more is told, and who waited for that room goes on."""
     with Console(program, ["--cap", "2"]) as it:
@@ -141,7 +235,7 @@ def cancelling(program):
         it.say(b"sub b 9", b"= sub b", b"b subscribed")
         for text in (b"1", b"2"):
             it.say(b"submit 1 " + text, b"= submit 1 " + text, b"b next " + text)
-        it.type(b"submit 1 3")
+        it.say(b"submit 1 3", b"= submit 1 waits for a (2 of 2)")
         it.quiet()
         it.say(b"cancel a", b"= ok", b"= submit 1 1", b"b next 3")
         it.until(b"subscribers", b"= subscribers 1")
@@ -177,7 +271,7 @@ def leaving(program):
         # Cancelled, also while a submit waits for its room.
         for text in (b"3", b"4"):
             it.say(b"submit 1 " + text, b"= submit 1 " + text.translate(bytes.maketrans(b"34", b"12")), b"b next " + text, b"c next " + text)
-        it.type(b"submit 1 5")
+        it.say(b"submit 1 5", b"= submit 1 waits for a (2 of 2)")
         it.quiet()
         it.say(b"leave a", UNSETTLED)
         it.say(b"cancel a", b"= ok", b"= submit 1 1", b"b next 5", b"c next 5")
@@ -216,6 +310,13 @@ def leaving(program):
             it.say(word, b"= ok", b"a error published 7" if error == b"error" else b"a complete")
             left(it, b"a", b"= a " + error + b" 0")
             it.end(b"= drained 1")
+    # One that is refused keeps its place in the report.
+    with Console(program) as it:
+        for name in (b"a", b"b", b"c"):
+            it.say(b"sub " + name + b" 0", b"= sub " + name, name + b" subscribed")
+        it.say(b"leave b", UNSETTLED)
+        it.say(b"close", b"= ok", b"a complete", b"b complete", b"c complete")
+        it.end(b"= a complete 0", b"= b complete 0", b"= c complete 0", b"= drained 1")
     # One name comes and goes more often than subscriptions may live, and one that waits for demand stays to the end.
     with Console(program, ["--workers", "1", "--cap", "1"]) as it:
         it.say(b"sub a 0", b"= sub a", b"a subscribed")
@@ -224,7 +325,7 @@ def leaving(program):
             it.say(b"cancel b", b"= ok")
             it.until(b"leave b", b"= b cancelled 0", (UNSETTLED, HELD))
         it.say(b"submit 7 x", b"= submit 7 1")
-        it.type(b"submit 7 y")
+        it.say(b"submit 7 y", b"= submit 7 waits for a (1 of 1)")
         it.end(b"= submit 7 refused 2 closed", b"= a open 0", b"= drained 0")
 
 
@@ -234,7 +335,7 @@ def ends(program):
         with Console(program, ["--cap", "1"]) as it:
             it.say(b"sub a 0", b"= sub a", b"a subscribed")
             it.say(b"submit 7 x", b"= submit 7 1")
-            it.type(b"submit 7 y")
+            it.say(b"submit 7 y", b"= submit 7 waits for a (1 of 1)")
             it.type(b"submit 7 z")
             it.quiet()
             it.it.stdin.write(end)
@@ -313,7 +414,8 @@ def stamps(program):
 
 
 def closed_output(program):
-    """Standard output is closed: by the answer to the next line, by a callback while no line comes, and while a submit waits."""
+    """The reader of standard output goes away: it ends in silence, at the answer to the next line, at a callback while no line comes, and
+    while a submit waits. A full disk is no such end."""
     begin, waits = (b"sub a 9\n", 2), (b"sub a 0\nsubmit 7 x\nsubmit 7 y\n", 3)
     for (typed, lines), last in ((begin, b"lag"), (begin, b"submit 7 x"), (waits, b"lag"), (waits, b"request a 1")):
         pipe = subprocess.PIPE
@@ -329,8 +431,59 @@ def closed_output(program):
                 ended = "no end"
             finally:
                 it.kill()
-        if ended != (1, b"console: write fault\n"):
+        if ended != (141, b""):
             raise Stopped(f"after {typed + last!r} it ended with {ended}")
+    with open("/dev/full", "wb") as full:
+        ran = subprocess.run([program], input=b"lag\n", stdout=full, stderr=subprocess.PIPE, timeout=SECONDS)
+    if (ran.returncode, ran.stderr) != (1, b"console: write fault\n"):
+        raise Stopped(f"on a full disk: {ran}")
+
+
+def words(program):
+    """The other words for the end and for help, and comments."""
+    with Console(program) as it:
+        it.type(b"# a comment")
+        it.type(b"#")
+        it.type(b"?")
+        asked = [it.line() for _ in range(16)]
+        it.type(b"help")
+        if not asked[0].startswith(b"= sub NAME N ") or asked != [it.line() for _ in range(16)]:
+            raise Stopped(f"help is {asked}")
+        it.say(b"lag", b"= lag 0")
+        it.say(b"exit", b"= drained 1")
+        it.ended()
+
+
+def terminal(program):
+    """At a terminal it greets, and shows the control characters of a text; a pipe gets neither."""
+    master, slave = pty.openpty()
+    attributes = termios.tcgetattr(slave)
+    attributes[3] &= ~termios.ECHO
+    termios.tcsetattr(slave, termios.TCSANOW, attributes)
+    with subprocess.Popen([program], stdin=slave, stdout=slave) as it:
+        os.close(slave)
+        shown = b""
+
+        def until(wanted):
+            nonlocal shown
+            while wanted not in shown:
+                if not select.select([master], [], [], SECONDS)[0]:
+                    it.kill()
+                    raise Stopped(f"{wanted!r} is not in {shown!r}")
+                shown += os.read(master, 65536)
+
+        until(b"`help` lists the commands, Ctrl-D ends\r\n")
+        os.write(master, b"sub a 1\n")
+        until(b"a subscribed\r\n")
+        os.write(master, b"offer x\x16\x1b[31m\xc3\xa4\n")
+        until(b"a next x\\x1b[31m\xc3\xa4\r\n")
+        os.write(master, b"\x04")
+        until(b"= drained 1\r\n")
+        it.wait(SECONDS)
+    os.close(master)
+    with Console(program) as it:
+        it.say(b"sub a 1", b"= sub a", b"a subscribed")
+        it.say(b"offer x\x1b[31m", b"= offer 1", b"a next x\x1b[31m")
 
 
 def signals(program):
@@ -343,7 +496,7 @@ def signals(program):
         with Console(program, ["--cap", "1"]) as it:
             it.say(b"sub a 0", b"= sub a", b"a subscribed")
             it.say(b"submit 7 x", b"= submit 7 1")
-            it.type(b"submit 7 y")
+            it.say(b"submit 7 y", b"= submit 7 waits for a (1 of 1)")
             it.quiet()
             it.it.send_signal(number)
             it.ended(-number)
@@ -351,22 +504,17 @@ def signals(program):
 
 def command_lines(program):
     """Wrong command lines, and an input that can't be read."""
-    for words, status, error in (
-        (["--workers", "0"], 2, b"console: refused 7 workers\n"),
-        (["--workers", "9"], 2, b"console: refused 7 workers\n"),
-        (["--cap", "0"], 2, b"console: refused 1 capacity\n"),
-        (["--cap", "x"], 2, b"console: refused 12 command\n"),
-        (["--workers", "1" * 20], 2, b"console: refused 12 command\n"),
-        ([b"--cap=\xff"], 2, b"console: an argument is not UTF-8\n"),
-    ):
-        with Console(program, words) as it:
-            it.ended(status, error)
+    with Console(program, [b"--cap=\xff"]) as it:
+        it.ended(2, b"console: an argument is not UTF-8\n")
     folder = os.open("/", os.O_RDONLY)
     ran = subprocess.run([program], stdin=folder, capture_output=True, timeout=SECONDS)
     os.close(folder)
     if (ran.returncode, ran.stdout, ran.stderr) != (1, b"", b"console: read fault\n"):
         raise Stopped(f"a folder as standard input: {ran}")
-    for words in (["--nothing"], ["word"]):
+    for words in (
+        ["--nothing"], ["word"], ["--workers", "0"], ["--workers", "9"], ["--workers", "1" * 20], ["--workers", "x"], ["--cap", "0"], ["--cap", "x"],
+        ["--cap"],
+    ):
         ran = subprocess.run([program, *words], stdin=subprocess.DEVNULL, capture_output=True, timeout=SECONDS)
         if ran.returncode != 2 or ran.stdout or not ran.stderr.startswith(b"error: "):
             raise Stopped(f"{words}: {ran}")
@@ -375,7 +523,7 @@ def command_lines(program):
         raise Stopped(f"--help: {ran}")
 
 
-PARTS = (commands, refusals, sources, demands, late_errors, waiting, cancelling, leaving, ends, many, stamps, closed_output, signals, command_lines)
+PARTS = (commands, refusals, sources, demands, late_errors, waiting, full_source, cancelling, leaving, ends, many, stamps, closed_output, words, terminal, signals, command_lines)
 
 
 def main(program):

@@ -3,8 +3,8 @@
 usage: rows.py PROGRAM FOLDER
 
 A row has a copy of ./play in a folder of its own below FOLDER, with the native program PROGRAM or without it, and a PATH of the commands
-that play needs. Where `rt` is among them, it is rt_stand_in, which does what STAND_IN says. After a row nothing may be left in the folder for
-temporary files, and no stand-in may run. The rows run side by side, since most of them wait.
+that play needs. If `rt` is among them, it is rt_stand_in, which does what STAND_IN says, and so is what compiles without proof. After a row
+nothing may be left in the folder for temporary files, and no stand-in may run. The rows run side by side, since most of them wait.
 """
 
 import os
@@ -19,9 +19,9 @@ from concurrent.futures import ThreadPoolExecutor
 SECONDS = 20
 HERE = os.path.dirname(os.path.realpath(__file__))
 TOP = os.path.realpath(f"{HERE}/../..")
-COMMANDS = "awk bash cat chmod dirname find grep head mkdir mktemp readlink rm sed sh sleep sort tac tail touch".split()
+COMMANDS = "awk bash basename cat chmod dirname find grep head mkdir mktemp readlink rm sed sh sleep sort tac tail touch".split()
 MOST = 16777216
-SLOW = 2.3  # rt itself reads no further once a pipe was silent for two seconds.
+SLOW = 2.3  # seconds between the parts of a slow input
 
 
 def contents(file):
@@ -41,19 +41,29 @@ class Site:
 
     def __init__(self, folder, program, stand_in):
         self.folder, self.stand_in = folder, stand_in
-        for name in ("tests", "crates/flow_rules/src", "crates/lines_demo/src", "crates/lines_demo/out", "tmp", "bin"):
+        for name in ("tests", "tools", "crates/flow_rules/src", "crates/lines_demo/out", "crates/console/out", "tmp", "bin"):
             os.makedirs(f"{folder}/{name}")
-        for name in ("play", "crates.txt", "tests/program.sh"):
+        for name in ("lines_demo", "console"):
+            os.makedirs(f"{folder}/crates/{name}/src")
+            self.write(f"crates/{name}/src/main.rt", "")
+        for name in ("play", "crates.txt", "tests/program.sh", "crates/lines_demo/args"):
             shutil.copy(f"{TOP}/{name}", f"{folder}/{name}")
         for name in COMMANDS:
             os.symlink(shutil.which(name), f"{folder}/bin/{name}")
         if stand_in:
             shutil.copy(f"{HERE}/rt_stand_in", f"{folder}/bin/rt")
+            shutil.copy(f"{HERE}/rt_stand_in", f"{folder}/tools/unproved.sh")
         if program:
             shutil.copy(program, self.built())
+            self.write("crates/console/out/console", '#!/bin/sh\necho "console $*"\nexec cat\n')
+            os.chmod(self.built("console"), 0o755)
 
-    def built(self):
-        return f"{self.folder}/crates/lines_demo/out/lines_demo"
+    def write(self, file, text):
+        with open(f"{self.folder}/{file}", "w", encoding="utf-8") as it:
+            it.write(text)
+
+    def built(self, name="lines_demo"):
+        return f"{self.folder}/crates/{name}/out/{name}"
 
     def start(self, words, stdin, stderr=subprocess.PIPE):
         env = {"PATH": f"{self.folder}/bin", "TMPDIR": f"{self.folder}/tmp", "STAND_IN": self.stand_in or ""}
@@ -214,7 +224,7 @@ def reads_no_further_than_the_program(site):
     """An input without an end."""
     with open("/dev/zero", "rb") as zero:
         got = site.end(site.start([], zero))
-    return differs(got, 1, b"", b"lines_demo: read fault\n")
+    return differs(got, 1, b"", b"lines_demo: the input has more than 16,777,216 bytes\n")
 
 
 def plays_the_longest_script(site):
@@ -228,7 +238,9 @@ def refuses_wrong_words(site):
         (["folder"], refuses(b"folder is a folder", USAGE)),
         ([""], refuses(b"empty", USAGE)),
         (["one", "two"], refuses(b"more than one", USAGE)),
-        (["--build", "two"], refuses(b"more than one", USAGE)),
+        (["--build", "one", "two"], refuses(b"more than one", USAGE)),
+        (["--build", "flow_rules"], refuses(b"no program crates/flow_rules", USAGE)),
+        (["--build", "../crates/console"], refuses(b"no program", USAGE)),
         (["--more"], refuses(b"--more", USAGE)),
         (["--explain", "--build"], refuses(b"--build", USAGE)),
         (["--explain", "one", "two"], refuses(b"more than one", USAGE)),
@@ -252,15 +264,29 @@ def explains_itself(site):
     return differs((*got[:1], b"", got[2]), 0, b"", b"") or ("" if got[1].startswith(USAGE) else f"output {got[1]!r:.100}")
 
 
+def opens_the_console(site):
+    """It has the words and the standard input, which is not read before."""
+    got = site.run(["console", "--cap", "1"], b"a line\n")
+    return differs(got, 0, b"console --cap 1\na line\n", b"")
+
+
+def opens_the_console_at_a_terminal(site):
+    return differs(typed(site, ["console"], b"a line\n"), 0, b"console \na line\n", b"")
+
+
 # Rows with the stand-in.
 
 
-def words_given(site):
+def calls_of(site):
     return [it.split(b" ", 1)[1] for it in contents(f"{site.folder}/bin/calls").splitlines()]
 
 
-def tries(site):
-    """The program's status, output and standard error come through, and its input is whole."""
+NEVER = b"; to prove and build it: ./play --build\n"
+UNPROVED = b"play: this lines_demo is unproved" + NEVER
+
+
+def compiles(site):
+    """The program's status, output and standard error come through, and its input is whole. A second time nothing is compiled."""
     read, write = os.pipe()
     process = site.start([], read)
     os.close(read)
@@ -268,15 +294,17 @@ def tries(site):
         pool.submit(feed, write, [SCRIPT[:20], SCRIPT[20:]])
         got = site.end(process)
     lines = got[2].splitlines()
-    steps = [it for it in lines if it.startswith((b"play: 1 of 3, ", b"play: 2 of 3, ", b"play: 3 of 3, "))]
-    if len(steps) < 2 or any(not it.endswith(b" s") for it in steps) or steps != sorted(steps):
+    steps = [it for it in lines if it.startswith((b"play: 1 of 2, ", b"play: 2 of 2, "))]
+    # It takes three seconds, and a pipe gets a line every ten.
+    if len(steps) != 1 or not steps[0].endswith(b" s"):
         return f"the steps are {steps}"
-    why = differs(got, 3, b"out\n", has(b"proves nothing", b"./play --build", b"\nlines_demo: a word\n"))
-    if why or lines[-1] != b"lines_demo: a word":
-        return why or f"the last line is {lines[-1]!r}"
+    why = differs(got, 3, b"out\n", has(b"without proof", UNPROVED + b"lines_demo: a word\n"))
+    again = differs(site.run([], SCRIPT), 3, b"out\n", UNPROVED + b"lines_demo: a word\n")
+    if why or again:
+        return f"{why} {again}"
     if contents(f"{site.folder}/bin/given") != SCRIPT:
         return "it was given another script"
-    return "" if words_given(site) == [b"try -- script"] else f"rt was given {words_given(site)}"
+    return "" if calls_of(site) == [b"lines_demo", b"ran script", b"ran script"] else f"the calls are {calls_of(site)}"
 
 
 def drained(master):
@@ -293,7 +321,7 @@ def drained(master):
         said += more
 
 
-def tries_at_a_terminal(site):
+def compiles_at_a_terminal(site):
     """One line takes the place of the other, and none is left."""
     master, slave = pty.openpty()
     with open(f"{site.folder}/lines", "wb") as it:
@@ -302,20 +330,52 @@ def tries_at_a_terminal(site):
         process = site.start(THREADS, it, slave)
     os.close(slave)
     status, output, _ = site.end(process)
-    said = drained(master)
+    said = drained(master).replace(b"\r\n", b"\n")
     shown = said.split(b"\r\x1b[K")
-    if len(shown) < 4 or any(b"\n" in it for it in shown[1:-1]) or shown[-1] != b"lines_demo: a word\r\n":
+    if len(shown) < 4 or any(b"\n" in it for it in shown[1:-1]) or shown[-1] != UNPROVED + b"lines_demo: a word\n":
         return f"the terminal shows {said!r}"
-    if words_given(site) != [b"try -- " + " ".join(THREADS).encode()]:
-        return f"rt was given {words_given(site)}"
+    if calls_of(site) != [b"lines_demo", b"ran " + " ".join(THREADS).encode()]:
+        return f"the calls are {calls_of(site)}"
     return differs((status, output, b""), 3, b"out\n", b"")
 
 
-def says_that_the_output_is_large(site):
-    return differs(site.run([], SCRIPT), 125, b"", lambda said: b"1 MiB" in said and b"a next x" not in said and b"checked:" not in said)
+def compiles_the_console(site):
+    """It is given standard input itself, here what is written after it was compiled."""
+    read, write = os.pipe()
+    process = site.start(["console", "--late"], read)
+    os.close(read)
+    with ThreadPoolExecutor(1) as pool:
+        pool.submit(feed, write, [b"", b"", b"a line\n"])
+        got = site.end(process)
+    why = differs(got, 3, b"out\n", has(b"play: this console is unproved" + NEVER))
+    if why or contents(f"{site.folder}/bin/given") != b"a line\n":
+        return why or "it was given another input"
+    return "" if calls_of(site) == [b"console", b"ran --late"] else f"the calls are {calls_of(site)}"
 
 
-def says_what_rt_says(site):
+def refuses_wrong_words_at_once(site):
+    """Before anything is compiled, with the program's status."""
+    why = ""
+    for words, said in (
+        (["threads", "--workers", "1", "--cap", "1", "a"], b"play: a: a subscriber is NAME:D\n"),
+        (["threads", "--workers", "1", "--cap", "1", "a:x"], b"play: a:x: a subscriber is NAME:D\n"),
+        (["threads", "--workers", "1", "--cap", "1"], b"play: threads needs a subscriber NAME:D\n"),
+        (["threads", "--cap", "1", "a:1"], b"play: threads needs --workers W\n"),
+        (["threads", "--workers", "1", "a:1"], b"play: threads needs --cap N\n"),
+        (["threads", "--workers", "x", "--cap", "1", "a:1"], b"play: --workers x: it takes a number\n"),
+        (["threads", "--workers=1", "--cap", "4k", "a:1"], b"play: --cap 4k: it takes a number\n"),
+        (["threads", "--workers", "1", "a:1", "--cap"], b"play: --cap is the last word: it takes a number\n"),
+        ([*THREADS, "--fail", "a:1"], b"play: --fail a:1: it takes NAME:K:C\n"),
+        ([*THREADS, "--wait"], b"play: --wait: threads has no such option (--workers W, --cap N, --fail NAME:K:C, --explain)\n"),
+        (["console", "--cpa", "1"], b"play: --cpa: console has no such option (--workers W, --cap N, --late, --stamp)\n"),
+        (["console", "file"], b"play: file: console takes options alone (--workers W, --cap N, --late, --stamp)\n"),
+    ):
+        it = differs(site.run(words, LINES), 2, b"", said)
+        why += f"{words}: {it}; " if it else ""
+    return why or ("something was compiled" if os.path.exists(f"{site.folder}/bin/calls") else "")
+
+
+def says_why_it_was_not_compiled(site):
     return differs(site.run([], SCRIPT), *refuses(b"error: a source is wrong\n", b"./play --build"))
 
 
@@ -329,28 +389,35 @@ def ends_what_it_started(site):
     return differs((*site.end(process)[:2], b""), 143, b"", b"")
 
 
-def tries_what_is_old(site):
+def compiles_what_is_old(site):
     source = f"{site.folder}/crates/lines_demo/src/main.rt"
     with open(source, "wb"):
         os.utime(site.built(), (1, 1))
-    return differs(site.run([], SCRIPT), *refuses(b"1 MiB"))
+    return differs(site.run([], SCRIPT), *refuses(b"error: a source is wrong\n"))
 
 
 def builds(site):
     got = site.run(["--build"])
-    crates = [b"play: 1 of 3, proving flow_rules", b"play: 2 of 3, proving lines_demo", b"play: 3 of 3, building the native program"]
+    steps = ["proving flow_rules", "proving lines_demo", "proving console", "building lines_demo", "building console"]
+    wanted = [f"play: {at} of 5, {it}".encode() for at, it in enumerate(steps, 1)]
     lines = got[2].splitlines()
-    shown = [it for it in lines if it.startswith(crates[0] + b", 1 of 2 functions, ") and it.endswith(b" s")]
-    if [it for it in lines if it in crates] != crates or not shown:
+    shown = [it for it in lines if it.startswith(wanted[0] + b", 1 of 2 functions, ") and it.endswith(b" s")]
+    if [it for it in lines if it in wanted] != wanted or not shown:
         return f"standard error {got[2]!r}"
-    why = differs(got, 0, b"", has(b"half an hour", b"built: crates/lines_demo/out/lines_demo"))
-    if why or words_given(site) != [b"check", b"check", b"run -- script"]:
-        return why or f"rt was given {words_given(site)}"
-    return "" if os.access(site.built(), os.X_OK) else "there is no program"
+    why = differs(got, 0, b"", has(b"half an hour", b"built: crates/lines_demo/out/lines_demo", b"built: crates/console/out/console"))
+    if why or calls_of(site) != [b"check"] * 3 + [b"run -- script", b"run --"]:
+        return why or f"rt was given {calls_of(site)}"
+    return "" if all(os.access(site.built(it), os.X_OK) for it in ("lines_demo", "console")) else "there is no program"
+
+
+def builds_one(site):
+    got = site.run(["--build", "console"])
+    why = differs(got, 0, b"", has(b"built: crates/console/out/console"))
+    return why or ("" if calls_of(site) == [b"check", b"check", b"run --"] else f"rt was given {calls_of(site)}")
 
 
 def shows_why_it_was_not_built(site):
-    return differs(site.run(["--build"]), *refuses(b"error: not proved", b"was not built"))
+    return differs(site.run(["--build"]), *refuses(b"error: not proved", b"not built"))
 
 
 def needs_rt(site):
@@ -378,14 +445,18 @@ NATIVE = (
     refuses_wrong_words,
     refuses_what_cannot_be_read,
     explains_itself,
+    opens_the_console,
+    opens_the_console_at_a_terminal,
 )
 TRIED = (
-    (tries, "ends"),
-    (tries_at_a_terminal, "ends"),
-    (says_that_the_output_is_large, "large"),
-    (says_what_rt_says, "refused"),
+    (compiles, "ends"),
+    (compiles_at_a_terminal, "ends"),
+    (compiles_the_console, "ends"),
+    (refuses_wrong_words_at_once, "ends"),
+    (says_why_it_was_not_compiled, "refused"),
     (ends_what_it_started, "hangs"),
     (builds, "ends"),
+    (builds_one, "ends"),
     (shows_why_it_was_not_built, "refused"),
     (needs_rt, None),
 )
@@ -393,7 +464,7 @@ TRIED = (
 
 def main(program, folder):
     rows = [(row, program, None) for row in NATIVE] + [(row, None, stand_in) for row, stand_in in TRIED]
-    rows.append((tries_what_is_old, program, "large"))
+    rows.append((compiles_what_is_old, program, "refused"))
     # All files are written before the first row starts a process: one that is being started holds what others write.
     sites = [(row, Site(f"{folder}/{row.__name__}", program, stand_in)) for row, program, stand_in in rows]
 

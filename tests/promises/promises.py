@@ -1,296 +1,150 @@
-"""Holds docs/PROMISES.md to the crates: each function, clause, edit and test that a row names has to be there.
+"""Holds docs/PROMISES.md and docs/promises/ to the crates.
 
-usage: tests/promises/promises.sh [FILE..]
+usage: tests/promises/promises.sh [--write | FILE]
 
-The files are docs/PROMISES.md and those of docs/promises/.
+The pages docs/promises/NAME.md are printed from the crates (pages.py): each has to be what is printed now, and --write writes them. What is
+printed comes from the edits crates/NAME/wrong-bodies/*.edit, and from tests.txt beside this script. An edit may say, by lines after all others,
 
-The form of the file. The section `## Thirty promises` has the rows to read first, whose second column names the crate in backticks; each
-stands once more in the section of that crate:
+    shows: FUNCTION CLAUSE
+    says: SENTENCE
+
+which clauses it shows, and what these promise. Without `shows:` it shows the clauses of the function that it changes that its lines `clause:`
+name. FUNCTION is `f`, `Type::f`, `Trait::f` or `<Type as Trait>::f`, or several, parted by `, `; or, for a ghost member, a struct or an impl.
+CLAUSE is a name, the words its only one, or the word ghost and a name. tests.txt has lines `CRATE FUNCTION CLAUSE: TEST, ..`, with tests that show
+a clause: names of test functions of any crate, and paths from the top of the repository. All that these lines name has to be there.
+
+The section `## Thirty promises` of docs/PROMISES.md, or of FILE, has a table by hand:
 
 | Promise | Crate | Function | Clause | Shown by |
 
-A section `## NAME` for a crate has tables with these columns, and a row has one clause; a table of calls that require nothing has no
-column Premise:
-
-| Promise | Function | Clause | Premise | Shown by |
-
-- Function: names in backticks, `f`, `Type::f`, `Trait::f`, `<Type as Trait>::f`, or a struct with ghost fields, `Type`. Of
-  several, parted by `, `, each has the clause. A method of an impl has the clauses of its trait, if it has none of its own.
-- Clause: a name in backticks; or the words its only one, of a function with one `ensures` that has no name; or the word
-  ghost and a name in backticks, of a ghost member of the impl, or of a ghost field of the struct.
-- Premise: the word none, or no such column, if the function has no `requires`; or text, in which a name in backticks before a colon is
-  that of a `requires` of the function.
-- Shown by: names in backticks, parted by `, ` or `; `. An edit is a file of wrong-bodies/ of the section's crate,
-  without `.edit`. After the word test (or tests, up to the next `;`) stands the name of a test function of any crate, or a
-  path from the top of the repository. A cell that begins with `no edit:` gives a reason, and may name tests after a `;`.
-  An edit of the row's own function has to say that it is refused at the row's clause, or at a goal before it; that it is
-  refused there, tools/wrong_bodies/try.py sees.
-
-The other way round, each edit is named in a row of its crate's section, or in a README.md beside the crate's edits; and each clause of
-a call that a library hands on by its lib.rt stands in a row.
+Its names stand in backticks; Clause may be `its only one`, or the word ghost and a name. After the word test in Shown by stand tests; a cell that
+begins with `no edit:` gives a reason. An edit of the row's own function says that it is refused at the row's clause, or at a goal before it;
+that it is refused there, tools/wrong_bodies/try.py sees.
 """
 
-import glob
 import os
 import re
 import sys
 
 sys.dont_write_bytecode = True
-HERE = os.path.dirname(os.path.realpath(__file__))
-sys.path.append(f"{HERE}/../../tools/wrong_bodies")
-from edits import Edit
-from functions import functions_of, owner_of, without_texts
+from crates import ONLY, PLACE, TOP, crates_of, joined, owner_of_function, plain, text_of
+from pages import pages_of, tests_of
 
 FIRST = "Thirty promises"
-# The heads of the tables of a crate, and those of the first.
-HEADS = (
-    [["Promise", "Function", "Clause", "Premise", "Shown by"], ["Promise", "Function", "Clause", "Shown by"]],
-    [["Promise", "Crate", "Function", "Clause", "Shown by"]],
-)
-TESTED = re.compile(r"#\[test\]\s*(?:#\[[^\]]*\]\s*)*fn (\w+)")
-
-
-def text_of(file):
-    with open(file, encoding="utf-8") as it:
-        return it.read()
-
-
-def plain(owner):
-    """A type or `<Type as Trait>` with no blanks and no modules: `<Name as fmt::Display>` and `<Name as Display>` are one."""
-    return re.sub(r"\s|\b[a-z_]\w*::", "", owner)
-
-
-def owner_in(head):
-    """How a row names a block: `Type` or `Trait`, or `<Type as Trait>` of the impl of a trait; and that trait, or nothing."""
-    words, is_of_trait = owner_of(head)
-    if not is_of_trait:
-        return words[0], ""
-    trait, _, kind = re.sub(r"^.*?\bimpl\b\s*(<.*?>\s)?", "", head).partition(" for ")
-    kind = re.split(r"\bwhere\b", kind)[0]
-    return plain(f"<{kind} as {trait}>"), plain(trait.partition("<")[0])
-
-
-def exported_by(file):
-    """What another crate can name, by the root file of a library: what that hands on, and what the modules that are public declare or hand on."""
-    names, text = set(), without_texts(text_of(file))
-    for used in re.findall(r"^pub use ([^;]*);", text, re.M):
-        names |= set(re.findall(r"\b(\w+)\b(?!::)", used))
-    for module in re.findall(r"^pub mod (\w+);", text, re.M):
-        inside = f"{os.path.dirname(file)}/{module}.rt"
-        names |= exported_by(inside) | set(re.findall(r"^pub (?:struct|enum|trait|fn) (\w+)", without_texts(text_of(inside)), re.M))
-    return names
+HEAD = ["Promise", "Crate", "Function", "Clause", "Shown by"]
 
 
 def changed_by(edit):
     """How rows may name the functions that an edit changes: a method of the impl of a trait also as the trait's."""
     names = set()
     for function in (it.function for it in edit.changes):
-        heads = [head for head in function.around if re.search(r"\b(impl|trait)\b", head)]
-        owner, trait = owner_in(heads[-1]) if heads else ("", "")
-        names |= {f"{it}::{function.name}" if it else function.name for it in (owner, trait or owner)}
+        owner, trait = owner_of_function(function)
+        names |= {plain(joined(it, function.name)) for it in (owner, trait or owner)}
     return names
 
 
-class Crate:
-    """The clauses of the functions, the ghost members, the edits and the tests of a crate."""
-
-    def __init__(self, folder):
-        self.clauses, self.ghosts, self.traits, self.tests, self.public = {}, {}, {}, set(), []
-        exported = exported_by(f"{folder}/src/lib.rt") if os.path.exists(f"{folder}/src/lib.rt") else set()
-        for file in glob.glob(f"{folder}/src/**/*.rt", recursive=True):
-            text = text_of(file)
-            self.tests |= {*TESTED.findall(text)}
-            code = without_texts(text)
-            self.read_ghosts(code)
-            for it in functions_of(text):
-                heads = [head for head in it.around if re.search(r"\b(impl|trait)\b", head)]
-                owner, trait = owner_in(heads[-1]) if heads else ("", "")
-                self.traits[owner] = trait
-                name = f"{owner}::{it.name}" if owner else it.name
-                self.clauses.setdefault(name, []).extend(it.clauses)
-                is_pub = trait or re.match(r"trait\b|pub trait\b", " ".join(heads)) or re.match(rf"[^;{{}}]*\bpub (?:const )?fn {it.name}\b", code[it.item :])
-                if is_pub and (re.findall(r"\w+", owner) or [it.name])[0] in exported:
-                    self.public.append((name, it.clauses))
-        beside = glob.glob(f"{folder}/wrong-bodies/*")
-        self.edits = {it.name: it for it in (Edit(file, folder) for file in beside if file.endswith(".edit"))}
-        self.readme = "\n".join(text_of(it) for it in beside if it.endswith("README.md"))
-        for it in self.edits.values():
-            it.place(folder)
-
-    def read_ghosts(self, code):
-        """Notes the ghost members of each impl, and the ghost fields of each struct."""
-        for kind, head, body in re.findall(r"(?ms)^(?:pub(?:\([^)]*\))? )?(impl|struct)\b([^{;]*)\{\n(.*?)^\}", code):
-            owner = head.split()[0].partition("<")[0] if kind == "struct" else owner_in(" ".join(f"impl{head}".split()))[0]
-            self.ghosts.setdefault(owner, set()).update(re.findall(r"\bghost (\w+)\s*[=:]", body))
-
-    def clauses_of(self, owner, function):
-        """The clauses of a function, or of its trait's where it has none of its own; None where there is no such function."""
-        own = self.clauses.get(f"{owner}::{function}" if owner else function)
-        trait = self.traits.get(owner)
-        return self.clauses.get(f"{trait}::{function}", own) if own == [] and trait else own
-
-
 class Promises:
-    """The files, row by row, with what is wrong with them."""
+    """What the crates promise, with what is wrong with the documents on it."""
 
-    def __init__(self, root):
-        self.root, self.faults, self.rows = root, [], 0
-        self.crates = {os.path.basename(it): Crate(it) for it in sorted(glob.glob(f"{root}/crates/*")) if os.path.isdir(f"{it}/src")}
+    def __init__(self):
+        self.crates, self.faults, self.rows = crates_of(TOP), [], 0
         self.tests = {name for it in self.crates.values() for name in it.tests}
-        self.named = {it: set() for it in self.crates}
-        self.stated, self.first = {}, []
-        self.where, self.crate, self.name, self.columns = "", None, "", []
 
-    def fault(self, text):
-        self.faults.append(f"{self.where}: {text}")
+    def fault(self, where, text):
+        self.faults.append(f"{where}: {text}")
+
+    def check_lines(self):
+        """All that the edits and tests.txt name is there, and each edit shows something, or stands in the README beside it."""
+        for name, crate in self.crates.items():
+            for edit in crate.edits.values():
+                where, shown = f"crates/{name}/wrong-bodies/{edit.name}.edit", crate.shown_by(edit)
+                for line in edit.telling:
+                    if not re.match(r"says: \S", line) and not (line.startswith("shows: ") and PLACE.fullmatch(line[7:])):
+                        self.fault(where, f"this is no `shows: FUNCTION CLAUSE` and no `says: SENTENCE`: {line}")
+                if any(it.startswith("shows") for it in edit.telling):
+                    for it in shown:
+                        self.check_clause(where, crate, it.function, it.clause, [edit])
+                if not shown and not re.search(rf"\b{re.escape(edit.name)}\b", crate.readme):
+                    self.fault(where, "it shows no clause, and the README beside it doesn't name it")
+            for function, clause, tests in tests_of(crate):
+                self.check_clause("tests/promises/tests.txt", crate, function, clause, [])
+                self.check_tests("tests/promises/tests.txt", tests)
+
+    def check_clause(self, where, crate, function, clause, edits):
+        """Whether a crate has this clause, and each of these edits that is of that function says that it breaks it, or a goal before."""
+        if not crate.has(function, clause):
+            self.fault(where, f"{crate.name} has no `{function}` with {clause}")
+        for edit in (it for it in edits if plain(function) in changed_by(it) and not clause.startswith("ghost ")):
+            if clause not in edit.clauses and not edit.goals:
+                self.fault(where, f"`{edit.name}` names no clause `{clause}` that it breaks, and no goal before")
+
+    def check_tests(self, where, names):
+        for it in names:
+            if "/" in it and not os.path.exists(f"{TOP}/{it}") or "/" not in it and it not in self.tests:
+                self.fault(where, f"there is no test `{it}`")
+
+    def check_pages(self, is_written):
+        """Each page is what is printed, and no other page is there."""
+        pages = pages_of(self.crates)
+        there = {f"{TOP}/docs/promises/{it}" for it in os.listdir(f"{TOP}/docs/promises")}
+        for file in sorted(pages.keys() | there):
+            if is_written and file in pages:
+                with open(file, "w", encoding="utf-8") as it:
+                    it.write(pages[file])
+            elif file not in pages or file not in there or text_of(file) != pages[file]:
+                self.fault(os.path.relpath(file, TOP), "it is not what is printed; `tests/promises/promises.sh --write` writes it")
 
     def read(self, file):
+        """The rows of the table by hand."""
+        name = ""
         for number, line in enumerate(text_of(file).split("\n"), 1):
-            self.where = f"{os.path.relpath(file, self.root)}:{number}"
-            if line.startswith("## "):
-                self.name = line[3:].strip()
-                self.crate = self.crates.get(self.name)
-                if self.crate:
-                    self.stated.setdefault(self.name, set())
-            elif (self.crate or self.name == FIRST) and re.match(r"\|(?!\s*-)", line):
-                self.line([it.strip() for it in line.strip().strip("|").split(" | ")])
+            where = f"{os.path.relpath(file, TOP)}:{number}"
+            name = line[3:].strip() if line.startswith("## ") else name
+            if name != FIRST or not re.match(r"\|(?!\s*-)", line):
+                continue
+            cells = [it.strip() for it in line.strip().strip("|").split(" | ")]
+            if cells[0] != "Promise":
+                self.rows += 1
+            if len(cells) != len(HEAD) or cells[0] == "Promise" and cells != HEAD:
+                self.fault(where, f"the row has not the columns {', '.join(HEAD)}")
+            elif cells[0] != "Promise":
+                self.row(where, *cells[1:])
 
-    def line(self, cells):
-        """The head of a table, or a row of it."""
-        if cells[0] == "Promise":
-            self.columns = cells
-            if cells not in HEADS[self.name == FIRST]:
-                self.fault(f"no table has these columns: {', '.join(cells)}")
+    def row(self, where, crate, function, clause, shown):
+        found = self.crates.get(crate.strip("`"))
+        clause = clause.replace("`", "")
+        if not found or not re.fullmatch(r"`[^`]+`", function):
+            self.fault(where, f"there is no crate {crate}, or Function is not one name in backticks: {function}")
             return
-        self.rows += 1
-        if len(cells) != len(self.columns):
-            self.fault(f"the row has {len(cells)} cells, and not {len(self.columns)}")
-        elif self.name == FIRST:
-            self.first_row(*cells[1:])
-        elif "Premise" in self.columns:
-            self.row(*cells[1:])
-        else:
-            function, clause, shown = cells[1:]
-            self.row(function, clause, "none", shown)
+        edits = self.shown(where, found, shown)
+        self.check_clause(where, found, function.strip("`"), clause or ONLY, edits)
 
-    def first_row(self, crate, function, clause, shown):
-        """A row of those to read first. It is compared with the others at the end."""
-        self.name = crate.strip("`")
-        self.crate = self.crates.get(self.name)
-        if self.crate:
-            stated, self.stated = self.stated, {self.name: set()}
-            self.row(function, clause, "", shown)
-            self.first += [(self.where, self.name, it) for it in self.stated[self.name]]
-            self.stated = stated
-        else:
-            self.fault(f"there is no crate {crate}")
-        self.crate, self.name = None, FIRST
-
-    def row(self, function, clause, premise, shown):
-        names = re.findall(r"`([^`]+)`", function)
-        if not names or re.sub(r"`[^`]+`|, ", "", function):
-            self.fault(f"Function is not a list of names in backticks: {function}")
-        ghost = re.search(r"\bghost\b[^`]*`(\w+)`$", clause)
-        named = re.fullmatch(r"`(\w+)`", clause)
-        if not ghost and not named and clause != "its only one":
-            self.fault(f"Clause is not one name in backticks, `its only one` or a ghost member: {clause}")
-            return
-        for name in names:
-            self.stated[self.name].add((plain(name), f"ghost {ghost[1]}" if ghost else named[1] if named else ""))
-            owner, _, last = name.rpartition("::")
-            clauses = self.crate.clauses_of(plain(owner), last)
-            if ghost:
-                self.check_ghost(name, ghost[1])
-            elif clauses is None:
-                self.fault(f"there is no function `{name}` in {self.name}")
-            else:
-                self.check_clause(name, [it for kind, it in clauses if kind == "ensures"], named[1] if named else "")
-                self.check_premise(name, [it for kind, it in clauses if kind == "requires"], premise)
-        edits = self.check_shown(shown)
-        if not ghost:
-            self.check_refused({plain(it) if it.startswith("<") else it for it in names}, named[1] if named else clause, edits)
-
-    def check_ghost(self, name, ghost):
-        owners = [plain(name), plain(name.rpartition("::")[0])]
-        if not any(ghost in self.crate.ghosts.get(it, ()) for it in owners):
-            self.fault(f"`{name}` has no ghost `{ghost}`")
-
-    def check_clause(self, name, ensures, clause):
-        if clause and clause not in ensures:
-            self.fault(f"`{name}` has no `ensures {clause}`")
-        elif not clause and ensures != [""]:
-            self.fault(f"`{name}` has not just one `ensures`, with no name")
-
-    def check_premise(self, name, requires, premise):
-        if premise == "none" and requires:
-            self.fault(f"`{name}` has a premise: {' '.join(requires) or 'one with no name'}")
-        for it in re.findall(r"`(\w+)`:", premise):
-            if it not in requires:
-                self.fault(f"`{name}` has no `requires {it}`")
-
-    def check_shown(self, shown):
+    def shown(self, where, crate, cell):
         """The edits that a cell names, where they are there."""
         edits = []
-        if not re.search(r"`|^no edit:", shown):
-            self.fault(f"Shown by names nothing: {shown}")
-        for part in shown.split(";"):
-            if part.strip().startswith("no edit:"):
+        if not re.search(r"`|^no edit:", cell):
+            self.fault(where, f"Shown by names nothing: {cell}")
+        for part in (it for it in cell.split(";") if not it.strip().startswith("no edit:")):
+            names = re.findall(r"`([^`]+)`", part)
+            if re.match(r"\s*tests?\b", part):
+                self.check_tests(where, names)
                 continue
-            before, is_test = "", False
-            for text, name in re.findall(r"([^`]*)`([^`]+)`", part):
-                is_test = is_test or bool(re.search(r"\btests?\b", text))
-                self.check_name(name, is_test)
-                if not is_test and name in self.crate.edits:
-                    edits.append(self.crate.edits[name])
+            edits += [crate.edits[it] for it in names if it in crate.edits]
+            for it in (it for it in names if it not in crate.edits):
+                self.fault(where, f"there is no edit `{it}` in {crate.name}")
         return edits
-
-    def check_name(self, name, is_test):
-        if not is_test and name in self.crate.edits:
-            self.named[self.name].add(name)
-        elif not is_test:
-            self.fault(f"there is no edit `{name}` in {self.name}")
-        elif "/" in name and not os.path.exists(f"{self.root}/{name}"):
-            self.fault(f"there is no file `{name}`")
-        elif "/" not in name and name not in self.tests:
-            self.fault(f"there is no test `{name}`")
-
-    def check_refused(self, functions, clause, edits):
-        """Each of these edits that is of one of these functions says that it is refused at this clause, or at a goal before it."""
-        for edit in (it for it in edits if changed_by(it) & functions):
-            if clause not in edit.clauses and not edit.goals:
-                self.fault(f"the edit `{edit.name}` names no clause `{clause}` that it breaks, and no goal before")
-
-    def check_stated(self):
-        """Each clause of a public call has a row, and so has what the first rows say."""
-        for where, name, stated in self.first:
-            if stated not in self.stated.get(name, ()):
-                self.faults.append(f"{where}: no row of {name} has `{stated[0]}`, {stated[1] or 'its only one'}")
-        for name in self.stated:
-            for function, clauses in self.crates[name].public:
-                trait = self.crates[name].traits.get(function.rpartition("::")[0], "")
-                called = {plain(function), f"{trait}::{function.rpartition('::')[2]}"}
-                for clause in (it for kind, it in clauses if kind == "ensures"):
-                    if not any((it, clause) in self.stated[name] for it in called):
-                        self.faults.append(f"crates/{name}: no row has `{function}`, {clause or 'its only one'}")
-
-    def check_edits(self):
-        """Each edit is named by a row of its crate, or in the README beside it."""
-        for name, crate in self.crates.items():
-            for edit in sorted(crate.edits.keys() - self.named[name]):
-                if not re.search(rf"\b{re.escape(edit)}\b", crate.readme):
-                    self.faults.append(f"crates/{name}: the edit {edit} is named in no row")
 
 
 def main(words):
-    root = os.path.realpath(f"{HERE}/../..")
-    promises = Promises(root)
-    for file in words or [f"{root}/docs/PROMISES.md", *sorted(glob.glob(f"{root}/docs/promises/*.md"))]:
-        promises.read(os.path.realpath(file))
-    promises.check_stated()
-    promises.check_edits()
+    promises = Promises()
+    promises.check_lines()
+    if words in ([], ["--write"]):
+        promises.check_pages(words == ["--write"])
+    promises.read(f"{TOP}/docs/PROMISES.md" if words in ([], ["--write"]) else os.path.realpath(words[0]))
     if not promises.rows:
         promises.faults.append("no row was found")
-    print("\n".join([*promises.faults, f"{promises.rows} rows, {len(promises.faults)} faults"]))
+    edits = sum(len(it.edits) for it in promises.crates.values())
+    print("\n".join([*promises.faults, f"{promises.rows} rows, {edits} edits, {len(promises.faults)} faults"]))
     return 1 if promises.faults else 0
 
 

@@ -5,12 +5,17 @@
 # It fails, too, where a run does not say that its test was run, and where no request of a test was refused, as when the
 # library that refuses is not loaded; and where a text that has to do without memory asks for some.
 #
-# It needs the native tests, which `rt test` leaves in crates/call_tests/out, and gcc. TESTS names another program.
+# It needs the native tests, which `rt test` leaves in crates/NAME/out, and gcc. TESTS names another folder in the place of crates.
 set -eu
 cd "$(dirname "$0")/../.."
 . tests/program.sh
-tests=${TESTS:-crates/call_tests/out/call_tests_tests}
-need call_tests "$tests"
+for name in core_tests hub_tests publisher_tests day_tests; do
+    need "$name" "${TESTS:-crates}/$name/out/${name}_tests"
+done
+core=${TESTS:-crates}/core_tests/out/core_tests_tests
+hub=${TESTS:-crates}/hub_tests/out/hub_tests_tests
+publisher=${TESTS:-crates}/publisher_tests/out/publisher_tests_tests
+days=${TESTS:-crates}/day_tests/out/day_tests_tests
 work=$(mktemp -d)
 trap 'rm -rf "$work"' EXIT
 gcc -shared -fPIC -O1 -Wall -Werror -o "$work/refuse.so" tests/refused_memory/refuse.c
@@ -86,21 +91,21 @@ asks_for_none() {
     fi
 }
 
-asks_for_none "$tests" tests::texts::a_short_text_asks_for_no_memory
-each "$tests" tests::texts::a_long_text_asks_for_memory
+asks_for_none "$core" tests::texts::a_short_text_asks_for_no_memory
+each "$core" tests::texts::a_long_text_asks_for_memory
 for name in a_refusal_is_answered the_last_of_three_is_true no_two_of_one_count_are_the_last of_all_one_is_the_last; do
-    each "$tests" "tests::count::$name"
+    each "$hub" "tests::count::$name"
 done
 for name in alone::a_refusal_is_answered alone::a_full_pool_gives_the_job_back alone::a_shut_pool_gives_the_job_back \
     alone::stop_gives_the_jobs_left_in_order threads::each_job_of_two_workers_ran_twice \
     threads::a_job_need_not_be_sync sleepers::a_shut_ends_both_that_sleep; do
-    each "$tests" "tests::pool::$name"
+    each "$hub" "tests::pool::$name"
 done
-each "$tests" tests::hub::the_last_serial_number_is_given_once
-each "$tests" tests::hub::a_hub_serves_three_subscriptions_until_it_is_closed
-each "$tests" tests::cells::a_life_is_whole_or_is_refused_memory
-each "$tests" tests::publishers::a_refusal_changes_nothing_else
-each "$tests" tests::submitters::one_submitter_more_than_there_may_be_is_refused
+each "$hub" tests::hub::the_last_serial_number_is_given_once
+each "$hub" tests::hub::a_hub_serves_three_subscriptions_until_it_is_closed
+each "$core" tests::cells::a_life_is_whole_or_is_refused_memory
+each "$days" tests::a_refusal_changes_nothing_else
+each "$publisher" tests::submitters::one_submitter_more_than_there_may_be_is_refused
 # Whoever asks for one submitter too many is refused memory first, if that is short.
 if ! grep -q ', of one submitter more$' "$work/errors"; then
     echo "no request of the last submitter was refused"

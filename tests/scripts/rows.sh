@@ -104,7 +104,7 @@ row 'lines of 4,200 and 4,201 bytes'
 } >"$work/want"
 row 'texts of 4,096 and 4,097 bytes'
 
-# A script may have 16 MiB; one byte more is a fault of reading, and then nothing is played.
+# A script may have 16 MiB; one byte more is too many, and then nothing is played.
 bytes 16777216 '\n' >"$work/in"
 : >"$work/want"
 row '16 MiB of line feeds'
@@ -114,7 +114,7 @@ row '16 MiB of line feeds'
 } >"$work/in"
 status=0
 "$program" script <"$work/in" >"$work/out" 2>"$work/err" || status=$?
-ended 'one byte more' 1 'lines_demo: read fault'
+ended 'one byte more' 1 'lines_demo: the input has more than 16,777,216 bytes'
 [ ! -s "$work/out" ] || fault 'something was written'
 
 # Each byte may stand in a text. A line feed ends the line, and a carriage return at its end is dropped.

@@ -9,6 +9,9 @@ import os
 import sys
 
 HERE = os.path.dirname(os.path.realpath(__file__))
+CANCEL = """        if self.is_cancelled:
+            return told, "ended"
+"""
 BAD = """        if self.is_bad:
             return [*told, b"error argument"], "ended"
 """
@@ -49,13 +52,28 @@ TURN = "            if self.turn(self.subscriptions[number]):\n"
 LIVE_TURN = "            if not self.subscriptions[number].has_ended and self.turn(self.subscriptions[number]):\n"
 IS_64 = "if len(items) == ITEMS_IN_A_TURN:"
 AGAIN = 'return told, "again"'
+FULL_TURN = f"        {IS_64}\n            {AGAIN}\n"
+ONE_CLOSE = """        if self.closing:
+            return b"ok"
+"""
 REPLY = "        reply = call[0](*call[1:])\n"
 BEGUN = "        self.has_begun = True\n        before"
 TEXT = "call = [self.publish, word, rest]"
 IS_TEXT = 'in (b"offer", b"retry", b"submit") and rest:'
 
+
+def behind_items(check, when):
+    """What ends a subscription, by this check, waits for the requested items in some cases."""
+    return [(check, check.replace(":", f" and not ({when}):", 1)), (FULL_TURN, FULL_TURN + check)]
+
+
+LATE_CASES = {"under `late`": "self.is_late and not self.closing", "while an error waits": "self.is_late and self.closing"}
+
 # Each error, and what of the definition becomes what.
 ERRORS = {
+    **{f"a cancel waits for requested items {name}": behind_items(CANCEL, when) for name, when in LATE_CASES.items()},
+    **{f"a bad request waits for requested items {name}": behind_items(BAD, when) for name, when in LATE_CASES.items()},
+    **{f"a second subscribing waits for requested items {name}": behind_items(DOUBLE, when) for name, when in LATE_CASES.items()},
     "a second subscribing overtakes a bad request": [(BAD + DOUBLE, DOUBLE + BAD)],
     "an error overtakes a bad request": [(BAD + DOUBLE + ERROR, ERROR + BAD + DOUBLE)],
     "an error overtakes a second subscribing": [(DOUBLE + ERROR, ERROR + DOUBLE)],
@@ -67,6 +85,8 @@ ERRORS = {
     "`late` is accepted at any time": [(LATE, "        self.is_late = True\n")],
     "`late` ends the time of `cap`": [(LATE, LATE + "        self.has_begun = True\n")],
     "`cap` ends the time of `late`": [(LATE, LATE.replace("self.has_begun:", "self.has_begun or self.capacity != 256:"))],
+    "an error under `late` is told with the 64th item": [(IS_64, IS_64[:-1] + ' and not (self.is_late and self.closing != b"complete" and self.closing and items == self.waiting):')],
+    "a second `fail` under `late` changes the code": [(ONE_CLOSE, ONE_CLOSE.replace(":", ' and not (self.is_late and b"error" in self.closing and b"error" in signal):', 1))],
     "a second `late` undoes it": [(LATE, LATE.replace("is_late = True", "is_late = not self.is_late"))],
     "`late` takes a word": [(IS_LATE, 'elif word == b"late":')],
     "an ending is told with the 64th item": [(IS_64, IS_64[:-1] + " and not (self.closing and items == self.waiting):")],

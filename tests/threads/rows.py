@@ -155,7 +155,7 @@ def lines(rows):
     rows.row("the capacity is rounded up", options(1, 3) + ["a:1"], five, b"a 7 t\na open 1\ndrained 0\n", 3)
     full = b"1 t\n" * (16777216 // 4)
     rows.refused("16 MiB", options(1, 1) + ["a:1"], full, b"11 wait")
-    rows.row("16 MiB and a byte", OPTIONS + ["a:1"], full + b"\n", b"", 1, b"lines_demo: read fault\n")
+    rows.row("16 MiB and a byte", OPTIONS + ["a:1"], full + b"\n", b"", 1, b"lines_demo: the input has more than 16,777,216 bytes\n")
 
 
 def command_lines(rows):
@@ -212,6 +212,38 @@ def command_lines(rows):
         rows.faults.append(f"--help: status {status}, output {output!r:.80}")
 
 
+def explained(rows):
+    """What is said of a refusal beforehand, if that is asked for, and nothing of a run that isn't refused."""
+    few, five = b"7 t\n", b"7 t\n" * 5
+    for name, words, given, said, refusal in (
+        ("a word of workers", options("x", 4) + ["a:1"], few, b"--workers: x: a number has digits alone", b"12 command"),
+        ("no word of workers", options("", 4) + ["a:1"], few, b"--workers: a number: the number is missing", b"12 command"),
+        ("a word of a capacity", options(1, "4k") + ["a:1"], few, b"--cap: 4k: a number has digits alone", b"12 command"),
+        ("20 digits of a capacity", options(1, "1" * 20) + ["a:1"], few, b"--cap: " + b"1" * 20 + b": more than 19 digits", b"12 command"),
+        ("a failure without a code", OPTIONS + ["--fail", "a:1", "a:1"], few, b"--fail a:1: it is NAME:K:C, and K is 1 or more", b"12 command"),
+        ("no demand", OPTIONS + ["a:1", "b"], few, b"b: a subscriber is NAME:D", b"12 command"),
+        ("9 workers", options(9, 4) + ["a:1"], few, b"--workers 9: the number of workers is not 1 to 8", b"7 workers"),
+        ("capacity 0", options(1, 0) + ["a:1"], few, b"--cap 0: the capacity is 0", b"1 capacity"),
+        ("an unknown name", OPTIONS + ["--fail", "z:1:1", "a:1"], few, b"--fail z:1:1: no subscription has this name", b"10 unknown"),
+        ("a name twice", OPTIONS + ["a:1", "a:2"], few, b"NAME:D: a live subscription has this name", b"3 duplicate"),
+        ("no source", OPTIONS + ["a:1"], b"\n7 t\nx t\n", b"line 3: x: a number has digits alone", b"12 command"),
+        ("no text", OPTIONS + ["a:1"], b"7\r\n", b"line 1: SOURCE TEXT: the text is missing", b"12 command"),
+        ("a space first", OPTIONS + ["a:1"], b" 7 t", b"line 1: a space too many", b"12 command"),
+        ("a long text", OPTIONS + ["a:1"], b"7 t\n7 " + LONGEST + b"x\n", b"line 2: the line or its text is too long", b"6 line"),
+        (
+            "17 sources", options(8, 1) + ["a:17"], b"".join(b"%d t\n" % s for s in range(17)),
+            b"line 17: there are 16 sources before its own, which is the most", b"12 command",
+        ),
+        (
+            "a long text after 17 sources", options(8, 1) + ["a:17"], b"".join(b"%d t\n" % s for s in range(17)) + b"7 " + LONGEST + b"x\n",
+            b"line 18: the line or its text is too long", b"6 line",
+        ),
+        ("a wait", options(1, 1) + ["b:9", "a:3"], five, b"a:3: it requests 3 of 5 items, and its buffer holds 1", b"11 wait"),
+    ):
+        rows.row(f"{name}, explained", ["--explain", *words], given, b"", 2, said + b"\nlines_demo: refused " + refusal + b"\n")
+    rows.row("nothing to explain", ["--explain", *options(2, 1), "a:3"], EXAMPLE, b"a 1 q\na 2 p\na 2 r\na complete 3\ndrained 1\n")
+
+
 def writers(rows):
     full = open("/dev/full", "wb")
     rows.row("a full standard output", OPTIONS + ["a:1"], b"1 x\n", b"", 1, b"lines_demo: write fault\n", full)
@@ -219,7 +251,7 @@ def writers(rows):
 
 def main(program):
     rows = Rows(program)
-    for part in (worked, failures, lines, command_lines, writers):
+    for part in (worked, failures, lines, command_lines, explained, writers):
         part(rows)
     print("\n".join(rows.faults or [f"all {rows.count} rows are as they should be"]))
     return 1 if rows.faults else 0

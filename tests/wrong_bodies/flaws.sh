@@ -1,13 +1,15 @@
 #!/usr/bin/env bash
 # Plants flaws of its own in a tiny crate, and compares what try.py says of each: a bug is refused, and all else is reported.
-# All is tried over what a check kept of the crate without them: what has changed since has to be proved anew.
-# It needs the toolchain's command `rt`, and takes a dozen checks of a crate of six functions and a few of one above it, two or three
+# All is tried over what a check kept of the crate without them: what has changed since has to be proved anew. What was refused is kept, and
+# is tried again as soon as the edit, the crate or a crate below it has changed.
+# It needs the toolchain's command `rt`, and takes some twenty checks of a crate of six functions and a few of one above it, three or four
 # minutes.
 set -eu
 try=$(cd "$(dirname "$0")/../.." && pwd)/tools/wrong_bodies/try.py
 work=$(mktemp -d)
 trap 'rm -rf "$work"' EXIT
 crate=$work/crates/tiny
+export XDG_CACHE_HOME="$work/cache"
 mkdir -p "$crate/src" "$crate/proofs/least_of_three" "$crate/proofs/lowest" "$crate/wrong-bodies"
 echo 'tiny:' >"$work/crates.txt"
 cat >"$crate/src/lib.rt" <<'END'
@@ -103,8 +105,35 @@ edit() {
 
 # try: runs try.py on the tiny crate. The status has to be 1 where anything fails, and 0 else.
 try() {
+    try_kept --anew "$@"
+}
+
+# try_kept: the same, but for what earlier runs saw refused.
+try_kept() {
     status=0
     "$try" --root "$work" "$@" >"$work/said" 2>&1 || status=$?
+}
+
+# is_kept NAME: what try_kept tries is refused, and this edit was not tried.
+is_kept() {
+    try_kept "$@"
+    [ "$status" -eq 0 ]
+    said "$1: refused: kept: "
+    said '1 of these kept from earlier runs'
+    said '1 passed, 0 failed'
+    if grep -q 'proved as it is' "$work/said"; then
+        echo "$1 was tried again"
+        exit 1
+    fi
+}
+
+# is_tried NAME WORD..: try_kept refuses this edit, which it tries.
+is_tried() {
+    try_kept "$@"
+    [ "$status" -eq 0 ]
+    said "$1: refused: note: src/lib.rt:"
+    said '0 of these kept from earlier runs'
+    said '1 passed, 0 failed'
 }
 
 # said TEXT: it wrote a line that begins so.
@@ -135,6 +164,10 @@ edit no_bug_with_answers 'old: least(low, c)' 'new: (least(low, c))'
 edit one_bug_more 'old: if a < b { a }' 'new: if a < b { b }'
 edit one_more_with_answers 'old: least(low, c)' 'new: least(low, b)'
 edit only_its_callee_is_wrong 'old:     least(a, b)' 'new:     least(b, a)'
+answer=('file: proofs/least_again/Answers.antt' 'add: use Rattle.tiny.proofs.least_again.Goals as goal' 'add: pub returns : goal.returns'
+    'add: returns c = c.least.ensures' 'clause: its only one')
+edit no_bug_with_its_answer 'old:     least(a, b)' 'new:     (least(a, b))' "${answer[@]}"
+edit a_bug_with_an_answer 'old:     least(a, b)' 'new:     least(a, a)' "${answer[@]}"
 edit the_first_clause 'old: if a > b { a }' 'new: if a > b { b }' 'clause: first'
 edit another_clause 'old: if a > b { a } else { b }' 'new: if a > b { a } else { a }' 'clause: first'
 edit another_goal 'old: if a > b { a }' 'new: if b > b { a }' 'goal: least-requires'
@@ -159,6 +192,8 @@ said 'tiny/no_bug_with_answers: LET THROUGH'
 said 'tiny/one_bug_more: refused: note: src/lib.rt:'
 said 'tiny/one_more_with_answers: refused: ./proofs/least_of_three_again_2/Answers.antt:'
 said 'tiny/only_its_callee_is_wrong: LET THROUGH'
+said 'tiny/no_bug_with_its_answer: LET THROUGH'
+said 'tiny/a_bug_with_an_answer: refused: ./proofs/least_again/Answers.antt:'
 said 'tiny/the_first_clause: refused: note: src/lib.rt:'
 said 'tiny/another_clause: refused, but not at first: note: src/lib.rt:'
 said 'tiny/another_goal: refused, but not at least-requires: note: src/lib.rt:'
@@ -168,7 +203,27 @@ said 'tiny/no_single_place: an `old:` text is in src/lib.rt 6 times'
 said 'tiny/no_line: this line is not in its place: now: a'
 said 'tiny/half_a_pair: it has no pair'
 said "tiny/another_end.txt: its name doesn't end in .edit"
-said '8 passed, 13 failed'
+said '9 passed, 14 failed'
+
+# An edit that was refused is kept. It is tried again if it changes, if its crate does, and with --anew; one that was not refused always is.
+# What it says of a promise is no change.
+is_kept tiny/a_bug
+edit a_bug 'old: if a < b' 'new: if a == b'
+is_tried tiny/a_bug
+is_kept tiny/a_bug
+printf '%s\n' 'shows: least its only one' 'says: The answer is the smaller number.' >>"$crate/wrong-bodies/a_bug.edit"
+is_kept tiny/a_bug
+echo '// A comment more.' >>"$crate/src/lib.rt"
+is_tried tiny/a_bug
+is_tried tiny/a_bug --anew
+sed -i '/^\/\/ A comment more/d' "$crate/src/lib.rt"
+is_kept tiny/a_bug
+try_kept tiny/no_bug
+[ "$status" -eq 1 ]
+said 'tiny/no_bug: LET THROUGH'
+said '0 of these kept from earlier runs'
+edit a_bug 'old: if a < b' 'new: if a > b'
+sum=$("$try" --root "$work" --sum)
 
 try tiny/no_such_edit
 [ "$status" -eq 1 ]
@@ -216,11 +271,16 @@ try above
 [ "$status" -eq 0 ]
 said 'tiny: proved as it is'
 said 'above: proved as it is'
+is_kept above/a_bug
+echo '// A comment more.' >>"$crate/src/lib.rt"
+is_tried above/a_bug
+sed -i '/^\/\/ A comment more/d' "$crate/src/lib.rt"
+is_kept above/a_bug
 
 # Beside `rt ci`, by what that has printed so far: a crate waits until its libraries are proved, or until the run has ended.
 find "$crate/wrong-bodies" -type f ! -name a_bug.edit -delete
 echo 'rt: tiny proved' >"$work/ci"
-"$try" --root "$work" --follow "$work/ci" >"$work/said" 2>&1 &
+"$try" --root "$work" --anew --follow "$work/ci" >"$work/said" 2>&1 &
 trying=$!
 for _ in $(seq 60); do
     grep -q '^tiny: ' "$work/said" || sleep 1

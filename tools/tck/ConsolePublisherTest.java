@@ -5,7 +5,6 @@ import java.util.concurrent.ConcurrentLinkedQueue;
 import java.util.concurrent.Flow;
 import org.reactivestreams.tck.TestEnvironment;
 import org.reactivestreams.tck.flow.FlowPublisherVerification;
-import org.testng.annotations.AfterMethod;
 import org.testng.annotations.Test;
 
 /** The rules of Reactive Streams for publishers, each tried on a console of its own. */
@@ -17,8 +16,15 @@ public final class ConsolePublisherTest extends FlowPublisherVerification<Intege
     private final String program = System.getProperty("console");
     private final Queue<ConsolePublisher> made = new ConcurrentLinkedQueue<>();
 
+    private final TestEnvironment environment;
+
     public ConsolePublisherTest() {
-        super(new TestEnvironment(SECOND, QUIET), SECOND);
+        this(new TestEnvironment(SECOND, QUIET));
+    }
+
+    private ConsolePublisherTest(TestEnvironment environment) {
+        super(environment, SECOND);
+        this.environment = environment;
     }
 
     @Override
@@ -43,10 +49,24 @@ public final class ConsolePublisherTest extends FlowPublisherVerification<Intege
         }
     }
 
-    @AfterMethod
-    public void closeConsoles() {
+    /** Ends the consoles of a test. It fails if one printed what it may not, or what the TCK took for an error when the test had ended. */
+    void check() {
+        String fault = null;
         for (ConsolePublisher publisher = made.poll(); publisher != null; publisher = made.poll()) {
-            publisher.close();
+            String found = faultOf(publisher);
+            fault = fault == null ? found : fault;
+        }
+        if (fault != null) {
+            throw new AssertionError(fault);
+        }
+        environment.verifyNoAsyncErrorsNoDelay();
+    }
+
+    private static String faultOf(ConsolePublisher publisher) {
+        try (publisher) {
+            return publisher.settle();
+        } catch (InterruptedException interrupted) {
+            return interrupted.toString();
         }
     }
 }

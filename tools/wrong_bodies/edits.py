@@ -4,8 +4,11 @@ import os
 import re
 from dataclasses import replace
 
-from copies import is_like_its_copy, may_be_copied, name_of_copy, proofs_of_copy, text_of, text_of_copy
+from copies import is_like_its_copy, may_be_copied, name_of_copy, parts_of, proofs_of_copy, text_of, text_of_copy
 from functions import end_of, functions_of, path_of
+
+# The lines of an edit that say which promise it shows, for whoever prints the promises: no verdict stands on them.
+TELLING = re.compile(r"^(?:shows|says):.*(?:\n|\Z)", re.M)
 
 
 class Change:
@@ -46,17 +49,22 @@ class Change:
 
 class Edit:
     """A wrong body: the texts of the files that it changes, its changes where they all stand in functions' bodies, and where it has
-    to be refused: the clauses that it breaks, and goals before them."""
+    to be refused: the clauses that it breaks, and goals before them. One with answers of its own has one function, whose proof files
+    they are."""
 
     def __init__(self, file, folder):
         self.name = os.path.basename(file).removesuffix(".edit")
         self.texts, self.changes, self.is_refused, self.why = {}, [], False, None
         self.clauses, self.goals = [], []
+        # What it reads as, what it tells of a promise, and whether it was refused in an earlier run.
+        self.text, self.telling, self.is_kept = "", [], False
         if not file.endswith(".edit"):
             self.why = "its name doesn't end in .edit"
             return
         try:
-            self.read(text_of(file), folder)
+            text = text_of(file)
+            self.text, self.telling = TELLING.sub("", text), [it.strip() for it in TELLING.findall(text)]
+            self.read(self.text, folder)
         except (OSError, UnicodeDecodeError) as error:
             self.why = f"it can't be read: {error}"
 
@@ -77,6 +85,9 @@ class Edit:
                     return
                 self.texts[file] = now.replace(old, rest)
                 old, pairs = None, pairs + 1
+            elif word == "add" and pairs and old is None and file.startswith("proofs/"):
+                now = self.texts.get(file) or (text_of(f"{folder}/{file}") if os.path.exists(f"{folder}/{file}") else "")
+                self.texts[file] = f"{rest}\n{now}" if rest.startswith("use ") else f"{now}{rest}\n"
             elif word in ("clause", "goal") and pairs and old is None and rest:
                 (self.clauses if word == "clause" else self.goals).append(rest.strip())
             else:
@@ -89,9 +100,18 @@ class Edit:
 
     def place(self, folder):
         """Finds the functions in whose bodies all of the edit stands; there are none where any of it stands elsewhere."""
-        found = [self.change_of(folder, file, text) for file, text in self.texts.items()]
-        if all(found):
+        found = [self.change_of(folder, file, text) for file, text in self.texts.items() if not file.startswith("proofs/")]
+        if all(found) and all(self.is_answer_of(folder, file, found) for file in self.answers()):
             self.changes = found
+
+    def answers(self):
+        """The proof files that it brings, or changes."""
+        return {file: text for file, text in self.texts.items() if file.startswith("proofs/")}
+
+    def is_answer_of(self, folder, file, changes):
+        """Whether a proof file is of the only function that it changes."""
+        place = parts_of(os.path.basename(folder), changes[0]) if len(changes) == 1 else None
+        return place is not None and os.path.dirname(file).endswith("/".join(["", *place[0]]))
 
     def change_of(self, folder, file, text):
         was = text_of(f"{folder}/{file}")
@@ -105,16 +125,17 @@ class Edit:
 
 
 def batches(edits, folder):
-    """The edits in as few checks as can be: none with two edits of one function that can't be copied, and alone what is not in one
-    function's body."""
+    """The edits in as few checks as can be: none with two edits of one function that can't be copied, or of which one has answers of its
+    own, and alone what is not in one function's body."""
     shared, alone = [], []
     for edit in edits:
         if len(edit.changes) != 1:
             alone.append([edit])
             continue
         change = edit.changes[0]
-        is_copied = may_be_copied(folder, change)
-        free = (it for it in shared if is_copied or not any(change.is_of(other.changes[0]) for other in it))
+        is_copied = not edit.answers() and may_be_copied(folder, change)
+        is_apart = lambda other: is_copied and not other.answers() or not change.is_of(other.changes[0])
+        free = (it for it in shared if all(map(is_apart, it)))
         batch = next(free, None)
         if batch is None:
             shared.append([edit])
@@ -154,8 +175,9 @@ def together(tried, controls, folder):
             places.append((edit, file, len(text), len(text) + len(new)))
             text, since = text + new, end
         texts[file] = text + was[since:]
-    for _, (it,) in tried:
+    for edit, (it,) in tried:
         texts |= proofs_of_copy(folder, it, it.number) if it.number else {}
+        texts |= edit.answers() if edit else {}
     return texts, places
 
 

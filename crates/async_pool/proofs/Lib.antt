@@ -1,3 +1,4 @@
-pub mod Drains
+pub mod MadeUp
 pub mod Places
+pub mod Sources
 pub mod Steps

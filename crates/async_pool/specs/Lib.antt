@@ -1,8 +1,11 @@
 pub mod Bag
+pub mod Bags
 pub mod Crew
 pub mod Jobs
 pub mod Looks
 pub mod Pool
 pub mod Queue
+pub mod Rule
 pub mod Sleepers
+pub mod Source
 pub mod Thief

@@ -8,7 +8,7 @@ use Rattle.async_pool.specs.declared.sleepers.Wake.TheVariants.{Nobody, One, All
 abbrev pub MayCall : Sleepers → Type 0
 MayCall sleepers = (0 < sleepers.asleep) × (sleepers.called ≡ 0)
 
--- one was called, where one may be, and is to be woken; else nobody
+-- one was called, if one may be, and is to be woken; else nobody
 pub record CallsOne (old : Sleepers) (wake : Wake) (new : Sleepers) : Type 0 where
   pub called : MayCall old → new.called ≡ 1
   pub woken : MayCall old → wake ≡ One

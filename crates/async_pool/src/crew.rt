@@ -1,58 +1,43 @@
-//! What a pool's workers share behind the lock: whether the pool was shut, which loops run, and who sleeps. The jobs stand
-//! elsewhere.
+//! What a pool's workers share behind the lock: whether the pool was shut, which loops run, and who sleeps. The jobs
+//! stand elsewhere.
+mod looking;
+
 ghost use Rattle.std.specs.Prelude.{◌≡◌, ◌≤◌, ◌-◌, ◌++◌, IfOk, None, replicate, vec_len};
 ghost use Rattle.async_pool.specs.Thief.{AreThievesOf};
+ghost use Rattle.async_pool.specs.Rule.{Begins};
 ghost use Rattle.async_pool.specs.declared.crew.TheConstants.{MOST_WORKERS};
 
+use crate::door::Shut;
 use crate::queue::Queue;
+use crate::rule::Rule;
 use crate::sleepers::{Sleeper, Sleepers, Wake};
 use crate::thief::Thief;
+pub(crate) use looking::{Look, Over, Searched};
 use std::alloc::{AllocError, Global};
-use std::snapshot::Snapshot;
 
 /// The most workers of a pool.
 pub const MOST_WORKERS: usize = 8;
 
 /// The workers of a pool.
 #[derive(Drop)]
-pub(crate) struct Crew<J: Drop> {
+pub(crate) struct Crew<J: Drop, Q: Rule<J>> {
     shut: bool,
-    /// The queue of each worker. The loop of a worker has it while it runs, so a place without one is the mark of a running
-    /// loop.
-    queues: Vec<Option<Queue<J>>>,
+    /// The queue of each worker. The loop of a worker has it while it runs, so a place without one is the mark of a
+    /// running loop.
+    queues: Vec<Option<Queue<J, Q>>>,
     sleepers: Sleepers,
     ghost places: { vec_len queues ≡ MOST_WORKERS },
 }
 
-/// What a worker finds that looks for a job while it holds the lock.
-pub(crate) enum Look<J: Drop> {
-    Found(J),
-    /// There was no job to take, and the pool is open.
-    Nothing(Searched<J>),
-    /// There was no job to take, and the pool was shut, but a call that came before that may put one in still.
-    OnItsWay,
-    Over(Over),
-}
-
-/// A look found no job in an open pool, and what is behind the lock is as it was then.
-#[derive(Drop)]
-pub(crate) struct Searched<J: Drop> {
-    at: Snapshot<Crew<J>>,
-}
-
-/// The pool was shut, and no job was left or on its way in. One look alone gives it, and it can't be dropped: a loop ends with it.
-#[must_use]
-pub(crate) struct Over(());
-
-impl<J: Drop> Crew<J> {
+impl<J: Drop, Q: Rule<J>> Crew<J, Q> {
     ghost use Rattle.std.specs.Prelude.{◌<◌, ◌+◌, ◌-◌, Some, None, false, true, min, slice_get, slice_set};
     ghost use Rattle.async_pool.specs.Sleepers.{CallsOne, CallsAll};
-    ghost use Rattle.async_pool.specs.Looks.{LooksFor};
 
     /// Makes the crew of an open pool with this many workers, none of whose loops runs and none of whom sleeps, and the
     /// thieves of their queues, in the order of the workers.
-    pub fn new(alloc: Global, workers: usize) -> Result<(Crew<J>, Vec<Thief<J>>), AllocError>
-        requires { workers ≤ MOST_WORKERS }
+    pub fn new(alloc: Global, workers: usize) -> Result<(Crew<J, Q>, Vec<Thief<J, Q>>), AllocError>
+        requires few { workers ≤ MOST_WORKERS }
+        requires begins { Begins Q.holds }
         ensures open { IfOk result (λ made. made.0.shut ≡ false) }
         ensures placed { IfOk result (λ made. AreThievesOf made.0.queues.items made.1.items) }
         ensures thieves { IfOk result (λ made. vec_len made.1 ≡ workers) }
@@ -69,7 +54,7 @@ impl<J: Drop> Crew<J> {
     }
 
     /// Marks the loop of a worker as running, and gives it its queue. None if it runs already.
-    pub fn start(&mut self, worker: usize) -> Option<Queue<J>>
+    pub fn start(&mut self, worker: usize) -> Option<Queue<J, Q>>
         requires { worker < MOST_WORKERS }
         ensures taken { slice_get self.old.queues.items worker ≡ Some result }
         ensures marked { self.new.queues.items ≡ slice_set self.old.queues.items worker None }
@@ -79,7 +64,7 @@ impl<J: Drop> Crew<J> {
     }
 
     /// Takes the mark of a worker away, whose loop has ended, and keeps its queue for the next one.
-    pub fn end(&mut self, worker: usize, queue: Queue<J>, over: Over)
+    pub fn end_loop(&mut self, worker: usize, queue: Queue<J, Q>, over: Over)
         requires { worker < MOST_WORKERS }
         ensures kept { self.new.queues.items ≡ slice_set self.old.queues.items worker (Some queue) }
         ensures others { (self.new.shut ≡ self.old.shut) × (self.new.sleepers ≡ self.old.sleepers) }
@@ -88,29 +73,14 @@ impl<J: Drop> Crew<J> {
         self.queues[worker] = Some(queue);
     }
 
-    /// Says what a worker found that looked while it held the lock, and before that saw whether a job was on its way in. It may
-    /// lie down only if it found nothing in an open pool, and its loop may end only if all is over.
-    pub fn look(&self, found: Option<J>, comes: bool) -> Look<J>
-        ensures { LooksFor self.now found comes result }
-    {
-        match found {
-            Some(job) => Look::Found(job),
-            None if !self.shut => Look::Nothing(Searched {
-                at: Snapshot::of(self),
-            }),
-            None if comes => Look::OnItsWay,
-            None => Look::Over(Over(())),
-        }
-    }
-
     /// Counts one more worker that sleeps. It has looked since it took the lock, and found nothing.
-    pub fn lie_down(&mut self, searched: &Searched<J>) -> Sleeper
+    pub fn lie_down(&mut self, searched: &Searched<J, Q>) -> Sleeper
         requires open { self.old.shut ≡ false }
         requires searched { searched.now.at.value ≡ self.old }
         ensures asleep { self.new.sleepers.asleep
             ≡ min (self.old.sleepers.asleep + 1) 18446744073709551615 }
         ensures called { self.new.sleepers.called ≡ self.old.sleepers.called }
-        ensures others { self.new ≡ record self.old { sleepers = self.new.sleepers } }
+        ensures others { (self.new.shut ≡ self.old.shut) × (self.new.queues ≡ self.old.queues) }
     {
         self.sleepers.lie_down()
     }
@@ -119,7 +89,7 @@ impl<J: Drop> Crew<J> {
     pub fn get_up(&mut self, sleeper: Sleeper)
         ensures asleep { self.new.sleepers.asleep ≡ self.old.sleepers.asleep - 1 }
         ensures called { self.new.sleepers.called ≡ self.old.sleepers.called - 1 }
-        ensures others { self.new ≡ record self.old { sleepers = self.new.sleepers } }
+        ensures others { (self.new.shut ≡ self.old.shut) × (self.new.queues ≡ self.old.queues) }
     {
         self.sleepers.get_up(sleeper);
     }
@@ -127,13 +97,13 @@ impl<J: Drop> Crew<J> {
     /// Calls a worker that sleeps, if there is one and each that was called has got up, since a job came.
     pub fn call_one(&mut self) -> Wake
         ensures called { CallsOne self.old.sleepers result self.new.sleepers }
-        ensures others { self.new ≡ record self.old { sleepers = self.new.sleepers } }
+        ensures others { (self.new.shut ≡ self.old.shut) × (self.new.queues ≡ self.old.queues) }
     {
         self.sleepers.call_one()
     }
 
-    /// Shuts the pool: from now on a loop that finds no job ends. Each worker that sleeps is called.
-    pub fn shut(&mut self) -> Wake
+    /// Learns that the door was shut: from now on a loop that finds no job ends. Each worker that sleeps is called.
+    pub fn shut(&mut self, _shut: Shut) -> Wake
         ensures shut { self.new.shut ≡ true }
         ensures called { CallsAll self.old.sleepers result self.new.sleepers }
         ensures same_queues { self.new.queues ≡ self.old.queues }
@@ -144,10 +114,11 @@ impl<J: Drop> Crew<J> {
 }
 
 /// Makes a queue for each of this many workers, and its thief.
-fn new_queues<J: Drop>(
+fn new_queues<J: Drop, Q: Rule<J>>(
     alloc: Global,
     workers: usize,
-) -> Result<(Vec<Option<Queue<J>>>, Vec<Thief<J>>), AllocError>
+) -> Result<(Vec<Option<Queue<J, Q>>>, Vec<Thief<J, Q>>), AllocError>
+    requires { Begins Q.holds }
     ensures placed { IfOk result (λ made. AreThievesOf made.0.items made.1.items) }
     ensures one_each { IfOk result (λ made. (vec_len made.0 ≡ workers)
         × (vec_len made.1 ≡ workers)) }
@@ -163,9 +134,9 @@ fn new_queues<J: Drop>(
 }
 
 /// Adds empty places, until there is one for each worker that a pool may have.
-fn with_places<J: Drop>(
-    mut queues: Vec<Option<Queue<J>>>,
-) -> Result<Vec<Option<Queue<J>>>, AllocError>
+fn with_places<J: Drop, Q: Rule<J>>(
+    mut queues: Vec<Option<Queue<J, Q>>>,
+) -> Result<Vec<Option<Queue<J, Q>>>, AllocError>
     requires { vec_len queues ≤ MOST_WORKERS }
     ensures all { IfOk result (λ places. vec_len places ≡ MOST_WORKERS) }
     ensures empty { IfOk result (λ places. places.items

@@ -1,4 +1,5 @@
-//! The room for the jobs that are left at the end of a pool. It is made with the pool, so that no memory is refused then.
+//! The room for the jobs that are left at the end of a pool. It is made with the pool, so that no memory is refused
+//! then.
 ghost use Rattle.std.specs.Prelude.{◌≡◌, ◌≤◌, ◌+◌, []};
 ghost use Rattle.std.specs.Vec.{vec_capacity};
 ghost use Rattle.async_pool.specs.declared.inbox.TheConstants.{CAPACITY};

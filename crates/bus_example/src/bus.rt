@@ -5,8 +5,8 @@ ghost use Rattle.publisher.specs.Blanks.{IsBlankOf};
 use flow_rules::{DropHandler, Item, Listener, Name, Refusal};
 use publisher::{HandedIn, Outcome, Publisher, PublisherOptions, Submitter, Subscription, finish};
 use std::alloc::Global;
-use std::sync::Wait;
 use std::sync::ledger::{Blank, Ledger};
+use std::sync::{Mutex, Wait};
 use std::thread;
 use std::thread::Threads;
 
@@ -45,6 +45,8 @@ pub fn run_bus<
     requires drops { IsBlankOf drops D.name D.parts }
     requires untold { (B.told bus.file ≡ [])
         × ((B.told bus.counter ≡ []) × (B.told bus.slow ≡ [])) }
+    requires unheard { (B.replied bus.file ≡ [])
+        × ((B.replied bus.counter ≡ []) × (B.replied bus.slow ≡ [])) }
 {
     let made = Publisher::with_options(rt, alloc, publications, drops, options);
     let publisher: Publisher<L, D, B> = match made {
@@ -83,6 +85,8 @@ fn publish_on<
 ) -> Result<(), Refusal>
     requires untold { (B.told bus.file ≡ [])
         × ((B.told bus.counter ≡ []) × (B.told bus.slow ≡ [])) }
+    requires unheard { (B.replied bus.file ≡ [])
+        × ((B.replied bus.counter ≡ []) × (B.replied bus.slow ≡ [])) }
 {
     let Bus {
         file,
@@ -90,41 +94,44 @@ fn publish_on<
         slow,
     } = bus;
     // Subscribe, each under a name of its own.
-    let file = publisher.subscribe(rt, alloc, name_of("file")?, file)?;
+    let file = publisher.subscribe(rt, alloc, Name::parse("file")?, file)?;
     handed_in.subscriptions.push(file)?;
-    let counter = publisher.subscribe(rt, alloc, name_of("counter")?, counter)?;
+    let counter = publisher.subscribe(rt, alloc, Name::parse("counter")?, counter)?;
     handed_in.subscriptions.push(counter)?;
-    let mut slow = publisher.subscribe(rt, alloc, name_of("slow")?, slow)?;
+    let mut slow = publisher.subscribe(rt, alloc, Name::parse("slow")?, slow)?;
     // A submitter for each source. A new note knows of no close, and so the submitter doesn't either, until it is told.
     for _ in 0..SOURCES {
         let submitter = publisher.submitter(rt, alloc, &mut publisher.note())?;
         handed_in.submitters.push(submitter)?;
     }
     // Publish from three threads, while a fourth requests for the slow subscriber; all are joined.
-    publish_all(rt, alloc, &mut handed_in.submitters, &mut slow);
+    let published = publish_all(rt, alloc, &mut handed_in.submitters, &mut slow);
     handed_in.subscriptions.push(slow)?;
     // Close: each subscriber completes after its last line. The publisher is finished afterwards, in any case.
     publisher.close(rt, alloc, &mut publisher.note())?;
     publisher.wait_drained(rt);
-    Ok(())
+    published
 }
 
-fn name_of(name: &str) -> Result<Name, Refusal> {
-    Name::parse(name).ok_or(Refusal::BadCommand)
-}
-
-/// Publishes all lines, while another thread requests for the slow subscriber.
+/// Publishes all lines, while another thread requests for the slow subscriber. The first refusal that a source meets is
+/// told.
 fn publish_all<
     L: Ledger + Send + Sync + 'static,
     D: Ledger + Send + Sync + 'static,
     B: Listener + Send + 'static,
     R: Threads + Wait + Sync,
->(rt: &R, alloc: Global, submitters: &mut [Submitter<L, D, B>], slow: &mut Subscription<L, D, B>) {
-    thread::join(
+>(
+    rt: &R,
+    alloc: Global,
+    submitters: &mut [Submitter<L, D, B>],
+    slow: &mut Subscription<L, D, B>,
+) -> Result<(), Refusal> {
+    let (published, ()) = thread::join(
         rt,
         || publish_each(rt, alloc, submitters),
         || request_all(rt, slow),
     );
+    published
 }
 
 /// Publishes the lines of each source from a thread of its own.
@@ -133,11 +140,18 @@ fn publish_each<
     D: Ledger + Send + Sync + 'static,
     B: Listener + Send + 'static,
     R: Threads + Wait + Sync,
->(rt: &R, alloc: Global, submitters: &mut [Submitter<L, D, B>]) {
+>(rt: &R, alloc: Global, submitters: &mut [Submitter<L, D, B>]) -> Result<(), Refusal> {
+    let refused = Mutex::new(None);
     let publish = |source: usize, submitter: &mut Submitter<L, D, B>| {
-        publish_lines(rt, alloc, source, submitter)
+        if let Err(refusal) = publish_lines(rt, alloc, source, submitter) {
+            refused.lock(rt).get_or_insert(refusal);
+        }
     };
     thread::for_each_mut(rt, submitters, SOURCES, &publish);
+    match refused.into_inner() {
+        None => Ok(()),
+        Some(refusal) => Err(refusal),
+    }
 }
 
 /// Requests all lines for a slow subscriber, a portion at a time.
@@ -152,14 +166,14 @@ fn request_all<L: Ledger + Send, D: Ledger + Send, B: Listener + Send, R: Wait>(
     }
 }
 
-/// Publishes the lines of a source: the first by offers, which drop a line where there is no room, and the others by `submit`, which
-/// waits.
+/// Publishes the lines of a source: the first by offers, which drop a line if there is no room, and the others by
+/// `submit`, which waits. Refused 5 if memory is, and 2 after a close, which comes later here.
 fn publish_lines<L: Ledger + Send, D: Ledger + Send, B: Listener + Send, R: Wait>(
     rt: &R,
     alloc: Global,
     source: usize,
     submitter: &mut Submitter<L, D, B>,
-) {
+) -> Result<(), Refusal> {
     let mut drops = Drops(0);
     for number in 0..LINES {
         let line: &[u8] = if number % 10 == 0 {
@@ -167,15 +181,13 @@ fn publish_lines<L: Ledger + Send, D: Ledger + Send, B: Listener + Send, R: Wait
         } else {
             b"info: it works"
         };
-        let refused = match source {
-            0 => submitter.offer_with(rt, alloc, line, &mut drops).is_err(),
-            _ => submitter.submit(rt, alloc, line).is_err(),
-        };
-        // Refused for want of memory; and after a close, which comes later here.
-        if refused {
-            break;
+        if source == 0 {
+            submitter.offer_with(rt, alloc, line, &mut drops)?;
+        } else {
+            submitter.submit(rt, alloc, line)?;
         }
     }
+    Ok(())
 }
 
 /// Counts the lines that are dropped.

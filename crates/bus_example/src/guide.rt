@@ -1,9 +1,8 @@
 //! Pieces that docs/GUIDE.md shows, and that no program needs.
 use flow_rules::{
-    Answer, Collector, DropHandler, Fault, How, Item, Listener, Name, NoMemory, Refusal, Signal,
-    Watch,
+    Answer, Collector, DropHandler, Fault, Item, Listener, Name, NoMemory, Refusal, Signal, Watch,
 };
-use publisher::{NamedLane, Publisher, Subscription};
+use publisher::{Publisher, Subscription};
 use std::alloc::Global;
 use std::sync::atomic::AtomicU64;
 use std::sync::atomic::Ordering::SeqCst;
@@ -38,7 +37,7 @@ pub fn subscribe_collector<
     publisher: &Publisher<L, D, Collector>,
     name: &str,
 ) -> Result<Subscription<L, D, Collector>, Refusal> {
-    let name = Name::parse(name).ok_or(Refusal::BadCommand)?;
+    let name = Name::parse(name)?;
     let collector = Collector::asking(alloc, 100);
     Ok(publisher.subscribe(rt, alloc, name, collector)?)
 }
@@ -48,14 +47,6 @@ pub fn count_items(told: &[Signal]) -> usize {
     told.iter()
         .filter(|signal| matches!(signal, Signal::Next(_)))
         .count()
-}
-
-/// The code with which a callback of this subscription failed, if one did.
-pub fn failure_of<B>(lane: &NamedLane<B>) -> Option<u32> {
-    match lane.lane.ending {
-        Some(How::Failed(code)) => Some(code),
-        _ => None,
-    }
 }
 
 /// Has each item that finds no room offered once more, after other threads had a chance to run.
@@ -87,7 +78,7 @@ impl Watch for Announces {
     fn on_end(&mut self, _fault: Option<Fault>) {}
 }
 
-/// Waits in another thread until so many items were told. A sleep may end for no reason, so it looks again.
+/// Waits in another thread until this many items were told. A sleep may end for no reason, so it looks again.
 pub fn wait_for<R: Wait>(rt: &R, told: &AtomicU64, wanted: u64) {
     for _ in rt.forever() {
         let now = told.load(SeqCst);

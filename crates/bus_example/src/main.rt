@@ -1,14 +1,16 @@
 //! An event bus: three threads publish log lines to a file, to a count by severity, and to a subscriber that is slow.
 //!
-//! A publisher's life is: it is made; each subscriber subscribes, and what it shall be told is requested; each source of
-//! lines gets a submitter; threads publish, and are joined; the publisher is closed; and it is finished, which gives the subscribers back.
+//! A publisher's life is: it is made; each subscriber subscribes, and what it shall be told is requested; each source
+//! of lines gets a submitter; threads publish, and are joined; the publisher is closed; and it is finished, which gives
+//! the subscribers back.
 #![tactic(auto)]
 
 mod bus;
 mod guide;
+mod recipes;
 mod watches;
 
-use anyhow::bail;
+use anyhow::{bail, ensure};
 use bus::{Bus, run_bus};
 use flow_rules::{ErrorOrder, Listener, Watching};
 use publisher::{PARTS, PublisherOptions};
@@ -16,8 +18,8 @@ use std::fs;
 use std::io::BufWriter;
 use std::marker::Brand;
 use std::sync::Arc;
-use std::sync::atomic::AtomicU64;
 use std::sync::atomic::Ordering::SeqCst;
+use std::sync::atomic::{AtomicBool, AtomicU64};
 use std::sync::ledger::Blank;
 use watches::{BySeverity, Severities, Slow, ToFile};
 
@@ -34,7 +36,12 @@ fn main(rt: HostRuntime) -> anyhow::Result<()> {
         },
     )?;
     let log = BufWriter::new(alloc, fs::create(&rt, "events.log")?)?;
-    let file: Subscriber = Box::new(alloc, Watching::new(ToFile(log)))?;
+    let is_cut = Arc::new(alloc, AtomicBool::new(false))?;
+    let to_file = ToFile {
+        log,
+        is_cut: Arc::try_clone(&is_cut)?,
+    };
+    let file: Subscriber = Box::new(alloc, Watching::new(to_file))?;
     let by_severity = BySeverity(Arc::try_clone(&severities)?);
     let counter: Subscriber = Box::new(alloc, Watching::new(by_severity))?;
     let slow: Subscriber = Box::new(alloc, Watching::new(Slow))?;
@@ -59,8 +66,8 @@ fn main(rt: HostRuntime) -> anyhow::Result<()> {
     );
     let outcome = match finished {
         Ok(outcome) => outcome,
-        // 5: memory was refused. 8: the named subscription or submitter was not handed in. 9: the named subscriptions wait for demand, so
-        // request more for them, or cancel them, before the end.
+        // 5: memory was refused. 8: the named subscription or submitter was not handed in. 9: the named subscriptions
+        // wait for demand, so request more for them, or cancel them, before the end.
         Err((refusal, _)) => bail!("{}", refusal.explain()),
     };
     for lane in outcome.lanes.iter() {
@@ -71,5 +78,13 @@ fn main(rt: HostRuntime) -> anyhow::Result<()> {
     let errors = severities.errors.load(SeqCst);
     let counted = severities.others.load(SeqCst).saturating_add(errors);
     eprintln!(rt; "{counted} lines counted, {errors} of them errors")?;
+    // A subscription that failed is no refusal: whoever finishes the publisher looks.
+    if let Some((name, how)) = outcome.first_failure() {
+        bail!("{name}: {how}");
+    }
+    ensure!(
+        !is_cut.load(SeqCst),
+        "the last lines could not be written to events.log"
+    );
     Ok(())
 }

@@ -2,12 +2,16 @@
 use flow_rules::{Answer, Fault, Item, Watch};
 use std::io::Write;
 use std::sync::Arc;
-use std::sync::atomic::AtomicU64;
 use std::sync::atomic::Ordering::SeqCst;
+use std::sync::atomic::{AtomicBool, AtomicU64};
 
 /// Writes each line to a file, as fast as lines come.
 #[derive(Drop)]
-pub struct ToFile<W: Write + Drop>(pub W);
+pub struct ToFile<W: Write + Drop> {
+    pub log: W,
+    /// Set if the last flush fails. Whoever shall know has a share of it.
+    pub is_cut: Arc<AtomicBool>,
+}
 
 impl<W: Write + Drop> Watch for ToFile<W> {
     fn on_start(&mut self) -> Answer {
@@ -15,8 +19,8 @@ impl<W: Write + Drop> Watch for ToFile<W> {
     }
 
     fn on_item(&mut self, item: &Item) -> Answer {
-        let written = self.0.write_all(item.text.as_bytes());
-        if written.is_err() || self.0.write_all(b"\n").is_err() {
+        let written = self.log.write_all(item.text.as_bytes());
+        if written.is_err() || self.log.write_all(b"\n").is_err() {
             // The subscription ends with this code of our own, and the others go on.
             return Answer::Fail(1);
         }
@@ -24,11 +28,15 @@ impl<W: Write + Drop> Watch for ToFile<W> {
     }
 
     fn on_end(&mut self, _fault: Option<Fault>) {
-        let _ = self.0.flush();
+        // No answer is obeyed any more, so the subscription can't fail.
+        if self.log.flush().is_err() {
+            self.is_cut.store(true, SeqCst);
+        }
     }
 }
 
-/// How many lines there were of each severity: two numbers, however many lines come. Whoever has a share of them may read them at any time.
+/// How many lines there were of each severity: two numbers, however many lines come. Whoever has a share of them may
+/// read them at any time.
 #[derive(Drop)]
 pub struct Severities {
     pub errors: AtomicU64,

@@ -1,5 +1,6 @@
 //! A subscriber that checks the order of items. It requests nothing by itself.
-ghost use Rattle.std.specs.Prelude.{◌≡◌, []};
+ghost use Rattle.std.specs.Prelude.{◌≡◌};
+ghost use Rattle.flow_rules.specs.Callback.{heard_nothing};
 
 use flow_rules::{Answer, Fault, Item, Listener, NoMemory, Signal, Told};
 use std::alloc::Global;
@@ -19,10 +20,9 @@ pub struct InOrder {
 }
 
 impl Model for InOrder {
-    ghost use Rattle.std.specs.Prelude.{List};
-    ghost use Rattle.flow_rules.specs.declared.signal.Signal.{Signal};
+    ghost use Rattle.flow_rules.specs.Callback.{Heard};
 
-    ghost Value = { List Signal };
+    ghost Value = { Heard };
 
     ghost view = { λ o. o.told };
 }
@@ -30,7 +30,7 @@ impl Model for InOrder {
 impl InOrder {
     /// Makes a subscriber that was told nothing.
     pub fn new(all: Arc<AtomicU64, Global>) -> InOrder
-        ensures { result ≡ [] }
+        ensures { result ≡ heard_nothing }
     {
         InOrder {
             told: Told::new(),
@@ -43,31 +43,30 @@ impl InOrder {
 impl Listener for InOrder {
     ghost use Rattle.std.specs.Prelude.{false};
 
-    ghost told = { λ o. o };
+    ghost told = { λ o. o.signals };
+
+    ghost replied = { λ o. o.replies };
 
     ghost is_steady = { λ _. false };
 
     fn on_subscribe(&mut self) -> Result<Answer, NoMemory> {
-        self.told.tell(&Signal::Subscribed);
-        Ok(Answer::Go)
+        Ok(self.told.tell(&Signal::Subscribed, Answer::Go))
     }
 
     fn on_next(&mut self, item: &Item) -> Result<Answer, NoMemory> {
-        self.told.tell_next(item);
+        let answer = self.told.tell_next(item, Answer::Go);
         if item.serial == self.next {
             self.next = self.next.wrapping_add(1);
         }
-        Ok(Answer::Go)
+        Ok(answer)
     }
 
     fn on_error(&mut self, fault: Fault) -> Result<Answer, NoMemory> {
-        self.told.tell(&Signal::Error(fault));
-        Ok(Answer::Go)
+        Ok(self.told.tell_last(&Signal::Error(fault)))
     }
 
     fn on_complete(&mut self) -> Result<Answer, NoMemory> {
-        self.told.tell(&Signal::Complete);
         self.all.store(self.next, SeqCst);
-        Ok(Answer::Go)
+        Ok(self.told.tell_last(&Signal::Complete))
     }
 }

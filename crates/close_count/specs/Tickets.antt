@@ -24,7 +24,7 @@ held_count v = v.held
 abbrev pub earlier_count : View → ℕ
 earlier_count v = v.earlier
 
--- 1 where its own step spent the last ticket
+-- 1 if its own step spent the last ticket
 abbrev pub last_count : View → ℕ
 last_count v = v.last
 
@@ -51,7 +51,7 @@ pub record KeepsCount (s : Moment) : Type 0 where
   pub unspent : count_word s + total_spent s ≡ total_made s
   -- each of those is one that a seat holds, or that was dropped with its seat
   pub held : sum_by held_count s.views ≡ count_word s
-  -- one step found the last ticket exactly where none is left, and no other step did
+  -- one step found the last ticket exactly if none is left, and no other step did
   pub once : sum_by last_count s.views + min 1 (count_word s) ≡ 1
   -- an Opening makes at most MOST_TICKETS beside itself, so no step wraps
   pub bounded : total_made s + sum_by room_count s.views ≡ MOST_TICKETS + 1
@@ -69,7 +69,7 @@ pub record Completes (n : ℕ) (before after : Moment) : Type 0 where
 abbrev pub CompletesAt : ℕ → Type 0
 CompletesAt n = (before : Moment) × (after : Moment) × Completes n before after
 
--- what the seat of an Opening knows that made so many tickets
+-- what the seat of an Opening knows that made this many tickets
 abbrev pub opening_view : ℕ → View
 opening_view made = record { made = made + 1; room = MOST_TICKETS - made; held = 1; earlier = 0; last = 0 }
 
@@ -118,7 +118,7 @@ SeatView = Me (Unit {0}) View
 abbrev pub IsStepOfAdd : Step (Unit {0}) → SeatView → ℕ → SeatView → Type 0
 IsStepOfAdd step before found after = after ≡ (view_after_add before.0, before.1)
 
--- a ticket was spent, where the count was `found`
+-- a ticket was spent, if the count was `found`
 abbrev pub IsStepOfComplete : Step (Unit {0}) → SeatView → ℕ → SeatView → Type 0
 IsStepOfComplete step before found after = (after ≡ (view_after_complete before.0 found, before.1)) × CompletesAt found
 

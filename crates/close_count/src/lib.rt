@@ -2,7 +2,7 @@
 //! (Java SE 17) does: of all who hold a ticket, the one that spends the last ticket learns it, and nobody else.
 //!
 //! [`Count::new`] gives the [`Opening`], which is the first ticket and makes all others. A [`Ticket`] is spent by
-//! `try_complete`, in any thread, and answers `true` where it was the last one. `CountedCompleter`'s pending count is
+//! `try_complete`, in any thread, and answers `true` if it was the last one. `CountedCompleter`'s pending count is
 //! the number of unspent tickets less one. A ticket that is dropped stays unspent, so nobody is the last one then.
 //!
 //! The number of unspent tickets is one word, which all tickets of a count share. To add a ticket is one

@@ -41,8 +41,8 @@ impl Opening {
 
     /// One more ticket (`CountedCompleter.addToPendingCount(1)`).
     ///
-    /// `Exhausted` once [`MOST_TICKETS`](crate::MOST_TICKETS) were made, and else `NoMemory` where one more owner of the shared
-    /// count is refused. After either the opening is as it was.
+    /// `Exhausted` once [`MOST_TICKETS`](crate::MOST_TICKETS) were made, and else `NoMemory` if one more owner of
+    /// the shared count is refused. After either the opening is as it was.
     pub fn add(&mut self) -> Result<Ticket, Refusal>
         ensures ticket { IfOk result (λ ticket. count_of_ticket ticket
             ≡ count_of_opening self.old) }
@@ -73,8 +73,9 @@ impl Opening {
         Spent::of_seat(self.counter, self.seat)
     }
 
-    /// Spends the opening, and answers whether it was the last ticket (`CountedCompleter.tryComplete`). What is proved of the answer is said of
-    /// what [`spend`](Opening::spend) gives, as of [`Ticket::try_complete`](crate::Ticket::try_complete).
+    /// Spends the opening, and answers whether it was the last ticket (`CountedCompleter.tryComplete`). What is proved
+    /// of the answer is said of what [`spend`](Opening::spend) gives, as of
+    /// [`Ticket::try_complete`](crate::Ticket::try_complete).
     #[must_use]
     pub fn try_complete(self) -> bool {
         self.spend().is_last()

@@ -12,7 +12,7 @@ pub struct View {
     pub held: u64,
     /// The tickets that it spent while others were left.
     pub earlier: u64,
-    /// 1 where its own step spent the last ticket.
+    /// 1 if its own step spent the last ticket.
     pub last: u64,
 }
 

@@ -40,8 +40,8 @@ impl Ticket {
 
     /// Spends the ticket, and answers whether it was the last one (`CountedCompleter.tryComplete`).
     ///
-    /// A clause of this answer alone would hold of any answer. What is proved is said of the [`Spent`] that [`spend`](Ticket::spend) gives, by
-    /// [`one_of_all_is_last`](crate::one_of_all_is_last).
+    /// A clause of this answer alone would hold of any answer. What is proved is said of the [`Spent`] that
+    /// [`spend`](Ticket::spend) gives, by [`one_of_all_is_last`](crate::one_of_all_is_last).
     #[must_use]
     pub fn try_complete(self) -> bool {
         self.spend().is_last()

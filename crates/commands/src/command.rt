@@ -19,8 +19,8 @@ pub enum Command<'a> {
     Retry(TextBytes<'a>),
     /// `submit TEXT`: is refused where there is no room.
     Submit(TextBytes<'a>),
-    /// `request NAME N`: the owner of the latest subscription of this name requests N items more; an N that is not positive is a bad
-    /// request.
+    /// `request NAME N`: the owner of the latest subscription of this name requests N items more; an N that is not
+    /// positive is a bad request.
     Request(Name, i64),
     /// `cancel NAME`: the owner of the latest subscription of this name cancels it.
     Cancel(Name),

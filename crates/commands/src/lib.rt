@@ -1,6 +1,6 @@
-//! The commands by which people and programs drive a publisher, a line each: how a line is cut into words, numbers and texts, which command
-//! it spells, and how an answer is written. What a command does is not said here: `lines_demo` plays it on plain state, `console` on a
-//! publisher with threads.
+//! The commands by which people and programs drive a publisher, a line each: how a line is cut into words, numbers and
+//! texts, which command it spells, and how an answer is written. What a command does is not said here: `lines_demo`
+//! plays it on plain state, `console` on a publisher with threads.
 //!
 //! ```
 //! let (line, rest) = split_line(b"request a 3\r\nclose\n");   // b"request a 3\r" and b"close\n"
@@ -10,7 +10,10 @@
 #![tactic(auto)]
 
 mod command;
+mod excerpt;
+mod form;
 mod line;
+mod mistake;
 mod number;
 mod reply;
 mod text_bytes;
@@ -18,7 +21,10 @@ mod word;
 mod writing;
 
 pub use command::Command;
+pub use excerpt::Excerpt;
+pub use form::{Form, Part};
 pub use line::{LONGEST_LINE, split_at_byte, split_line, strip_return};
+pub use mistake::Mistake;
 pub use number::{parse_code, parse_digits, parse_number, parse_signed};
 pub use reply::Reply;
 pub use text_bytes::TextBytes;

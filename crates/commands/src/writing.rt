@@ -10,8 +10,20 @@ use std::io::{ErrorKind, Write};
 pub enum OutputFault {
     /// The writer failed, or took no more bytes.
     Write,
+    /// Nobody reads any more what is written: the other end of the pipe is closed.
+    Gone,
     /// The line buffer was refused memory.
     Memory,
+}
+
+impl OutputFault {
+    /// What a writer's error of this kind is.
+    pub fn of(kind: ErrorKind) -> OutputFault {
+        match kind {
+            ErrorKind::BrokenPipe => OutputFault::Gone,
+            _ => OutputFault::Write,
+        }
+    }
 }
 
 /// Writes a line of this text. The line is made up in the buffer.
@@ -45,7 +57,7 @@ pub fn write_whole<W: Write>(writer: &mut W, bytes: &[u8]) -> Result<(), OutputF
             Ok(count) => rest = &rest[count..],
             Err(error) => {
                 if error.kind() != ErrorKind::Interrupted {
-                    return Err(OutputFault::Write);
+                    return Err(OutputFault::of(error.kind()));
                 }
             }
         }

@@ -10,7 +10,8 @@ use std::time::Clock;
 /// The listeners of a console.
 pub type Echoes<R> = Watching<Echo<R>>;
 
-/// Writes a line for each signal, and counts the items. It requests nothing by itself, and cancels its subscription once a line has failed.
+/// Writes a line for each signal, and counts the items. It requests nothing by itself, and cancels its subscription
+/// once a line has failed.
 #[derive(Drop)]
 pub struct Echo<R> {
     /// The name that it subscribes with.
@@ -27,9 +28,9 @@ impl<R: Print + Clock + Wait + Copy> Watch for Echo<R> {
     }
 
     fn on_item(&mut self, item: &Item) -> Answer {
-        let said = self.screen.say_item(&self.name, item.text.as_bytes());
+        // Whoever reads the line finds the item counted.
         self.told.fetch_add(1, SeqCst);
-        answer_after(said)
+        answer_after(self.screen.say_item(&self.name, item.text.as_bytes()))
     }
 
     fn on_end(&mut self, fault: Option<Fault>) {

@@ -1,6 +1,7 @@
 //! Why the program stops before its end.
 use commands::OutputFault;
 use flow_rules::{NoMemory, Refusal};
+use std::alloc::AllocError;
 use thiserror::Error;
 
 /// Why the program stopped. What was written before stays.
@@ -12,6 +13,9 @@ pub enum ConsoleFault {
     /// Writing has failed, or standard output is closed.
     #[error("write fault")]
     Write,
+    /// Nobody reads standard output any more.
+    #[error("nobody reads")]
+    Gone,
     /// Memory was refused where no answer can say so.
     #[error("memory")]
     Memory,
@@ -24,6 +28,7 @@ impl From<OutputFault> for ConsoleFault {
     fn from(fault: OutputFault) -> ConsoleFault {
         match fault {
             OutputFault::Write => ConsoleFault::Write,
+            OutputFault::Gone => ConsoleFault::Gone,
             OutputFault::Memory => ConsoleFault::Memory,
         }
     }
@@ -35,6 +40,12 @@ impl From<Refusal> for ConsoleFault {
             Refusal::NoMemory => ConsoleFault::Memory,
             other => ConsoleFault::Refused(other),
         }
+    }
+}
+
+impl From<AllocError> for ConsoleFault {
+    fn from(_refused: AllocError) -> ConsoleFault {
+        ConsoleFault::Memory
     }
 }
 

@@ -1,7 +1,7 @@
 //! Standard input, which is read by a thread of its own, so that the program can end while it waits for a line.
-use crate::queue::Queue;
 use commands::{LONGEST_LINE, strip_return};
 use flow_rules::NoMemory;
+use inbox::Queue;
 use std::alloc::Global;
 use std::io::{BufRead, BufReader, ErrorKind, Read};
 use std::sync::{Arc, Wait};
@@ -9,7 +9,7 @@ use std::thread;
 use std::thread::Threads;
 
 /// How many lines may wait to be obeyed.
-const MOST_WAITING: usize = 64;
+pub const MOST_LINES: usize = 64;
 
 /// The most bytes of a line with what ends it.
 const LONGEST: u64 = LONGEST_LINE as u64 + 2;
@@ -23,12 +23,12 @@ pub enum Heard {
     LongLine,
     /// Reading has failed.
     ReadFault,
-    /// Memory was refused.
+    /// Memory was refused where a line was read.
     NoMemory,
 }
 
-/// Starts the thread that reads standard input to its end, and closes the queue then. Nobody waits for it: it may stand in the middle of a
-/// read when the program ends.
+/// Starts the thread that reads standard input to its end, and closes the queue then. Nobody waits for it: it may stand
+/// in the middle of a read when the program ends.
 pub fn start_reading<R: Threads + Wait + Copy + Send + 'static, I: Read + Send + Drop + 'static>(
     rt: R,
     alloc: Global,
@@ -51,14 +51,11 @@ pub fn start_reading<R: Threads + Wait + Copy + Send + 'static, I: Read + Send +
 /// Hands on each line, up to the end.
 fn read_lines<R: Wait, I: BufRead>(rt: &R, alloc: Global, reader: &mut I, input: &Queue<Heard>) {
     for _ in rt.forever() {
-        if !input.wait_for_room(rt, MOST_WAITING) {
-            break;
-        }
         let Some(heard) = read_line(alloc, reader) else {
             break;
         };
         let is_last = matches!(heard, Heard::ReadFault | Heard::NoMemory);
-        if input.push(rt, heard).is_err() || is_last {
+        if !input.push(rt, heard) || is_last {
             break;
         }
     }

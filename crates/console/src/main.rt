@@ -1,5 +1,5 @@
-//! A publisher at a terminal: each line of standard input is obeyed at once, on a publisher with worker threads, and what its subscribers
-//! are told is written as it happens.
+//! A publisher at a terminal: each line of standard input is obeyed at once, on a publisher with worker threads, and
+//! what its subscribers are told is written as it happens.
 #![tactic(auto)]
 
 mod echo;
@@ -7,25 +7,26 @@ mod fault;
 mod input;
 mod options;
 mod order;
-mod queue;
 mod report;
 mod screen;
 mod session;
+mod site;
 mod source;
-mod stage;
 mod terminal;
+mod verdict;
 
 use clap::error::ErrorKind;
+use commands::OutputFault;
 use fault::ConsoleFault;
 use flow_rules::Refusal;
-use input::start_reading;
-use options::{Options, command_line};
+use inbox::Queue;
+use input::{MOST_LINES, start_reading};
+use options::{Options, Terminals, command_line};
 use publisher::PARTS;
-use queue::Queue;
 use screen::Screen;
 use session::run_session;
 use std::fmt::Display;
-use std::io::Read;
+use std::io::{IsTerminal, Read};
 use std::marker::Brand;
 use std::process::ExitCode;
 use std::rt::Env;
@@ -33,7 +34,11 @@ use std::sync::ledger::Blank;
 use std::sync::{Arc, Wait};
 use std::thread::Threads;
 use std::time::{Clock, Instant};
-use std::{env, io};
+use std::{env, io, thread};
+use verdict::Verdict;
+
+/// What the program says first to a person.
+const GREETING: &str = "`help` lists the commands, Ctrl-D ends";
 
 /// The exit status of a fault.
 const FAULT: u8 = 1;
@@ -41,9 +46,17 @@ const FAULT: u8 = 1;
 /// The exit status of a wrong command line.
 const WRONG_USE: u8 = 2;
 
+/// The exit status if nobody reads standard output any more, that of a program which the signal SIGPIPE ends.
+const GONE: u8 = 141;
+
 fn main(rt: HostRuntime) -> ExitCode {
-    match run(rt, rt.reader()) {
+    let terminals = Terminals {
+        input: rt.stdin().is_terminal(),
+        output: rt.stdout().is_terminal(),
+    };
+    match run(rt, rt.reader(), terminals) {
         Ok(status) => status,
+        Err(ConsoleFault::Gone) => ExitCode::from(GONE),
         Err(fault) => {
             let status = status_of(&fault);
             fail(&rt, fault, status)
@@ -55,14 +68,14 @@ fn main(rt: HostRuntime) -> ExitCode {
 fn run<
     R: Print + Eprint + Env + Clock + AllocGlobal + Threads + Wait + Copy + Send + Sync + 'static,
     I: Read + Send + Drop + 'static,
->(rt: R, reader: I) -> Result<ExitCode, ConsoleFault> {
+>(rt: R, reader: I, terminals: Terminals) -> Result<ExitCode, ConsoleFault> {
     let Some(words) = command_words(&rt)? else {
         return Ok(fail(&rt, "an argument is not UTF-8", WRONG_USE));
     };
     let command = command_line(rt.alloc()).map_err(|_| ConsoleFault::Memory)?;
     let error = match command.try_get_matches_from(words.as_slice()) {
         Ok(matches) => {
-            open(rt, reader, Options::read(&matches)?)?;
+            start(rt, reader, Options::read(&matches, terminals))?;
             return Ok(ExitCode::SUCCESS);
         }
         Err(error) => error,
@@ -70,7 +83,9 @@ fn run<
     if error.kind() == ErrorKind::OutOfMemory {
         return Err(ConsoleFault::Memory);
     }
-    error.print(&rt).map_err(|_| ConsoleFault::Write)?;
+    if let Err(fault) = error.print(&rt) {
+        return Err(OutputFault::of(fault.kind()).into());
+    }
     if error.use_stderr() {
         Ok(ExitCode::from(WRONG_USE))
     } else {
@@ -78,23 +93,47 @@ fn run<
     }
 }
 
+/// Has a thread of its own hold the session, and waits until that has ended, or can't.
+fn start<
+    R: Print + Clock + AllocGlobal + Threads + Wait + Copy + Send + Sync + 'static,
+    I: Read + Send + Drop + 'static,
+>(rt: R, reader: I, options: Options) -> Result<(), ConsoleFault> {
+    let verdict = Arc::new(rt.alloc(), Verdict::new()).map_err(|_| ConsoleFault::Memory)?;
+    let theirs = Arc::try_clone(&verdict).map_err(|_| ConsoleFault::Memory)?;
+    let session = move || {
+        let ended = match Arc::try_clone(&theirs) {
+            Ok(verdict) => open(rt, reader, options, verdict),
+            Err(_) => Err(ConsoleFault::Memory),
+        };
+        theirs.say(&rt, ended);
+    };
+    match thread::spawn(&rt, session) {
+        Ok(_) => verdict.wait(&rt),
+        Err(_) => Err(ConsoleFault::Memory),
+    }
+}
+
 /// Opens the terminal on this standard input, and on standard output.
 fn open<
     R: Print + Clock + AllocGlobal + Threads + Wait + Copy + Send + Sync + 'static,
     I: Read + Send + Drop + 'static,
->(rt: R, reader: I, options: Options) -> Result<(), ConsoleFault> {
+>(rt: R, reader: I, options: Options, verdict: Arc<Verdict>) -> Result<(), ConsoleFault> {
     let alloc = rt.alloc();
     let start = if options.is_stamped {
         Some(Instant::now(&rt).map_err(|_| ConsoleFault::Read)?)
     } else {
         None
     };
-    let input = Arc::new(alloc, Queue::new(alloc)).map_err(|_| ConsoleFault::Memory)?;
+    let lines = Queue::new(alloc, MOST_LINES)?;
+    let input = Arc::new(alloc, lines).map_err(|_| ConsoleFault::Memory)?;
     let theirs = Arc::try_clone(&input).map_err(|_| ConsoleFault::Memory)?;
-    let shown = Screen::new(rt, alloc, start, theirs);
+    let shown = Screen::new(rt, alloc, start, options.terminals.output, theirs);
     let screen = Arc::new(alloc, shown).map_err(|_| ConsoleFault::Memory)?;
     let lines = Arc::try_clone(&input).map_err(|_| ConsoleFault::Memory)?;
     start_reading(rt, alloc, reader, lines)?;
+    if options.terminals.input && options.terminals.output {
+        screen.say(GREETING)?;
+    }
     run_session::<Brand, Brand, R>(
         rt,
         alloc,
@@ -103,6 +142,7 @@ fn open<
         options.publisher,
         screen,
         &input,
+        verdict,
     )
 }
 

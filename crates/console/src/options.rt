@@ -1,7 +1,7 @@
 //! The command line.
+use clap::builder::ValueParser;
 use clap::{Arg, ArgAction, ArgMatches, Command};
-use commands::parse_digits;
-use flow_rules::{ErrorOrder, Refusal};
+use flow_rules::ErrorOrder;
 use publisher::PublisherOptions;
 use std::alloc::{AllocError, Global};
 
@@ -13,16 +13,31 @@ const LATE: &str = "late";
 
 const STAMP: &str = "stamp";
 
+/// The most threads that a publisher takes.
+const MOST_WORKERS: u64 = 8;
+
 /// What `--version` prints after the name.
 const VERSION: &str = "0.1.0";
 
-/// What `--help` says at its end.
-const HELP: &str =
-    "Each line of standard input is a command, which is obeyed at once; `help` lists them. What a command is answered begins with `= `.
-What a subscriber is told stands on a line of its own as its callback runs: `NAME subscribed`, `NAME next TEXT`, `NAME complete`,
-`NAME error published C` (of `fail`), `NAME error argument` (of a bad request), `NAME error state` (of a second `sub` of NAME). `submit` is
-done by a thread of its source, and answered when it returns. At the end of the input the sources publish what they can, the publisher
-is closed, and it is said of each subscriber that did not leave how it ended and how many items it was told.";
+/// What `--help` says at its end, for a terminal of 80 columns.
+const HELP: &str = "Each line of standard input is a command, which is obeyed at once; `help` lists
+them. What a command is answered begins with `= `. What a subscriber is told
+stands on a line of its own as its callback runs: `NAME subscribed`,
+`NAME next TEXT`, `NAME complete`, `NAME error published C` (of `fail`),
+`NAME error argument` (of a bad request), `NAME error state` (of a second `sub`
+of NAME). `submit` is done by a thread of its source, and answered when it
+returns. At the end of the input the sources publish what they can, the
+publisher is closed, and it is said of each subscriber that did not leave how it
+ended and how many items it was told.";
+
+/// Which streams are terminals.
+#[derive(Clone, Copy)]
+pub struct Terminals {
+    /// Standard input.
+    pub input: bool,
+    /// Standard output.
+    pub output: bool,
+}
 
 /// What the command line asks for.
 #[derive(Clone, Copy)]
@@ -31,19 +46,22 @@ pub struct Options {
     pub publisher: PublisherOptions,
     /// Whether each line begins with a time.
     pub is_stamped: bool,
+    /// Which streams are terminals.
+    pub terminals: Terminals,
 }
 
 impl Options {
-    /// What the matches say. Refused 12 if an option is no number.
-    pub fn read(matches: &ArgMatches<'_>) -> Result<Options, Refusal> {
+    /// What the matches say.
+    pub fn read(matches: &ArgMatches<'_>, terminals: Terminals) -> Options {
         let mut publisher = PublisherOptions::default();
-        publisher.workers = number_of(matches, WORKERS, publisher.workers)?;
-        publisher.capacity = number_of(matches, CAPACITY, publisher.capacity)?;
+        publisher.workers = number_of(matches, WORKERS, publisher.workers);
+        publisher.capacity = number_of(matches, CAPACITY, publisher.capacity);
         publisher.order = order_of(matches);
-        Ok(Options {
+        Options {
             publisher,
             is_stamped: matches.get_flag(STAMP),
-        })
+            terminals,
+        }
     }
 }
 
@@ -56,15 +74,9 @@ fn order_of(matches: &ArgMatches<'_>) -> ErrorOrder {
     }
 }
 
-/// The number that an option says, or the default. Refused 12 if it says something else.
-fn number_of(matches: &ArgMatches<'_>, option: &str, default: usize) -> Result<usize, Refusal> {
-    let Some(word) = matches.get_str(option) else {
-        return Ok(default);
-    };
-    match parse_digits(word.as_bytes()) {
-        Some(number) => usize::try_from(number).map_err(|_| Refusal::BadCommand),
-        None => Err(Refusal::BadCommand),
-    }
+/// The number that an option says, or the default.
+fn number_of(matches: &ArgMatches<'_>, option: &str, default: usize) -> usize {
+    matches.get_one::<usize>(option).unwrap_or(default)
 }
 
 /// The command line.
@@ -73,18 +85,18 @@ pub fn command_line<'a>(alloc: Global) -> Result<Command<'a>, AllocError> {
         .long("workers")
         .value_name("W")
         .action(ArgAction::Set)
-        .help("How many threads run the subscribers' callbacks, 1 to 8; 2 if nothing is said");
+        .value_parser(ValueParser::Unsigned(1, MOST_WORKERS))
+        .help("How many threads run callbacks, 1 to 8 [2]");
     let capacity = Arg::new(alloc, CAPACITY)
         .long("cap")
         .value_name("N")
         .action(ArgAction::Set)
-        .help(
-            "The capacity of each subscriber's buffer, rounded up to a power of two, at most 65536; 256 if nothing is said",
-        );
+        .value_parser(ValueParser::Unsigned(1, usize::MAX as u64))
+        .help("The room of a buffer, to a power of two, up to 65536 [256]");
     let late = Arg::new(alloc, LATE)
         .long("late")
         .action(ArgAction::SetTrue)
-        .help("Lets the error of `fail` wait for the items that were accepted before it");
+        .help("Lets the error of `fail` wait for the items before it");
     let stamp = Arg::new(alloc, STAMP)
         .long("stamp")
         .action(ArgAction::SetTrue)

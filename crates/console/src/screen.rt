@@ -1,8 +1,8 @@
 //! The screen: standard output, on which all threads of the program write.
 use crate::input::Heard;
-use crate::queue::Queue;
 use commands::{OutputFault, write_whole};
 use flow_rules::Name;
+use inbox::Queue;
 use std::alloc::{AllocError, Global};
 use std::fmt::Display;
 use std::io;
@@ -10,13 +10,15 @@ use std::io::Write;
 use std::sync::{Arc, Mutex, Wait};
 use std::time::{Clock, Instant};
 
-/// Standard output behind a lock of its own. A line reaches it whole and at once, and no two mix. Once a line has failed, none is written
-/// any more, and no line of the input is heard either.
+/// Standard output behind a lock of its own. A line reaches it whole and at once, and no two mix. Once a line has
+/// failed, none is written any more, and no line of the input is heard either.
 #[derive(Drop)]
 pub struct Screen<R> {
     rt: R,
     /// When the program began, if each line shall say how long ago that was.
     start: Option<Instant>,
+    /// Whether a terminal shows it, which would obey the control characters of a text.
+    is_terminal: bool,
     page: Mutex<Page>,
     /// What is cut once a line has failed, so that the terminal ends.
     input: Arc<Queue<Heard>>,
@@ -30,16 +32,19 @@ struct Page {
 }
 
 impl<R: Print + Clock + Wait> Screen<R> {
-    /// A screen on which nothing has failed. With a start each line begins with the microseconds since then.
+    /// A screen on which nothing has failed. With a start each line begins with the microseconds since then. On a
+    /// terminal the control characters of a text are escaped.
     pub fn new(
         rt: R,
         alloc: Global,
         start: Option<Instant>,
+        is_terminal: bool,
         input: Arc<Queue<Heard>>,
     ) -> Screen<R> {
         Screen {
             rt,
             start,
+            is_terminal,
             page: Mutex::new(Page {
                 line: Vec::new(alloc),
                 fault: None,
@@ -69,7 +74,7 @@ impl<R: Print + Clock + Wait> Screen<R> {
         }
         page.line.clear();
         let made = self.stamp(&mut page.line).is_ok()
-            && add_item(&mut page.line, name, text).is_ok();
+            && self.add_item(&mut page.line, name, text).is_ok();
         self.show(page, made)
     }
 
@@ -93,6 +98,21 @@ impl<R: Print + Clock + Wait> Screen<R> {
         }
     }
 
+    /// Adds the rest of the line of an item.
+    fn add_item(&self, line: &mut Vec<u8>, name: &Name, text: &[u8]) -> Result<(), AllocError> {
+        line.extend_from_slice(name.as_bytes())?;
+        line.extend_from_slice(b" next ")?;
+        if self.is_terminal {
+            for byte in text {
+                add_shown(line, *byte)?;
+            }
+        } else {
+            line.extend_from_slice(text)?;
+        }
+        line.push(b'\n')?;
+        Ok(())
+    }
+
     /// Writes the line, if it was made, and keeps what has failed.
     fn show(&self, page: &mut Page, made: bool) -> Result<(), OutputFault> {
         let shown = if made {
@@ -108,11 +128,14 @@ impl<R: Print + Clock + Wait> Screen<R> {
     }
 }
 
-/// Adds the rest of the line of an item.
-fn add_item(line: &mut Vec<u8>, name: &Name, text: &[u8]) -> Result<(), AllocError> {
-    line.extend_from_slice(name.as_bytes())?;
-    line.extend_from_slice(b" next ")?;
-    line.extend_from_slice(text)?;
-    line.push(b'\n')?;
-    Ok(())
+/// Adds a byte as it is shown: a control character with a backslash and letters.
+fn add_shown(line: &mut Vec<u8>, byte: u8) -> Result<(), AllocError> {
+    if !byte.is_ascii_control() {
+        line.push(byte)?;
+        return Ok(());
+    }
+    match write!(line, "{}", byte.escape_ascii()) {
+        Ok(()) => Ok(()),
+        Err(_) => Err(AllocError),
+    }
 }

@@ -5,12 +5,14 @@ ghost use Rattle.publisher.specs.Blanks.{IsBlankOf};
 use crate::echo::Echoes;
 use crate::fault::ConsoleFault;
 use crate::input::Heard;
-use crate::queue::Queue;
 use crate::report::report;
 use crate::screen::Screen;
-use crate::stage::Stage;
+use crate::site::Site;
+use crate::source::MOST_SOURCES;
 use crate::terminal::Terminal;
+use crate::verdict::Verdict;
 use flow_rules::Refusal;
+use inbox::Queue;
 use publisher::{HandedIn, Outcome, Publisher, PublisherOptions, finish};
 use std::alloc::Global;
 use std::sync::atomic::AtomicU64;
@@ -20,8 +22,8 @@ use std::thread;
 use std::thread::Threads;
 use std::time::Clock;
 
-/// Makes a publisher, has the lines of the input obeyed, ends the publisher in any case, and says what is left of it. The two ledgers name
-/// the publisher.
+/// Makes a publisher, has the lines of the input obeyed, ends the publisher in any case, and says what is left of it.
+/// The two ledgers name the publisher.
 pub fn run_session<
     L: Ledger + Send + Sync + 'static,
     D: Ledger + Send + Sync + 'static,
@@ -34,33 +36,35 @@ pub fn run_session<
     options: PublisherOptions,
     screen: Arc<Screen<R>>,
     input: &Queue<Heard>,
+    verdict: Arc<Verdict>,
 ) -> Result<(), ConsoleFault>
     requires publications { IsBlankOf publications L.name L.parts }
     requires drops { IsBlankOf drops D.name D.parts }
 {
-    let stage: Stage<L, D, R> = Stage {
+    let submitters = Vec::with_capacity(alloc, MOST_SOURCES)?;
+    let site: Site<L, D, R> = Site {
         rt,
         alloc,
         publisher: Publisher::with_options(rt, alloc, publications, drops, options)?,
         screen,
         unanswered: AtomicU64::new(0),
-        submitters: Mutex::new(Vec::new(alloc)),
+        submitters: Mutex::new(submitters),
+        verdict,
     };
     let mut handed_in = HandedIn::none(alloc);
-    let driven = drive(&stage, input, &mut handed_in);
-    let Stage {
+    let driven = drive(&site, input, &mut handed_in);
+    let Site {
         publisher,
         screen,
         ..
-    } = stage;
+    } = site;
     let HandedIn {
         submitters,
         subscriptions,
     } = handed_in;
     let finished = finish(&rt, alloc, publisher, submitters, subscriptions);
     driven?;
-    report(&screen, &outcome_of(finished)?)?;
-    Ok(())
+    conclude(&screen, finished)
 }
 
 /// Has the lines of the input obeyed, up to their end. What goes back to the publisher is handed in.
@@ -69,40 +73,55 @@ fn drive<
     D: Ledger + Send + Sync + 'static,
     R: Print + Clock + Threads + Wait + Copy + Send + Sync + 'static,
 >(
-    stage: &Stage<L, D, R>,
+    site: &Site<L, D, R>,
     input: &Queue<Heard>,
     handed_in: &mut HandedIn<L, D, Echoes<R>>,
 ) -> Result<(), ConsoleFault> {
-    let mut terminal = Terminal::new(stage)?;
+    // There is room for all sources from the beginning, and for the terminal's own.
+    handed_in.submitters.reserve(MOST_SOURCES + 1)?;
+    let mut terminal = Terminal::new(site)?;
     let heard = thread::scope(
         thread::scope_env(),
-        &stage.rt,
+        &site.rt,
         |scope| terminal.run(scope, input),
     );
     let handed = terminal.hand_in(handed_in);
-    let mut submitters = stage.submitters.lock(&stage.rt);
+    let mut submitters = site.submitters.lock(&site.rt);
     if handed_in.submitters.append(&mut submitters).is_err() {
         return Err(ConsoleFault::Memory);
     }
-    if let Some(fault) = stage.screen.fault() {
+    if let Some(fault) = site.screen.fault() {
         return Err(fault.into());
     }
     heard?;
     Ok(handed?)
 }
 
-/// What the publisher leaves, also if some subscription has not ended.
-fn outcome_of<B: Drop>(
+/// Says what the publisher leaves, also if some subscription has not ended, or is missing: then it says why afterwards.
+fn conclude<B: Drop, R: Print + Clock + Wait>(
+    screen: &Screen<R>,
     finished: Result<Outcome<B>, (Refusal, Outcome<B>)>,
-) -> Result<Outcome<B>, Refusal> {
+) -> Result<(), ConsoleFault> {
     match finished {
-        Ok(outcome) => Ok(outcome),
-        Err((refusal, outcome)) => {
-            if matches!(refusal, Refusal::Unsettled(_)) {
-                Ok(outcome)
-            } else {
-                Err(refusal)
-            }
-        }
+        Ok(outcome) => Ok(report(screen, &outcome)?),
+        Err((refusal, outcome)) => conclude_refused(screen, refusal, &outcome),
+    }
+}
+
+/// Says what a publisher leaves whose end was refused so.
+fn conclude_refused<B, R: Print + Clock + Wait>(
+    screen: &Screen<R>,
+    refusal: Refusal,
+    outcome: &Outcome<B>,
+) -> Result<(), ConsoleFault> {
+    // Nothing is left.
+    if refusal == Refusal::NoMemory {
+        return Err(ConsoleFault::Memory);
+    }
+    report(screen, outcome)?;
+    if matches!(refusal, Refusal::Unsettled(_)) {
+        Ok(())
+    } else {
+        Err(refusal.into())
     }
 }

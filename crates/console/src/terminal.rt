@@ -8,12 +8,12 @@ use crate::echo::Echoes;
 use crate::fault::ConsoleFault;
 use crate::input::Heard;
 use crate::order::Order;
-use crate::queue::Queue;
 use crate::report::say_left;
+use crate::site::Site;
 use crate::source::Texts;
-use crate::stage::Stage;
 use commands::{Command, OutputFault, Reply};
 use flow_rules::{Ending, Name, Refusal};
+use inbox::Queue;
 use publisher::{Submitter, Subscription};
 use std::sync::atomic::AtomicU64;
 use std::sync::ledger::Ledger;
@@ -21,8 +21,11 @@ use std::sync::{Arc, Wait};
 use std::thread::{Scope, Threads};
 use std::time::Clock;
 
+/// How many milliseconds the terminal sleeps before it looks again whether the sources have done what they can.
+const PAUSE: u64 = 1;
+
 /// What `help` prints.
-const HELP: [&str; 15] = [
+const HELP: [&str; 16] = [
     "sub NAME N          subscribes with this name, and requests N items",
     "request NAME N      the latest of this name requests N items more; an N below 1 is a bad request",
     "cancel NAME         cancels the latest of this name",
@@ -35,8 +38,9 @@ const HELP: [&str; 15] = [
     "lag                 the longest backlog of any subscriber",
     "subscribers         how many subscriptions are live",
     "closed              whether the publisher is closed, and how",
-    "help                this",
-    "quit                the end, as at the end of the input",
+    "help, ?             this",
+    "quit, exit          the end, as at the end of the input",
+    "# TEXT              a comment",
     "A number has 19 digits at most, a line 4,200 bytes, a text 4,096, a name 32; SOURCE and C go up to 4,294,967,295.",
 ];
 
@@ -51,7 +55,8 @@ pub struct Named<
     subscription: Subscription<L, D, Echoes<R>>,
     /// How many items its subscriber was told.
     told: Arc<AtomicU64>,
-    /// Whether it ends at its next turn: it was cancelled, or a request was bad, or its name was subscribed a second time.
+    /// Whether it ends at its next turn: it was cancelled, or a request was bad, or its name was subscribed a second
+    /// time.
     is_ending: bool,
 }
 
@@ -71,7 +76,7 @@ pub struct Terminal<
     D: Ledger + Send,
     R: Print + Clock + Wait + Copy + Send + Sync + 'static,
 > {
-    stage: &'e Stage<L, D, R>,
+    site: &'e Site<L, D, R>,
     submitter: Submitter<L, D, Echoes<R>>,
     named: Vec<Named<L, D, R>>,
     sources: Vec<Source>,
@@ -84,12 +89,12 @@ impl<
     R: Print + Clock + Threads + Wait + Copy + Send + Sync + 'static,
 > Terminal<'e, L, D, R> {
     /// A terminal without subscriptions. Refused as [`Publisher::submitter`](publisher::Publisher::submitter) is.
-    pub fn new(stage: &'e Stage<L, D, R>) -> Result<Terminal<'e, L, D, R>, Refusal> {
+    pub fn new(site: &'e Site<L, D, R>) -> Result<Terminal<'e, L, D, R>, Refusal> {
         Ok(Terminal {
-            stage,
-            submitter: stage.submitter()?,
-            named: Vec::new(stage.alloc),
-            sources: Vec::new(stage.alloc),
+            site,
+            submitter: site.submitter()?,
+            named: Vec::new(site.alloc),
+            sources: Vec::new(site.alloc),
         })
     }
 
@@ -103,7 +108,7 @@ impl<
         'e: 's,
     {
         let heard = self.obey_all(scope, input);
-        input.cut(&self.stage.rt);
+        input.cut(&self.site.rt);
         self.end_sources();
         heard
     }
@@ -117,8 +122,8 @@ impl<
     where
         'e: 's,
     {
-        for _ in self.stage.rt.forever() {
-            match input.pop(&self.stage.rt) {
+        for _ in self.site.rt.forever() {
+            match input.pop(&self.site.rt) {
                 None => break,
                 Some(Heard::ReadFault) => return Err(ConsoleFault::Read),
                 Some(Heard::NoMemory) => return Err(ConsoleFault::Memory),
@@ -145,21 +150,25 @@ impl<
         match Order::parse(line) {
             Ok(Order::Quit) => return Ok(false),
             Ok(Order::Script(command)) => match self.call(command) {
-                Ok(reply) => self.stage.screen.say(format_args!("= {reply}"))?,
+                Ok(reply) => self.site.screen.say(format_args!("= {reply}"))?,
                 Err(refusal) => self.refuse(refusal)?,
             },
             Ok(Order::Submit(number, text)) => {
                 if let Err(refusal) = self.submit(scope, number, text.as_bytes()) {
                     let answer = format_args!("= submit {number} {refusal}");
-                    self.stage.screen.say(answer)?;
+                    self.site.screen.say(answer)?;
                 }
             }
             Ok(Order::Leave(word)) => match self.leave(word) {
-                Ok(left) => say_left(&self.stage.screen, &left)?,
+                Ok(left) => say_left(&self.site.screen, &left)?,
                 Err(refusal) => self.refuse(refusal)?,
             },
+            Ok(Order::Comment) => {}
             Ok(look) => self.look(look)?,
-            Err(refusal) => self.refuse(refusal)?,
+            Err(mistake) => {
+                let answer = format_args!("= {}: {mistake}", Refusal::BadCommand);
+                self.site.screen.say(answer)?;
+            }
         }
         Ok(true)
     }
@@ -180,12 +189,12 @@ impl<
 
     /// Prints what is asked for and changes nothing.
     fn look(&self, order: Order<'_>) -> Result<(), OutputFault> {
-        let Stage {
+        let Site {
             rt,
             publisher,
             screen,
             ..
-        } = self.stage;
+        } = self.site;
         match order {
             Order::Lag => {
                 let lag = publisher.estimate_maximum_lag(rt);
@@ -211,6 +220,6 @@ impl<
 
     /// Answers a line with a refusal.
     fn refuse(&self, refusal: Refusal) -> Result<(), OutputFault> {
-        self.stage.screen.say(format_args!("= {refusal}"))
+        self.site.screen.say(format_args!("= {refusal}"))
     }
 }

@@ -1,7 +1,7 @@
 //! Prints the nanoseconds in which a publisher gives items to its subscribers. `deliveries_bench fast WORKERS SUBMITTERS SUBSCRIBERS
 //! CAPACITY BYTES ITEMS` measures subscribers that count, with the items of all submitters; `deliveries_bench slow WORKERS` measures two that
 //! sleep, and prints the nanoseconds of the longest call of `number_of_subscribers`, too; `deliveries_bench alone WORKERS ITEMS PAUSE` measures one
-//! subscriber at rest, who is told one item at a time, with a pause of so many microseconds before each. `deliveries_bench left RECLAIMED
+//! subscriber at rest, who is told one item at a time, with a pause of this many microseconds before each. `deliveries_bench left RECLAIMED
 //! WORKERS ..` measures as `fast` does, after this many subscriptions came, ended and were reclaimed, and prints the nanoseconds until all
 //! subscribers were told all, those of `finish` after that, and those of a `reclaim` before.
 #![tactic(auto)]

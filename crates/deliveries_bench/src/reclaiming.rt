@@ -51,7 +51,7 @@ fn subscribe_many<L: Ledger + Send + Sync + 'static, D: Ledger + Send + Sync + '
     let mut subscriptions = Vec::new(alloc);
     for place in 0..many {
         let name = format!(in alloc; "gone{place}").ok()?;
-        let name = Name::parse(name.as_str())?;
+        let name = Name::parse(name.as_str()).ok()?;
         let subscription = publisher.subscribe(rt, alloc, name, Tally::new()).ok()?;
         subscriptions.push(subscription).ok()?;
     }

@@ -63,7 +63,8 @@ how_of _ = None
 abbrev pub greeted : List Item → List Signal
 greeted items = Subscribed ∷ map Next items
 
--- what a subscriber was told that these items were taken for, by how it has ended (Reactive Streams 1.0, 1.4, 1.5 and 1.7)
+-- what a subscriber was told that these items were taken for, by how it has ended (Reactive Streams 1.0, 1.4, 1.5 and
+-- 1.7)
 abbrev pub IsToldAtEnd : How → List Item → List Signal → Type 0
 IsToldAtEnd How.Completed taken told = told ≡ greeted taken ++ Complete ∷ []
 IsToldAtEnd (How.Errored fault) taken told = told ≡ greeted taken ++ Error fault ∷ []
@@ -80,7 +81,8 @@ IsToldAt (Over how) taken told = IsToldAtEnd how taken told
 IsToldAt _ taken told = told ≡ greeted taken
 
 -- what the words, the lists and the flags show of the subscription
-pub record ShowsParts (capacity : ℕ) (w : Parts) (log taken item : List Item) (f : Flags) (answers : Causes) (away left : Bool) : Type 0 where
+pub record ShowsParts (capacity : ℕ) (w : Parts) (log taken item : List Item) (f : Flags) (answers : Causes)
+    (away left : Bool) : Type 0 where
   pub sized : w.capacity ≡ capacity
   pub accepted : w.accepted ≡ length log
   pub given : w.given ≡ length taken
@@ -99,7 +101,8 @@ abbrev pub words_of : Parts → Bool → ℕ → List ℕ
 words_of w left control = words_by (marked (is_over w.runner) w.given) w.accepted (marked left w.asked) control
 
 -- the subscriber is at home, with what is kept beside it
-pub record Lodges {B : Type 0} (told : B → List Signal) (capacity : ℕ) (runner : Runner) (taken : List Item) (own : ℕ) (answers : Causes) (homes : List (slot.Option (Held B))) : Type 0 where
+pub record Lodges {B : Type 0} (told : B → List Signal) (capacity : ℕ) (runner : Runner) (taken : List Item) (own : ℕ) (answers : Causes)
+    (homes : List (slot.Option (Held B))) : Type 0 where
   pub guest : Lodger B
   pub at : get_elem? homes capacity ≡ some (some (Held.Guest guest))
   pub given_is : guest.given ≡ length taken
@@ -114,7 +117,8 @@ LodgesAt told capacity Fresh taken own answers homes = get_elem? homes capacity 
 LodgesAt told capacity runner taken own answers homes = Lodges told capacity runner taken own answers homes
 
 -- what the producer knows
-pub record AsProducer (capacity : ℕ) (order : ErrorOrder) (log : List Item) (given free : ℕ) (ended : Bool) (closing : Option Ending) (state : Bool) (producing : Producing) (d : View) : Type 0 where
+pub record AsProducer (capacity : ℕ) (order : ErrorOrder) (log : List Item) (given free : ℕ) (ended : Bool) (closing : Option Ending)
+    (state : Bool) (producing : Producing) (d : View) : Type 0 where
   pub sized : d.capacity ≡ capacity
   pub ordered : d.order ≡ order
   pub put : d.put ≡ log
@@ -126,7 +130,8 @@ pub record AsProducer (capacity : ℕ) (order : ErrorOrder) (log : List Item) (g
   pub stands : d.producing ≡ producing
 
 -- what the handle knows
-pub record AsHandle (capacity : ℕ) (order : ErrorOrder) (asked : ℕ) (cancel argument left : Bool) (requesting : Requesting) (d : View) : Type 0 where
+pub record AsHandle (capacity : ℕ) (order : ErrorOrder) (asked : ℕ) (cancel argument left : Bool) (requesting : Requesting)
+    (d : View) : Type 0 where
   pub sized : d.capacity ≡ capacity
   pub ordered : d.order ≡ order
   pub total : d.asked ≡ asked
@@ -142,7 +147,8 @@ pub record KnowsAway (taken : List Item) (own : ℕ) (answers : Causes) (d : Vie
   pub answers_are : d.answers ≡ answers
 
 -- what the task knows
-pub record AsRunner (capacity : ℕ) (runner : Runner) (active : Bool) (control : ℕ) (away : Bool) (taken item : List Item) (own : ℕ) (answers : Causes) (d : View) : Type 0 where
+pub record AsRunner (capacity : ℕ) (runner : Runner) (active : Bool) (control : ℕ) (away : Bool) (taken item : List Item) (own : ℕ)
+    (answers : Causes) (d : View) : Type 0 where
   pub sized : d.capacity ≡ capacity
   pub ordered : d.order ≡ answers.order
   pub seated : has_seat runner ≡ true
@@ -157,7 +163,8 @@ pub record AsRunner (capacity : ℕ) (runner : Runner) (active : Bool) (control 
 pub record CellData : Type 0 where
   -- its parts, which some list of possible events leads to
   pub world : Parts
-  -- what was put, what was taken of it, the item whose slot is out, and the number from which on places are free and at home
+  -- what was put, what was taken of it, the item whose slot is out, and the number from which on places are free and at
+  -- home
   pub log : List Item
   pub taken : List Item
   pub item : List Item
@@ -165,7 +172,8 @@ pub record CellData : Type 0 where
   -- the control word, and what that says
   pub control : ℕ
   pub flags : Flags
-  -- the causes that answers of callbacks have brought about, as far as looks brought them in, and the order of errors, which never changes
+  -- the causes that answers of callbacks have brought about, as far as looks brought them in, and the order of errors,
+  -- which never changes
   pub answers : Causes
   -- whether the subscriber's slot is out, and whether the handle has left
   pub away : Bool
@@ -177,13 +185,16 @@ pub record CellData : Type 0 where
 
 -- what each party knows of it
 abbrev pub KnownByProducer : ℕ → CellData → View → Type 0
-KnownByProducer capacity cell = AsProducer capacity cell.answers.order cell.log cell.world.given cell.free (is_over cell.world.runner) cell.flags.closing cell.flags.state cell.world.producer
+KnownByProducer capacity cell = AsProducer capacity cell.answers.order cell.log cell.world.given cell.free (is_over cell.world.runner)
+    cell.flags.closing cell.flags.state cell.world.producer
 
 abbrev pub KnownByHandle : ℕ → CellData → View → Type 0
-KnownByHandle capacity cell = AsHandle capacity cell.answers.order cell.world.asked cell.flags.cancel cell.flags.argument cell.left cell.world.handle
+KnownByHandle capacity cell = AsHandle capacity cell.answers.order cell.world.asked cell.flags.cancel cell.flags.argument cell.left
+    cell.world.handle
 
 abbrev pub KnownByRunner : ℕ → CellData → View → Type 0
-KnownByRunner capacity cell = AsRunner capacity cell.world.runner cell.world.active cell.control cell.away cell.taken cell.item cell.world.own cell.answers
+KnownByRunner capacity cell = AsRunner capacity cell.world.runner cell.world.active cell.control cell.away cell.taken cell.item
+    cell.world.own cell.answers
 
 module _ {B : Type 0} (told : B → List Signal) where
   -- the rule of a subscription of this capacity: what there is, and what of it the words, the slots and the seats show

@@ -52,7 +52,14 @@ signal_of None = record { run = true; active = true; cancel = false; argument = 
 signal_of (Some Cancel) = record { run = true; active = true; cancel = true; argument = false; state = false; closing = None }
 signal_of (Some Argument) = record { run = true; active = true; cancel = false; argument = true; state = false; closing = None }
 signal_of (Some State) = record { run = true; active = true; cancel = false; argument = false; state = true; closing = None }
-signal_of (Some (Closing ending)) = record { run = true; active = true; cancel = false; argument = false; state = false; closing = Some ending }
+signal_of (Some (Closing ending)) = record {
+  run = true;
+  active = true;
+  cancel = false;
+  argument = false;
+  state = false;
+  closing = Some ending;
+}
 
 -- the cause that a signal tells, by the bits that it sets; one that sets no more than the first two tells none
 abbrev pub cause_in : ℕ → Option Cause
@@ -68,13 +75,28 @@ abbrev pub closing_of : Option Ending → Option Ending → Option Ending
 closing_of None other = other
 closing_of (Some ending) other = Some ending
 
--- what is set where these were set, too
+-- what is set if these were set, too
 abbrev pub both : Flags → Flags → Flags
-both m f = record { run = m.run || f.run; active = m.active || f.active; cancel = m.cancel || f.cancel; argument = m.argument || f.argument; state = m.state || f.state; closing = closing_of m.closing f.closing }
+both m f = record {
+  run = m.run || f.run;
+  active = m.active || f.active;
+  cancel = m.cancel || f.cancel;
+  argument = m.argument || f.argument;
+  state = m.state || f.state;
+  closing = closing_of m.closing f.closing;
+}
 
 -- the causes that the word and the answers of callbacks tell; the order of errors lies with the latter
 abbrev pub causes_of : Flags → Causes → Causes
-causes_of f answers = record { order = answers.order; cancel = f.cancel || answers.cancel; argument = f.argument || answers.argument; state = f.state; closing = f.closing; failed = answers.failed; memory = answers.memory }
+causes_of f answers = record {
+  order = answers.order;
+  cancel = f.cancel || answers.cancel;
+  argument = f.argument || answers.argument;
+  state = f.state;
+  closing = f.closing;
+  failed = answers.failed;
+  memory = answers.memory;
+}
 
 -- a number, with its mark, which is bit 63
 abbrev pub marked : Bool → ℕ → ℕ

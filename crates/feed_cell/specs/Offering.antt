@@ -29,7 +29,8 @@ started_in (Call.Ends ending start) = start
 started_in (Call.Duplicates start) = start
 started_in (Call.Looks standing) = None
 
--- it is one of the same subscription, and what was there for it is spent; a call answers a task exactly if its signal has started one
+-- it is one of the same subscription, and what was there for it is spent; a call answers a task exactly if its signal
+-- has started one
 pub record DoesCall (old : ProducerState) (call : Call TaskState) (new : ProducerState) : Type 0 where
   pub table : new.table ≡ old.table
   pub order : new.order ≡ old.order

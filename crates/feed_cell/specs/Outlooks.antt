@@ -37,7 +37,8 @@ count_in between _ _ = 0
 -- what the events count that led from there
 abbrev pub count_along : (Runner → Runner → ℕ) → (old : WorldState) (events : List Event) (new : WorldState) → Leads old events new → ℕ
 count_along between old [] new leads = 0
-count_along between old (event ∷ events) new leads = count_in between old.parts leads.0.parts + count_along between leads.0 events new leads.2
+count_along between old (event ∷ events) new leads = count_in between old.parts leads.0.parts
+    + count_along between leads.0 events new leads.2
 
 -- one, if a seat shows that its task came to rest
 abbrev pub rest_in : Outlook → ℕ
@@ -64,8 +65,8 @@ shown_count count (v ∷ views) = count v + shown_count count views
 abbrev pub HasPart : View → Type 0
 HasPart v = (v.puts ≡ true) ⊎ ((v.asks ≡ true) ⊎ (v.runs ≡ true))
 
--- some list of possible events leads to what there is; in it the task came to rest, tried to rest in vain, and was handed over as often
--- as seats show, and each seat that shows an end shows how the subscription has ended
+-- some list of possible events leads to what there is; in it the task came to rest, tried to rest in vain, and was
+-- handed over as often as seats show, and each seat that shows an end shows how the subscription has ended
 pub record IsReachedBy (views : List View) (w : Parts) : Type 0 where
   pub events : List Event
   pub cut : Option ℕ

@@ -12,10 +12,16 @@ use Rattle.feed_cell.specs.Seats.{SeatOf, item_out}
 
 -- the producer after a look at head
 abbrev pub after_look : View → ℕ → Bool → Producing → ℕ → View
-after_look v head ended producing places = record v { seen = head; looks = v.looks + 1; over = ended; producing = producing; places = places }
+after_look v head ended producing places = record v {
+  seen = head;
+  looks = v.looks + 1;
+  over = ended;
+  producing = producing;
+  places = places;
+}
 
--- the producer found this in head: how many items were taken, and whether the subscription has ended; where it has not, and there is
--- room, the next slot is out with it
+-- the producer found this in head: how many items were taken, and whether the subscription has ended; if it has not,
+-- and there is room, the next slot is out with it
 pub record FindsRoom {B : Type 0} (before : SeatOf B) (found : ℕ) (after : SeatOf B) : Type 0 where
   pub head : ℕ
   pub ended : Bool

@@ -1,4 +1,5 @@
--- Signals of both ends, and the hand-over of the task that one has started: what they ask of a seat, and what they tell it.
+-- Signals of both ends, and the hand-over of the task that one has started: what they ask of a seat, and what they tell
+-- it.
 use Rattle.std.specs.Prelude.{◌≡◌, ◌≢◌, ◌⊎◌, ℕ, bit_and, Bool, true, false, [], Option, Some, None}
 use Rattle.std.specs.Int.{bit_at}
 use Rattle.feed_core.specs.Prelude.{ErrorOrder}
@@ -18,7 +19,8 @@ with_cause (Some Argument) v = record v { argument = true }
 with_cause (Some State) v = record v { state = true }
 with_cause (Some (Closing ending)) v = record v { closing = Some ending }
 
--- a party after a signal with this cause, by whether the task was started before: where it was not, the party has to hand it over
+-- a party after a signal with this cause, by whether the task was started before: if it was not, the party has to
+-- hand it over
 abbrev pub sent : Option Cause → Bool → View → View
 sent cause started v = record (with_cause cause v) { producing = producing_after started; requesting = requesting_after started }
 
@@ -26,7 +28,7 @@ sent cause started v = record (with_cause cause v) { producing = producing_after
 abbrev pub after_signal : {T : Type 0} → Option T → Option Cause → View → View
 after_signal task cause v = record (with_cause cause v) { producing = Free; requesting = Idle; started = starts_after task v.started }
 
--- a signal starts the task where the word had no mark of that
+-- a signal starts the task if the word had no mark of that
 pub record Signals {B : Type 0} (cause : Option Cause) (before : SeatOf B) (found : ℕ) (after : SeatOf B) : Type 0 where
   pub started : Bool
   pub found_is : bit_at found RUNNING ≡ number started
@@ -34,8 +36,8 @@ pub record Signals {B : Type 0} (cause : Option Cause) (before : SeatOf B) (foun
   pub sized : after.0.capacity ≡ before.0.capacity
   pub ordered : after.0.order ≡ before.0.order
 
--- a party that has an item or a request to signal finds this word: if both marks are set, the signal would change nothing, and is made
--- with that; else it is yet to be made
+-- a party that has an item or a request to signal finds this word: if both marks are set, the signal would change
+-- nothing, and is made with that; else it is yet to be made
 pub record FindsMarks {B : Type 0} (before : SeatOf B) (found : ℕ) (after : SeatOf B) : Type 0 where
   pub marked : bit_and found ITEM ≡ ITEM → after ≡ (sent None true before.0, before.1)
   pub unmarked : bit_and found ITEM ≢ ITEM → after ≡ before
@@ -43,7 +45,8 @@ pub record FindsMarks {B : Type 0} (before : SeatOf B) (found : ℕ) (after : Se
 
 -- a party may signal this cause
 abbrev pub MaySignal : Option Cause → View → Type 0
-MaySignal cause v = (IsProducer v × ProducerMay cause v.producing v.closing) ⊎ (IsHandle v × HandleMay cause v.requesting × (v.left ≡ false))
+MaySignal cause v = (IsProducer v × ProducerMay cause v.producing v.closing)
+    ⊎ (IsHandle v × HandleMay cause v.requesting × (v.left ≡ false))
 
 -- a signal with this cause was sent, and the task that it started handed over, if it started one
 abbrev pub IsSent : {B T : Type 0} → Option Cause → Option T → SeatOf B → SeatOf B → Type 0

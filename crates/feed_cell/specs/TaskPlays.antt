@@ -1,6 +1,7 @@
 -- What each step of the task tells it: its seat afterwards, by its seat before and the number found.
 use Rattle.std.specs.Prelude.{◌≡◌, ◌≢◌, ℕ, ◌+◌, ◌%◌, ◌<◌, ◌≤◌, Bool, true, false, List, [], ◌∷◌, ◌++◌, length, Option, Some, None, bit_and}
 use Rattle.atomic_table.specs.Table.{rest}
+use Rattle.feed_core.specs.AnsweredTurn.{Reply}
 use Rattle.feed_core.specs.Prelude.{How, Item, Signal, UNBOUNDED, total_after}
 use Rattle.feed_core.specs.declared.turn.outlook.Outlook.{Outlook}
 use Rattle.feed_core.specs.declared.turn.outlook.Outlook.TheVariants.{Again, Resting, Ended}
@@ -14,8 +15,9 @@ use Rattle.feed_cell.specs.Cell.{greeted}
 use Rattle.feed_cell.specs.Views.{IsRunner}
 use Rattle.feed_cell.specs.Control.{QUIET, Flags, Reads, causes_of, marked}
 use Rattle.feed_cell.specs.Seats.{SeatOf, own_out, answers_out, how_out}
+use Rattle.feed_cell.specs.TaskPauses.{replied_out}
 
--- the first task takes its subscriber's slot out, where nobody is yet
+-- the first task takes its subscriber's slot out, if nobody is yet
 abbrev pub Enters : {B : Type 0} → SeatOf B → SeatOf B → Type 0
 Enters before after = after ≡ (record before.0 { away = true }, (before.0.capacity, Held.Empty) ∷ before.1)
 
@@ -55,22 +57,25 @@ pub record PeeksFirst {B : Type 0} (told : B → List Signal) (before : SeatOf B
   pub ordered : guest.answers.order ≡ before.0.order
   pub looked : after ≡ (after_causes before.0 found flags guest.own guest.answers taken, (before.0.capacity, Held.Guest guest) ∷ before.1)
 
--- the task found this number of items put: where there is one that it did not take, the next slot is out with it
+-- the task found this number of items put: if there is one that it did not take, the next slot is out with it
 pub record SeesPut {B : Type 0} (before : SeatOf B) (found : ℕ) (after : SeatOf B) : Type 0 where
   pub put : length before.0.taken ≤ found
-  pub waits : length before.0.taken < found → (x : Item) × (after ≡ (record before.0 { runner = seeing found before.0.runner; item = x ∷ [] }, (length before.0.taken % before.0.capacity, Held.Item x) ∷ before.1))
+  pub waits : length before.0.taken < found
+      → (x : Item) × (after ≡ (record before.0 { runner = seeing found before.0.runner; item = x ∷ [] }, (length before.0.taken % before.0.capacity, Held.Item x) ∷ before.1))
   pub empty : found ≡ length before.0.taken → after ≡ (record before.0 { runner = seeing found before.0.runner }, before.1)
   pub sized : after.0.capacity ≡ before.0.capacity
 
--- the task found this in asked; where no more is requested than was taken, the slot that was out is given back
+-- the task found this in asked; if no more is requested than was taken, the slot that was out is given back
 pub record Measures {B : Type 0} (before : SeatOf B) (found : ℕ) (after : SeatOf B) : Type 0 where
   pub asked : ℕ
   pub left : Bool
   pub found_is : found ≡ marked left asked
   pub bounded : asked ≤ UNBOUNDED
   pub met : length before.0.taken ≤ total_after asked before.0.own
-  pub wanted : length before.0.taken < total_after asked before.0.own → after ≡ (record before.0 { runner = measuring (total_after asked before.0.own) before.0.runner }, before.1)
-  pub enough : length before.0.taken ≡ total_after asked before.0.own → after ≡ (record before.0 { runner = measuring (total_after asked before.0.own) before.0.runner; item = [] }, rest before.1)
+  pub wanted : length before.0.taken < total_after asked before.0.own
+      → after ≡ (record before.0 { runner = measuring (total_after asked before.0.own) before.0.runner; requested = asked }, before.1)
+  pub enough : length before.0.taken ≡ total_after asked before.0.own
+      → after ≡ (record before.0 { runner = measuring (total_after asked before.0.own) before.0.runner; requested = asked; item = [] }, rest before.1)
   pub sized : after.0.capacity ≡ before.0.capacity
 
 -- the task found this in asked, with no item out
@@ -80,20 +85,21 @@ pub record MeasuresNone {B : Type 0} (before : SeatOf B) (found : ℕ) (after : 
   pub found_is : found ≡ marked left asked
   pub bounded : asked ≤ UNBOUNDED
   pub met : length before.0.taken ≤ total_after asked before.0.own
-  pub measured : after ≡ (record before.0 { runner = measuring (total_after asked before.0.own) before.0.runner }, before.1)
+  pub measured : after ≡ (record before.0 { runner = measuring (total_after asked before.0.own) before.0.runner; requested = asked }, before.1)
 
--- by what a task takes an item that has measured: the causes of its look, and the total of its measure
-abbrev pub grants_by : Runner → List Grant
-grants_by (Measured causes tail asked) = record { causes = causes; asked = asked } ∷ []
-grants_by _ = []
+-- by what a task takes an item that has measured: the causes of its look, and the total of its measure, of which the
+-- handle requested this
+abbrev pub grants_by : ℕ → Runner → List Grant
+grants_by requested (Measured causes tail asked) = record { causes = causes; asked = asked; requested = requested } ∷ []
+grants_by requested _ = []
 
 -- the item that was out is taken, and its slot given back
 abbrev pub IsTake : {B : Type 0} → SeatOf B → SeatOf B → Type 0
-IsTake before after = after ≡ (record before.0 { taken = before.0.taken ++ before.0.item; item = []; grants = before.0.grants ++ grants_by before.0.runner; runner = Taken }, rest before.1)
+IsTake before after = after ≡ (record before.0 { taken = before.0.taken ++ before.0.item; item = []; grants = before.0.grants ++ grants_by before.0.requested before.0.runner; runner = Taken }, rest before.1)
 
--- the task rests where the word is the one after its look, and its subscriber is at home then; else something is new
-pub record IsRest {B : Type 0} (look : ℕ) (before : SeatOf B) (found : ℕ) (after : SeatOf B) : Type 0 where
-  pub rested : found ≡ look → after ≡ (record before.0 { runner = Nobody; runs = false; away = false; outlook = Resting }, rest before.1)
+-- the task rests if the word is the one after its look, and its subscriber is at home then; else something is new
+pub record IsRest {B : Type 0} (replied : B → List Reply) (look : ℕ) (before : SeatOf B) (found : ℕ) (after : SeatOf B) : Type 0 where
+  pub rested : found ≡ look → after ≡ (record before.0 { runner = Nobody; runs = false; away = false; outlook = Resting; replied = replied_out replied before.1 }, rest before.1)
   pub missed : found ≢ look → after ≡ (record before.0 { runner = Ready; misses = before.0.misses + 1 }, before.1)
   pub sized : after.0.capacity ≡ before.0.capacity
 
@@ -103,8 +109,8 @@ outlook_by None = Again
 outlook_by (Some how) = Ended how
 
 -- the subscription has ended, and its subscriber is at home
-abbrev pub IsEnd : {B : Type 0} → SeatOf B → SeatOf B → Type 0
-IsEnd before after = after ≡ (record before.0 { runs = false; away = false; outlook = outlook_by (how_out before.1) }, rest before.1)
+abbrev pub IsEnd : {B : Type 0} → (B → List Reply) → SeatOf B → SeatOf B → Type 0
+IsEnd replied before after = after ≡ (record before.0 { runs = false; away = false; outlook = outlook_by (how_out before.1); replied = replied_out replied before.1 }, rest before.1)
 
 -- the first task has not taken its subscriber's slot out yet
 pub record IsUnlodged {B : Type 0} (me : SeatOf B) : Type 0 where

@@ -1,5 +1,5 @@
--- The types of a World and their variants, for the files that cite them. (The list in feed_core is not seen from here: a crate hands on no
--- `pub use` of its own types.)
+-- The types of a World and their variants, for the files that cite them. (The list in feed_core is not seen from here:
+-- a crate hands on no `pub use` of its own types.)
 pub use Rattle.feed_core.specs.declared.cause.Causes.{Causes}
 pub use Rattle.feed_core.specs.declared.world.events.Side.{Side}
 pub use Rattle.feed_core.specs.declared.world.events.Side.TheVariants.{Producer, Handle}

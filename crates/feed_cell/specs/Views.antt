@@ -34,10 +34,12 @@ first_view capacity order = record {
   taken = [];
   item = [];
   grants = [];
+  requested = 0;
   own = 0;
   answers = no_causes_in order;
   misses = 0;
   outlook = Again;
+  replied = [];
 }
 
 -- which parts a seat has
@@ -82,7 +84,17 @@ running_handed v = ready_view v.capacity v.order
 
 -- the producer's seat takes in what the handle's knows, and that has no part any more
 abbrev pub with_asking : View → View → View
-with_asking v h = record v { asks = h.asks; order = h.order; asked = h.asked; requesting = h.requesting; cancel = h.cancel; argument = h.argument; left = h.left; misses = v.misses + h.misses; started = v.started + h.started }
+with_asking v h = record v {
+  asks = h.asks;
+  order = h.order;
+  asked = h.asked;
+  requesting = h.requesting;
+  cancel = h.cancel;
+  argument = h.argument;
+  left = h.left;
+  misses = v.misses + h.misses;
+  started = v.started + h.started;
+}
 
 abbrev pub no_part : View
 no_part = record (first_view 0 Overtake) { puts = false; asks = false; runs = false }

@@ -8,12 +8,13 @@ mod signal;
 pub mod task;
 
 ghost use Rattle.std.specs.Prelude.{◌≡◌};
+ghost use Rattle.feed_cell.specs.TaskAnswers.{IsNoted};
 
 use atomic_table::{Seat, Table, TableRule};
 use crossbeam_utils::CachePadded;
 use feed_core::world::{Producing, Requesting, Runner};
 use feed_core::{Causes, Outlook};
-use flow_rules::{Ending, ErrorOrder, How, Item, Listener};
+use flow_rules::{Answer, Ending, ErrorOrder, How, Item, Listener, NoMemory};
 use std::alloc::Global;
 use std::collections::LinkedList;
 use std::marker::{Model, PhantomData};
@@ -105,23 +106,27 @@ pub struct Lodger<B> {
 
 /// A lodger in a box of its own, so that no slot is the larger for a large subscriber.
 #[derive(Drop)]
-pub struct BoxedLodger<B> {
+pub struct BoxedLodger<B: Listener> {
     lodger: Box<Lodger<B>, Global>,
 }
 
-impl<B> Model for BoxedLodger<B> {
+impl<B: Listener> Model for BoxedLodger<B> {
+    ghost use Rattle.feed_cell.specs.TaskAnswers.{IsNoted};
     ghost use Rattle.feed_cell.specs.declared.cell.Lodger.{Lodger};
 
     ghost Value = { Lodger B };
 
     ghost view = { λ b. b.lodger.value };
+
+    ghost invariant = { λ b. IsNoted B.replied b.lodger.value };
 }
 
-impl<B> BoxedLodger<B> {
-    /// What lies beside the subscriber: how many items were taken, how many its answers requested, and the causes that they
-    /// brought about.
+impl<B: Listener> BoxedLodger<B> {
+    /// What lies beside the subscriber: how many items were taken, how many its answers requested, and the causes that
+    /// they brought about.
     fn notes(&self) -> (u64, u64, Causes)
-        ensures { result ≡ (self.now.given, self.now.own, self.now.answers) }
+        ensures notes { result ≡ (self.now.given, self.now.own, self.now.answers) }
+        ensures noted { IsNoted B.replied self.now }
     {
         let lodger: &Lodger<B> = &self.lodger;
         (lodger.given, lodger.own, lodger.answers)
@@ -130,7 +135,7 @@ impl<B> BoxedLodger<B> {
 
 /// What a slot holds.
 #[derive(Drop)]
-pub enum Held<B> {
+pub enum Held<B: Listener> {
     /// Nothing.
     Empty,
     /// An item that was put and not taken.
@@ -139,12 +144,15 @@ pub enum Held<B> {
     Guest(BoxedLodger<B>),
 }
 
-/// By what the task took an item: its own look or peek before it, and its own measure after that. No value of it is made.
+/// By what the task took an item: its own look or peek before it, and its own measure after that. No value of it is
+/// made.
 pub struct Grant {
     /// The causes that the look or peek showed.
     pub causes: Causes,
     /// How many items were requested in all, as the measure showed.
     pub asked: u64,
+    /// How many of them the handle requested.
+    pub requested: u64,
 }
 
 /// What one party knows. No value of it is made.
@@ -199,6 +207,8 @@ pub struct View {
     pub item: LinkedList<Item>,
     /// By what it took each of the items that it took, in order.
     pub grants: LinkedList<Grant>,
+    /// How many items the handle requested, by its last measure.
+    pub requested: u64,
     /// How many items the answers requested, by what it brought to its last look or peek.
     pub own: u64,
     /// The causes that the answers brought about, by what it brought to its last look or peek.
@@ -207,6 +217,8 @@ pub struct View {
     pub misses: u64,
     /// What became of the task that it ran: it came to rest, or ended the subscription. Until then it goes on.
     pub outlook: Outlook,
+    /// What each callback of its subscriber had come back with by then.
+    pub replied: LinkedList<Result<Answer, NoMemory>>,
 }
 
 /// What a subscription is made with.
@@ -219,17 +231,17 @@ pub struct Terms {
 }
 
 /// The table of a subscription: the four words, a slot for each place, and a slot for the subscriber.
-pub type CellTable<B> = Table<Held<B>, View, Terms, InCell<B>, Global>;
+pub type CellTable<B: Listener> = Table<Held<B>, View, Terms, InCell<B>, Global>;
 
-/// The table, as its parties share it. How many share it changes with each task, so that number stands in a cache line of its
-/// own.
-pub(crate) type SharedTable<B> = Arc<CachePadded<CellTable<B>>, Global>;
+/// The table, as its parties share it. How many share it changes with each task, so that number stands in a cache line
+/// of its own.
+pub(crate) type SharedTable<B: Listener> = Arc<CachePadded<CellTable<B>>, Global>;
 
 /// A party's seat at that table.
-pub type CellSeat<B> = Seat<Held<B>, View>;
+pub type CellSeat<B: Listener> = Seat<Held<B>, View>;
 
-/// The rule: the words, slots and views show a subscription that some list of possible events leads to. The capacity and the
-/// order of errors are told when the table is made.
+/// The rule: the words, slots and views show a subscription that some list of possible events leads to. The capacity
+/// and the order of errors are told when the table is made.
 pub struct InCell<B> {
     marker: PhantomData<B>,
 }

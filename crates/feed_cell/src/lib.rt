@@ -1,11 +1,11 @@
-//! A subscription that threads share without a lock: the buffer of its items, its demand, the reasons why it may end, and its
-//! subscriber (`SubmissionPublisher` and `Flow.Subscription`, Java SE 17).
+//! A subscription that threads share without a lock: the buffer of its items, its demand, the reasons why it may end,
+//! and its subscriber (`SubmissionPublisher` and `Flow.Subscription`, Java SE 17).
 //!
-//! Three parties share a subscription, each in a thread of its own. The [`Producer`] is its publisher's end: it puts items, closes,
-//! and looks how things stand. The [`Handle`] is its owner's end: it requests and cancels. The [`Task`] calls the subscriber;
-//! whoever has it runs it. [`Cell::new`] makes the three, as [`Cell::new_with`] does where a closing error may wait for the items, and
-//! [`close`] takes the two ends back and tells what is left. No call waits, and none but these two and the calls named `ready` takes
-//! memory.
+//! Three parties share a subscription, each in a thread of its own. The [`Producer`] is its publisher's end: it puts
+//! items, closes, and looks how things stand. The [`Handle`] is its owner's end: it requests and cancels. The [`Task`]
+//! calls the subscriber; whoever has it runs it. [`Cell::new`] makes the three, as [`Cell::new_with`] does if a
+//! closing error may wait for the items, and [`close`] takes the two ends back and tells what is left. No call waits,
+//! and none but these two and the calls named `ready` takes memory.
 //!
 //! # The words
 //!
@@ -26,37 +26,39 @@
 //! | 5 | it was closed with an error, whose code is in bits 32 to 63 | the producer | nobody |
 //! | 6 | it was closed without an error | the producer | nobody |
 //!
-//! Each of the first three words has one writer, which keeps the number beside its seat and never reads its own word. None of
-//! the numbers ever falls, so what a load shows is at most what there is.
+//! Each of the first three words has one writer, which keeps the number beside its seat and never reads its own word.
+//! None of the numbers ever falls, so what a load shows is at most what there is.
 //!
 //! # The slots
 //!
-//! There is one slot for each place of the buffer, and one for the subscriber, which lies there in a box. Item number k, from 0
-//! on, lies in slot k modulo the capacity. A slot is at home, or out with one party, which alone may read and write it then.
+//! There is one slot for each place of the buffer, and one for the subscriber, which lies there in a box. Item number
+//! k, from 0 on, lies in slot k modulo the capacity. A slot is at home, or out with one party, which alone may read and
+//! write it then.
 //!
-//! - A put loads head. If fewer items than the capacity were put and not taken, slot tail is free, and that load takes it out.
-//!   The producer places the item in it, and the store of tail + 1 gives it back, with the item.
-//! - The task loads tail. If more items were put than taken, slot head has one, and that load takes it out. A load of asked
-//!   follows: if no more are requested, it gives the slot back as it was. Otherwise the task moves the item out, and the store of
-//!   head + 1 gives the slot back, free.
-//! - The subscriber's slot is out with the task from its first peek until it rests or ends the subscription. What the answers of
-//!   callbacks have requested, the causes that they brought about, and whether a closing error waits for the items lie beside the
-//!   subscriber there.
+//! - A put loads head. If fewer items than the capacity were put and not taken, slot tail is free, and that load takes
+//!   it out. The producer places the item in it, and the store of tail + 1 gives it back, with the item.
+//! - The task loads tail. If more items were put than taken, slot head has one, and that load takes it out. A load of
+//!   asked follows: if no more are requested, it gives the slot back as it was. Otherwise the task moves the item out,
+//!   and the store of head + 1 gives the slot back, free.
+//! - The subscriber's slot is out with the task from its first peek until it rests or ends the subscription. What the
+//!   answers of callbacks have requested, the causes that they brought about, and whether a closing error waits for the
+//!   items lie beside the subscriber there.
 //!
 //! # Signals and rest
 //!
-//! A signal sets the mark of the task, the mark of something new, and its cause, in one step. If it finds the mark of the task
-//! clear, it has started the task: the side that made it splits a seat off for the task and hands it over. Therefore at most one
-//! task serves a subscription. An item is signalled after its tail is stored, and a request after asked is. These two have no
-//! cause, so where both marks are set already the signal is a load that finds them so.
+//! A signal sets the mark of the task, the mark of something new, and its cause, in one step. If it finds the mark of
+//! the task clear, it has started the task: the side that made it splits a seat off for the task and hands it over.
+//! Therefore at most one task serves a subscription. An item is signalled after its tail is stored, and a request after
+//! asked is. These two have no cause, so if both marks are set already the signal is a load that finds them so.
 //!
-//! A look clears the mark of something new and tells the causes. A peek tells the causes and leaves the mark, so it is a load. The
-//! task peeks before each item, and loads tail and asked after that, never before. If it finds nothing to do after a peek that
-//! found something new, it waits a moment and does the same again, a few times, in case the next item is about to come. Then it
-//! looks, and loads the two once more. If it finds nothing to do then, it rests by one compare-and-exchange: from the word after
-//! its look to the same without the mark of the task. That fails exactly if there was a signal since the look, and then the task
-//! goes on. Thus nothing is forgotten: a subscription at rest was told all that its demand and its ending allow, or somebody is
-//! between a store and its signal, and that signal will start the task.
+//! A look clears the mark of something new and tells the causes. A peek tells the causes and leaves the mark, so it is
+//! a load. The task peeks before each item, and loads tail and asked after that, never before. If it finds nothing to
+//! do after a peek that found something new, it waits a moment and does the same again, a few times, in case the next
+//! item is about to come. Then it looks, and loads the two once more. If it finds nothing to do then, it rests by one
+//! compare-and-exchange: from the word after its look to the same without the mark of the task. That fails exactly if
+//! there was a signal since the look, and then the task goes on. Thus nothing is forgotten: a subscription at rest was
+//! told all that its demand and its ending allow, or somebody is between a store and its signal, and that signal will
+//! start the task.
 //!
 //! Until the task would rest, the mark stays set: then neither it nor the other two change control.
 //!
@@ -64,8 +66,8 @@
 //!
 //! # What the task is in the middle of
 //!
-//! A name is a stage of the task (`Runner`, in `feed_core`), and an arrow is one step, with the word that it touches. A task makes no
-//! other steps. The hand-over touches no word of the subscription.
+//! A name is a stage of the task (`Runner`, in `feed_core`), and an arrow is one step, with the word that it touches. A
+//! task makes no other steps. The hand-over touches no word of the subscription.
 //!
 //! ```text
 //!  Nobody -- signal: control --> Coming -- hand-over --> Ready        Fresh
@@ -87,13 +89,15 @@
 //!  Fresh, Taken, Looked, Measured -- end: head, with its mark --> Over
 //! ```
 //!
-//! For a look a peek may stand, which is a load of control. From `Measured` a peek or a look may lead back to `Looked`, which it
-//! does after a peek with nothing to do. An end comes from `Looked` if the look showed a cause that ends the subscription at
-//! once, from `Measured` if every item was given and a close waited for that, and from `Fresh` or `Taken` if a callback answered an
-//! end or was refused memory. A task that was handed over is `Ready`; the first task of a subscription is `Fresh`.
+//! For a look a peek may stand, which is a load of control. From `Measured` a peek or a look may lead back to `Looked`,
+//! which it does after a peek with nothing to do. An end comes from `Looked` if the look showed a cause that ends the
+//! subscription at once, from `Measured` if every item was given and a close waited for that, and from `Fresh` or
+//! `Taken` if a callback answered an end or was refused memory. A task that was handed over is `Ready`; the first task
+//! of a subscription is `Fresh`.
 //!
-//! The rule of the table (`cell.rt`) says all of this between any two steps, whatever the parties do at the same time: what the
-//! words, the slots and the parties show is a subscription that some list of possible events leads to (`feed_core`, `World`).
+//! The rule of the table (`cell.rt`) says all of this between any two steps, whatever the parties do at the same time:
+//! what the words, the slots and the parties show is a subscription that some list of possible events leads to
+//! (`feed_core`, `World`).
 //!
 //! ```
 //! let (mut producer, mut handle, task) = Cell::new(alloc, 4, Collector::asking(alloc, 1))?;

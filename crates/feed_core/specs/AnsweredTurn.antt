@@ -1,5 +1,5 @@
--- What a turn does to a lane, by what each callback of its subscriber came back with (`Flow.Subscriber` and `Flow.Subscription`, Java SE 17;
--- Reactive Streams 1.0, 1.1, 1.3, 1.7, 3.8 and 3.9).
+-- What a turn does to a lane, by what each callback of its subscriber came back with (`Flow.Subscriber` and
+-- `Flow.Subscription`, Java SE 17; Reactive Streams 1.0, 1.1, 1.3, 1.7, 3.8 and 3.9).
 use Rattle.std.specs.Prelude.{◌≡◌, ℕ, zero, suc, ◌+◌, ◌-◌, Option, None, Some, List, [], ◌∷◌, ◌++◌, map, drop, Result, Ok, Err, IfOk}
 use Rattle.feed_core.specs.Prelude.{Answer, NoMemory, Item, Signal, Subscribed, Next, How, Outlook, Again, Resting, Ended, ITEMS_IN_A_TURN}
 use Rattle.feed_core.specs.Cause.{stops, closes, with_cause_of}
@@ -24,7 +24,7 @@ ArePlain (reply ∷ replies) = IsPlain reply × ArePlain replies
 abbrev pub refused : Reply
 refused = Err (record {})
 
--- the callback of a terminal signal, where there is one, went on: whatever it answers is not obeyed
+-- the callback of a terminal signal, if there is one, went on: whatever it answers is not obeyed
 abbrev pub replies_to : List Signal → List Reply
 replies_to signals = map (λ _. Ok Answer.Go) signals
 
@@ -66,19 +66,21 @@ obeyed (Answer.Request n) lane = record { lane = lane_with_request n lane; outlo
 obeyed Answer.Cancel lane = ended_as How.Cancelled lane
 obeyed (Answer.Fail code) lane = ended_as (How.Failed code) lane
 
--- onSubscribe or onNext was called: its signal was told and its answer is obeyed, or it was refused memory, which is the end
+-- onSubscribe or onNext was called: its signal was told and its answer is obeyed, or it was refused memory, which is
+-- the end
 abbrev pub called : Signal → Reply → LaneState → After
 called signal (Ok answer) lane = obeyed answer (lane_told signal lane)
 called signal (Err _) lane = ended_as How.OutOfMemory lane
 
--- the end, where this is its terminal signal: what its callback answers is not obeyed, and where that was refused memory the end is another
+-- the end, if this is its terminal signal: what its callback answers is not obeyed, and if that was refused
+-- memory the end is another
 abbrev pub finished : How → List Signal → Reply → LaneState → After
 finished how [] reply lane = ended_as how lane
 finished how (signal ∷ _) (Ok _) lane = ended_as how (lane_told signal lane)
 finished how (_ ∷ _) (Err _) lane = ended_as How.OutOfMemory lane
 
--- what a look does that finds this: the end at once; the item that waits, where one more was requested; the end that waits for the
--- items, where none waits; or nothing
+-- what a look does that finds this: the end at once; the item that waits, if one more was requested; the end that
+-- waits for the items, if none waits; or nothing
 abbrev pub looked : Option How → Option How → List Item → ℕ → Reply → LaneState → After
 looked (Some how) later waiting unmet reply lane = finished how (terminal_of how) reply lane
 looked None later (item ∷ _) (suc _) reply lane = called (Next item) reply (lane_taken lane)
@@ -86,11 +88,11 @@ looked None later (_ ∷ _) zero reply lane = record { lane = lane; outlook = Re
 looked None (Some how) [] unmet reply lane = finished how (terminal_of how) reply lane
 looked None None [] unmet reply lane = record { lane = lane; outlook = Resting }
 
--- one look at the causes, where the callback that it calls comes back so
+-- one look at the causes, if the callback that it calls comes back so
 abbrev pub look_of : Reply → LaneState → After
 look_of reply lane = looked (stops lane.causes) (closes lane.causes) (drop lane.given lane.accepted) (lane.asked - lane.given) reply lane
 
--- a part of a turn, and then another one where it goes on
+-- a part of a turn, and then another one if it goes on
 abbrev pub going_on : Outlook → LaneState → (LaneState → After) → After
 going_on Again lane next = next lane
 going_on Resting lane next = record { lane = lane; outlook = Resting }
@@ -99,12 +101,12 @@ going_on (Ended how) lane next = record { lane = lane; outlook = Ended how }
 abbrev pub and_then : After → (LaneState → After) → After
 and_then after next = going_on after.outlook after.lane next
 
--- looks, one after the other, at most so many
+-- looks, one after the other, at most this many
 abbrev pub looks_within : ℕ → List Reply → LaneState → After
 looks_within zero replies lane = record { lane = lane; outlook = Again }
 looks_within (suc most) replies lane = and_then (look_of (first_reply replies) lane) (looks_within most (later_replies replies))
 
--- a turn of a lane that was told this: onSubscribe first, where nothing was told yet
+-- a turn of a lane that was told this: onSubscribe first, if nothing was told yet
 abbrev pub turn_after : List Signal → LaneState → List Reply → After
 turn_after [] lane replies = and_then (called Subscribed (first_reply replies) lane) (looks_within ITEMS_IN_A_TURN (later_replies replies))
 turn_after (_ ∷ _) lane replies = looks_within ITEMS_IN_A_TURN replies lane

@@ -3,28 +3,30 @@ use Rattle.std.specs.Prelude.{◌≡◌, Bool, true, false, Option, None, Some}
 use Rattle.feed_core.specs.Prelude.{Fault, Published, IllegalArgument, IllegalState, Ending, ErrorOrder, Overtake, AfterItems, How}
 use Rattle.feed_core.specs.declared.cause.Causes.{Causes}
 
--- no cause at all, where a closing error is told in this order
+-- no cause at all, if a closing error is told in this order
 abbrev pub no_causes_in : ErrorOrder → Causes
 no_causes_in order = record { order = order; cancel = false; argument = false; state = false; closing = None; failed = None; memory = false }
 
--- no cause at all, where a closing error overtakes the items
+-- no cause at all, if a closing error overtakes the items
 abbrev pub no_causes : Causes
 no_causes = no_causes_in Overtake
 
--- the end by this cause, where it is one, or else the next
+-- the end by this cause, if it is one, or else the next
 abbrev pub end_where : Bool → How → Option How → Option How
 end_where true how next = Some how
 end_where false how next = next
 
--- the end that a closing error is told as, where it overtakes the items (`SubmissionPublisher.closeExceptionally`, Java SE 17)
+-- the end that a closing error is told as, if it overtakes the items (`SubmissionPublisher.closeExceptionally`, Java
+-- SE 17)
 abbrev pub error_at_once : Option Ending → ErrorOrder → Option How
 error_at_once None order = None
 error_at_once (Some Ending.Normal) order = None
 error_at_once (Some (Ending.Failed code)) Overtake = Some (How.Errored (Published code))
 error_at_once (Some (Ending.Failed code)) AfterItems = None
 
--- the end at once: cancelled, then a bad request, then a second subscribing, then the closing error where it overtakes the items
--- (`Flow.Subscription.cancel` and `request`, `SubmissionPublisher.subscribe` and `closeExceptionally`, Java SE 17)
+-- the end at once: cancelled, then a bad request, then a second subscribing, then the closing error if it overtakes
+-- the items (`Flow.Subscription.cancel` and `request`, `SubmissionPublisher.subscribe` and `closeExceptionally`, Java
+-- SE 17)
 abbrev pub stops : Causes → Option How
 stops causes =
     end_where causes.cancel How.Cancelled
@@ -32,7 +34,7 @@ stops causes =
     (end_where causes.state (How.Errored IllegalState)
     (error_at_once causes.closing causes.order)))
 
--- the end that waits until every item was given: completion, and the closing error where it waits for the items
+-- the end that waits until every item was given: completion, and the closing error if it waits for the items
 -- (`SubmissionPublisher.close` and `closeExceptionally`, Java SE 17)
 abbrev pub end_at_last : Option Ending → ErrorOrder → Option How
 end_at_last None order = None

@@ -47,7 +47,8 @@ pub record AnswersDuplicate (old new : DeskState) (start : Option Unit) : Type 0
   pub starts : IsSome start ↔ Rests old
   pub flow : IsFlow new.lane
 
--- its publisher looked: it learns whether the subscription has ended, and how many items wait; the lane keeps the Flow rules
+-- its publisher looked: it learns whether the subscription has ended, and how many items wait; the lane keeps the Flow
+-- rules
 pub record AnswersLook (old new : DeskState) (standing : Standing) : Type 0 where
   pub looked : new ≡ desk_after_look old
   pub ended : standing.ended ≡ is_some old.lane.how

@@ -6,8 +6,8 @@ use Rattle.feed_core.specs.Prelude.{Item, Signal, Subscribed, Next, Complete, Er
 use Rattle.feed_core.specs.declared.cause.Causes.{Causes}
 use Rattle.feed_core.specs.Cause.{stops, closes, IsFaultOf}
 
--- accepted: the items that its buffer accepted, in order · given: how many of them were taken for onNext
--- asked: the total that was requested · causes: why it may end · how: how it ended, if it did · told: what its subscriber was told
+-- accepted: the items that its buffer accepted, in order · given: how many of them were taken for onNext asked: the
+-- total that was requested · causes: why it may end · how: how it ended, if it did · told: what its subscriber was told
 pub record LaneState : Type 0 where
   pub accepted : List Item
   pub given : ℕ
@@ -16,7 +16,7 @@ pub record LaneState : Type 0 where
   pub how : Option How
   pub told : List Signal
 
--- as many items were told as were given, or one fewer where the last one met want of memory
+-- as many items were told as were given, or one fewer if the last one was refused memory
 abbrev pub TellsGiven : LaneState → Type 0
 TellsGiven lane =
     (length (items_of lane.told) ≡ lane.given)
@@ -30,7 +30,8 @@ pub record IsFlow (lane : LaneState) : Type 0 where
   pub requested : lane.given ≤ lane.asked
   pub completed : Contains lane.told Complete → (lane.causes.closing ≡ Some Ending.Normal) × (items_of lane.told ≡ lane.accepted)
   pub errored : (fault : Fault) → Contains lane.told (Error fault) → IsFaultOf lane.causes fault
-  pub waited : (code : ℕ) → Contains lane.told (Error (Published code)) → lane.causes.order ≡ AfterItems → items_of lane.told ≡ lane.accepted
+  pub waited : (code : ℕ) → Contains lane.told (Error (Published code)) → lane.causes.order ≡ AfterItems
+      → items_of lane.told ≡ lane.accepted
 
 -- no onComplete and no onError was told
 abbrev pub HasNoTerminal : List Signal → Type 0

@@ -1,4 +1,5 @@
--- What the calls of a subscription do to its lane (`SubmissionPublisher.offer`, `close` and `subscribe`, `Flow.Subscription.request` and `cancel`, Java SE 17).
+-- What the calls of a subscription do to its lane (`SubmissionPublisher.offer`, `close` and `subscribe`,
+-- `Flow.Subscription.request` and `cancel`, Java SE 17).
 use Rattle.std.specs.Prelude.{◌≡◌, ℕ, zero, suc, ℤ, pos, negsuc, ◌-◌, ◌<◌, ◌==◌, Bool, true, ◌||◌, ◌&&◌, not, if◌then◌else◌, is_some, None, Some, [], ◌∷◌, ◌++◌, length}
 use Rattle.feed_core.specs.Prelude.{Item, Ending, ErrorOrder, Overtake, IsCapacityOf, total_after}
 use Rattle.feed_core.specs.Cause.{no_causes_in}

@@ -4,8 +4,8 @@ use Rattle.feed_core.specs.Prelude.{Signal}
 use Rattle.feed_core.specs.Lane.{LaneState, IsFlow, IsSettled}
 use Rattle.feed_core.specs.declared.lane.Lane.{Lane}
 
--- what is left of a subscription that had this lane: the numbers of the lane, how it ended, and its subscriber, who was told what the
--- lane says; the subscriber is missing if a task that was never run to its end has it
+-- what is left of a subscription that had this lane: the numbers of the lane, how it ended, and its subscriber, who was
+-- told what the lane says; the subscriber is missing if a task that was never run to its end has it
 pub record IsLeftLane {B : Type 0} (told : B → List Signal) (lane : LaneState) (left : Lane B) : Type 0 where
   pub accepted : left.accepted ≡ length lane.accepted
   pub given : left.given ≡ lane.given

@@ -1,13 +1,17 @@
+pub mod Accounts
+pub mod Answered
 pub mod AnsweredTurn
 pub mod Buffer
 pub mod Cause
 pub mod Desk
+pub mod EndedBy
 pub mod Feed
 pub mod Lane
 pub mod LaneCalls
 pub mod LeftLane
 pub mod PlainTurn
 pub mod Prelude
+pub mod Replies
 pub mod Seen
 pub mod Sound
 pub mod Steps

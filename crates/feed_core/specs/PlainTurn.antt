@@ -1,4 +1,4 @@
--- What a turn tells a subscriber that only goes on and meets no want of memory, and what is to be done after it.
+-- What a turn tells a subscriber that only goes on and is never refused memory, and what is to be done after it.
 use Rattle.std.specs.Prelude.{ℕ, ◌-◌, ◌==◌, if◌then◌else◌, min, Option, None, Some, List, [], ◌∷◌, ◌++◌, length, map, take, drop}
 use Rattle.feed_core.specs.Prelude.{Item, Signal, Subscribed, Next, Complete, Error, How}
 use Rattle.feed_core.specs.declared.cause.Causes.{Causes}
@@ -37,7 +37,7 @@ end_by how = record { told = terminal_of how; outlook = Ended how }
 abbrev pub signals_then : List Signal → PlainTurn → PlainTurn
 signals_then signals turn = record { told = signals ++ turn.told; outlook = turn.outlook }
 
--- onSubscribe, where nothing was told yet
+-- onSubscribe, if nothing was told yet
 abbrev pub greeting : List Signal → List Signal
 greeting [] = Subscribed ∷ []
 greeting (_ ∷ _) = []

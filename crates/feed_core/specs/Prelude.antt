@@ -1,4 +1,5 @@
--- What most files import: types, their variants (those of `Answer`, `Ending` and `How` under the name of the type), and the words of clauses.
+-- What most files import: types, their variants (those of `Answer`, `Ending` and `How` under the name of the type), and
+-- the words of clauses.
 pub use Rattle.flow_rules.specs.declared.answer.Answer.{Answer}
 pub use Rattle.flow_rules.specs.declared.answer.Answer.TheVariants as Answer
 pub use Rattle.flow_rules.specs.declared.demand.TheConstants.{UNBOUNDED}

@@ -18,7 +18,7 @@ abbrev pub terminal_part : Option How → List Signal
 terminal_part None = []
 terminal_part (Some how) = terminal_of how
 
--- onSubscribe, where anything was told
+-- onSubscribe, if anything was told
 abbrev pub opening : Bool → List Signal
 opening false = []
 opening true = Subscribed ∷ []
@@ -27,7 +27,7 @@ opening true = Subscribed ∷ []
 abbrev pub signals_of : Bool → List Item → Option How → List Signal
 signals_of begun items how = opening begun ++ (map Next items ++ terminal_part how)
 
--- how many taken items may be missing in what was told: one, at an end for want of memory
+-- how many taken items may be missing in what was told: one, at an end by a refusal of memory
 abbrev pub loss_of : Option How → ℕ
 loss_of None = 0
 loss_of (Some How.Completed) = 0
@@ -36,12 +36,14 @@ loss_of (Some How.Cancelled) = 0
 loss_of (Some (How.Failed _)) = 0
 loss_of (Some How.OutOfMemory) = 1
 
--- a lane ends by a cause of its own, and with completion, or a closing error that waits for the items, once every item was given
+-- a lane ends by a cause of its own, and with completion, or a closing error that waits for the items, once every item
+-- was given
 pub record HasCause (lane : LaneState) : Type 0 where
   pub completed : lane.how ≡ Some How.Completed → lane.causes.closing ≡ Some Ending.Normal
   pub whole : lane.how ≡ Some How.Completed → lane.given ≡ length lane.accepted
   pub published : (code : ℕ) → lane.how ≡ Some (How.Errored (Published code)) → lane.causes.closing ≡ Some (Ending.Failed code)
-  pub last : (code : ℕ) → lane.how ≡ Some (How.Errored (Published code)) → lane.causes.order ≡ AfterItems → lane.given ≡ length lane.accepted
+  pub last : (code : ℕ) → lane.how ≡ Some (How.Errored (Published code)) → lane.causes.order ≡ AfterItems
+      → lane.given ≡ length lane.accepted
   pub argument : lane.how ≡ Some (How.Errored IllegalArgument) → lane.causes.argument ≡ true
   pub state : lane.how ≡ Some (How.Errored IllegalState) → lane.causes.state ≡ true
   pub cancelled : lane.how ≡ Some How.Cancelled → lane.causes.cancel ≡ true
@@ -63,7 +65,8 @@ pub record IsCountedLane (lane : LaneState) : Type 0 where
   pub taken : lane.given ≤ length lane.accepted
   pub requested : lane.given ≤ lane.asked
 
--- what was told is the list of its own items and its end, those are a prefix of what was accepted, the numbers fit, and an end has its cause
+-- what was told is the list of its own items and its end, those are a prefix of what was accepted, the numbers fit, and
+-- an end has its cause
 pub record IsSoundLane (lane : LaneState) : Type 0 where
   pub told_is : lane.told ≡ signals_of (is_begun lane.told) (items_of lane.told) lane.how
   pub in_order : IsPrefix (items_of lane.told) lane.accepted
@@ -77,23 +80,24 @@ abbrev pub lane_of : List Signal → List Item → ℕ → ℕ → Causes → Op
 lane_of told held given asked causes how =
     record { accepted = items_of told ++ held; given = given; asked = asked; causes = causes; how = how; told = told }
 
--- a Desk's lane is sound, it holds the accepted items that were not told, no more than its buffer may hold, and a task that was not
--- started is at rest
+-- a Desk's lane is sound, it holds the accepted items that were not told, no more than its buffer may hold, and a task
+-- that was not started is at rest
 pub record IsInOrder (lane : LaneState) (held : List Item) (capacity : ℕ) (started : Bool) : Type 0 where
   pub sound : IsSoundLane lane
   pub holds : lane.accepted ≡ items_of lane.told ++ held
   pub fits : length lane.accepted ≤ lane.given + capacity
   pub rests : started ≡ false → IsAtRest lane
 
--- a Desk is in order, it counts the accepted items, there is room for all that its buffer may hold, and it knows whether anything
--- was told
+-- a Desk is in order, it counts the accepted items, there is room for all that its buffer may hold, and it knows
+-- whether anything was told
 pub record IsStored (lane : LaneState) (held : List Item) (accepted capacity room : ℕ) (begun started : Bool) : Type 0 where
   pub in_order : IsInOrder lane held capacity started
   pub counted : length lane.accepted ≡ accepted
   pub roomy : capacity ≤ room
   pub greeted : begun ≡ is_begun lane.told
 
--- a subscription is sound: its lane is, the buffer holds no more than it may, the demand is bounded, and a task that was not started is at rest
+-- a subscription is sound: its lane is, the buffer holds no more than it may, the demand is bounded, and a task that
+-- was not started is at rest
 pub record IsSoundDesk (desk : DeskState) : Type 0 where
   pub sound : IsSoundLane desk.lane
   pub fits : length desk.lane.accepted ≤ desk.lane.given + desk.capacity

@@ -14,7 +14,7 @@ how_after Again = None
 how_after Resting = None
 how_after (Ended how) = Some how
 
--- the causes after a turn: want of memory joins where a callback met it
+-- the causes after a turn: refused memory joins if a callback was refused it
 abbrev pub causes_after : Outlook → Causes → Causes
 causes_after Again causes = causes
 causes_after Resting causes = causes
@@ -28,8 +28,8 @@ EndsIn signals signal = (before : List Signal) × (signals ≡ before ++ signal 
 abbrev pub EndsInObeyed : List Signal → Type 0
 EndsInObeyed signals = EndsIn signals Subscribed ⊎ ((item : Item) × EndsIn signals (Next item))
 
--- how many items were taken for onNext where this was told of the plain turn: those that were told, and the one whose
--- onNext came next, which met want of memory
+-- how many items were taken for onNext if this was told of the plain turn: those that were told, and the one whose
+-- onNext came next, which was refused memory
 abbrev pub taken_in : PlainTurn → List Signal → ℕ
 taken_in plain seen = length (items_of (take (length seen + 1) plain.told))
 
@@ -55,7 +55,7 @@ abbrev pub IsOutlookOf : PlainTurn → List Signal → Outlook → Type 0
 IsOutlookOf plain [] outlook = outlook ≡ plain.outlook
 IsOutlookOf plain (_ ∷ _) outlook = outlook ≡ Ended How.OutOfMemory
 
--- a prefix of the plain turn was told, and all of it where no callback was refused memory
+-- a prefix of the plain turn was told, and all of it if no callback was refused memory
 pub record MeetsPlainTurn (plain : PlainTurn) (told : List Signal) (outlook : Outlook) : Type 0 where
   pub missed : List Signal
   pub whole : plain.told ≡ told ++ missed

@@ -47,8 +47,8 @@ impl Causes {
         }
     }
 
-    /// The end that is due at once: by a cancel, a bad request, a second subscribing or a closing error that overtakes the
-    /// items, in this order.
+    /// The end that is due at once: by a cancel, a bad request, a second subscribing or a closing error that overtakes
+    /// the items, in this order.
     pub fn stops(&self) -> Option<How>
         ensures { result ≡ stops self.now }
     {

@@ -70,7 +70,7 @@ passes_end Fresh signals e = rw e refl
 passes_end Opened signals e = rw e refl
 passes_end Ended signals e = rw e refl
 
--- where the machine stops at a signal, the list is not allowed
+-- if the machine stops at a signal, the list is not allowed
 pub stopped : (signals : List Signal) (stage : Stage) (i : ℕ) (s : Signal) → passes Fresh signals ≡ passes stage (drop i signals) → i < length signals → s ≡ get_or signals i s → ((rest : List Signal) → passes stage (s ∷ rest) ≡ false) → (false ≡ true → IsFlowText signals) × (IsFlowText signals → (false ≡ true))
 stopped signals stage i s so_far more at stuck =
     let next : drop i signals ≡ s ∷ drop (suc i) signals = drop-cons signals i s more ∙ ap (λ x. x ∷ drop (suc i) signals) (sym at) in

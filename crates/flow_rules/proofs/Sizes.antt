@@ -38,7 +38,7 @@ least_power n r power covers half some = record {
   least = λ p other high. least (min n 65536) r p power half (omega arith) other high;
 }
 
--- from the k-th size on, the search finds the capacity, where it is not below that size
+-- from the k-th size on, the search finds the capacity, if it is not below that size
 found_from : (count k n c : ℕ) → k + count ≡ 17 → IsCapacityOf n c → min (2 ^ k) 65536 ≤ c → unwrap_or (find (λ size. nat_le n size) (map (λ j. 2 ^ j) (range_with_len k count))) 65536 ≡ c
 found_from zero k n c left is reached =
     let last : 2 ^ 17 ≤ 2 ^ k = pow_mono {i = 17} {j = k} (omega arith) in

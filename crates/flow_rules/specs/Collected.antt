@@ -1,5 +1,6 @@
 -- What a `Collector` holds, and what it answers.
 use Rattle.std.specs.Prelude.{ℕ, ℤ, pos, ◌+◌, ◌==◌, if◌then◌else◌, int_lt, List, Option, Some, None, length}
+use Rattle.flow_rules.specs.Callback.{Reply}
 use Rattle.flow_rules.specs.declared.answer.Answer.{Answer}
 use Rattle.flow_rules.specs.declared.answer.Answer.TheVariants.{Go, Request, Fail}
 use Rattle.flow_rules.specs.declared.collector.Failing.{Failing}
@@ -7,9 +8,10 @@ use Rattle.flow_rules.specs.declared.signal.Signal.{Signal}
 use Rattle.flow_rules.specs.declared.signal.Signal.TheVariants.{Subscribed, Next, Complete, Error}
 use Rattle.flow_rules.specs.Signals.{items_of}
 
--- what it was told, what it requests when it is subscribed, and where it fails
+-- what it was told and answered, what it requests when it is subscribed, and where it fails
 pub record Collected : Type 0 where
   pub told : List Signal
+  pub replied : List Reply
   pub requests : Option ℤ
   pub fails : Option Failing
 

@@ -5,9 +5,9 @@ use Rattle.flow_rules.specs.declared.feed.put.Put.{Put}
 use Rattle.flow_rules.specs.declared.feed.put.Put.TheVariants.{Accepted, Full, Gone}
 use Rattle.flow_rules.specs.declared.item.Item.{Item}
 
--- the producer's end: the capacity of the buffer; the items that it has accepted, in order; how many of them were taken for onNext,
--- by the last look; how many looks were made; whether the subscription had ended, by the last look; how it was closed, if it was;
--- whether a second subscribing was told of; and whether it has what one started task needs
+-- the producer's end: the capacity of the buffer; the items that it has accepted, in order; how many of them were taken
+-- for onNext, by the last look; how many looks were made; whether the subscription had ended, by the last look; how it
+-- was closed, if it was; whether a second subscribing was told of; and whether it has what one started task needs
 pub record End : Type 0 where
   pub capacity : ℕ
   pub accepted : List Item
@@ -30,8 +30,8 @@ is_gone e = e.over || is_some e.closing
 abbrev pub MayStart : End → Type 0
 MayStart e = (e.ready || is_some e.closing) ≡ true
 
--- one look: it shows how many items were taken by now, never fewer than the look before it, and whether the subscription has
--- ended, which stays so; no more items are left than the buffer may hold; and nothing else changes
+-- one look: it shows how many items were taken by now, never fewer than the look before it, and whether the
+-- subscription has ended, which stays so; no more items are left than the buffer may hold; and nothing else changes
 pub record Looked (e f : End) : Type 0 where
   pub seen : e.seen ≤ f.seen
   pub over : e.over ≡ true → f.over ≡ true
@@ -44,7 +44,7 @@ pub record LookedIfOpen (e f : End) : Type 0 where
   pub unclosed : e.closing ≡ None → Looked e f
   pub closed : IsSome e.closing → f ≡ e
 
--- where no task was started, it has what one needs as before
+-- if no task was started, it has what one needs as before
 abbrev pub KeepsReady : {T : Type 0} → Option T → End → End → Type 0
 KeepsReady start e f = start ≡ None → f.ready ≡ e.ready
 
@@ -75,11 +75,13 @@ Answers e item (Accepted lag start) f = TakesItem e item lag start f
 Answers e item (Full back) f = FindsFull e item back f
 Answers e item (Gone back) f = FindsGone e item back f
 
--- a put: one look, or none at an end that was closed, and what it allows (`SubmissionPublisher.submit` and `offer`, Java SE 17)
+-- a put: one look, or none at an end that was closed, and what it allows (`SubmissionPublisher.submit` and `offer`,
+-- Java SE 17)
 abbrev pub Puts : {T : Type 0} → End → Item → Put T → End → Type 0
 Puts e item answer f = (m : End) × LookedIfOpen e m × Answers m item answer f
 
--- a close: only the first sets how it is closed, and only that one may start a task (`SubmissionPublisher.close`, Java SE 17)
+-- a close: only the first sets how it is closed, and only that one may start a task (`SubmissionPublisher.close`, Java
+-- SE 17)
 pub record Ends {T : Type 0} (e : End) (ending : Ending) (start : Option T) (f : End) : Type 0 where
   pub first : e.closing ≡ None → f ≡ record e { closing = Some ending; ready = f.ready }
   pub later : IsSome e.closing → (f ≡ e) × (start ≡ None)

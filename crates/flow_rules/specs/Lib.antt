@@ -9,6 +9,7 @@ pub mod Name
 pub mod Padding
 pub mod Printed
 pub mod Refusal
+pub mod Showing
 pub mod Signals
 pub mod Text
 pub mod Watched

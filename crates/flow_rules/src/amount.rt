@@ -4,8 +4,9 @@ ghost use Rattle.std.specs.Prelude.{◌≡◌, ◌+◌};
 use boxcar::tag::{Names, Tag};
 use std::fmt;
 
-/// How many there were: of jobs that an inbox took, or of looks that a publisher made. It is a value of no bytes that a proof keeps a
-/// number in, so it costs nothing when the program runs, and it never wraps. Clauses read it by `amount_of`.
+/// How many there were: of jobs that an inbox took, or of looks that a publisher made. It is a value of no bytes that a
+/// proof keeps a number in, so it costs nothing when the program runs, and it never wraps. Clauses read it by
+/// `amount_of`.
 #[derive(Drop)]
 pub struct Amount {
     tag: Tag,

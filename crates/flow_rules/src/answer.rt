@@ -1,5 +1,5 @@
 //! What a callback answers.
-/// What a callback asks for by its return, where Java's would call its `Subscription` or throw.
+/// What a callback asks for by its return; Java's calls its `Subscription` or throws.
 #[derive(Clone, Copy, Debug, PartialEq, Eq)]
 pub enum Answer {
     /// Nothing is asked for.

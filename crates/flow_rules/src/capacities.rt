@@ -7,7 +7,7 @@ use crate::refusal::BadCapacity;
 /// The largest enforced capacity.
 pub const LARGEST_CAPACITY: usize = 65_536;
 
-/// The capacity that is enforced where n is asked for: the least power of two not below n, at most
+/// The capacity that is enforced if n is asked for: the least power of two not below n, at most
 /// [`LARGEST_CAPACITY`]. A capacity of 0 is refused (the constructor of `SubmissionPublisher`).
 pub fn capacity(n: usize) -> Result<usize, BadCapacity>
     ensures refused { IsErr result ↔ (n ≡ 0) }

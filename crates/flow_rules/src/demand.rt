@@ -51,7 +51,7 @@ impl Demand {
         Demand { total: 0 }
     }
 
-    /// This total, or the largest one where it is above that.
+    /// This total, or the largest one if it is above that.
     pub fn of(total: u64) -> Demand
         ensures { result ≡ min total UNBOUNDED }
     {

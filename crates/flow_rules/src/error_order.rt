@@ -7,8 +7,8 @@ use std::fmt;
 pub enum ErrorOrder {
     /// At the next look: the error overtakes the items that wait, and these are never told.
     Overtake,
-    /// Once every accepted item was told, where completion would be told: the error waits as long as the subscriber doesn't
-    /// request the items before it.
+    /// Once every accepted item was told, in place of completion: the error waits as long as the subscriber
+    /// doesn't request the items before it.
     AfterItems,
 }
 

@@ -5,21 +5,23 @@ ghost use Rattle.std.specs.Prelude.{◌≡◌, None};
 
 use crate::name::Name;
 
-/// Hears that the `onNext` of a subscriber failed (the `handler` of the third constructor of `SubmissionPublisher`, Java SE 17). Its meaning
-/// is `last`, the name and the code of the failure that it heard of last.
+/// Hears that the `onNext` of a subscriber failed (the `handler` of the third constructor of `SubmissionPublisher`,
+/// Java SE 17). Its meaning is `last`, the name and the code of the failure that it heard of last.
 ///
-/// A handler need not be `Send`. A publisher that threads share asks for `FailHandler + Send`, at each of its calls and types.
+/// A handler need not be `Send`. A publisher that threads share asks for `FailHandler + Send`, at each of its calls and
+/// types.
 pub trait FailHandler: Drop {
     ghost use Rattle.std.specs.Prelude.{◌≡◌, ℕ, List, Option, Some};
 
     ghost last: { Self → Option (List ℕ × ℕ) };
 
-    /// Hears that the `onNext` of the subscriber of this name failed with this code. It is called once for each such failure, after the
-    /// subscription has ended.
+    /// Hears that the `onNext` of the subscriber of this name failed with this code. It is called once for each such
+    /// failure, after the subscription has ended.
     fn on_fail(&mut self, name: Name, code: u32)
         ensures { last self.new ≡ Some (name, code) };
 
-    /// Tells the name of the subscriber of whose failure it heard last, and the code. `None` if it has heard of no failure.
+    /// Tells the name of the subscriber of whose failure it heard last, and the code. `None` if it has heard of no
+    /// failure.
     fn last(&self) -> Option<(Name, u32)>
         ensures { result ≡ last self.now };
 }

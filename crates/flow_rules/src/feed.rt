@@ -13,11 +13,11 @@ pub use standing::Standing;
 /// The producer's end of one subscription: what a publisher calls, whoever else has the subscription
 /// (`SubmissionPublisher`, Java SE 17).
 ///
-/// A call that changes what there is to tell starts the subscription's task where that was at rest. Then it answers the task, and
-/// the caller has to see that it is run.
+/// A call that changes what there is to tell starts the subscription's task if that was at rest. Then it answers the
+/// task, and the caller has to see that it is run.
 ///
-/// Its meaning is the publisher's own knowledge: its parts change only in these calls. So what others do, as the taking of items for
-/// `onNext`, shows only in a look.
+/// Its meaning is the publisher's own knowledge: its parts change only in these calls. So what others do, as the taking
+/// of items for `onNext`, shows only in a look.
 pub trait Feed: Drop {
     ghost use Rattle.std.specs.Prelude.{◌≡◌, ◌<◌, ⊤, true, length, OnOk, OnErr, IsOk};
     ghost use Rattle.flow_rules.specs.Call as Call;
@@ -25,7 +25,7 @@ pub trait Feed: Drop {
     ghost use Rattle.flow_rules.specs.Feed.{End, MayStart, Looked, Puts, Ends, Duplicates, held_count};
     ghost use Rattle.flow_rules.specs.declared.item.TheConstants.{MOST_PUBLICATIONS};
 
-    /// What a caller has to run where it is started.
+    /// What a caller has to run if it is started.
     type Task: Drop;
 
     /// What the publisher knows of the subscription.
@@ -34,7 +34,7 @@ pub trait Feed: Drop {
     /// What a call that answered so does, more exactly than the meaning tells.
     ghost does: { Self → Call Self.Task → Self → Type 0 } = { λ _ _ _. ⊤ };
 
-    /// Takes what one started task needs. Where that is there, it is not refused.
+    /// Takes what one started task needs. If that is there, it is not refused.
     fn ready(&mut self) -> Result<(), NoMemory>
         ensures ok { OnOk result (meaning self.new ≡ record (meaning self.old) { ready = true }) }
         ensures unchanged { OnErr result (meaning self.new ≡ meaning self.old) }
@@ -43,15 +43,16 @@ pub trait Feed: Drop {
 
     /// Offers an item to the buffer, which neither waits nor takes memory (`SubmissionPublisher.offer`, one try).
     ///
-    /// It makes one look, or none where it was closed. Where that shows that the subscription has ended, or that the buffer is full,
-    /// and where it was closed, the item comes back.
+    /// It makes one look, or none if it was closed. If that shows that the subscription has ended, or that the
+    /// buffer is full, and if it was closed, the item comes back.
     fn put(&mut self, item: Item) -> Put<Self::Task>
         requires may { MayStart (meaning self.old) }
         requires few { length (meaning self.old).accepted < MOST_PUBLICATIONS }
         ensures means { Puts (meaning self.old) item result (meaning self.new) }
         ensures exact { does self.old (Call.Puts item result) self.new };
 
-    /// Closes the subscription (`SubmissionPublisher.close` and `closeExceptionally`). Only the first call does anything.
+    /// Closes the subscription (`SubmissionPublisher.close` and `closeExceptionally`). Only the first call does
+    /// anything.
     #[must_use]
     fn end(&mut self, ending: Ending) -> Option<Self::Task>
         requires may { MayStart (meaning self.old) }

@@ -11,9 +11,9 @@
 //! let is_allowed = audit(collector.told());                   // true
 //! ```
 //!
-//! A type of one's own that is told is a [`Watch`], which promises nothing and needs no proof; or a [`Listener`], whose promise is proved.
-//! A [`Subscriber`] also keeps the list of its signals and shows it, as [`Collector`] does. A `Box<dyn Listener + Send>` is a listener too,
-//! so that one publisher can have listeners of different types.
+//! A type of one's own that is told is a [`Watch`], which promises nothing and needs no proof; or a [`Listener`], whose
+//! promise is proved. A [`Subscriber`] also keeps the list of its signals and shows it, as [`Collector`] does. A
+//! `Box<dyn Listener + Send>` is a listener too, so that one publisher can have listeners of different types.
 #![tactic(auto)]
 
 mod amount;
@@ -32,6 +32,7 @@ mod listener;
 mod name;
 mod printer;
 mod refusal;
+mod shown;
 mod signal;
 mod subscriber;
 mod tally;
@@ -51,10 +52,11 @@ pub use fail_handler::{FailHandler, LastFailure};
 pub use feed::{DropHandler, Feed, Put, Standing};
 pub use how::How;
 pub use item::{Item, MOST_PUBLICATIONS};
-pub use listener::{GoesOn, Listener, Shown};
-pub use name::Name;
+pub use listener::{GoesOn, Listener};
+pub use name::{Name, NotAName};
 pub use printer::Printer;
 pub use refusal::{BadCapacity, Explained, NoMemory, Refusal};
+pub use shown::Shown;
 pub use signal::{Fault, Signal};
 pub use subscriber::Subscriber;
 pub use tally::Tally;

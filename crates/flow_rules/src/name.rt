@@ -1,13 +1,16 @@
-//! The name that a subscriber subscribes with.
-ghost use Rattle.std.specs.Prelude.{◌≡◌, ◌≤◌, ◌↔◌, ◌==◌, List, ℕ, length, IsSome, IfSome, Some, true};
+//! The name that a subscriber subscribes with. It says nothing of who has one.
+mod not_a_name;
+
+ghost use Rattle.std.specs.Prelude.{◌≡◌, ◌≤◌, ◌↔◌, ◌==◌, List, ℕ, length, IsSome, IsOk, IfErr, IfOk, IfSome, Some, true};
 ghost use Rattle.std.specs.List.{list_all};
 ghost use Rattle.std.specs.Cmp.Lexicographic.{pointwise, slice_cmp, nat_list_cmp_total, texts_ties, texts_po};
 ghost use Rattle.std.specs.Cmp.Rules.{comparing};
 ghost use Rattle.std.specs.Ordering.{nat_cmp};
 ghost use Rattle.std.specs.Hash as fed;
 ghost use Rattle.std.proofs.Common.{rules};
-ghost use Rattle.flow_rules.specs.Name.{is_name, is_name_byte};
+ghost use Rattle.flow_rules.specs.Name.{IsNoName, is_name, is_name_byte};
 
+pub use not_a_name::NotAName;
 use std::cmp::Ordering;
 use std::hash::{Hash, Hasher};
 use std::marker::Model;
@@ -40,7 +43,7 @@ impl Name {
     /// The number of bytes of the longest name.
     pub const LONGEST: usize = 32;
 
-    /// The name with these bytes, or `None` where they are not 1 to 32 ASCII letters, digits, `-` and `_`.
+    /// The name with these bytes, or `None` if they are not 1 to 32 ASCII letters, digits, `-` and `_`.
     pub fn new(bytes: &[u8]) -> Option<Name>
         ensures allowed { IsSome result ↔ (is_name bytes.now ≡ true) }
         ensures value { IfSome result (λ name. name ≡ bytes.now) }
@@ -56,12 +59,17 @@ impl Name {
         })
     }
 
-    /// The name that is this text, or `None` if the text is not 1 to 32 ASCII letters, digits, `-` and `_`.
-    pub fn parse(text: &str) -> Option<Name>
-        ensures allowed { IsSome result ↔ (is_name text.now ≡ true) }
-        ensures value { IfSome result (λ name. name ≡ text.now) }
+    /// The name that is this text, or why it is none: a name is 1 to 32 ASCII letters, digits, `-` and `_`.
+    pub fn parse(text: &str) -> Result<Name, NotAName>
+        ensures allowed { IsOk result ↔ (is_name text.now ≡ true) }
+        ensures value { IfOk result (λ name. name ≡ text.now) }
+        ensures why { IfErr result (IsNoName text.now) }
     {
-        Name::new(text.as_bytes())
+        let bytes = text.as_bytes();
+        match Name::new(bytes) {
+            Some(name) => Ok(name),
+            None => Err(NotAName::of(bytes)),
+        }
     }
 
     /// The bytes of the name.

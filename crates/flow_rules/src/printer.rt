@@ -15,8 +15,8 @@ use std::fmt;
 use std::io::Write;
 use std::marker::Model;
 
-/// A listener that hands each text that it is told to a writer, on a line of its own, and keeps none. After a write that failed it
-/// writes nothing more, and cancels its subscription. A terminal signal flushes the writer.
+/// A listener that hands each text that it is told to a writer, on a line of its own, and keeps none. After a write
+/// that failed it writes nothing more, and cancels its subscription. A terminal signal flushes the writer.
 #[derive(Drop)]
 pub struct Printer<W: Write> {
     told: Told,
@@ -33,13 +33,14 @@ impl<W: Write> Model for Printer<W> {
     ghost Value = { Printed };
 
     ghost view = { λ p. record {
-      told = p.told;
+      told = p.told.signals;
+      replied = p.told.replies;
       before = contents_of p.before.numbers;
       contents = W.contents p.writer;
       has_failed = p.has_failed;
     } };
 
-    ghost invariant = { λ p. IsPrinted p.told (contents_of p.before.numbers) (W.contents p.writer)
+    ghost invariant = { λ p. IsPrinted p.told.signals (contents_of p.before.numbers) (W.contents p.writer)
         p.has_failed };
 }
 
@@ -56,7 +57,7 @@ impl<W: Write> Printer<W> {
     /// One that was told nothing.
     #[tactic(auto, using(crate::proofs::Items::contents_kept))]
     pub fn new(writer: W) -> Printer<W>
-        ensures untold { result.told ≡ [] }
+        ensures untold { (result.told ≡ []) × (result.replied ≡ []) }
         ensures before { result.before ≡ W.contents writer }
         ensures unfailed { result.has_failed ≡ false }
     {
@@ -68,8 +69,8 @@ impl<W: Write> Printer<W> {
         }
     }
 
-    /// Whether a write or a flush failed. Where none did, the writer got the texts of all items that it was told, in order, each
-    /// on a line of its own.
+    /// Whether a write or a flush failed. If none did, the writer got the texts of all items that it was told, in
+    /// order, each on a line of its own.
     pub fn has_failed(&self) -> bool
         ensures value { result ≡ self.now.has_failed }
         ensures written { IsPrinted self.now.told self.now.before self.now.contents result }
@@ -86,20 +87,20 @@ impl<W: Write> Printer<W> {
 
     /// Has the writer hand on what it holds back, unless a write failed before.
     fn flush(&mut self)
-        ensures told { self.new.told ≡ self.old.told }
+        ensures told { (self.new.told ≡ self.old.told) × (self.new.replied ≡ self.old.replied) }
     {
         if !self.has_failed {
             self.has_failed = self.writer.flush().is_err();
         }
     }
+}
 
-    /// What it answers to a callback.
-    fn answer(&self) -> Answer {
-        if self.has_failed {
-            Answer::Cancel
-        } else {
-            Answer::Go
-        }
+/// What it answers to a callback, by whether a write failed.
+fn answer_after(has_failed: bool) -> Answer {
+    if has_failed {
+        Answer::Cancel
+    } else {
+        Answer::Go
     }
 }
 
@@ -116,34 +117,34 @@ impl<W: Write + Send + Drop> Listener for Printer<W> {
 
     ghost told = { λ p. p.told };
 
+    ghost replied = { λ p. p.replied };
+
     ghost is_steady = { λ _. false };
 
     #[tactic(auto, using(crate::proofs::Items::subscribed_no_item))]
     fn on_subscribe(&mut self) -> Result<Answer, NoMemory> {
-        self.told.tell(&Signal::Subscribed);
-        Ok(self.answer())
+        let answer = answer_after(self.has_failed);
+        Ok(self.told.tell(&Signal::Subscribed, answer))
     }
 
     fn on_next(&mut self, item: &Item) -> Result<Answer, NoMemory> {
         if !self.has_failed {
             self.has_failed = fails_to_print(&mut self.writer, &item.text);
         }
-        self.told.tell_next(item);
-        Ok(self.answer())
+        let answer = answer_after(self.has_failed);
+        Ok(self.told.tell_next(item, answer))
     }
 
     #[tactic(auto, using(crate::proofs::Items::error_no_item))]
     fn on_error(&mut self, fault: Fault) -> Result<Answer, NoMemory> {
         self.flush();
-        self.told.tell(&Signal::Error(fault));
-        Ok(self.answer())
+        Ok(self.told.tell_last(&Signal::Error(fault)))
     }
 
     #[tactic(auto, using(crate::proofs::Items::complete_no_item))]
     fn on_complete(&mut self) -> Result<Answer, NoMemory> {
         self.flush();
-        self.told.tell(&Signal::Complete);
-        Ok(self.answer())
+        Ok(self.told.tell_last(&Signal::Complete))
     }
 }
 

@@ -20,7 +20,7 @@ pub struct NoMemory;
 #[derive(Clone, Copy, Debug, PartialEq, Eq)]
 pub struct BadCapacity;
 
-/// Why a call was refused. After a refusal nothing has changed, but where the call says so.
+/// Why a call was refused. After a refusal nothing has changed, unless the call says otherwise.
 #[derive(Debug, Drop, PartialEq, Eq)]
 pub enum Refusal {
     /// The capacity was 0.
@@ -29,7 +29,8 @@ pub enum Refusal {
     Closed(Ending),
     /// A live subscription has the name.
     Duplicate,
-    /// There are as many live subscriptions, submitters or subscribers as there may be.
+    /// As many subscriptions are live as may be, as many submitters were ever made, or no subscriber is left in a
+    /// script's stock.
     TooMany,
     /// A growth was refused.
     NoMemory,
@@ -37,9 +38,11 @@ pub enum Refusal {
     LineTooLong,
     /// The number of workers was not 1 to 8.
     BadWorkers,
-    /// A subscription, submitter or task of this name was not handed in.
+    /// The subscription or the submitter of this name was not handed in, or a thread is in the middle of a turn of the
+    /// subscription.
     StillHeld(Name),
-    /// These subscriptions were running, or closed and not ended.
+    /// These subscriptions have not ended: at the end of a publisher those that run, or that wait for demand though it
+    /// is closed; and one that is to be reclaimed.
     Unsettled(Vec<Name>),
     /// No subscription had that name.
     Unknown,
@@ -47,7 +50,7 @@ pub enum Refusal {
     WouldWait,
     /// The form of a command, a line or an argument is wrong.
     BadCommand,
-    /// As many publications, subscriptions or tickets were made as there may be.
+    /// As many publications, subscriptions or tickets were made as there may ever be.
     Exhausted,
 }
 
@@ -73,8 +76,8 @@ impl Refusal {
         }
     }
 
-    /// The refusal in words for people, which name what it carries: the end of a close, the name of what is still held, or the names of
-    /// what is unsettled. Programs print [`Refusal`] itself, `refused N WORD`.
+    /// The refusal in words for people, which name what it carries: the end of a close, the name of what is still held,
+    /// or the names of what is unsettled. Programs print [`Refusal`] itself, `refused N WORD`.
     pub fn explain(&self) -> Explained<'_>
         ensures { result ≡ self.now }
     {

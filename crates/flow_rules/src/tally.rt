@@ -1,5 +1,6 @@
 //! A listener that counts.
-ghost use Rattle.std.specs.Prelude.{◌≡◌, [], length, min, ◌-◌, ◌^◌};
+ghost use Rattle.std.specs.Prelude.{◌≡◌, length, min, ◌-◌, ◌^◌};
+ghost use Rattle.flow_rules.specs.Callback.{heard_nothing};
 ghost use Rattle.flow_rules.specs.Signals.{items_of};
 
 use crate::answer::Answer;
@@ -10,7 +11,8 @@ use crate::signal::{Fault, Signal};
 use crate::told::Told;
 use std::marker::Model;
 
-/// A listener that counts the items that it is told, and keeps none. It is steady, and no callback of it is refused memory.
+/// A listener that counts the items that it is told, and keeps none. It is steady, and no callback of it is refused
+/// memory.
 #[derive(Debug, Drop)]
 pub struct Tally {
     told: Told,
@@ -18,21 +20,21 @@ pub struct Tally {
 }
 
 impl Model for Tally {
-    ghost use Rattle.std.specs.Prelude.{◌≡◌, List, length, min, ◌-◌, ◌^◌};
-    ghost use Rattle.flow_rules.specs.declared.signal.Signal.{Signal};
+    ghost use Rattle.std.specs.Prelude.{◌≡◌, length, min, ◌-◌, ◌^◌};
+    ghost use Rattle.flow_rules.specs.Callback.{Heard};
     ghost use Rattle.flow_rules.specs.Signals.{items_of};
 
-    ghost Value = { List Signal };
+    ghost Value = { Heard };
 
     ghost view = { λ t. t.told };
 
-    ghost invariant = { λ t. t.items ≡ min (length (items_of t.told)) (2 ^ 64 - 1) };
+    ghost invariant = { λ t. t.items ≡ min (length (items_of t.told.signals)) (2 ^ 64 - 1) };
 }
 
 impl Tally {
     /// One that was told nothing.
     pub fn new() -> Tally
-        ensures untold { result ≡ [] }
+        ensures untold { result ≡ heard_nothing }
     {
         Tally {
             told: Told::new(),
@@ -40,16 +42,16 @@ impl Tally {
         }
     }
 
-    /// How many items it was told, or 2^64 - 1 where they were more.
+    /// How many items it was told, or 2^64 - 1 if they were more.
     pub fn items(&self) -> u64
-        ensures { result ≡ min (length (items_of self.now)) (2 ^ 64 - 1) }
+        ensures { result ≡ min (length (items_of self.now.signals)) (2 ^ 64 - 1) }
     {
         self.items
     }
 }
 
 impl Default for Tally {
-    ghost is_default = { λ tally. tally ≡ [] };
+    ghost is_default = { λ tally. tally ≡ heard_nothing };
 
     fn default() -> Tally {
         Tally::new()
@@ -59,32 +61,30 @@ impl Default for Tally {
 impl Listener for Tally {
     ghost use Rattle.std.specs.Prelude.{true};
 
-    ghost told = { λ t. t };
+    ghost told = { λ t. t.signals };
+
+    ghost replied = { λ t. t.replies };
 
     ghost is_steady = { λ _. true };
 
     #[tactic(auto, using(crate::proofs::Items::subscribed_no_item))]
     fn on_subscribe(&mut self) -> Result<Answer, NoMemory> {
-        self.told.tell(&Signal::Subscribed);
-        Ok(Answer::Go)
+        Ok(self.told.tell(&Signal::Subscribed, Answer::Go))
     }
 
     #[tactic(auto, using(crate::proofs::Items::one_item_more))]
     fn on_next(&mut self, item: &Item) -> Result<Answer, NoMemory> {
-        self.told.tell_next(item);
         self.items = self.items.saturating_add(1);
-        Ok(Answer::Go)
+        Ok(self.told.tell_next(item, Answer::Go))
     }
 
     #[tactic(auto, using(crate::proofs::Items::error_no_item))]
     fn on_error(&mut self, fault: Fault) -> Result<Answer, NoMemory> {
-        self.told.tell(&Signal::Error(fault));
-        Ok(Answer::Go)
+        Ok(self.told.tell_last(&Signal::Error(fault)))
     }
 
     #[tactic(auto, using(crate::proofs::Items::complete_no_item))]
     fn on_complete(&mut self) -> Result<Answer, NoMemory> {
-        self.told.tell(&Signal::Complete);
-        Ok(Answer::Go)
+        Ok(self.told.tell_last(&Signal::Complete))
     }
 }

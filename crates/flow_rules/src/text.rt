@@ -11,8 +11,8 @@ use std::fmt;
 use std::marker::Model;
 use std::sync::Arc;
 
-/// A text of up to [`Text::LONGEST`] bytes. One of up to [`Text::LONGEST_INSIDE`] bytes lies in this value: it takes no memory, and its
-/// shares are copies. The bytes of a longer one lie in memory that its shares have in common.
+/// A text of up to [`Text::LONGEST`] bytes. One of up to [`Text::LONGEST_INSIDE`] bytes lies in this value: it takes no
+/// memory, and its shares are copies. The bytes of a longer one lie in memory that its shares have in common.
 #[derive(Drop)]
 pub struct Text {
     bytes: Bytes,
@@ -21,7 +21,8 @@ pub struct Text {
 /// Where the bytes of a text lie.
 #[derive(Drop)]
 enum Bytes {
-    /// In this value: the first `len` bytes of the array. `len` lies before it, so that the array is copied in fewer parts.
+    /// In this value: the first `len` bytes of the array. `len` lies before it, so that the array is copied in fewer
+    /// parts.
     Inside {
         len: u8,
         array: [u8; Text::LONGEST_INSIDE],
@@ -48,7 +49,8 @@ impl Text {
     /// The number of bytes of the longest text that takes no memory.
     pub const LONGEST_INSIDE: usize = 30;
 
-    /// A text of these bytes, which need be no text in any encoding. One of [`Text::LONGEST_INSIDE`] bytes or fewer is never refused.
+    /// A text of these bytes, which need be no text in any encoding. One of [`Text::LONGEST_INSIDE`] bytes or fewer is
+    /// never refused.
     pub fn new(alloc: Global, bytes: &[u8]) -> Result<Text, NoMemory>
         requires { length bytes.now ≤ Text.LONGEST }
         ensures bytes { IfOk result (λ text. text ≡ bytes.now) }
@@ -78,8 +80,8 @@ impl Text {
         }
     }
 
-    /// The same text once more. It may be refused, as any growth, if the text has more than [`Text::LONGEST_INSIDE`] bytes; a shorter one is
-    /// never refused.
+    /// The same text once more. It may be refused, as any growth, if the text has more than [`Text::LONGEST_INSIDE`]
+    /// bytes; a shorter one is never refused.
     pub fn share(&self) -> Result<Text, NoMemory>
         ensures same { IfOk result (λ text. text ≡ self.now) }
         ensures not_refused { length self.now ≤ Text.LONGEST_INSIDE → IsOk result }

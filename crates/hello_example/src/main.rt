@@ -19,7 +19,7 @@ fn greet<L: Ledger + Send + Sync + 'static, D: Ledger + Send + Sync + 'static, R
     publisher: &Publisher<L, D, Tally>,
     handed_in: &mut HandedIn<L, D, Tally>,
 ) -> Result<(), Refusal> {
-    let name = Name::parse("counter").ok_or(Refusal::BadCommand)?;
+    let name = Name::parse("counter")?;
     let mut counter = publisher.subscribe(rt, alloc, name, Tally::new())?;
     counter.request(rt, 9)?;
     let mut note = publisher.note();

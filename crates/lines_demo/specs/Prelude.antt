@@ -1,4 +1,5 @@
--- What most files import: the types of the crates below, and their variants (those of `Ending`, `How`, `Outlook` and `Refusal` under the name of the type).
+-- What most files import: the types of the crates below, and their variants (those of `Ending`, `How`, `Outlook` and
+-- `Refusal` under the name of the type).
 pub use Rattle.flow_rules.specs.declared.demand.TheConstants.{UNBOUNDED}
 pub use Rattle.flow_rules.specs.declared.ending.Ending.{Ending}
 pub use Rattle.flow_rules.specs.declared.ending.Ending.TheVariants as Ending

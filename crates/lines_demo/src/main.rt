@@ -1,10 +1,11 @@
-//! The command line. `lines_demo script` plays a script on a publisher and its subscriptions: it reads commands from standard input, one a
-//! line, and answers each on standard output. `lines_demo threads` publishes the lines of standard input from threads, and reports on
-//! standard output what each subscriber was told.
+//! The command line. `lines_demo script` plays a script on a publisher and its subscriptions: it reads commands from
+//! standard input, one a line, and answers each on standard output. `lines_demo threads` publishes the lines of
+//! standard input from threads, and reports on standard output what each subscriber was told.
 #![tactic(auto)]
 
 use clap::error::ErrorKind;
 use clap::{Arg, ArgAction, ArgMatches, Command};
+use commands::OutputFault;
 use flow_rules::Refusal;
 use script::{Keeping, ScriptFault, explain_standard_input, play_standard_input};
 use std::alloc::{AllocError, Global};
@@ -26,6 +27,9 @@ const FAULT: u8 = 1;
 /// The exit status of a wrong command line or input.
 const WRONG_USE: u8 = 2;
 
+/// The exit status if nobody reads standard output any more, that of a program which the signal SIGPIPE ends.
+const GONE: u8 = 141;
+
 /// What `--version` prints after the name.
 const VERSION: &str = "0.1.0";
 
@@ -39,46 +43,63 @@ const EXPLAIN: &str = "explain";
 /// The subcommand that publishes lines from threads.
 const THREADS: &str = "threads";
 
-/// What `--help` says of runs on threads.
-const LINES: &str =
-    "A line of standard input is `SOURCE TEXT`, SOURCE a number up to 4,294,967,295. All of it is read first. Then each source publishes
-its texts in order from a thread of its own, and when all have ended the publisher is closed. The report has, for each
-subscriber in order and each source in ascending order, a line `NAME SOURCE TEXT` for each item that it was told, in order; then
+/// What `--help` says of runs on threads, for a terminal of 80 columns.
+const LINES: &str = "A line of standard input is `SOURCE TEXT`, SOURCE a number up to 4,294,967,295.
+All of it is read first. Then each source publishes its texts in order from a
+thread of its own, and when all have ended the publisher is closed. The report
+has, for each subscriber in order and each source in ascending order, a line
+`NAME SOURCE TEXT` for each item that it was told, in order; then
   NAME complete K   it was told all K items, and completed
   NAME open K       it was told as many as it requested, and has not ended
   NAME memory K     a callback was refused memory after K items
-  NAME failed C K   its callback failed with the code C at item K, as `--fail` asks
-then `handled NAME C` if the publisher's handler heard of a failure, and at last `drained 1` if every subscription has ended,
-else `drained 0`. The status is 0 if every subscriber completed, and else 3. What is refused prints `lines_demo: refused N WORD`
-on standard error, with status 2: the input, too, if a subscriber requests fewer items than there are lines, and its buffer
-can't hold the others; and `--fail`, if no subscriber has its NAME. There are 16 sources at most, and 64 subscribers; a text has
-4,096 bytes at most, a name 32, and the input 16,777,216.";
+  NAME failed C K   its callback failed with the code C at item K, as `--fail`
+                    asks
+then `handled NAME C` if the publisher's handler heard of a failure, and at last
+`drained 1` if every subscription has ended, else `drained 0`. The status is 0
+if every subscriber completed, and else 3. What is refused prints
+`lines_demo: refused N WORD` on standard error, with status 2: the input, too,
+if a subscriber requests fewer items than there are lines, and its buffer can't
+hold the others; and `--fail`, if no subscriber has its NAME. There are 16
+sources at most, and 64 subscribers; a text has 4,096 bytes at most, a name 32,
+and the input 16,777,216.";
 
-/// What `--help` says of scripts.
+/// What `--help` says of scripts, for a terminal of 80 columns.
 const SCRIPTS: &str = "Commands of a script, one a line, and their answers:
-  cap N           cap C     asks for a capacity of the buffers, before any other command but `late`
-  late            late      lets the error of a `fail` wait for the items, before any other command but `cap`
+  cap N           cap C     asks for a capacity of the buffers, before any other
+                            command but `late`
+  late            late      lets the error of a `fail` wait for the items, before
+                            any other command but `cap`
   sub NAME N      sub NAME  subscribes with this name, and requests N items
-  offer TEXT      offer R   publishes; R is the greatest lag, or minus the number of drops; 0 where nobody takes it
-  retry TEXT      retry R calls K  publishes as offer does, and once more, K times, where there was no room
-  submit TEXT     submit R  publishes, and is refused where it would wait for room
-  request NAME N  ok        the latest of this name requests N items more; an N below 1 is a bad request
+  offer TEXT      offer R   publishes; R is the longest backlog, or minus the
+                            number of drops; 0 if nobody takes it
+  retry TEXT      retry R calls K
+                            publishes as offer does, and once more, K times, if
+                            there was no room
+  submit TEXT     submit R  publishes, and is refused if it would wait for room
+  request NAME N  ok        the latest of this name requests N items more; an N
+                            below 1 is a bad request
   cancel NAME     ok        the latest of this name is cancelled
-  close           ok        closes the publisher: each subscriber completes after its items
-  fail C          ok        closes it with the error C, before the items that wait; after `late`, after them
-  run             idle      makes turns until none is owed, after a line for each signal that they tell:
-                            NAME subscribed, NAME next TEXT, NAME complete, NAME memory,
-                            NAME error published C (of `fail`), NAME error argument (of a bad request),
+  close           ok        closes the publisher: each subscriber completes after
+                            its items
+  fail C          ok        closes it with the error C, before the items that
+                            wait; after `late`, after them
+  run             idle      makes turns until none is owed, after a line for each
+                            signal that they tell:
+                            NAME subscribed, NAME next TEXT, NAME complete,
+                            NAME memory, NAME error published C (of `fail`),
+                            NAME error argument (of a bad request),
                             NAME error state (of a second `sub` of NAME)
 A command that is refused is answered `refused N WORD`.
 
-All of standard input is read before the first command is obeyed. A script has 16,777,216 bytes at most, a line 4,200, a text
-4,096 and a name 32. A number has 19 digits at most, and is 9,223,372,036,854,775,807 at most; C is 4,294,967,295 at most. N of
-`request` may be negative, down to -9,223,372,036,854,775,808.";
+All of standard input is read before the first command is obeyed. A script has
+16,777,216 bytes at most, a line 4,200, a text 4,096 and a name 32. A number has
+19 digits at most, and is 9,223,372,036,854,775,807 at most; C is 4,294,967,295
+at most. N of `request` may be negative, down to -9,223,372,036,854,775,808.";
 
 fn main(rt: HostRuntime) -> ExitCode {
     match run(rt) {
         Ok(status) => status,
+        Err(ScriptFault::Gone) => ExitCode::from(GONE),
         Err(fault) => fail(&rt, fault, FAULT),
     }
 }
@@ -99,7 +120,9 @@ fn run<
     if error.kind() == ErrorKind::OutOfMemory {
         return Err(ScriptFault::Memory);
     }
-    error.print(&rt).map_err(|_| ScriptFault::Write)?;
+    if let Err(fault) = error.print(&rt) {
+        return Err(OutputFault::of(fault.kind()).into());
+    }
     if error.use_stderr() {
         Ok(ExitCode::from(WRONG_USE))
     } else {
@@ -113,8 +136,9 @@ fn obey<R: Input + Print + Eprint + AllocGlobal + Threads + Wait + Copy + Send +
     matches: &ArgMatches<'_>,
 ) -> ExitCode {
     match matches.subcommand_matches(THREADS) {
-        Some(threads) => match run_standard_input(rt, threads) {
+        Some(threads) => match run_standard_input(rt, threads, threads.get_flag(EXPLAIN)) {
             Ok(status) => ExitCode::from(status),
+            Err(LinesFault::Gone) => ExitCode::from(GONE),
             Err(fault) => {
                 let status = status_of(&fault);
                 fail(&rt, fault, status)
@@ -128,6 +152,7 @@ fn obey<R: Input + Print + Eprint + AllocGlobal + Threads + Wait + Copy + Send +
             };
             match played {
                 Ok(()) => ExitCode::SUCCESS,
+                Err(ScriptFault::Gone) => ExitCode::from(GONE),
                 Err(fault) => fail(&rt, fault, FAULT),
             }
         }
@@ -140,7 +165,7 @@ fn fail<R: Eprint, D: Display + Drop>(rt: &R, fault: D, status: u8) -> ExitCode 
     ExitCode::from(status)
 }
 
-/// The exit status of a run that stopped: that of a wrong command line where what was asked for is refused.
+/// The exit status of a run that stopped: that of a wrong command line if what was asked for is refused.
 fn status_of(fault: &LinesFault) -> u8 {
     match fault {
         LinesFault::Refused(
@@ -174,7 +199,7 @@ fn is_wanted(matches: &ArgMatches<'_>, flag: &str) -> bool {
     }
 }
 
-/// The words of the command line, or `None` where one of them is not UTF-8.
+/// The words of the command line, or `None` if one of them is not UTF-8.
 fn command_words<R: Env + AllocGlobal>(rt: &R) -> Result<Option<Vec<String>>, ScriptFault> {
     match env::args(rt) {
         Ok(words) => match words.collect::<Vec<String>>(rt.alloc()) {
@@ -204,13 +229,11 @@ fn script_line<'a>(alloc: Global) -> Result<Command<'a>, AllocError> {
     let forget = Arg::new(alloc, FORGET)
         .long(FORGET)
         .action(ArgAction::SetTrue)
-        .help("The subscribers keep nothing of what they are told, and take no memory for it");
+        .help("The subscribers keep nothing of what they are told");
     let explain = Arg::new(alloc, EXPLAIN)
         .long(EXPLAIN)
         .action(ArgAction::SetTrue)
-        .help(
-            "Says on standard error why each line was refused that was, and where each subscription stands after a `run`",
-        );
+        .help("Says on standard error why lines were refused, and what a `run` left");
     Command::new(alloc, SCRIPT)
         .about("Plays the script on standard input")
         .after_help(SCRIPTS)
@@ -225,32 +248,33 @@ fn threads_line<'a>(alloc: Global) -> Result<Command<'a>, AllocError> {
         .value_name("W")
         .required(true)
         .action(ArgAction::Set)
-        .help("How many threads run the subscribers' callbacks, 1 to 8");
+        .help("How many threads run callbacks, 1 to 8");
     let capacity = Arg::new(alloc, CAPACITY)
         .long("cap")
         .value_name("N")
         .required(true)
         .action(ArgAction::Set)
-        .help(
-            "The capacity of each subscriber's buffer, rounded up to a power of two, at most 65536",
-        );
+        .help("The room of a buffer, to a power of two, up to 65536");
     let fail = Arg::new(alloc, FAIL)
         .long("fail")
         .value_name("NAME:K:C")
         .action(ArgAction::Set)
-        .help(
-            "The callback of the subscriber of this name fails at its item K, counted from 1, with the code C",
-        );
+        .help("Its callback fails at its item K, from 1 on, with the code C");
     let subscribers = Arg::new(alloc, SUBSCRIBERS)
         .value_name("NAME:D")
         .required(true)
         .num_args(1..)
         .help("A subscriber of this name, which requests D items");
+    let explain = Arg::new(alloc, EXPLAIN)
+        .long(EXPLAIN)
+        .action(ArgAction::SetTrue)
+        .help("Says on standard error which option or line is refused, and why");
     Command::new(alloc, THREADS)
         .about("Publishes the lines on standard input, each source's from a thread of its own")
         .after_help(LINES)
         .arg(workers)?
         .arg(capacity)?
         .arg(fail)?
+        .arg(explain)?
         .arg(subscribers)
 }

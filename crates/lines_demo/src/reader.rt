@@ -10,8 +10,10 @@ pub const LONGEST_INPUT: usize = 16_777_216;
 /// Why the bytes of a reader were not read.
 #[derive(Clone, Copy, Debug, PartialEq, Eq)]
 pub enum InputFault {
-    /// The reader failed, or has more bytes than an input may have.
+    /// The reader failed.
     Read,
+    /// It has more bytes than an input may have.
+    TooLong,
     /// Memory was refused.
     Memory,
 }
@@ -36,7 +38,7 @@ pub fn read_whole<R: Read>(alloc: Global, reader: &mut R) -> Result<Vec<u8>, Inp
         }
     }
     if bytes.len() > LONGEST_INPUT {
-        return Err(InputFault::Read);
+        return Err(InputFault::TooLong);
     }
     Ok(bytes)
 }

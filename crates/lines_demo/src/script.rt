@@ -7,6 +7,7 @@ mod player;
 mod run;
 mod session;
 mod standard_input;
+mod stock;
 mod turn_lines;
 mod woken;
 

@@ -1,5 +1,7 @@
-//! Threads: each source of lines publishes them from a thread of its own, and the subscribers are told by worker threads.
+//! Threads: each source of lines publishes them from a thread of its own, and the subscribers are told by worker
+//! threads.
 mod chains;
+mod explaining;
 mod fault;
 mod input;
 mod plan;

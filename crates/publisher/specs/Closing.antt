@@ -7,7 +7,8 @@ use Rattle.publisher_hub.specs.Closing.{ClosesAll}
 use Rattle.publisher_hub.specs.declared.work.Work.{Work}
 use Rattle.publisher.specs.State.{PublisherState, producer_end}
 
--- each live subscription was closed, and the tasks that this started are due; and it is kept how many subscriptions there are
+-- each live subscription was closed, and the tasks that this started are due; and it is kept how many subscriptions
+-- there are
 pub record ClosesFirst (ending : Ending) (due_before due_after : List (Work TaskState))
     (old new : PublisherState) : Type 0 where
   pub closes : ClosesAll producer_end DoesCall ending due_before due_after old.hub new.hub

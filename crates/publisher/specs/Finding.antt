@@ -11,8 +11,8 @@ use Rattle.publisher_hub.specs.declared.hub.Hub.{Hub}
 use Rattle.publisher.specs.Handles.{SubscriptionState}
 use Rattle.publisher.specs.State.{producer_end}
 use Rattle.publisher.specs.Tickets.{IsLate}
-use Rattle.publisher.specs.declared.state.finding.Found.{Found}
-use Rattle.publisher.specs.declared.state.finding.Taken.{Taken}
+use Rattle.publisher.specs.declared.finishing.find.Found.{Found}
+use Rattle.publisher.specs.declared.finishing.find.Taken.{Taken}
 
 -- one of these subscriptions has this number
 abbrev pub IsHandedIn : List SubscriptionState → ℕ → Type 0
@@ -29,7 +29,8 @@ abbrev pub AreNone : List (Option HandleState) → Type 0
 AreNone handles =
     (number : ℕ) (handle : HandleState) → slice_get handles number ≡ Some (Some handle) → ⊥
 
--- the handle of each subscription lies at the place of its number, and no other lies anywhere; and whether each has a place
+-- the handle of each subscription lies at the place of its number, and no other lies anywhere; and whether each has a
+-- place
 pub record ArePlaced (subscriptions : List SubscriptionState) (handles : List (Option HandleState))
     (all : Bool) : Type 0 where
   pub placed : (number : ℕ) (handle : HandleState) → slice_get handles number ≡ Some (Some handle)
@@ -59,8 +60,8 @@ IsFoundOf counted number entry (Found.Both taken) = IsTakenOf counted number ent
 IsFoundOf counted number entry (Found.Missing name) = (name ≡ entry.name) × IsSome entry.feed
 IsFoundOf counted number entry Found.Reclaimed = entry.feed ≡ None
 
--- the producer's end of the subscription of this number was taken out, with this handle; or that was not handed in; or the subscription was
--- reclaimed
+-- the producer's end of the subscription of this number was taken out, with this handle; or that was not handed in; or
+-- the subscription was reclaimed
 abbrev pub FindsBy : {B : Type 0} → ℕ → Option HandleState → Entry ProducerState → Found B
     → Hub ProducerState → Hub ProducerState → Type 0
 FindsBy number handle entry (Found.Both taken) old new = (handle ≡ Some taken.handle)
@@ -90,8 +91,8 @@ abbrev pub IsSameOrLeft : Entry ProducerState → Entry ProducerState → Type 0
 IsSameOrLeft old new =
     (new ≡ old) ⊎ (((new.feed ≡ None) × (new.ticket ≡ None)) × (new.since ≡ old.since))
 
--- what there is of each subscription of a Hub was found, with the handles that were handed in; nothing else changed. Whether one of these is
--- that of a reclaimed one
+-- what there is of each subscription of a Hub was found, with the handles that were handed in; nothing else changed.
+-- Whether one of these is that of a reclaimed one
 pub record FindsAll {B : Type 0} (old new : Hub ProducerState) (counted : Option ℕ)
     (handles : List (Option HandleState)) (founds : List (Found B)) (gone : Bool) : Type 0 where
   pub found : AreFoundIn (hub_of producer_end old) counted founds

@@ -5,17 +5,17 @@ use Rattle.publisher_hub.specs.Hub.{hub_of}
 use Rattle.publisher_hub.specs.Sound.{IsOrdered}
 use Rattle.publisher.specs.Finding.{AreFoundIn, IsHandedIn, IsHandedWith}
 use Rattle.publisher.specs.Handles.{SubmitterState, SubscriptionState}
-use Rattle.publisher.specs.Outcome.{AnyKnows, IsAway, source_name}
+use Rattle.publisher.specs.Outcome.{AnyKnows, IsFirstAway, source_name}
 use Rattle.publisher.specs.State.{PublisherState, producer_end}
 use Rattle.publisher.specs.declared.outcome.Outcome.{Outcome}
-use Rattle.publisher.specs.declared.state.TheConstants.{SOURCES}
-use Rattle.publisher.specs.declared.state.finding.Found.{Found}
-use Rattle.publisher.specs.declared.state.finding.Taken.{Taken}
-use Rattle.publisher.specs.declared.state.finishing.Books.{Books}
-use Rattle.publisher.specs.declared.state.finishing.Room.{Room}
+use Rattle.publisher_hub.specs.declared.hub.TheConstants.{MOST_SOURCES}
+use Rattle.publisher.specs.declared.finishing.find.Found.{Found}
+use Rattle.publisher.specs.declared.finishing.find.Taken.{Taken}
+use Rattle.publisher.specs.declared.finishing.judge.Books.{Books}
+use Rattle.publisher.specs.declared.finishing.room.Room.{Room}
 
--- room for what is left of so many subscriptions, of which none is used
-pub record HasRoom {B : Type 0} (many : ℕ) (room : Room B) : Type 0 where
+-- room for what is left of this many subscriptions, of which none is used
+pub record HasRoomFor {B : Type 0} (many : ℕ) (room : Room B) : Type 0 where
   pub no_lanes : room.lanes.items ≡ []
   pub none_held : room.held.items ≡ []
   pub none_reclaimed : room.reclaimed.items ≡ []
@@ -31,7 +31,7 @@ pub record IsNothing {B H : Type 0} (outcome : Outcome B H) : Type 0 where
   pub none_held : outcome.held.items ≡ []
   pub none_reclaimed : outcome.reclaimed.items ≡ []
 
--- what a subscription accepted and dropped, by its producer's end, of a publisher that published so many items
+-- what a subscription accepted and dropped, by its producer's end, of a publisher that published this many items
 pub record IsCountedIn {B : Type 0} (published dropping : ℕ) (taken : Taken B) : Type 0 where
   pub ordered : IsOrdered taken.producer.end.accepted
   pub items : (i : ℕ) (x : Item) → slice_get taken.producer.end.accepted i ≡ Some x
@@ -43,8 +43,8 @@ pub record IsCountedIn {B : Type 0} (published dropping : ℕ) (taken : Taken B)
   pub drops : taken.dropped ≤ dropping
   pub late : taken.late ≡ true → taken.since ≡ published
 
--- what was found of the subscriptions that were handed in, of a publisher that published so many items; and once its last ticket was spent,
--- each from before the close has ended
+-- what was found of the subscriptions that were handed in, of a publisher that published this many items; and once its
+-- last ticket was spent, each from before the close has ended
 pub record AreTakenOut {B : Type 0} (subscriptions : List SubscriptionState)
     (founds : List (Found B)) (published dropping : ℕ) (drained : Bool) : Type 0 where
   pub each : (k : ℕ) (taken : Taken B) → slice_get founds k ≡ Some (Found.Both taken)
@@ -71,17 +71,18 @@ AreAudited submitters published dropping None = (sum_by
     (λ (s : SubmitterState). s.published) submitters ≡ published)
     × (sum_by (λ (s : SubmitterState). s.dropping) submitters ≡ dropping)
 AreAudited submitters published dropping (Some name) =
-    (source : ℕ) × ((source < SOURCES) × ((name ≡ source_name source) × IsAway source submitters))
+    (source : ℕ) × ((source < MOST_SOURCES) × ((name ≡ source_name source) × IsFirstAway source submitters))
 
 -- what stood behind the lock was taken out
-pub record TakesOut {B : Type 0} (submitters : List SubmitterState)
+pub record TakesBooksOut {B : Type 0} (submitters : List SubmitterState)
     (subscriptions : List SubscriptionState) (old : PublisherState) (books : Books B) : Type 0 where
   pub found : AreFoundIn (hub_of producer_end old.hub) old.counted books.founds.items
   pub ends : AreTakenOut subscriptions books.founds.items books.published old.hub.dropping
       books.drained
   pub published : books.published ≡ old.hub.next
+  pub made : books.made ≡ length books.founds.items
   pub audited : AreAudited submitters books.published old.hub.dropping books.missing
   pub known : AnyKnows submitters → books.is_closed ≡ true
   pub closed : books.drained ≡ true → books.is_closed ≡ true
-  pub room : HasRoom (length books.founds.items) books.room
+  pub room : HasRoomFor (length books.founds.items) books.room
   pub few : length books.founds.items < 4294967296

@@ -5,14 +5,18 @@ use Rattle.flow_rules.specs.declared.ending.Ending.{Ending}
 use Rattle.flow_rules.specs.declared.error_order.ErrorOrder.{ErrorOrder}
 use Rattle.flow_rules.specs.declared.refusal.Refusal.{Refusal}
 use Rattle.flow_rules.specs.declared.refusal.Refusal.TheVariants.{Closed, Duplicate, Exhausted, LineTooLong, NoMemory, TooMany}
-use Rattle.publisher_hub.specs.declared.hub.publishing.Unpublished.{Unpublished}
-use Rattle.publisher_hub.specs.declared.hub.publishing.Unpublished.TheVariants.{NoRoom, Refused}
+use Rattle.publisher_hub.specs.declared.hub.publish.Unpublished.{Unpublished}
+use Rattle.publisher_hub.specs.declared.hub.publish.Unpublished.TheVariants.{NoRoom, Refused}
 use Rattle.publisher.specs.Note.{known_by}
 
 -- a subscription: its number, and its handle
 pub record SubscriptionState : Type 0 where
   pub entry : ℕ
   pub handle : HandleState
+
+-- a handle with which nothing was done yet
+abbrev pub IsUnused : HandleState → Type 0
+IsUnused handle = (handle.asked ≡ 0) × ((handle.cancelled ≡ false) × (handle.argument ≡ false))
 
 -- a request of this number, of a handle: after a cancel it does nothing (Reactive Streams 1.0, 3.6 and 3.8)
 pub record Requests (n : ℤ) (old new : HandleState) : Type 0 where
@@ -24,13 +28,16 @@ pub record Requests (n : ℤ) (old new : HandleState) : Type 0 where
 pub record Cancels (old new : HandleState) : Type 0 where
   pub cancelled : new ≡ record old { cancelled = true; ready = new.ready; started = new.started }
 
--- a publisher: the name of its closing, of which its notes are; how many workers it has; and in which order a closing error and the items are told
+-- a publisher: the name of its closing, of which its notes are; how many workers it has; the capacity of each of its
+-- buffers; and in which order a closing error and the items are told
 pub record PublisherView : Type 0 where
   pub closing : ℕ
   pub workers : ℕ
+  pub capacity : ℕ
   pub order : ErrorOrder
 
--- a submitter: its number; of which publisher's closing its note is, and what it was told of that; how many items it published; and how many of its offers found a buffer full
+-- a submitter: its number; of which publisher's closing its note is, and what it was told of that; how many items it
+-- published; and how many of its offers found a buffer full
 pub record SubmitterState : Type 0 where
   pub source : ℕ
   pub closing : ℕ
@@ -39,8 +46,8 @@ pub record SubmitterState : Type 0 where
   pub dropping : ℕ
 
 -- a submitter after this refusal
-abbrev pub told_by : Refusal → SubmitterState → SubmitterState
-told_by refusal submitter = record submitter { known = known_by refusal submitter.known }
+abbrev pub after_refusal : Refusal → SubmitterState → SubmitterState
+after_refusal refusal submitter = record submitter { known = known_by refusal submitter.known }
 
 -- one of the refusals of a publication; after that of a closed publisher the submitter knows of that ending
 abbrev pub RefusesPublication : Refusal → Option Ending → Type 0

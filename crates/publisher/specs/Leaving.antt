@@ -2,17 +2,18 @@
 use Rattle.std.specs.Prelude.{◌≡◌, ◌⊎◌, ⊤, ℕ, ◌+◌, ◌<◌, ◌≤◌, Option, None, Some, Result, List, [], length, slice_get}
 use Rattle.std.specs.Option.{option_or}
 use Rattle.feed_cell.specs.Left.{IsLeftOf}
+use Rattle.feed_core.specs.AnsweredTurn.{Reply}
 use Rattle.feed_core.specs.Prelude.{Signal}
 use Rattle.flow_rules.specs.declared.refusal.Refusal.{Refusal}
-use Rattle.publisher.specs.Outcome.{AreGiven, HasLane, IsFirstGap, IsHeld, Judges, StillHolds, outcome_of}
-use Rattle.publisher.specs.declared.leaving.Closed.{Closed}
+use Rattle.publisher.specs.Outcome.{AreGiven, HasLane, HasOwnersPart, IsFirstGap, IsAmong, Judges, StillHolds, outcome_of}
+use Rattle.publisher.specs.declared.finishing.close.Closed.{Closed}
 use Rattle.publisher.specs.declared.outcome.NamedLane.{NamedLane}
 use Rattle.publisher.specs.declared.outcome.Outcome.{Outcome}
-use Rattle.publisher.specs.declared.state.finding.Found.{Found}
-use Rattle.publisher.specs.declared.state.finding.Taken.{Taken}
-use Rattle.publisher.specs.declared.state.finishing.Books.{Books}
+use Rattle.publisher.specs.declared.finishing.find.Found.{Found}
+use Rattle.publisher.specs.declared.finishing.find.Taken.{Taken}
+use Rattle.publisher.specs.declared.finishing.judge.Books.{Books}
 
-module _ {B : Type 0} (told : B → List Signal) where
+module _ {B : Type 0} (told : B → List Signal) (replied : B → List Reply) where
   -- this is of the subscription of this number, whose two ends these are
   pub record IsLaneOfTaken (number : ℕ) (taken : Taken B) (left : NamedLane B) : Type 0 where
     pub number_is : left.entry ≡ number
@@ -20,13 +21,14 @@ module _ {B : Type 0} (told : B → List Signal) where
     pub since : left.since ≡ taken.since
     pub dropped : left.dropped ≡ taken.dropped
     pub late : left.late ≡ taken.late
-    pub lane : IsLeftOf told taken.producer.end None left.lane
+    pub owner : HasOwnersPart taken.handle left.lane
+    pub lane : IsLeftOf told replied taken.producer.end None left.lane
 
   -- what is left of it. If they are the ends of one subscription, it counts what its handle did
   pub record IsLeftOfTaken (number : ℕ) (taken : Taken B) (left : NamedLane B) : Type 0 where
     pub of : IsLaneOfTaken number taken left
     pub own : taken.handle.table ≡ taken.producer.table
-        → IsLeftOf told taken.producer.end (Some taken.handle) left.lane
+        → IsLeftOf told replied taken.producer.end (Some taken.handle) left.lane
 
   -- a subscription was closed, if both its ends were there
   abbrev pub ClosesOne : ℕ → Found B → Closed B → Type 0
@@ -36,7 +38,8 @@ module _ {B : Type 0} (told : B → List Signal) where
   ClosesOne number Found.Reclaimed Closed.Reclaimed = ⊤
   ClosesOne number _ _ = ⊥
 
-  -- the first of these that has no lane and was not reclaimed, if there is one: its handle was not handed in, or a thread has its task still
+  -- the first of these that has no lane and was not reclaimed, if there is one: its handle was not handed in, or a
+  -- thread has its task still
   abbrev pub FindsFirst : List (Found B) → ℕ → List (NamedLane B) → List ℕ → List ℕ
       → Option (List ℕ) → Type 0
   FindsFirst founds most lanes held reclaimed None =
@@ -45,10 +48,10 @@ module _ {B : Type 0} (told : B → List Signal) where
   FindsFirst founds most lanes held reclaimed (Some name) = (number : ℕ)
       × ((number < most)
       × (IsFirstGap number lanes reclaimed
-      × ((slice_get founds number ≡ Some (Found.Missing name)) ⊎ IsHeld number held)))
+      × ((slice_get founds number ≡ Some (Found.Missing name)) ⊎ IsAmong number held)))
 
   -- those with a number below this were closed, in order
-  pub record ClosesAll (founds : List (Found B)) (most : ℕ) (lanes : List (NamedLane B))
+  pub record ClosesInOrder (founds : List (Found B)) (most : ℕ) (lanes : List (NamedLane B))
       (held reclaimed : List ℕ) (first : Option (List ℕ)) : Type 0 where
     pub each : (i : ℕ) (left : NamedLane B) → slice_get lanes i ≡ Some left
         → (taken : Taken B)
@@ -58,12 +61,12 @@ module _ {B : Type 0} (told : B → List Signal) where
         → slice_get lanes j ≡ Some other → i < j → left.entry < other.entry
     pub all : (number : ℕ) (taken : Taken B) → number < most
         → slice_get founds number ≡ Some (Found.Both taken)
-        → HasLane number lanes ⊎ IsHeld number held
-    pub held_are : (number : ℕ) → IsHeld number held
+        → HasLane number lanes ⊎ IsAmong number held
+    pub held_are : (number : ℕ) → IsAmong number held
         → (taken : Taken B)
         × ((slice_get founds number ≡ Some (Found.Both taken))
         × ((number < most) × (HasLane number lanes → ⊥)))
-    pub reclaimed_are : (number : ℕ) → IsHeld number reclaimed
+    pub reclaimed_are : (number : ℕ) → IsAmong number reclaimed
         → (slice_get founds number ≡ Some Found.Reclaimed) × (number < most)
     pub finds : FindsFirst founds most lanes held reclaimed first
     pub few_lanes : length lanes ≤ most
@@ -75,9 +78,10 @@ module _ {B : Type 0} (told : B → List Signal) where
       (result : Result (Outcome B H) (Refusal × Outcome B H))
       : Type 0 where
     pub first : Option (List ℕ)
-    pub closes : ClosesAll books.founds.items (length books.founds.items)
+    pub closes : ClosesInOrder books.founds.items (length books.founds.items)
         (outcome_of result).lanes.items (outcome_of result).held.items
         (outcome_of result).reclaimed.items first
+    pub made : (outcome_of result).made ≡ books.made
     pub published : (outcome_of result).published ≡ books.published
     pub drained : (outcome_of result).drained ≡ books.drained
     pub missing : (name : List ℕ) → option_or first books.missing ≡ Some name

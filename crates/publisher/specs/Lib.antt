@@ -1,9 +1,11 @@
 pub mod Blanks
 pub mod Closing
+pub mod Failing
 pub mod Finding
 pub mod Finishing
 pub mod Handles
 pub mod Leaving
+pub mod Making
 pub mod Note
 pub mod Outcome
 pub mod Publishing
@@ -11,6 +13,7 @@ pub mod Reclaiming
 pub mod Spending
 pub mod Standing
 pub mod State
+pub mod Submitting
 pub mod Subscribing
 pub mod Tickets
 pub mod Together

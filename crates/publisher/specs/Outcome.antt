@@ -1,7 +1,14 @@
--- What a publisher leaves: what its subscribers were told, and of what (`SubmissionPublisher` and `Flow`, Java SE 17; Reactive Streams 1.0).
-use Rattle.std.specs.Prelude.{◌≡◌, ◌⊎◌, ⊤, ℕ, ◌+◌, ◌<◌, ◌≤◌, ◌||◌, ◌&&◌, Bool, true, false, is_none, Option, None, Some, IsSome, Result, Ok, Err, List, [], ◌++◌, length, slice_get, sum_by, codes, decimal}
+-- What a publisher leaves: what its subscribers were told, and of what (`SubmissionPublisher` and `Flow`, Java SE 17;
+-- Reactive Streams 1.0).
+use Rattle.std.specs.Prelude.{◌≡◌, ◌⊎◌, ⊤, ℕ, ◌+◌, ◌<◌, ◌≤◌, ◌||◌, ◌&&◌, Bool, true, false, is_none, Option, None, Some, IfSome, IsSome, Result, Ok, Err, List, [], ◌++◌, length, slice_get, sum_by, codes, decimal}
+use Rattle.feed_core.specs.AnsweredTurn.{Reply}
+use Rattle.feed_core.specs.Answered.{own_by}
+use Rattle.feed_core.specs.EndedBy.{IsEndedBy}
+use Rattle.feed_core.specs.declared.lane.Lane.{Lane}
+use Rattle.feed_cell.specs.Parties.{HandleState}
+use Rattle.feed_cell.specs.TaskAnswers.{EndsSo}
 use Rattle.flow_rules.specs.declared.refusal.Refusal.{Refusal}
-use Rattle.feed_core.specs.Prelude.{Item, Signal, How}
+use Rattle.feed_core.specs.Prelude.{Item, Signal, How, total_after}
 use Rattle.feed_core.specs.Lane.{LaneState}
 use Rattle.feed_core.specs.LeftLane.{IsLeftLane}
 use Rattle.publisher_hub.specs.Sound.{IsOrdered}
@@ -9,7 +16,7 @@ use Rattle.publisher.specs.Handles.{SubmitterState, SubscriptionState}
 use Rattle.publisher.specs.Finding.{IsHandedIn}
 use Rattle.publisher.specs.declared.outcome.NamedLane.{NamedLane}
 use Rattle.publisher.specs.declared.outcome.Outcome.{Outcome}
-use Rattle.publisher.specs.declared.state.TheConstants.{SOURCES}
+use Rattle.publisher_hub.specs.declared.hub.TheConstants.{MOST_SOURCES}
 
 -- it took part in all that was published since it was subscribed: it goes on, or was completed
 abbrev pub TookPart : Option How → Type 0
@@ -17,13 +24,23 @@ TookPart None = ⊤
 TookPart (Some How.Completed) = ⊤
 TookPart (Some _) = ⊥
 
--- what is left of one subscription of a publisher that published so many items, and the lane that it was
-pub record IsLane {B : Type 0} (told : B → List Signal) (published : ℕ) (left : NamedLane B)
+-- the lane has the part of the owner of this handle: how many items that requested, and whether it cancelled
+abbrev pub HasOwnersPart : {B : Type 0} → HandleState → Lane B → Type 0
+HasOwnersPart handle lane = (lane.requested ≡ handle.asked) × (lane.cancelled ≡ handle.cancelled)
+
+-- what is left of one subscription of a publisher that published this many items, and the lane that it was
+pub record IsLane {B : Type 0} (told : B → List Signal) (replied : B → List Reply) (published : ℕ) (left : NamedLane B)
     (lane : LaneState) : Type 0 where
-  -- its subscriber was told onSubscribe, then the next of the items that its buffer accepted, in that order, never more than were requested;
-  -- then at most one onComplete or onError, and onComplete only after every accepted item. If it doesn't run, it was told all that its demand
-  -- and its ending allow
+  -- its subscriber was told onSubscribe, then the next of the items that its buffer accepted, in that order, never
+  -- more than were requested; then at most one onComplete or onError, and onComplete only after every accepted item.
+  -- If it doesn't run, it was told all that its demand and its ending allow
   pub is : IsLeftLane told lane left.lane
+  -- requested in all is what its owner requested, and what the replies of its subscriber amount to
+  pub asked : IfSome left.lane.subscriber (λ b. left.lane.asked ≡ total_after left.lane.requested (own_by (replied b)))
+  -- each reply goes on but for the last, if that asks for the end; and it was cancelled, failed, or was refused memory
+  -- only if the last reply says so, or its owner cancelled
+  pub ends : IfSome left.lane.subscriber (λ b. EndsSo left.lane.ending (replied b))
+  pub by : IfSome left.lane.subscriber (λ b. IsEndedBy left.lane.cancelled left.lane.ending (replied b))
   -- it accepted each item once, and those of each sender in the order in which they were sent
   pub ordered : IsOrdered lane.accepted
   -- each of them was published since it was subscribed
@@ -35,20 +52,20 @@ pub record IsLane {B : Type 0} (told : B → List Signal) (published : ℕ) (lef
       → left.since + (left.lane.accepted + left.dropped) ≡ published
 
 -- items with one serial number are one item, whoever accepted them
-abbrev pub AreAgreed : List LaneState → Type 0
-AreAgreed lanes = (i j k n : ℕ) (one other : LaneState) (x y : Item)
+abbrev pub AgreeOnItems : List LaneState → Type 0
+AgreeOnItems lanes = (i j k n : ℕ) (one other : LaneState) (x y : Item)
     → slice_get lanes i ≡ Some one → slice_get one.accepted k ≡ Some x
     → slice_get lanes j ≡ Some other → slice_get other.accepted n ≡ Some y
     → x.serial ≡ y.serial → x ≡ y
 
 -- what a publisher leaves: each subscription was a lane, and these agree
-pub record IsOutcome {B H : Type 0} (told : B → List Signal) (outcome : Outcome B H) : Type 0 where
+pub record IsOutcome {B H : Type 0} (told : B → List Signal) (replied : B → List Reply) (outcome : Outcome B H) : Type 0 where
   pub lanes : List LaneState
   pub as_many : length lanes ≡ length outcome.lanes.items
   pub each : (i : ℕ) (left : NamedLane B) (lane : LaneState)
       → slice_get outcome.lanes.items i ≡ Some left → slice_get lanes i ≡ Some lane
-      → IsLane told outcome.published left lane
-  pub agreed : AreAgreed lanes
+      → IsLane told replied outcome.published left lane
+  pub agreed : AgreeOnItems lanes
   -- once the last ticket was spent, each has ended that was subscribed before the close
   pub drained : outcome.drained ≡ true → (i : ℕ) (left : NamedLane B)
       → slice_get outcome.lanes.items i ≡ Some left → left.late ≡ false → IsSome left.lane.ending
@@ -61,29 +78,35 @@ abbrev pub outcome_of : {B H : Type 0} → Result (Outcome B H) (Refusal × Outc
 outcome_of (Ok outcome) = outcome
 outcome_of (Err refused) = refused.1
 
+-- it is what is left of one of these subscriptions, with the part of its owner
+abbrev pub IsOfOne : {B : Type 0} → List SubscriptionState → NamedLane B → Type 0
+IsOfOne subscriptions left = (i : ℕ) × (s : SubscriptionState) × ((slice_get subscriptions i ≡ Some s)
+    × ((s.entry ≡ left.entry) × HasOwnersPart s.handle left.lane))
+
 -- what is left is that of subscriptions which were handed in, their numbers rising
 pub record AreHandedIn {B : Type 0} (subscriptions : List SubscriptionState)
     (lanes : List (NamedLane B)) : Type 0 where
   pub rising : (i j : ℕ) (left other : NamedLane B) → slice_get lanes i ≡ Some left
       → slice_get lanes j ≡ Some other → i < j → left.entry < other.entry
   pub each : (i : ℕ) (left : NamedLane B) → slice_get lanes i ≡ Some left
-      → IsHandedIn subscriptions left.entry
+      → IsOfOne subscriptions left
 
 -- the subscription of this number has a lane
 abbrev pub HasLane : {B : Type 0} → ℕ → List (NamedLane B) → Type 0
 HasLane {B} number lanes =
     (i : ℕ) × (left : NamedLane B) × ((slice_get lanes i ≡ Some left) × (left.entry ≡ number))
 
--- it is one of these
-abbrev pub IsHeld : ℕ → List ℕ → Type 0
-IsHeld number held = (i : ℕ) × (slice_get held i ≡ Some number)
+-- a number is among these
+abbrev pub IsAmong : ℕ → List ℕ → Type 0
+IsAmong number held = (i : ℕ) × (slice_get held i ≡ Some number)
 
 -- the subscriptions with a number below this have a lane, but for the reclaimed ones
 abbrev pub AreGiven : {B : Type 0} → ℕ → List (NamedLane B) → List ℕ → Type 0
 AreGiven many lanes reclaimed =
-    (number : ℕ) → number < many → HasLane number lanes ⊎ IsHeld number reclaimed
+    (number : ℕ) → number < many → HasLane number lanes ⊎ IsAmong number reclaimed
 
--- the numbers of the lanes have no gap but for the reclaimed ones: each number below how many these are together is that of one of them
+-- the numbers of the lanes have no gap but for the reclaimed ones: each number below how many these are together is
+-- that of one of them
 abbrev pub AreNumbered : {B : Type 0} → List (NamedLane B) → List ℕ → Type 0
 AreNumbered lanes reclaimed = AreGiven (length lanes + length reclaimed) lanes reclaimed
 
@@ -92,12 +115,14 @@ pub record IsFirstGap {B : Type 0} (number : ℕ) (lanes : List (NamedLane B)) (
     : Type 0 where
   pub before : AreGiven number lanes reclaimed
   pub none : HasLane number lanes → ⊥
-  pub kept : IsHeld number reclaimed → ⊥
+  pub kept : IsAmong number reclaimed → ⊥
 
 -- all is there: each subscription that was made, and all submitters, whose shares sum up to what was published
 pub record IsWhole {B H : Type 0} (submitters : List SubmitterState)
     (subscriptions : List SubscriptionState) (outcome : Outcome B H) : Type 0 where
   pub numbered : AreNumbered outcome.lanes.items outcome.reclaimed.items
+  pub made : length outcome.lanes.items + length outcome.reclaimed.items ≡ outcome.made
+  pub within : (number : ℕ) → IsHandedIn subscriptions number → number < outcome.made
   pub none_left_out : (number : ℕ) → IsHandedIn subscriptions number
       → HasLane number outcome.lanes.items
   pub none_held : outcome.held.items ≡ []
@@ -110,7 +135,7 @@ abbrev pub AnyKnows : List SubmitterState → Type 0
 AnyKnows submitters =
     (i : ℕ) × (s : SubmitterState) × ((slice_get submitters i ≡ Some s) × IsSome s.known)
 
--- nothing runs, and all has ended where a submitter knows that the publisher is closed, or where the last ticket was spent
+-- nothing runs, and all has ended if a submitter knows that the publisher is closed, or if the last ticket was spent
 pub record AreDone {B H : Type 0} (submitters : List SubmitterState) (outcome : Outcome B H)
     : Type 0 where
   pub rests : (i : ℕ) (left : NamedLane B) → slice_get outcome.lanes.items i ≡ Some left
@@ -124,35 +149,52 @@ pub record AreDone {B H : Type 0} (submitters : List SubmitterState) (outcome : 
 abbrev pub IsUndone : {B : Type 0} → NamedLane B → Type 0
 IsUndone left = (left.lane.running ≡ true) ⊎ (left.lane.ending ≡ None)
 
--- each of these names is that of a lane that runs or has not ended, and there is one
-pub record NamesUndone {B : Type 0} (names : List (List ℕ)) (lanes : List (NamedLane B))
+-- whether what is left runs, or has not ended though the publisher is closed
+abbrev pub is_undone : {B : Type 0} → Bool → NamedLane B → Bool
+is_undone closed left = left.lane.running || (closed && is_none left.lane.ending)
+
+-- these names are those of the lanes that run, or have not ended though the publisher is closed: each of them, no
+-- other, and there is one
+pub record NamesUndone {B : Type 0} (closed : Bool) (names : List (List ℕ)) (lanes : List (NamedLane B))
     : Type 0 where
   pub some : 0 < length names
   pub each : (i : ℕ) (name : List ℕ) → slice_get names i ≡ Some name
       → (j : ℕ) × (left : NamedLane B)
       × ((slice_get lanes j ≡ Some left) × ((left.name ≡ name) × IsUndone left))
+  pub all : (j : ℕ) (left : NamedLane B) → slice_get lanes j ≡ Some left
+      → is_undone closed left ≡ true → (i : ℕ) × (slice_get names i ≡ Some left.name)
 
 -- no submitter has this number
 abbrev pub IsAway : ℕ → List SubmitterState → Type 0
 IsAway source submitters =
     (i : ℕ) (s : SubmitterState) → slice_get submitters i ≡ Some s → s.source ≡ source → ⊥
 
+-- one of them has this number
+abbrev pub IsSourceThere : ℕ → List SubmitterState → Type 0
+IsSourceThere source submitters = (i : ℕ) × (s : SubmitterState)
+    × ((slice_get submitters i ≡ Some s) × (s.source ≡ source))
+
+-- no submitter has this number, and each smaller number is that of one: it is the first that is missing
+abbrev pub IsFirstAway : ℕ → List SubmitterState → Type 0
+IsFirstAway source submitters = IsAway source submitters
+    × ((other : ℕ) → other < source → IsSourceThere other submitters)
+
 -- the name of the submitter of this number, as `source-3`
 abbrev pub source_name : ℕ → List ℕ
 source_name source = codes "source-" ++ decimal source
 
--- the first subscription that has no lane was not handed in, or is held still
+-- the first subscription that has no lane, of those that were made, was not handed in, or is held still
 abbrev pub IsLaneAway : {B H : Type 0} → List SubscriptionState → Outcome B H → Type 0
-IsLaneAway subscriptions outcome = (number : ℕ)
+IsLaneAway subscriptions outcome = (number : ℕ) × ((number < outcome.made)
     × (IsFirstGap number outcome.lanes.items outcome.reclaimed.items
-    × ((IsHandedIn subscriptions number → ⊥) ⊎ IsHeld number outcome.held.items))
+    × ((IsHandedIn subscriptions number → ⊥) ⊎ IsAmong number outcome.held.items)))
 
--- the submitter with this name was not handed in, and no lane is missing
+-- the submitter with this name is the first that was not handed in, and no lane is missing
 abbrev pub IsSourceAway : {B H : Type 0} → List ℕ → List SubmitterState → Outcome B H → Type 0
 IsSourceAway name submitters outcome = (source : ℕ)
-    × ((source < SOURCES)
+    × ((source < MOST_SOURCES)
     × ((name ≡ source_name source)
-    × (IsAway source submitters
+    × (IsFirstAway source submitters
     × (AreNumbered outcome.lanes.items outcome.reclaimed.items × (outcome.held.items ≡ [])))))
 
 -- a subscription or a submitter is missing
@@ -165,11 +207,11 @@ IsMissing name submitters subscriptions outcome =
 pub record IsRestGiven {B H : Type 0} (subscriptions : List SubscriptionState)
     (outcome : Outcome B H) : Type 0 where
   pub given : (number : ℕ) → IsHandedIn subscriptions number
-      → HasLane number outcome.lanes.items ⊎ IsHeld number outcome.held.items
-  pub held : (number : ℕ) → IsHeld number outcome.held.items
+      → HasLane number outcome.lanes.items ⊎ IsAmong number outcome.held.items
+  pub held : (number : ℕ) → IsAmong number outcome.held.items
       → IsHandedIn subscriptions number × (HasLane number outcome.lanes.items → ⊥)
 
--- if it is refused so, this holds of what is given
+-- if it is refused in this way, this holds of what is given
 abbrev pub IfRefused : {B H : Type 0} → Refusal → Result (Outcome B H) (Refusal × Outcome B H)
     → (Outcome B H → Type 0) → Type 0
 IfRefused {B} {H} refusal result Holds =
@@ -182,9 +224,9 @@ HasNoLane outcome = (outcome.lanes.items ≡ []) × (outcome.held.items ≡ [])
 -- the reclaimed ones were not handed in, and have no lane
 pub record AreReclaimed {B H : Type 0} (subscriptions : List SubscriptionState)
     (outcome : Outcome B H) : Type 0 where
-  pub not_handed : (number : ℕ) → IsHeld number outcome.reclaimed.items
+  pub not_handed : (number : ℕ) → IsAmong number outcome.reclaimed.items
       → IsHandedIn subscriptions number → ⊥
-  pub no_lane : (number : ℕ) → IsHeld number outcome.reclaimed.items
+  pub no_lane : (number : ℕ) → IsAmong number outcome.reclaimed.items
       → HasLane number outcome.lanes.items → ⊥
 
 -- on 8 the one of this name is missing, and the rest is given
@@ -197,7 +239,9 @@ LacksOne submitters subscriptions name outcome =
 abbrev pub LeavesUndone : {B H : Type 0} → List SubmitterState → List SubscriptionState
     → List (List ℕ) → Outcome B H → Type 0
 LeavesUndone submitters subscriptions names outcome =
-    IsWhole submitters subscriptions outcome × NamesUndone names outcome.lanes.items
+    IsWhole submitters subscriptions outcome
+    × ((closed : Bool) × ((AnyKnows submitters → closed ≡ true)
+    × NamesUndone closed names outcome.lanes.items))
 
 -- on Ok all is there, and done
 abbrev pub LeavesAllDone : {B H : Type 0} → List SubmitterState → List SubscriptionState
@@ -229,16 +273,12 @@ abbrev pub StillHolds : {B H : Type 0} → List ℕ → Result (Outcome B H) (Re
 StillHolds {B} {H} name result =
     (outcome : Outcome B H) × (result ≡ Err (Refusal.StillHeld name, outcome))
 
--- whether what is left runs, or has not ended where the publisher is closed
-abbrev pub is_undone : {B : Type 0} → Bool → NamedLane B → Bool
-is_undone closed left = left.lane.running || (closed && is_none left.lane.ending)
-
--- what is left is refused where something runs, or is closed and has not ended
+-- what is left is refused if something runs, or is closed and has not ended
 abbrev pub Judges : {B H : Type 0} → Outcome B H → Bool
     → Result (Outcome B H) (Refusal × Outcome B H) → Type 0
 Judges {B} {H} outcome closed (Ok same) = (same ≡ outcome)
     × ((i : ℕ) (left : NamedLane B) → slice_get outcome.lanes.items i ≡ Some left
     → is_undone closed left ≡ false)
 Judges outcome closed (Err (Refusal.Unsettled names, same)) =
-    (same ≡ outcome) × NamesUndone names.items outcome.lanes.items
+    (same ≡ outcome) × NamesUndone closed names.items outcome.lanes.items
 Judges outcome closed (Err (_, same)) = ⊥

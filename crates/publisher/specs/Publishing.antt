@@ -7,13 +7,14 @@ use Rattle.flow_rules.specs.declared.refusal.Refusal.TheVariants.{NoMemory}
 use Rattle.publisher_hub.specs.Looking.{IsRoom, LooksAtAll}
 use Rattle.publisher_hub.specs.Publishing.{Publishes, RefusesItem}
 use Rattle.publisher_hub.specs.declared.hub.Hub.{Hub}
-use Rattle.publisher_hub.specs.declared.hub.publishing.Unpublished.{Unpublished}
-use Rattle.publisher_hub.specs.declared.hub.publishing.Unpublished.TheVariants.{Refused}
+use Rattle.publisher_hub.specs.declared.hub.publish.Unpublished.{Unpublished}
+use Rattle.publisher_hub.specs.declared.hub.publish.Unpublished.TheVariants.{Refused}
 use Rattle.publisher_hub.specs.declared.work.Work.{Work}
 use Rattle.publisher.specs.State.{PublisherState, producer_end}
-use Rattle.publisher.specs.declared.state.batches.Stopped.{Stopped}
+use Rattle.publisher.specs.declared.state.publish.Stopped.{Stopped}
 
--- whether there is room: a closed publisher has it, so that nobody waits there; of an open one each live subscription was looked at
+-- whether there is room: a closed publisher has it, so that nobody waits there; of an open one each live subscription
+-- was looked at
 pub record LooksForRoom (room : Bool) (old new : PublisherState) : Type 0 where
   pub closed : IsSome old.hub.ending → (room ≡ true) × (new ≡ old)
   pub unclosed : old.hub.ending ≡ None
@@ -27,7 +28,8 @@ abbrev pub drop_of : ℤ → ℕ
 drop_of (pos lag) = 0
 drop_of (negsuc drops) = 1
 
--- the first n of these texts were published by this source, in their order, each as a publication of its own; this is the lag after the last, or 0
+-- the first n of these texts were published by this source, in their order, each as a publication of its own; this is
+-- the lag after the last, or 0
 abbrev pub PublishesFirst : ℕ → List (List ℕ) → ℕ → Hub ProducerState → Hub ProducerState
     → List (Work TaskState) → List (Work TaskState) → ℕ → Type 0
 PublishesFirst source texts zero old new due_old due_new lag =
@@ -38,7 +40,8 @@ PublishesFirst source texts (suc n) old new due_old due_new lag =
     × (PublishesFirst source texts n old middle due_old due before
     × Publishes producer_end DoesCall source text middle new due due_new lag)))))
 
--- a share of a text was not published: memory for the share was refused, and nothing has changed; or its publication was refused, as any
+-- a share of a text was not published: memory for the share was refused, and nothing has changed; or its publication
+-- was refused, as any
 abbrev pub RefusesShared : List ℕ → PublisherState → PublisherState → Unpublished → Type 0
 RefusesShared text old new why = ((new ≡ old) × (why ≡ Refused NoMemory))
     ⊎ RefusesItem producer_end DoesCall text old.hub new.hub why

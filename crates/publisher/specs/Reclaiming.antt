@@ -1,5 +1,6 @@
 -- What becomes of a subscription that is to be reclaimed before the end of its publisher.
 use Rattle.std.specs.Prelude.{◌≡◌, ◌⊎◌, ⊤, ℕ, Bool, true, false, is_some, Option, None, Some, IsSome, option_map, List, [], ◌∷◌, slice_get}
+use Rattle.feed_core.specs.AnsweredTurn.{Reply}
 use Rattle.close_count.specs.Spent.{count_of_spent}
 use Rattle.close_count.specs.Ticket.{count_of_ticket}
 use Rattle.close_count.specs.declared.spent.Spent.{Spent}
@@ -20,8 +21,8 @@ use Rattle.publisher.specs.Standing.{has_ended_by}
 use Rattle.publisher.specs.State.{PublisherState, producer_end}
 use Rattle.publisher.specs.Tickets.{IsLate}
 use Rattle.publisher.specs.declared.outcome.NamedLane.{NamedLane}
-use Rattle.publisher.specs.declared.state.finding.Taken.{Taken}
-use Rattle.publisher.specs.declared.state.reclaiming.Known.{Known}
+use Rattle.publisher.specs.declared.finishing.find.Taken.{Taken}
+use Rattle.publisher.specs.declared.state.take_out.Known.{Known}
 
 -- a ticket that came out was spent; what is left of it is kept if it was the last
 abbrev pub IsSpent : Option Ticket → PublisherState → PublisherState → Type 0
@@ -29,7 +30,8 @@ IsSpent None old new = new.last ≡ old.last
 IsSpent (Some ticket) old new = (spent : Spent) × ((count_of_spent spent ≡ count_of_ticket ticket)
     × (new.last ≡ last_after spent (is_some old.hub.ending) old.last))
 
--- the subscription of this number was looked at; if that showed its end, its producer's end was taken out, and its ticket spent
+-- the subscription of this number was looked at; if that showed its end, its producer's end was taken out, and its
+-- ticket spent
 pub record TakesEnd (number : ℕ) (producer : Option ProducerState) (old new : PublisherState)
     : Type 0 where
   pub ticket : Option Ticket
@@ -55,24 +57,31 @@ pub record Knows (state : PublisherState) (number : ℕ) (known : Known) : Type 
   pub late : (known.late ≡ true → IsLate state.counted number)
       × (IsLate state.counted number → known.late ≡ true)
 
+-- with both ends of a subscription stands what is known of it
+abbrev pub IsKnown : {B : Type 0} → Known → Taken B → Type 0
+IsKnown known taken = (taken.name ≡ known.name) × ((taken.since ≡ known.since)
+    × ((taken.dropped ≡ known.dropped) × (taken.late ≡ known.late)))
+
 -- both ends of the subscription of this number, which has ended, were taken out, with what is known of it
 pub record Reclaims {B : Type 0} (number : ℕ) (handle : HandleState) (taken : Taken B)
     (old new : PublisherState) : Type 0 where
   pub middle : PublisherState
   pub looks : ShowsEnd number true old middle
   pub takes : TakesEnd number (Some taken.producer) middle new
+  pub known : (known : Known) × (Knows middle number known × IsKnown known taken)
   pub handle_is : taken.handle ≡ handle
   pub over : taken.producer.end.over ≡ true
   pub counted : IsCountedIn old.hub.next old.hub.dropping taken
 
--- a subscription of this name is refused in this way: by its name if it has not ended or a thread has its task; or for want of memory
+-- a subscription of this name is refused in this way: by its name if it has not ended or a thread has its task; or
+-- because memory was refused
 abbrev pub IsRefusedBy : List ℕ → Refusal → Type 0
 IsRefusedBy name Refusal.NoMemory = ⊤
 IsRefusedBy name (Refusal.StillHeld other) = other ≡ name
 IsRefusedBy name (Refusal.Unsettled names) = names.items ≡ name ∷ []
 IsRefusedBy name _ = ⊥
 
--- so is one that has not ended
+-- one that has not ended is refused by its name, or because memory was refused
 abbrev pub NamesOne : List ℕ → Refusal → Type 0
 NamesOne name (Refusal.StillHeld other) = ⊥
 NamesOne name refusal = IsRefusedBy name refusal
@@ -86,7 +95,8 @@ abbrev pub LooksTwice : ℕ → PublisherState → PublisherState → Type 0
 LooksTwice number old new =
     (middle : PublisherState) × (ShowsEnd number true old middle × TakesEnd number None middle new)
 
--- it was refused, and nothing changed but by looks: 8 only if a look showed its end, and 9 only if one showed that it goes on
+-- it was refused, and nothing changed but by looks: 8 only if a look showed its end, and 9 only if one showed that it
+-- goes on
 abbrev pub LooksBefore : ℕ → Refusal → PublisherState → PublisherState → Type 0
 LooksBefore number (Refusal.StillHeld name) old new = ShowsEnd number true old new
 LooksBefore number (Refusal.Unsettled names) old new =
@@ -99,11 +109,11 @@ pub record RefusesReclaim (number : ℕ) (refusal : Refusal) (old new : Publishe
   pub looks : LooksBefore number refusal old new
 
 -- what is left of a subscription that was reclaimed, and the lane that it was
-pub record IsReclaimed {B : Type 0} (told : B → List Signal) (left : NamedLane B) : Type 0 where
+pub record IsReclaimed {B : Type 0} (told : B → List Signal) (replied : B → List Reply) (left : NamedLane B) : Type 0 where
   -- how many items were published until then
   pub published : ℕ
   pub lane : LaneState
-  pub is : IsLane told published left lane
+  pub is : IsLane told replied published left lane
   pub rests : left.lane.running ≡ false
   pub ended : IsSome left.lane.ending
   pub late : left.late ≡ true → left.since ≡ published

@@ -8,6 +8,6 @@ has_ended_by None = true
 has_ended_by (Some standing) = standing.ended
 
 -- how many items wait for its subscriber, which is told none of them once it has ended
-abbrev pub lag_by : Option Standing → ℕ
-lag_by None = 0
-lag_by (Some standing) = if standing.ended then 0 else standing.held
+abbrev pub lag_at : Option Standing → ℕ
+lag_at None = 0
+lag_at (Some standing) = if standing.ended then 0 else standing.held

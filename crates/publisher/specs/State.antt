@@ -8,21 +8,24 @@ use Rattle.publisher_hub.specs.Hub.{HubState}
 use Rattle.publisher_hub.specs.Sound.{IsSound}
 use Rattle.publisher_hub.specs.declared.hub.Hub.{Hub}
 use Rattle.publisher.specs.Tickets.{AreOfOneCount}
+use Rattle.publisher.specs.declared.state.waiters.Waiters.{Waiters}
 pub use Rattle.publisher.specs.declared.state.TheConstants.{PARTS}
 
 -- what the publisher knows of a subscription, by its producer's end
 abbrev pub producer_end : ProducerState → End
 producer_end producer = producer.end
 
--- the subscriptions; how many of them were made before the close, once the publisher is closed; and what is left of the last ticket of the
--- count, once that was spent
+-- the subscriptions; how many of them were made before the close, once the publisher is closed; what is left of the
+-- last ticket of the count, once that was spent; and who waits
 pub record PublisherState : Type 0 where
   pub hub : Hub ProducerState
   pub counted : Option ℕ
   pub last : Option Spent
+  pub waiters : Waiters
 
--- the totals of both ledgers; the parts and amounts of the shares that no submitter has; how many submitters and subscriptions were made, and
--- how many of these before the close; and what is left of the last ticket of the count, once that was spent
+-- the totals of both ledgers; the parts and amounts of the shares that no submitter has; how many submitters and
+-- subscriptions were made, and how many of these before the close; and what is left of the last ticket of the count,
+-- once that was spent
 pub record Sums : Type 0 where
   pub published : ℕ
   pub dropping : ℕ
@@ -41,8 +44,9 @@ pub record IsCountedAtClose (hub : HubState) (counted : Option ℕ) : Type 0 whe
   pub closed : IsSome hub.progress.ending
       → (many : ℕ) × ((counted ≡ Some many) × (many ≤ length hub.entries))
 
--- whenever the lock is free: the Hub is sound, and holds the opening ticket until it is closed; the totals are its numbers; each submitter has
--- one part of each ledger, and the rest has no amount; and each subscription from before the close has its ticket until it has ended
+-- whenever the lock is free: the Hub is sound, and holds the opening ticket until it is closed; the totals are its
+-- numbers; each submitter has one part of each ledger, and the rest has no amount; and each subscription from before
+-- the close has its ticket until it has ended
 pub record IsState (hub : HubState) (sums : Sums) : Type 0 where
   pub sound : IsSound hub
   pub sized : IsCapacity hub.progress.capacity

@@ -1,16 +1,22 @@
 -- What a subscribing gives, and what a refused one leaves.
-use Rattle.std.specs.Prelude.{◌≡◌, ℕ, Some, List, length, slice_get}
-use Rattle.feed_cell.specs.Parties.{IsNewTaskIn, ProducerState, new_handle_in}
+use Rattle.std.specs.Prelude.{◌≡◌, ℕ, Option, Some, List, length, slice_get}
+use Rattle.close_count.specs.declared.ticket.Ticket.{Ticket}
+use Rattle.feed_cell.specs.Offering.{DoesCall}
+use Rattle.feed_cell.specs.Parties.{IsNewTaskIn, ProducerState, TaskState, new_handle_in}
 use Rattle.flow_rules.specs.declared.error_order.ErrorOrder.{ErrorOrder}
 use Rattle.publisher_hub.specs.Entry.{EntryState}
-use Rattle.publisher_hub.specs.Hub.{HubState}
+use Rattle.flow_rules.specs.declared.refusal.Refusal.{Refusal}
+use Rattle.publisher_hub.specs.Hub.{HubState, hub_of}
 use Rattle.publisher_hub.specs.Names.{IsSubscribed}
+use Rattle.publisher_hub.specs.Subscribing.{Admits, Refuses}
 use Rattle.publisher_hub.specs.declared.entry.Entry.{Entry}
-use Rattle.publisher.specs.State.{PublisherState}
-use Rattle.publisher.specs.declared.state.subscribing.Subscribed.{Subscribed}
+use Rattle.publisher_hub.specs.declared.hub.Hub.{Hub}
+use Rattle.publisher_hub.specs.declared.work.Work.{Work}
+use Rattle.publisher.specs.State.{PublisherState, producer_end}
+use Rattle.publisher.specs.declared.state.subscribe.Subscribed.{Subscribed}
 
--- a new subscription: it stands in the Hub, under its name; its handle did nothing yet, and its task was never run, both with this order of
--- errors; and all three are of one subscription
+-- a new subscription: it stands in the Hub, under its name; its handle did nothing yet, and its task was never run,
+-- both with this order of errors; and all three are of one subscription
 pub record IsSubscription {B : Type 0} (name : List ℕ) (order : ErrorOrder) (subscribed : Subscribed B)
     (new : PublisherState) : Type 0 where
   pub entry : Entry ProducerState
@@ -25,10 +31,27 @@ pub record IsSubscription {B : Type 0} (name : List ℕ) (order : ErrorOrder) (s
 abbrev pub TakesNoName : List EntryState → List EntryState → Type 0
 TakesNoName old new = (name : List ℕ) → IsSubscribed name new → IsSubscribed name old
 
--- what a refused subscribing leaves: there is no subscription more, and none under a name that was free; and nothing was published or
--- closed, and no source handed out
+-- what a refused subscribing leaves: there is no subscription more, and none under a name that was free; and nothing
+-- was published or closed, and no source handed out
 pub record AddsNone (old new : HubState) : Type 0 where
   pub as_many : length new.entries ≡ length old.entries
   pub names : TakesNoName old.entries new.entries
   pub progress : new.progress ≡ old.progress
   pub sources : new.sources ≡ old.sources
+
+-- what is due after a refused subscribing: the task that tells the live subscription of this name of it, if that
+-- starts one; otherwise nothing more
+abbrev pub IsDueAfter : List ℕ → Refusal → List (Work TaskState) → List (Work TaskState)
+    → Hub ProducerState → Hub ProducerState → Type 0
+IsDueAfter name Refusal.Duplicate before after old new =
+    Refuses producer_end DoesCall name Refusal.Duplicate before after old new
+IsDueAfter name _ before after old new = after ≡ before
+
+-- a subscription was added to a Hub in which its name was free, under this number; if the publisher is closed, the
+-- task that tells it so is due
+abbrev pub AdmitsNew : List ℕ → ℕ → List (Work TaskState) → List (Work TaskState)
+    → Hub ProducerState → Hub ProducerState → Type 0
+AdmitsNew name number before after old new =
+    (middle : Hub ProducerState) × (AddsNone (hub_of producer_end old) (hub_of producer_end middle)
+    × ((feed : ProducerState) × ((ticket : Option Ticket)
+    × Admits producer_end DoesCall name feed ticket number before after middle new)))

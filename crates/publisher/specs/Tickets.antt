@@ -16,19 +16,20 @@ use Rattle.publisher_hub.specs.declared.hub.Hub.{Hub}
 abbrev pub IsOver : EntryState → Type 0
 IsOver entry = (e : End) → entry.feed ≡ Some e → e.over ≡ true
 
--- the subscription of this number was made after the close, before which so many were
+-- the subscription of this number was made after the close, before which this many were
 abbrev pub IsLate : Option ℕ → ℕ → Type 0
 IsLate counted number = (many : ℕ) × ((counted ≡ Some many) × (many ≤ number))
 
--- a subscription from before the close has a ticket of this count until it has ended. Since a later one was made nothing was published
+-- a subscription from before the close has a ticket of this count until it has ended. Since a later one was made
+-- nothing was published
 pub record IsTicketed (count : CountId) (counted : Option ℕ) (next number : ℕ) (entry : EntryState)
     : Type 0 where
   pub of_count : (ticket : Ticket) → entry.ticket ≡ Some ticket → count_of_ticket ticket ≡ count
   pub spent : entry.ticket ≡ None → IsOver entry ⊎ IsLate counted number
   pub late : IsLate counted number → entry.since ≡ next
 
--- the opening and all tickets are of this count; and so is what is left of the last ticket, if that was spent, which it is only once the
--- publisher is closed
+-- the opening and all tickets are of this count; and so is what is left of the last ticket, if that was spent, which
+-- it is only once the publisher is closed
 pub record IsOfCount (count : CountId) (hub : HubState) (counted : Option ℕ) (last : Option Spent)
     : Type 0 where
   pub opening : (opening : Opening) → hub.opening ≡ Some opening → count_of_opening opening ≡ count
@@ -38,15 +39,16 @@ pub record IsOfCount (count : CountId) (hub : HubState) (counted : Option ℕ) (
       → (count_of_spent spent ≡ count) × (was_last spent ≡ true)
   pub closed : IsSome last → IsSome hub.progress.ending
 
--- they are of one count
+-- the opening, all tickets and what is left of the last are of one count
 abbrev pub AreOfOneCount : HubState → Option ℕ → Option Spent → Type 0
 AreOfOneCount hub counted last = (count : CountId) × IsOfCount count hub counted last
 
--- so they are, however many subscriptions there were at the close
+-- they are of one count, however many subscriptions there were at the close
 abbrev pub AreOfOneCountOf : HubState → Option Spent → Type 0
 AreOfOneCountOf hub last = (counted : Option ℕ) × AreOfOneCount hub counted last
 
--- what a subscription gets that is to be added: a ticket of the count of this Hub's opening, or none if the Hub is closed
+-- what a subscription gets that is to be added: a ticket of the count of this Hub's opening, or none if the Hub is
+-- closed
 abbrev pub IsTicketFor : {F : Type 0} → Hub F → Option Ticket → Type 0
 IsTicketFor hub None = IsSome hub.ending
 IsTicketFor hub (Some ticket) = (opening : Opening)

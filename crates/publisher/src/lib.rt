@@ -1,12 +1,12 @@
-//! A publisher that threads share (`java.util.concurrent.SubmissionPublisher`, Java SE 17): it takes texts from any number of threads, and
-//! gives each to every current subscriber.
+//! A publisher that threads share (`java.util.concurrent.SubmissionPublisher`, Java SE 17): it takes texts from any
+//! number of threads, and gives each to every current subscriber.
 //!
 //! # Who does what
 //!
-//! A [`Publisher`] has a pool of worker threads. A [`Submitter`] publishes from the thread that has it, in that thread's order, and a
-//! [`Subscription`] requests and cancels from the one that has it. A worker tells subscribers what is owed, one turn of one subscription at
-//! a time. [`finish`] ends the workers and gives what is left of each subscription; its contract says what every subscriber was told, whatever
-//! the threads did.
+//! A [`Publisher`] has a pool of worker threads. A [`Submitter`] publishes from the thread that has it, in that
+//! thread's order, and a [`Subscription`] requests and cancels from the one that has it. A worker tells subscribers
+//! what is owed, one turn of one subscription at a time. [`finish`] ends the workers and gives what is left of each
+//! subscription; its contract says what every subscriber was told, whatever the threads did.
 //!
 //! | What | Who | Waits |
 //! |---|---|---|
@@ -17,13 +17,16 @@
 //! | [`wait_end`](Subscription::wait_end), [`wait_drained`](Publisher::wait_drained), [`finish`] | whoever has it | until the subscription has ended; until all have that were there at the close; until each worker has ended |
 //! | a turn, with its callbacks | a worker; a blocked submitter; or whoever started the task, if the pool takes none | for no lock. After it, if an item's callback failed, for the lock of the handler that hears of it; and if the subscription has ended or somebody waits for room, for the publisher's lock |
 //!
-//! Each subscription has a buffer that its publisher and its task share without a lock (`feed_cell`). So callbacks run outside every lock: one
-//! may wait for what another subscriber's callback does, and each call of the publisher returns meanwhile. It may publish, request, subscribe
-//! or close itself; such a listener runs, but the toolchain proves none yet: it states no type that holds its own [`Subscription`], and checks
-//! no borrows in a callback that calls a [`Submitter`]. A callback may not wait for what its own subscription is to be told, nor `submit`
-//! to its own publisher unless others make room; and a drop handler runs while the lock is held, so it may not call its publisher.
+//! Each subscription has a buffer that its publisher and its task share without a lock (`feed_cell`). So callbacks run
+//! outside every lock: one may wait for what another subscriber's callback does, and each call of the publisher
+//! returns meanwhile. It may publish, request, subscribe or close itself; a listener that does runs, but the toolchain
+//! proves none yet: it states no type that holds its own [`Subscription`], and checks no borrows in a callback that
+//! calls a [`Submitter`]. A callback may not wait for what its own subscription is to be told, nor `submit` to its own
+//! publisher unless others make room; and a drop handler runs while the lock is held, so it may not call its
+//! publisher.
 //!
-//! A caller works in a function over two ledgers, which name the publisher: a submitter or a subscription of another one does not fit.
+//! A caller works in a function over two ledgers, which name the publisher: a submitter or a subscription of another
+//! one does not fit.
 //!
 //! ```
 //! let mut counter = publisher.subscribe(rt, alloc, name, Tally::new())?;
@@ -36,34 +39,30 @@
 //! ```
 #![tactic(auto)]
 
-mod caller;
-mod handed_in;
-mod handling;
-mod leaving;
+mod awaiting;
+mod dispatcher;
+mod failures;
+mod finishing;
+mod job;
 mod note;
-mod options;
 mod outcome;
 mod publisher;
-mod reclaiming;
 mod shared;
 mod state;
 mod submitter;
 mod subscription;
-mod the_end;
 
 pub use async_pool::MOST_WORKERS;
 pub use feed_core::Lane;
+pub use finishing::{HandedIn, finish};
 pub use flow_rules::{
     DropHandler, Ending, ErrorOrder, FailHandler, Fault, How, LARGEST_CAPACITY, LastFailure,
     Listener, MOST_PUBLICATIONS, Name, NoMemory, Refusal, Text,
 };
-pub use handed_in::HandedIn;
 pub use note::Note;
-pub use options::PublisherOptions;
 pub use outcome::{NamedLane, Outcome};
-pub use publisher::Publisher;
+pub use publisher::{Publisher, PublisherOptions};
 pub use publisher_hub::{MOST_ENTRIES, MOST_LIVE, MOST_SOURCES};
 pub use state::PARTS;
 pub use submitter::{Submitter, Unsent};
 pub use subscription::Subscription;
-pub use the_end::finish;

@@ -1,4 +1,6 @@
-//! What a thread knows of a publisher's close.
+//! A note: what a thread knows of a publisher's close.
+//!
+//! How the publisher is closed stands in a cell that all its notes read. It is set behind the lock, and not here.
 ghost use Rattle.std.specs.Prelude.{◌≡◌, None, Some, IfOk, IfSome, IfNone, OnErr, is_some};
 ghost use Rattle.once_cell.specs.Once.{Agrees, cell_name};
 
@@ -9,8 +11,9 @@ use std::alloc::Global;
 use std::fmt;
 use std::marker::Model;
 
-/// What its owner was told of a publisher's close ([`Publisher::note`](crate::Publisher::note)). It is used with the publisher that gave it. What
-/// it knows it knows for good, and all notes of one publisher that know of its close know the same ending ([`Note::compare`]).
+/// What its owner was told of a publisher's close ([`Publisher::note`](crate::Publisher::note)). It is used with the
+/// publisher that gave it. What it knows it knows for good, and all notes of one publisher that know of its close know
+/// the same ending ([`Note::compare`]).
 #[derive(Drop)]
 pub struct Note {
     closing: race::Note<Ending>,
@@ -30,7 +33,7 @@ impl Model for Note {
 }
 
 impl Note {
-    /// A note of this cell that knows nothing.
+    /// Makes a note of this cell that knows nothing.
     pub(crate) fn of(closing: &OnceBox<Ending>) -> Note
         ensures { result ≡ record { cell = cell_name closing.now; known = None } }
     {
@@ -57,7 +60,7 @@ impl Note {
         self.knows
     }
 
-    /// One more note that knows what this one knows.
+    /// Makes one more note that knows what this one knows.
     pub(crate) fn again(&mut self) -> Note
         ensures same { self.new ≡ self.old }
         ensures value { result ≡ self.old }
@@ -74,11 +77,11 @@ impl Note {
         ensures value { result ≡ self.old.known }
         ensures same { self.new ≡ self.old }
     {
-        if self.knows { self.look(closing) } else { None }
+        if self.knows { self.read(closing) } else { None }
     }
 
-    /// Looks how the publisher is closed, if it is.
-    pub(crate) fn look(&mut self, closing: &OnceBox<Ending>) -> Option<Ending>
+    /// Reads how the publisher is closed, if it is.
+    pub(crate) fn read(&mut self, closing: &OnceBox<Ending>) -> Option<Ending>
         requires { self.old.cell ≡ cell_name closing.now }
         ensures cell { self.new.cell ≡ self.old.cell }
         ensures tells { result ≡ self.new.known }
@@ -90,7 +93,7 @@ impl Note {
         ending
     }
 
-    /// Closes the cell as this box says, unless it is closed already, and learns how it is closed.
+    /// Sets the cell to the ending of this box, unless it has one already, and learns which it has.
     pub(crate) fn learn(&mut self, closing: &OnceBox<Ending>, made: Box<Ending>) -> Ending
         requires { self.old.cell ≡ cell_name closing.now }
         ensures cell { self.new.cell ≡ self.old.cell }
@@ -102,7 +105,7 @@ impl Note {
         ending
     }
 
-    /// Learns how the publisher is closed, of which this ending was told: as its cell says, which is closed in this way if it is not yet.
+    /// Learns the publisher's ending: that of its cell, which is set to this ending if it is still empty.
     pub(crate) fn hear(
         &mut self,
         alloc: Global,
@@ -115,7 +118,7 @@ impl Note {
         ensures same { IfSome self.old.known (λ ending. self.new.known ≡ Some ending) }
         ensures unchanged { OnErr result (self.new ≡ self.old) }
     {
-        if let Some(known) = self.look(closing) {
+        if let Some(known) = self.read(closing) {
             return Ok(known);
         }
         let made = Box::new(alloc, ending)?;
@@ -124,7 +127,8 @@ impl Note {
 }
 
 impl fmt::Debug for Note {
-    /// `Note(knows)` or `Note(does not know)`: how the publisher is closed stands in its cell, and not in the note.
+    /// Writes `Note(knows)` or `Note(does not know)`: how the publisher is closed stands in its cell, and not in the
+    /// note.
     fn fmt<W: fmt::Write>(&self, f: &mut fmt::Formatter<W>) -> fmt::Result {
         f.write_str(if self.knows {
             "Note(knows)"

@@ -1,20 +1,25 @@
-//! The publisher: what it shares with its threads, who subscribes and who publishes, and how it stands.
-mod closing;
+//! The publisher: who subscribes and who publishes, how it stands, and how it is closed.
+//!
+//! Its calls take the lock, call what stands behind it (`state`), and hand the tasks that this starts to the pool. How
+//! its threads are ended stands in `finishing`.
 mod making;
+mod reclaim;
 mod workers;
 
-ghost use Rattle.std.specs.Prelude.{◌≡◌, ◌⊎◌, [], zero, is_some, IfErr, IfOk, IfSome, None, Some};
+ghost use Rattle.std.specs.Prelude.{◌≡◌, ◌⊎◌, [], zero, is_some, IfErr, IfOk, IfSome, IsOk, IsSome, OnErr, OnOk, None, Some};
 ghost use Rattle.flow_rules.specs.declared.refusal.Refusal.TheVariants as Refusal;
-ghost use Rattle.publisher.specs.Handles.{RefusesSubscribing};
+ghost use Rattle.publisher.specs.Handles.{IsUnused, RefusesSubscribing};
 
-use crate::caller::Caller;
+use crate::dispatcher::Dispatcher;
+use crate::job::ConsumerTask;
 use crate::note::Note;
-use crate::shared::{ConsumerTask, Shared};
+use crate::shared::Shared;
 use crate::state::Subscribed;
 use crate::submitter::Submitter;
 use crate::subscription::Subscription;
 use async_pool::Pool;
 use flow_rules::{Ending, FailHandler, LastFailure, Listener, Name, Refusal};
+pub use making::PublisherOptions;
 use std::alloc::Global;
 use std::fmt;
 use std::marker::Model;
@@ -52,6 +57,7 @@ impl<L: Ledger + Send, D: Ledger + Send, B: Listener + Send, F: FailHandler + Se
     ghost view = { λ p. record {
       closing = cell_name (arc_value (arc_value p.shared).closing);
       workers = pool_workers (arc_value p.pool);
+      capacity = (arc_value p.shared).capacity;
       order = (arc_value p.shared).order;
     } };
 }
@@ -70,12 +76,14 @@ impl<L: Ledger + Send, D: Ledger + Send, B: Listener + Send, F: FailHandler + Se
     }
 
     /// Tells the capacity of each buffer (`SubmissionPublisher.getMaxBufferCapacity`).
-    pub fn max_buffer_capacity(&self) -> usize {
+    pub fn max_buffer_capacity(&self) -> usize
+        ensures { result ≡ self.now.capacity }
+    {
         self.shared.capacity
     }
 
-    /// Tells whether the publisher is closed (`SubmissionPublisher.isClosed`). It takes no lock, and answers while another call has it. The note
-    /// knows of the close then if the answer is true.
+    /// Tells whether the publisher is closed (`SubmissionPublisher.isClosed`). It takes no lock, and answers while
+    /// another call has it. The note knows of the close then if the answer is true.
     pub fn is_closed(&self, note: &mut Note) -> bool
         requires { note.old.cell ≡ self.now.closing }
         ensures cell { note.new.cell ≡ note.old.cell }
@@ -85,18 +93,19 @@ impl<L: Ledger + Send, D: Ledger + Send, B: Listener + Send, F: FailHandler + Se
         self.closed_with(note).is_some()
     }
 
-    /// Tells how the publisher is closed, if it is (`SubmissionPublisher.getClosedException`). It takes no lock, and the note knows then what it
-    /// answers. A note that knows gets the same answer for good.
+    /// Tells how the publisher is closed, if it is (`SubmissionPublisher.getClosedException`). It takes no lock, and
+    /// the note knows then what it answers. A note that knows gets the same answer for good.
     pub fn closed_with(&self, note: &mut Note) -> Option<Ending>
         requires { note.old.cell ≡ self.now.closing }
         ensures cell { note.new.cell ≡ note.old.cell }
         ensures tells { result ≡ note.new.known }
         ensures same { IfSome note.old.known (λ ending. note.new.known ≡ Some ending) }
     {
-        note.look(&self.shared.closing)
+        note.read(&self.shared.closing)
     }
 
-    /// Tells the longest backlog of any live subscription, in items, and 0 if there is none (`SubmissionPublisher.estimateMaximumLag`).
+    /// Tells the longest backlog of any live subscription, in items, and 0 if there is none
+    /// (`SubmissionPublisher.estimateMaximumLag`).
     pub fn estimate_maximum_lag<R: Wait>(&self, rt: &R) -> u64 {
         self.shared.lock(rt).max_lag()
     }
@@ -113,8 +122,9 @@ impl<L: Ledger + Send, D: Ledger + Send, B: Listener + Send, F: FailHandler + Se
 
     /// Subscribes a subscriber that was told nothing (`SubmissionPublisher.subscribe`).
     ///
-    /// Refused, with the subscriber back: 5 if a growth is refused; 3 if a live subscription has the name, whose subscriber is told of
-    /// it; 4 if 64 are live; 13 after the last possible subscription or ticket; and 5 if a later growth is refused.
+    /// Refused, with the subscriber back: 5 if a growth is refused; 3 if a live subscription has the name, whose
+    /// subscriber is told of it; 4 if 64 are live; 13 after the last possible subscription or ticket; and 5 if a later
+    /// growth is refused.
     pub fn subscribe<R: Wait>(
         &self,
         rt: &R,
@@ -122,13 +132,15 @@ impl<L: Ledger + Send, D: Ledger + Send, B: Listener + Send, F: FailHandler + Se
         name: Name,
         subscriber: B,
     ) -> Result<Subscription<L, D, B, F>, (Refusal, B)>
-        requires { B.told subscriber ≡ [] }
+        requires untold { B.told subscriber ≡ [] }
+        requires unheard { B.replied subscriber ≡ [] }
         ensures order { IfOk result
             (λ subscription. subscription.handle.order ≡ self.now.order) }
+        ensures unused { IfOk result (λ subscription. IsUnused subscription.handle) }
         ensures refusals { IfErr result (λ refused. RefusesSubscribing refused.0) }
         ensures back { IfErr result (λ refused. refused.1 ≡ subscriber) }
     {
-        let Ok(mut caller) = Caller::new(alloc, &self.shared, &self.pool) else {
+        let Ok(mut dispatcher) = Dispatcher::new(alloc, &self.shared, &self.pool) else {
             return Err((Refusal::NoMemory, subscriber));
         };
         let mut due = Vec::new(alloc);
@@ -136,14 +148,14 @@ impl<L: Ledger + Send, D: Ledger + Send, B: Listener + Send, F: FailHandler + Se
             .shared
             .lock(rt)
             .subscribe(alloc, name, self.shared.order, subscriber, &mut due);
-        caller.start_all(rt, &mut due);
+        dispatcher.start_all(rt, &mut due);
         let Subscribed {
             entry,
             handle,
             task,
         } = subscribed?;
-        caller.start(rt, entry, task);
-        Ok(Subscription::new(caller, entry, handle))
+        dispatcher.start(rt, entry, task);
+        Ok(Subscription::new(dispatcher, entry, handle))
     }
 
     /// Makes one more source of publications, which knows of the close if the note does.
@@ -164,9 +176,83 @@ impl<L: Ledger + Send, D: Ledger + Send, B: Listener + Send, F: FailHandler + Se
         ensures refusals { IfErr result
             (λ refusal. (refusal ≡ Refusal.NoMemory) ⊎ (refusal ≡ Refusal.TooMany)) }
     {
-        let caller = Caller::new(alloc, &self.shared, &self.pool)?;
+        let dispatcher = Dispatcher::new(alloc, &self.shared, &self.pool)?;
         let closing = Arc::try_clone(&self.shared.closing)?;
         let own = self.shared.lock(rt).next_source()?;
-        Ok(Submitter::new(alloc, caller, closing, own, note.again()))
+        Ok(Submitter::new(alloc, dispatcher, closing, own, note.again()))
+    }
+
+    /// Closes the publisher (`SubmissionPublisher.close`): each subscriber gets what its buffer holds, as far as it
+    /// requests that, and completes after the last item. Only the first close does anything; the note knows then which
+    /// that was. A close by a note that knows of one already takes no lock and no memory.
+    ///
+    /// Refused 5 if a growth is refused; nothing has changed then.
+    pub fn close<R: Wait>(&self, rt: &R, alloc: Global, note: &mut Note) -> Result<(), Refusal>
+        requires { note.old.cell ≡ self.now.closing }
+        ensures cell { note.new.cell ≡ note.old.cell }
+        ensures known { IsSome note.old.known → IsOk result }
+        ensures knows { OnOk result (IsSome note.new.known) }
+        ensures same { IfSome note.old.known (λ ending. note.new.known ≡ Some ending) }
+        ensures unchanged { OnErr result (note.new ≡ note.old) }
+        ensures refusals { IfErr result (λ refusal. refusal ≡ Refusal.NoMemory) }
+    {
+        self.close_with(rt, alloc, note, Ending::Normal)
+    }
+
+    /// Closes the publisher with an error (`SubmissionPublisher.closeExceptionally`): each subscriber is told it at
+    /// the next look of its task, ahead of the items that its buffer holds still; or after these, if the publisher's
+    /// options say so. In all else it does what [`close`](Publisher::close) does.
+    pub fn close_exceptionally<R: Wait>(
+        &self,
+        rt: &R,
+        alloc: Global,
+        note: &mut Note,
+        code: u32,
+    ) -> Result<(), Refusal>
+        requires { note.old.cell ≡ self.now.closing }
+        ensures cell { note.new.cell ≡ note.old.cell }
+        ensures known { IsSome note.old.known → IsOk result }
+        ensures knows { OnOk result (IsSome note.new.known) }
+        ensures same { IfSome note.old.known (λ ending. note.new.known ≡ Some ending) }
+        ensures unchanged { OnErr result (note.new ≡ note.old) }
+        ensures refusals { IfErr result (λ refusal. refusal ≡ Refusal.NoMemory) }
+    {
+        self.close_with(rt, alloc, note, Ending::Failed(code))
+    }
+
+    /// Waits until the publisher is closed and each subscription from before the close has ended. It requests, cancels
+    /// and closes nothing by itself: if a subscriber requests less than was published, it waits for ever.
+    pub fn wait_drained<R: Wait>(&self, rt: &R) {
+        let _drained = self.shared.wait_for_drain(rt);
+    }
+
+    /// Closes the publisher with this ending.
+    fn close_with<R: Wait>(
+        &self,
+        rt: &R,
+        alloc: Global,
+        note: &mut Note,
+        ending: Ending,
+    ) -> Result<(), Refusal>
+        requires { note.old.cell ≡ self.now.closing }
+        ensures cell { note.new.cell ≡ note.old.cell }
+        ensures known { IsSome note.old.known → IsOk result }
+        ensures knows { OnOk result (IsSome note.new.known) }
+        ensures same { IfSome note.old.known (λ ending. note.new.known ≡ Some ending) }
+        ensures unchanged { OnErr result (note.new ≡ note.old) }
+        ensures refusals { IfErr result (λ refusal. refusal ≡ Refusal.NoMemory) }
+    {
+        if note.known(&self.shared.closing).is_some() {
+            return Ok(());
+        }
+        let mut made = Box::new(alloc, ending)?;
+        let mut dispatcher = Dispatcher::new(alloc, &self.shared, &self.pool)?;
+        let mut due = Vec::new(alloc);
+        let mut state = self.shared.lock(rt);
+        *made = state.close(ending, &mut due)?;
+        note.learn(&self.shared.closing, made);
+        self.shared.state.unlock_and_wake(state);
+        dispatcher.start_all(rt, &mut due);
+        Ok(())
     }
 }

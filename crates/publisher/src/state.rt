@@ -1,37 +1,34 @@
-//! What stands behind a publisher's lock. Each call of it is made while the lock is held once.
-mod batches;
-mod closing;
-mod finding;
-mod finishing;
-mod naming;
-mod publishing;
-mod reclaiming;
-mod shares;
-mod standing;
-mod subscribing;
-mod tickets;
+//! What stands behind a publisher's lock: each call of it is made while the lock is held once.
+//!
+//! Nothing here waits or calls a subscriber. How threads take the lock and sleep stands in `lock`, and what they do
+//! around it in the modules beside this one.
+mod close;
+mod lock;
+mod look;
+mod publish;
+mod sources;
+mod subscribe;
+mod take_out;
 mod waiters;
 
 ghost use Rattle.std.specs.Prelude.{◌≡◌, ◌⊎◌, ◌<◌, ◌↔◌, zero, Err, IfErr, IfOk};
 ghost use Rattle.flow_rules.specs.declared.refusal.Refusal.TheVariants as Refusal;
+ghost use Rattle.flow_rules.specs.Capacity.{capacity_of};
 ghost use Rattle.publisher.specs.Blanks.{IsBlankOf};
 
-pub(crate) use batches::Stopped;
 use close_count::{Count, Spent};
 use feed_cell::Producer;
-pub(crate) use finding::{Found, Taken};
-pub(crate) use finishing::{Books, Room};
 use flow_rules::{Listener, Refusal, capacity};
+pub(crate) use lock::StateLock;
+pub(crate) use look::{Drained, Ended};
+pub(crate) use publish::{Refused, Stopped};
 use publisher_hub::Hub;
-pub use publishing::Own;
+pub use sources::Own;
 use std::alloc::Global;
 use std::marker::Model;
 use std::sync::ledger::{Blank, Book, Ledger, Share};
-pub(crate) use subscribing::Subscribed;
-pub(crate) use waiters::{Reason, Waiter, Waiters, Wake};
-
-/// The most submitters of a publisher.
-pub(crate) const SOURCES: usize = 256;
+pub(crate) use subscribe::Subscribed;
+pub(crate) use waiters::{LoopsEnded, Reason, Waiters};
 
 /// The parts of each ledger: one for each of 256 submitters, and one that stays behind the lock.
 pub const PARTS: u64 = 257;
@@ -49,9 +46,11 @@ pub struct State<L: Ledger, D: Ledger, B: Listener> {
     /// How many submitters and subscriptions were made.
     sources: u32,
     entries: u32,
-    /// How many subscriptions were made before the close, once the publisher is closed. These have tickets, and later ones don't.
+    /// How many subscriptions were made before the close, once the publisher is closed. These have tickets, and later
+    /// ones don't.
     counted: Option<u32>,
-    /// What is left of the last ticket of the count, once that was spent. The opening is one until the close, so that is after it.
+    /// What is left of the last ticket of the count, once that was spent. Until the close the opening is a ticket, so
+    /// this comes after it.
     last: Option<Spent>,
     /// Who waits for what others do.
     waiters: Waiters,
@@ -63,7 +62,12 @@ impl<L: Ledger, D: Ledger, B: Listener> Model for State<L, D, B> {
 
     ghost Value = { PublisherState };
 
-    ghost view = { λ s. record { hub = s.hub; counted = s.counted; last = s.last } };
+    ghost view = { λ s. record {
+      hub = s.hub;
+      counted = s.counted;
+      last = s.last;
+      waiters = s.waiters;
+    } };
 
     ghost invariant = { λ s. IsState (hub_of producer_end s.hub) (record {
       published = s.published.total;
@@ -80,7 +84,8 @@ impl<L: Ledger, D: Ledger, B: Listener> Model for State<L, D, B> {
 }
 
 impl<L: Ledger, D: Ledger, B: Listener> State<L, D, B> {
-    /// What stands behind the lock of a new publisher, whose buffers have the capacity that is enforced if this one is asked for.
+    /// Makes what stands behind the lock of a new publisher, whose buffers have the capacity that is enforced if this
+    /// one is asked for.
     ///
     /// Refused 1 if that is 0, and 5 if a growth is refused.
     pub fn new(
@@ -92,6 +97,7 @@ impl<L: Ledger, D: Ledger, B: Listener> State<L, D, B> {
         requires publications { IsBlankOf publications L.name L.parts }
         requires drops { IsBlankOf drops D.name D.parts }
         ensures bad_capacity { (result ≡ Err Refusal.BadCapacity) ↔ (asked ≡ 0) }
+        ensures capacity { IfOk result (λ state. state.hub.capacity ≡ capacity_of asked) }
         ensures refusals { IfErr result
             (λ refusal. (refusal ≡ Refusal.BadCapacity) ⊎ (refusal ≡ Refusal.NoMemory)) }
     {
@@ -114,7 +120,7 @@ impl<L: Ledger, D: Ledger, B: Listener> State<L, D, B> {
         })
     }
 
-    /// The capacity of each buffer.
+    /// Tells the capacity of each buffer.
     pub fn capacity(&self) -> usize
         ensures { result ≡ self.now.hub.capacity }
     {

@@ -1,4 +1,6 @@
-//! One source of publications.
+//! A submitter: a source of publications, and what it learns of the close.
+//!
+//! It waits here, outside the lock, as long as there is no room. What is published behind the lock stands in `state`.
 mod several;
 
 ghost use Rattle.std.specs.Arc.{arc_value};
@@ -6,19 +8,19 @@ ghost use Rattle.once_cell.specs.Once.{cell_name};
 ghost use Rattle.std.specs.Prelude.{◌≡◌, ◌+◌, ◌<◌, ◌≤◌, ◌↔◌, is_some, None, Err, IfErr, IfOk, IfSome, OnErr, OnOk, length};
 ghost use Rattle.flow_rules.specs.declared.refusal.Refusal.TheVariants as Refusal;
 ghost use Rattle.flow_rules.specs.declared.text.TheConstants.Text.{LONGEST};
-ghost use Rattle.publisher.specs.Handles.{IsHubRefusal, RefusesPublication, told_by};
-ghost use Rattle.publisher.specs.Publishing.{drop_of};
+ghost use Rattle.publisher.specs.Handles.{IsHubRefusal, RefusesPublication, after_refusal};
+ghost use Rattle.publisher.specs.Submitting.{CountsOffer, RefusesKnown, RefusesLong};
 
-use crate::caller::Caller;
+use crate::dispatcher::Dispatcher;
 use crate::note::Note;
-use crate::state::Own;
+use crate::state::{Own, Refused};
 use crossbeam_utils::Backoff;
 use feed_cell::Task;
 use flow_rules::{
     DropHandler, Ending, FailHandler, LastFailure, Listener, NoMemory, Refusal, Text,
 };
 use once_cell::race::OnceBox;
-use publisher_hub::{Unpublished, Work};
+use publisher_hub::Work;
 pub use several::Unsent;
 use std::alloc::Global;
 use std::fmt;
@@ -26,7 +28,7 @@ use std::marker::Model;
 use std::sync::ledger::Ledger;
 use std::sync::{Arc, Wait};
 
-/// One source of a publisher's items, with what it was told of the close. [`finish`](crate::finish) takes it back.
+/// A source of a publisher's items, with what it was told of the close. [`finish`](crate::finish) takes it back.
 #[derive(Drop)]
 pub struct Submitter<
     L: Ledger + Send,
@@ -34,7 +36,7 @@ pub struct Submitter<
     B: Listener + Send,
     F: FailHandler + Send = LastFailure,
 > {
-    caller: Caller<L, D, B, F>,
+    dispatcher: Dispatcher<L, D, B, F>,
     /// Where its note looks.
     closing: Arc<OnceBox<Ending>>,
     /// Its number, and its shares of the ledgers.
@@ -77,10 +79,10 @@ impl<L: Ledger + Send, D: Ledger + Send, B: Listener + Send, F: FailHandler + Se
     B,
     F,
 > {
-    /// That of a source, with this note.
+    /// Makes that of a source, with this note.
     pub(crate) fn new(
         alloc: Global,
-        caller: Caller<L, D, B, F>,
+        dispatcher: Dispatcher<L, D, B, F>,
         closing: Arc<OnceBox<Ending>>,
         own: Own<L, D>,
         note: Note,
@@ -95,7 +97,7 @@ impl<L: Ledger + Send, D: Ledger + Send, B: Listener + Send, F: FailHandler + Se
         } }
     {
         Submitter {
-            caller,
+            dispatcher,
             closing,
             own,
             note,
@@ -104,34 +106,34 @@ impl<L: Ledger + Send, D: Ledger + Send, B: Listener + Send, F: FailHandler + Se
     }
 
     /// Publishes a text to all live subscriptions at once, and waits as long as one of them has no room
-    /// (`SubmissionPublisher.submit`). The answer is the greatest lag, in items.
+    /// (`SubmissionPublisher.submit`). The answer is the longest backlog of any live subscription, in items.
     ///
-    /// Refused 2 if it knows of the close; 6 if the text has more than [`Text::LONGEST`] bytes; 5 if a growth is refused; 2 if the
-    /// publisher is closed, and from then on it knows; and 13 once as many publications were made as may be.
+    /// Refused 2 if it knows of the close; 6 if the text has more than [`Text::LONGEST`] bytes; 5 if a growth is
+    /// refused; 2 if the publisher is closed, and from then on it knows; and 13 after the last possible publication.
     pub fn submit<R: Wait>(&mut self, rt: &R, alloc: Global, text: &[u8]) -> Result<u64, Refusal>
-        ensures known { IfSome self.old.known
-            (λ ending. (result ≡ Err (Refusal.Closed ending)) × (self.new ≡ self.old)) }
-        ensures long { self.old.known ≡ None → (result ≡ Err Refusal.LineTooLong)
-            ↔ (LONGEST < length text.now) }
+        ensures known { RefusesKnown result self.old self.new }
+        ensures long { RefusesLong result self.old text.now }
         ensures ok { OnOk result (self.new ≡ record self.old
             { published = self.old.published + 1 }) }
-        ensures unchanged { IfErr result (λ refusal. self.new ≡ told_by refusal self.old) }
+        ensures unchanged { IfErr result (λ refusal. self.new ≡ after_refusal refusal self.old) }
         ensures refusals { IfErr result (λ refusal. RefusesPublication refusal self.new.known) }
     {
         let text = self.admit(alloc, text)?;
         match self.publish(rt, text) {
             Ok(lag) => Ok(lag),
-            Err(refusal) => Err(self.hear(alloc, refusal)),
+            Err(refused) => Err(self.hear(alloc, refused)),
         }
     }
 
-    /// Gives a text to all live subscriptions that have room, and drops it at the others (`SubmissionPublisher.offer`). If a buffer is
-    /// full the handler is asked, and if that answers true the text is offered once more. The answer is the greatest lag, in items, or
-    /// minus the number of drops.
+    /// Gives a text to all live subscriptions that have room, and drops it at the others
+    /// (`SubmissionPublisher.offer`). If a buffer is full the handler is asked, and if that answers true the text is
+    /// offered once more. The answer is the longest backlog of any live subscription, in items, or minus the number of
+    /// drops.
     ///
-    /// The handler runs while the publisher's lock is held, which turns, requests and cancels of other threads don't need. So it may wait
-    /// until another thread has made room, and the second try succeeds then. It may not call the publisher; and a request or a cancel
-    /// of its own waits for ever where the pool takes no task: once [`finish`](crate::finish) was called, or while 1,024 tasks wait.
+    /// The handler runs while the publisher's lock is held, which turns, requests and cancels of other threads don't
+    /// need. So it may wait until another thread has made room, and the second try succeeds then. It may not call the
+    /// publisher; and a request or a cancel of its own waits for ever if the pool takes no task: once
+    /// [`finish`](crate::finish) was called, or while 1,024 tasks wait.
     ///
     /// It is refused as [`submit`](Submitter::submit) is.
     pub fn offer<R: Wait>(
@@ -141,23 +143,17 @@ impl<L: Ledger + Send, D: Ledger + Send, B: Listener + Send, F: FailHandler + Se
         text: &[u8],
         handler: Option<&mut Box<dyn DropHandler>>,
     ) -> Result<i64, Refusal>
-        ensures known { IfSome self.old.known
-            (λ ending. (result ≡ Err (Refusal.Closed ending)) × (self.new ≡ self.old)) }
-        ensures long { self.old.known ≡ None → (result ≡ Err Refusal.LineTooLong)
-            ↔ (LONGEST < length text.now) }
-        ensures ok { IfOk result (λ answer. self.new
-            ≡ record self.old {
-              published = self.old.published + 1;
-              dropping = self.old.dropping
-                  + drop_of answer;
-            }) }
-        ensures unchanged { IfErr result (λ refusal. self.new ≡ told_by refusal self.old) }
+        ensures known { RefusesKnown result self.old self.new }
+        ensures long { RefusesLong result self.old text.now }
+        ensures ok { IfOk result (λ answer. CountsOffer answer self.old self.new) }
+        ensures unchanged { IfErr result (λ refusal. self.new ≡ after_refusal refusal self.old) }
         ensures refusals { IfErr result (λ refusal. RefusesPublication refusal self.new.known) }
     {
         self.offer_to(rt, alloc, text, handler)
     }
 
-    /// Does what [`offer`](Submitter::offer) does with a drop handler of any type, which the caller can look at afterwards.
+    /// Does what [`offer`](Submitter::offer) does with a drop handler of any type, which the caller can look at
+    /// afterwards.
     ///
     /// It is refused as [`submit`](Submitter::submit) is.
     pub fn offer_with<R: Wait, H: DropHandler>(
@@ -167,17 +163,10 @@ impl<L: Ledger + Send, D: Ledger + Send, B: Listener + Send, F: FailHandler + Se
         text: &[u8],
         handler: &mut H,
     ) -> Result<i64, Refusal>
-        ensures known { IfSome self.old.known
-            (λ ending. (result ≡ Err (Refusal.Closed ending)) × (self.new ≡ self.old)) }
-        ensures long { self.old.known ≡ None → (result ≡ Err Refusal.LineTooLong)
-            ↔ (LONGEST < length text.now) }
-        ensures ok { IfOk result (λ answer. self.new
-            ≡ record self.old {
-              published = self.old.published + 1;
-              dropping = self.old.dropping
-                  + drop_of answer;
-            }) }
-        ensures unchanged { IfErr result (λ refusal. self.new ≡ told_by refusal self.old) }
+        ensures known { RefusesKnown result self.old self.new }
+        ensures long { RefusesLong result self.old text.now }
+        ensures ok { IfOk result (λ answer. CountsOffer answer self.old self.new) }
+        ensures unchanged { IfErr result (λ refusal. self.new ≡ after_refusal refusal self.old) }
         ensures refusals { IfErr result (λ refusal. RefusesPublication refusal self.new.known) }
     {
         self.offer_to(rt, alloc, text, Some(handler))
@@ -191,42 +180,36 @@ impl<L: Ledger + Send, D: Ledger + Send, B: Listener + Send, F: FailHandler + Se
         text: &[u8],
         handler: Option<&mut H>,
     ) -> Result<i64, Refusal>
-        ensures known { IfSome self.old.known
-            (λ ending. (result ≡ Err (Refusal.Closed ending)) × (self.new ≡ self.old)) }
-        ensures long { self.old.known ≡ None → (result ≡ Err Refusal.LineTooLong)
-            ↔ (LONGEST < length text.now) }
-        ensures ok { IfOk result (λ answer. self.new
-            ≡ record self.old {
-              published = self.old.published + 1;
-              dropping = self.old.dropping
-                  + drop_of answer;
-            }) }
-        ensures unchanged { IfErr result (λ refusal. self.new ≡ told_by refusal self.old) }
+        ensures known { RefusesKnown result self.old self.new }
+        ensures long { RefusesLong result self.old text.now }
+        ensures ok { IfOk result (λ answer. CountsOffer answer self.old self.new) }
+        ensures unchanged { IfErr result (λ refusal. self.new ≡ after_refusal refusal self.old) }
         ensures refusals { IfErr result (λ refusal. RefusesPublication refusal self.new.known) }
     {
         let text = self.admit(alloc, text)?;
         let Submitter {
-            caller,
+            dispatcher,
             own,
             due,
             ..
         } = self;
-        match caller.offer(rt, own, text, handler, due) {
+        let answer = dispatcher.shared.lock(rt).offer(own, text, handler, due);
+        dispatcher.start_all(rt, due);
+        match answer {
             Ok(answer) => Ok(answer),
-            Err(refusal) => Err(self.hear(alloc, refusal)),
+            Err(refused) => Err(self.hear(alloc, refused)),
         }
     }
 
-    /// The text of a publication, if it need not be refused before the lock.
+    /// Gives the text of a publication, unless that is refused before the lock is taken.
     fn admit(&mut self, alloc: Global, text: &[u8]) -> Result<Text, Refusal>
         ensures same { self.new ≡ self.old }
         ensures unknown { OnOk result (self.old.known ≡ None) }
         ensures fits { OnOk result (length text.now ≤ LONGEST) }
         ensures text { IfOk result (λ it. it ≡ text.now) }
         ensures known { IfSome self.old.known (λ ending. result ≡ Err (Refusal.Closed ending)) }
-        ensures long { self.old.known ≡ None → (result ≡ Err Refusal.LineTooLong)
-            ↔ (LONGEST < length text.now) }
-        ensures unchanged { IfErr result (λ refusal. self.new ≡ told_by refusal self.old) }
+        ensures long { RefusesLong result self.old text.now }
+        ensures unchanged { IfErr result (λ refusal. self.new ≡ after_refusal refusal self.old) }
         ensures refusals { IfErr result (λ refusal. RefusesPublication refusal self.new.known) }
     {
         if let Some(ending) = self.note.known(&self.closing) {
@@ -239,14 +222,13 @@ impl<L: Ledger + Send, D: Ledger + Send, B: Listener + Send, F: FailHandler + Se
     }
 
     /// Publishes a text, and waits as long as there is no room.
-    fn publish<R: Wait>(&mut self, rt: &R, text: Text) -> Result<u64, Refusal>
+    fn publish<R: Wait>(&mut self, rt: &R, text: Text) -> Result<u64, Refused>
         ensures ok { OnOk result (self.new ≡ record self.old
             { published = self.old.published + 1 }) }
         ensures unchanged { OnErr result (self.new ≡ self.old) }
-        ensures reasons { IfErr result (λ refusal. IsHubRefusal refusal) }
     {
         let Submitter {
-            caller,
+            dispatcher,
             own,
             due,
             ..
@@ -255,25 +237,25 @@ impl<L: Ledger + Send, D: Ledger + Send, B: Listener + Send, F: FailHandler + Se
         let mut looks = 0;
         let backoff = Backoff::new();
         for _ in rt.forever() {
-            match caller.publish(rt, own, text, due) {
+            let published = dispatcher.shared.lock(rt).publish(own, text, due);
+            dispatcher.start_all(rt, due);
+            match published {
                 Ok(lag) => return Ok(lag),
-                Err(Unpublished::Refused(refusal)) => return Err(refusal),
-                Err(Unpublished::NoRoom(back)) => text = back,
+                Err(why) => text = why.text()?,
             }
-            looks = caller.pause(rt, looks, &backoff);
+            looks = dispatcher.pause(rt, looks, &backoff);
         }
         unreachable!()
     }
 
-    /// Learns what a refusal of the Hub tells of the close. The answer is the refusal, with the ending that all learn; or 5, if memory was refused for
-    /// keeping that.
-    fn hear(&mut self, alloc: Global, refusal: Refusal) -> Refusal
-        requires { IsHubRefusal refusal }
+    /// Learns what a refusal of the Hub tells of the close. The answer is the refusal, with the ending that all learn;
+    /// or 5, if memory was refused for keeping that.
+    fn hear(&mut self, alloc: Global, refused: Refused) -> Refusal
         ensures reason { IsHubRefusal result }
-        ensures told { self.new ≡ told_by result self.old }
+        ensures told { self.new ≡ after_refusal result self.old }
         ensures refusals { RefusesPublication result self.new.known }
     {
-        match refusal {
+        match refused.refusal() {
             Refusal::Closed(ending) => match self.note.hear(alloc, &self.closing, ending) {
                 Ok(ending) => Refusal::Closed(ending),
                 Err(NoMemory) => Refusal::NoMemory,
@@ -282,7 +264,16 @@ impl<L: Ledger + Send, D: Ledger + Send, B: Listener + Send, F: FailHandler + Se
         }
     }
 
-    /// What it owns, and whether it knows that the publisher is closed.
+    /// Gives a note of the publisher that knows of its close if this submitter does, as one to compare with
+    /// ([`Note::compare`]).
+    pub fn note(&mut self) -> Note
+        ensures note { result ≡ record { cell = self.old.closing; known = self.old.known } }
+        ensures same { self.new ≡ self.old }
+    {
+        self.note.again()
+    }
+
+    /// Gives up what it owns, with whether it knows that the publisher is closed.
     pub(crate) fn give_up(self) -> (Own<L, D>, bool)
         ensures source { result.0.source ≡ self.source }
         ensures published { result.0.publications.amount ≡ self.published }
@@ -292,7 +283,7 @@ impl<L: Ledger + Send, D: Ledger + Send, B: Listener + Send, F: FailHandler + Se
         let Submitter {
             own,
             note,
-            caller: _,
+            dispatcher: _,
             closing: _,
             due: _,
         } = self;

@@ -1,5 +1,7 @@
-//! What the owner of a subscription holds.
-use crate::caller::Caller;
+//! A subscription, as its owner has it: to request, to cancel, and to see how it stands.
+//!
+//! Its subscriber is told by turns, which run elsewhere (`job`).
+use crate::dispatcher::Dispatcher;
 use feed_cell::Handle;
 use flow_rules::{FailHandler, LastFailure, Listener, NoMemory};
 use std::fmt;
@@ -7,7 +9,8 @@ use std::marker::Model;
 use std::sync::Wait;
 use std::sync::ledger::Ledger;
 
-/// What the owner of a subscription requests and cancels with (`Flow.Subscription`, Java SE 17). [`finish`](crate::finish) takes it back.
+/// What the owner of a subscription requests and cancels with (`Flow.Subscription`, Java SE 17).
+/// [`finish`](crate::finish) takes it back.
 #[derive(Drop)]
 pub struct Subscription<
     L: Ledger + Send,
@@ -15,7 +18,7 @@ pub struct Subscription<
     B: Listener + Send,
     F: FailHandler + Send = LastFailure,
 > {
-    caller: Caller<L, D, B, F>,
+    dispatcher: Dispatcher<L, D, B, F>,
     entry: u32,
     handle: Handle<B>,
 }
@@ -45,30 +48,30 @@ impl<L: Ledger + Send, D: Ledger + Send, B: Listener + Send, F: FailHandler + Se
     ghost use Rattle.std.specs.Prelude.{◌≡◌, OnErr, OnOk};
     ghost use Rattle.publisher.specs.Handles.{Cancels, Requests};
 
-    /// That of the subscription of this number.
+    /// Makes that of the subscription of this number.
     pub(crate) fn new(
-        caller: Caller<L, D, B, F>,
+        dispatcher: Dispatcher<L, D, B, F>,
         entry: u32,
         handle: Handle<B>,
     ) -> Subscription<L, D, B, F>
         ensures { result ≡ record { entry = entry; handle = handle } }
     {
         Subscription {
-            caller,
+            dispatcher,
             entry,
             handle,
         }
     }
 
-    /// The number of the subscription, from 0 in order of subscription.
+    /// Tells the number of the subscription, from 0 in order of subscription.
     pub fn entry(&self) -> u32
         ensures { result ≡ self.now.entry }
     {
         self.entry
     }
 
-    /// Adds to the demand (`Flow.Subscription.request`; Reactive Streams 1.0, rules 3.6, 3.8, 3.9 and 3.17). A number that is not positive
-    /// ends the subscription with an error. After a cancel this does nothing.
+    /// Adds to the demand (`Flow.Subscription.request`; Reactive Streams 1.0, rules 3.6, 3.8, 3.9 and 3.17). A number
+    /// that is not positive ends the subscription with an error. After a cancel this does nothing.
     ///
     /// `NoMemory` if what a started task needs is refused; nothing has changed then.
     pub fn request<R: Wait>(&mut self, rt: &R, n: i64) -> Result<(), NoMemory>
@@ -78,13 +81,14 @@ impl<L: Ledger + Send, D: Ledger + Send, B: Listener + Send, F: FailHandler + Se
     {
         self.handle.ready()?;
         if let Some(task) = self.handle.request(n) {
-            self.caller.start(rt, self.entry, task);
+            self.dispatcher.start(rt, self.entry, task);
         }
         Ok(())
     }
 
-    /// Ends the subscription (`Flow.Subscription.cancel`; Reactive Streams 1.0, rules 3.5, 3.7 and 3.12): its subscriber is told at most
-    /// `onSubscribe`, if it wasn't yet, and one item more. Only the first cancel does anything.
+    /// Ends the subscription (`Flow.Subscription.cancel`; Reactive Streams 1.0, rules 3.5, 3.7 and 3.12): its
+    /// subscriber is told at most `onSubscribe`, if it wasn't yet, and one item more. Only the first cancel does
+    /// anything.
     ///
     /// `NoMemory` if what a started task needs is refused; nothing has changed then.
     pub fn cancel<R: Wait>(&mut self, rt: &R) -> Result<(), NoMemory>
@@ -94,37 +98,37 @@ impl<L: Ledger + Send, D: Ledger + Send, B: Listener + Send, F: FailHandler + Se
     {
         self.handle.ready()?;
         if let Some(task) = self.handle.cancel() {
-            self.caller.start(rt, self.entry, task);
+            self.dispatcher.start(rt, self.entry, task);
         }
         Ok(())
     }
 
     /// Tells how many items wait for the subscriber; 0 once the subscription has ended.
     pub fn lag<R: Wait>(&self, rt: &R) -> u64 {
-        self.caller.worker.shared.lock(rt).lag(self.entry)
+        self.dispatcher.shared.lock(rt).lag(self.entry)
     }
 
-    /// Tells how many items were requested with this subscription, saturated at 2^63-1. What the subscriber requests by its answers is not
-    /// among them.
+    /// Tells how many items were requested with this subscription, saturated at 2^63-1. What the subscriber requests
+    /// by its answers is not among them.
     pub fn requested(&self) -> u64
         ensures { result ≡ self.now.handle.asked }
     {
         self.handle.requested()
     }
 
-    /// Tells whether the subscription has ended: the subscriber was told `onComplete` or `onError`, a turn has obeyed a cancel, or a callback
-    /// failed or was refused memory.
+    /// Tells whether the subscription has ended: the subscriber was told `onComplete` or `onError`, a turn has obeyed
+    /// a cancel, or a callback failed or was refused memory.
     pub fn has_ended<R: Wait>(&self, rt: &R) -> bool {
-        self.caller.worker.shared.lock(rt).has_ended(self.entry)
+        self.dispatcher.shared.lock(rt).has_ended(self.entry)
     }
 
-    /// Waits until the subscription has ended. It requests and cancels nothing by itself: if items or a completion wait for demand that nobody
-    /// requests, it waits for ever.
+    /// Waits until the subscription has ended. It requests and cancels nothing by itself: if items or a completion
+    /// wait for demand that nobody requests, it waits for ever.
     pub fn wait_end<R: Wait>(&self, rt: &R) {
-        self.caller.worker.shared.wait_for_end(rt, self.entry);
+        let _ended = self.dispatcher.shared.wait_for_end(rt, self.entry);
     }
 
-    /// Its number and its handle.
+    /// Gives up its number and its handle.
     pub(crate) fn into_parts(self) -> (u32, Handle<B>)
         ensures { result ≡ (self.entry, self.handle) }
     {
@@ -132,16 +136,16 @@ impl<L: Ledger + Send, D: Ledger + Send, B: Listener + Send, F: FailHandler + Se
         (entry, handle)
     }
 
-    /// Its number and its handle, and what its owner hands tasks to the pool with.
-    pub(crate) fn into_all(self) -> (Caller<L, D, B, F>, u32, Handle<B>)
+    /// Gives up its number and its handle, and what its owner hands tasks to the pool with.
+    pub(crate) fn into_all(self) -> (Dispatcher<L, D, B, F>, u32, Handle<B>)
         ensures entry { result.1 ≡ self.entry }
         ensures handle { result.2 ≡ self.handle }
     {
         let Subscription {
-            caller,
+            dispatcher,
             entry,
             handle,
         } = self;
-        (caller, entry, handle)
+        (dispatcher, entry, handle)
     }
 }

@@ -1,10 +1,10 @@
 -- A round over the live subscriptions, as far as it has come.
 pub mod Closing
-pub mod Giving
 pub mod Looking
 pub mod Naming
 pub mod Next
 pub mod Preparing
 pub mod Progress
+pub mod Putting
 pub mod Retrying
 pub mod Shares

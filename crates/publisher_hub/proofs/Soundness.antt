@@ -1,6 +1,7 @@
 -- A sound Hub stays sound, call by call.
 pub mod Adding
 pub mod Closing
+pub mod Doubling
 pub mod LeavingOut
 pub mod Lending
 pub mod Looking
@@ -12,5 +13,4 @@ pub mod Replacing
 pub mod SameLists
 pub mod Starting
 pub mod TakingOut
-pub mod Telling
 pub mod Tickets

@@ -1,4 +1,4 @@
--- One subscription, and whether one more may be added.
+-- What is known of a subscription, and whether another one may be added.
 pub mod Admission
 pub mod AfterLooks
 pub mod Ends

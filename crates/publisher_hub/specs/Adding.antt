@@ -13,7 +13,7 @@ goes_on entries number = by (slice_get entries number) where
   by None = false
   by (Some entry) = not entry.retired
 
--- the numbers of those of these that go on
+-- these numbers, without those of subscriptions that don't go on
 abbrev pub live_of : List EntryState → List ℕ → List ℕ
 live_of entries numbers = filter (goes_on entries) numbers
 
@@ -30,7 +30,7 @@ pub record IsFresh (capacity : ℕ) (e : End) : Type 0 where
   pub untaken : e.seen ≡ 0
   pub running : e.over ≡ false
   pub unclosed : e.closing ≡ None
-  pub unasked : e.state ≡ false
+  pub undoubled : e.state ≡ false
   pub is_ready : e.ready ≡ true
 
 -- a new subscription of a Hub whose publications have come this far
@@ -45,7 +45,7 @@ new_entry progress name e ticket = record {
   ticket = ticket;
 }
 
--- a Hub with one subscription more
+-- a Hub with another subscription
 abbrev pub hub_with : EntryState → HubState → HubState
 hub_with entry hub = record hub {
   entries = hub.entries ++ entry ∷ [];

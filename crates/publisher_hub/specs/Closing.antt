@@ -1,10 +1,11 @@
 -- What a close does to each subscription of a Hub, and to the Hub.
-use Rattle.std.specs.Prelude.{◌≡◌, ◌⊎◌, ℕ, true, false, Option, None, Some, List, [], ◌++◌}
+use Rattle.std.specs.Prelude.{◌≡◌, ◌⊎◌, ℕ, true, Option, None, Some, List, [], ◌++◌}
 use Rattle.flow_rules.specs.Call.{Call}
 use Rattle.flow_rules.specs.Feed as Feed
 use Rattle.flow_rules.specs.Feed.{End}
 use Rattle.flow_rules.specs.declared.ending.Ending.{Ending}
 use Rattle.flow_rules.specs.declared.feed.standing.Standing.{Standing}
+use Rattle.publisher_hub.specs.Becoming.{Becomes, Called}
 use Rattle.publisher_hub.specs.Entry.{EntryState}
 use Rattle.publisher_hub.specs.Hub.{HubState, Progress, hub_of}
 use Rattle.publisher_hub.specs.Lists.{Each, EachBy, gather}
@@ -16,13 +17,9 @@ use Rattle.publisher_hub.specs.declared.hub.Hub.{Hub}
 use Rattle.publisher_hub.specs.declared.work.Work.{Work}
 
 -- the producer's end of a live subscription was closed
-pub record WasClosed (ending : Ending) (old new : EntryState) : Type 0 where
-  pub before : End
-  pub after : End
-  pub live : old.retired ≡ false
-  pub was : old.feed ≡ Some before
-  pub closed : after ≡ record before { closing = Some ending; ready = after.ready }
-  pub now : new ≡ record old { feed = Some after }
+abbrev pub WasClosed : Ending → EntryState → EntryState → Type 0
+WasClosed ending old new =
+    Becomes (λ e f. f ≡ record e { closing = Some ending; ready = f.ready }) old new
 
 -- what a close leaves of a subscription
 abbrev pub IsClosedBy : Ending → EntryState → EntryState → Type 0
@@ -32,7 +29,7 @@ IsClosedBy ending old new = StaysRetired old new ⊎ WasClosed ending old new
 abbrev pub progress_closed : Ending → Progress → Progress
 progress_closed ending progress = record progress { ending = Some ending }
 
--- a Hub without an ending was closed: each live subscription was, and the opening ticket is taken out
+-- a Hub without an ending was closed: each live subscription was closed, and the opening ticket is taken out
 pub record IsClosed (ending : Ending) (old new : HubState) : Type 0 where
   pub unclosed : old.progress.ending ≡ None
   pub rest : new ≡ record old {
@@ -59,14 +56,10 @@ started_by_ends answers = gather started_by_end 0 answers
 
 module _ {F T : Type 0} (meaning : F → End) (does : F → Call T → F → Type 0) where
   -- the producer's end of a live subscription was closed once, which answered this task
-  pub record Closed (ending : Ending) (start : Option T) (old new : Entry F) : Type 0 where
-    pub before : F
-    pub after : F
-    pub live : old.retired ≡ false
-    pub was : old.feed ≡ Some before
-    pub means : Feed.Ends (meaning before) ending start (meaning after)
-    pub exact : does before (Call.Ends ending start) after
-    pub now : new ≡ record old { feed = Some after }
+  abbrev pub Closed : Ending → Option T → Entry F → Entry F → Type 0
+  Closed ending start old new =
+      Called meaning does (λ e f. Feed.Ends e ending start f) (Call.Ends ending start)
+      (λ after. record old { feed = Some after }) old new
 
   -- what a close did at any subscription: a retired one is left alone
   abbrev pub Closes : Ending → AtClose T → Entry F → Entry F → Type 0
@@ -80,8 +73,8 @@ module _ {F T : Type 0} (meaning : F → End) (does : F → Call T → F → Typ
     pub each : EachBy (Closes ending) answers xs ys
     pub due : due_after ≡ due_before ++ started_by_ends answers
 
-  -- the first close of a Hub: all live subscriptions were looked at and made ready, which left the middle list; then each that goes on was
-  -- closed; the ending is set and the opening ticket taken out, and nothing else changed
+  -- the first close of a Hub: all live subscriptions were looked at and made ready, which left the middle list; then
+  -- each that goes on was closed; the ending is set and the opening ticket taken out, and nothing else changed
   pub record ClosesAll (ending : Ending) (due_before due_after : List (Work T)) (old new : Hub F)
       : Type 0 where
     pub middle : List (Entry F)

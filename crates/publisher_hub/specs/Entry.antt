@@ -1,11 +1,11 @@
--- One subscription of a Hub, as its clauses see it.
+-- A subscription of a Hub, as its clauses see it: its producer's end is what the publisher knows of it.
 use Rattle.std.specs.Prelude.{ℕ, Bool, Option, option_map, if◌then◌else◌, List}
 use Rattle.close_count.specs.declared.ticket.Ticket.{Ticket}
 use Rattle.flow_rules.specs.Feed.{End}
 use Rattle.publisher_hub.specs.declared.entry.Entry.{Entry}
 
--- a subscription: its name; the next serial number when it was subscribed, and when it was retired; how many publications it
--- dropped; whether it was retired; what the publisher knows of its producer's end; and its ticket
+-- a subscription: its name; the next serial number when it was subscribed, and when it was retired; how many
+-- publications it dropped; whether it was retired; what the publisher knows of its producer's end; and its ticket
 pub record EntryState : Type 0 where
   pub name : List ℕ
   pub since : ℕ

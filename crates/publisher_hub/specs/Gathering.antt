@@ -6,7 +6,7 @@ use Rattle.flow_rules.specs.declared.feed.put.Put.{Put}
 use Rattle.flow_rules.specs.declared.feed.put.Put.TheVariants.{Accepted, Full}
 use Rattle.flow_rules.specs.declared.item.Item.{Item}
 use Rattle.publisher_hub.specs.Lists.{gather, greatest}
-use Rattle.publisher_hub.specs.declared.rounds.gathering.Gathering.{Gathering}
+use Rattle.publisher_hub.specs.declared.hub.gathering.Gathering.{Gathering}
 use Rattle.publisher_hub.specs.declared.work.Work.{Work}
 
 -- a started task, with the number of its subscription
@@ -14,7 +14,8 @@ abbrev pub work_of : {T : Type 0} → ℕ → Option T → List (Work T)
 work_of number None = []
 work_of number (Some task) = record { entry = number; task = task } ∷ []
 
--- what one put gathers: the task that it started, the lag that it answered, the number of a subscription whose buffer was full
+-- what a put gathers: the task that it started, the lag that it answered, the number of a subscription whose buffer was
+-- full
 abbrev pub started_by : {T : Type 0} → ℕ → Option (Put T) → List (Work T)
 started_by number (Some (Accepted lag start)) = work_of number start
 started_by number _ = []
@@ -37,8 +38,8 @@ lags puts = gather lag_by 0 puts
 abbrev pub missed : {T : Type 0} → List (Option (Put T)) → List ℕ
 missed puts = gather missed_by 0 puts
 
--- what a second pass did at a subscription: nothing, if it had not missed the item; else its drop stands without a second try,
--- or it was offered the item once more and answered so
+-- what a second pass did at a subscription: nothing, if it had not missed the item; else its drop stands without a
+-- second try, or it was offered the item once more, with this answer
 abbrev pub Second : Type 0 → Type 0
 Second T = Option (Option (Put T))
 
@@ -72,9 +73,9 @@ abbrev pub stands : {T : Type 0} → Option (Put T) → Second T
 stands (Some (Full back)) = Some None
 stands put = None
 
--- the second pass did something at these numbers, and nowhere else
-pub record AreAsked {T : Type 0} (numbers : List ℕ) (seconds : List (Second T)) : Type 0 where
-  pub asked : (i k : ℕ) (second : Second T) → slice_get numbers i ≡ Some k
+-- the second pass came back to these numbers, and to no others
+pub record AreRevisited {T : Type 0} (numbers : List ℕ) (seconds : List (Second T)) : Type 0 where
+  pub revisited : (i k : ℕ) (second : Second T) → slice_get numbers i ≡ Some k
       → slice_get seconds k ≡ Some second → IsSome second
   pub others : (k : ℕ) (second : Second T) → slice_get seconds k ≡ Some second → IsSome second
       → (i : ℕ) × (slice_get numbers i ≡ Some k)
@@ -88,14 +89,15 @@ abbrev pub back_by : {T : Type 0} → Option (Put T) → List Item
 back_by (Some (Full back)) = back ∷ []
 back_by _ = []
 
--- there are this many more places: for the tasks that start, now and in a second try, for the numbers of full buffers, and shares
-pub record HasRoom {T : Type 0} (many : ℕ) (gathering : Gathering) (due : Vec (Work T) Global)
+-- there are this many more places: for the tasks that start, now and in a second try, for the numbers of full buffers,
+-- and shares
+pub record CanGather {T : Type 0} (many : ℕ) (gathering : Gathering) (due : Vec (Work T) Global)
     : Type 0 where
   pub due_places : vec_len due + (vec_len gathering.missed + many) ≤ vec_capacity due
   pub missed_places : vec_len gathering.missed + many ≤ vec_capacity gathering.missed
   pub shares : vec_len gathering.shares ≡ vec_len gathering.missed + many
 
--- what one answer adds to what a round gathers
+-- what an answer adds to what a round gathers
 pub record Adds {T : Type 0} (item : Item) (number : ℕ) (answer : Option (Put T))
     (old new : Gathering) (due_old due_new : Vec (Work T) Global) : Type 0 where
   pub due : due_new.items ≡ due_old.items ++ started_by number answer
@@ -117,7 +119,7 @@ pub record HasRoomAgain {T : Type 0} (many : ℕ) (gathering : Gathering) (due :
   pub due_places : vec_len due + many ≤ vec_capacity due
   pub enough_shares : many ≤ vec_len gathering.shares
 
--- what one second offer, or none, adds to what a round gathers
+-- what a second offer, or none, adds to what a round gathers
 pub record AddsAgain {T : Type 0} (item : Item) (number : ℕ) (second : Second T)
     (old new : Gathering) (due_old due_new : Vec (Work T) Global) : Type 0 where
   pub due : due_new.items ≡ due_old.items ++ started_again_by number second

@@ -1,4 +1,4 @@
--- A Hub, as its clauses see it.
+-- A Hub, as its clauses see it: all that it stores but the room that it keeps.
 use Rattle.std.specs.Prelude.{◌≡◌, ℕ, Option, None, List, [], map, replicate}
 use Rattle.close_count.specs.declared.opening.Opening.{Opening}
 use Rattle.flow_rules.specs.Feed.{End}
@@ -7,8 +7,8 @@ use Rattle.publisher_hub.specs.Entry.{EntryState, entry_of}
 use Rattle.publisher_hub.specs.declared.hub.Hub.{Hub}
 use Rattle.publisher_hub.specs.declared.hub.TheConstants.{MOST_SOURCES}
 
--- how far the publications have come: the capacity of each buffer; the next serial number; how many items each source has published;
--- how the publisher was closed, if it was; and how many offers were dropped at any subscription
+-- how far the publications have come: the capacity of each buffer; the next serial number; how many items each source
+-- has published; how the publisher was closed, if it was; and how many offers were dropped at any subscription
 pub record Progress : Type 0 where
   pub capacity : ℕ
   pub next : ℕ
@@ -16,8 +16,8 @@ pub record Progress : Type 0 where
   pub ending : Option Ending
   pub dropping : ℕ
 
--- a Hub: how far the publications have come; how many sources were handed out; the opening ticket; all subscriptions, in order; and
--- the numbers of those that may be live
+-- a Hub: how far the publications have come; how many sources were handed out; the opening ticket; all subscriptions,
+-- in order; and the numbers of those that may be live
 pub record HubState : Type 0 where
   pub progress : Progress
   pub sources : ℕ

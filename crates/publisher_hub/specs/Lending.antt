@@ -1,4 +1,4 @@
--- What a Hub ends as, if the producer's end of one subscription is lent.
+-- What a Hub ends as, if the producer's end of a subscription is lent.
 use Rattle.std.specs.Prelude.{◌≡◌, ◌≤◌, ℕ, true, Option, None, Some, slice_get, slice_set}
 use Rattle.std.specs.Borrow.{Lends, LendsIf, Fml, MutBor, RattleType}
 use Rattle.std.specs.Option.{option_and_then}
@@ -22,7 +22,8 @@ with_feed hub number None feed = hub
 with_feed hub number (Some entry) feed =
     record hub { entries = with_item hub.entries number (record entry { feed = Some feed }) }
 
--- what a producer's end may become while it is lent, as by a request, a cancel or a turn: it accepts nothing and isn't closed
+-- what a producer's end may become while it is lent, as by a request, a cancel or a turn: it accepts nothing and isn't
+-- closed
 pub record MayBecome (e f : End) : Type 0 where
   pub capacity : f.capacity ≡ e.capacity
   pub accepted : f.accepted ≡ e.accepted
@@ -45,7 +46,8 @@ module _ (F : RattleType) where
   lends_feed_at hub number r =
       Lends (hub_row F) F hub r (with_feed hub.now number (slice_get hub.now.entries.items number))
 
-  -- if r is a reference, the subscription of this number ends with what is left behind it; at `None` the Hub stays as it is
+  -- if r is a reference, the subscription of this number ends with what is left behind it; at `None` the Hub stays as
+  -- it is
   abbrev pub lends_feed_if : MutBor (Hub F.Denot) → ℕ → Option (MutBor F.Denot) → Fml
   lends_feed_if hub number r = LendsIf (hub_row F) F hub r
       (with_feed hub.now number (slice_get hub.now.entries.items number)) hub.now

@@ -1,4 +1,5 @@
 pub mod Adding
+pub mod Becoming
 pub mod Closing
 pub mod Entry
 pub mod Gathering

@@ -1,12 +1,12 @@
 -- Lists whose elements stand in a relation place by place, and what a list of answers gathers.
 use Rattle.std.specs.Prelude.{◌≡◌, ℕ, suc, max, fold, Some, List, [], ◌∷◌, ◌++◌, length, slice_get}
 
--- two lists are as long, and this holds of the elements at each place
+-- two lists have the same length, and this holds of the elements at each place
 pub record Each {A : Type 0} (R : A → A → Type 0) (xs ys : List A) : Type 0 where
   pub as_long : length ys ≡ length xs
   pub each : (k : ℕ) (x y : A) → slice_get xs k ≡ Some x → slice_get ys k ≡ Some y → R x y
 
--- two lists are as long, each place gave an answer, and this holds of that and the elements there
+-- two lists have the same length, each place gave an answer, and this holds of that and the elements there
 pub record EachBy {B A : Type 0} (R : B → A → A → Type 0) (answers : List B) (xs ys : List A)
     : Type 0 where
   pub answered : length answers ≡ length xs

@@ -1,9 +1,10 @@
 -- What looks do to the subscriptions of a Hub.
-use Rattle.std.specs.Prelude.{◌≡◌, ◌⊎◌, ℕ, ◌<◌, ◌≤◌, Bool, true, false, ◌||◌, nat_lt, if◌then◌else◌, Option, None, Some, Result, List, [], ◌∷◌, length, slice_get, slice_set, OnOk, OnErr, IsOk, IsErr}
+use Rattle.std.specs.Prelude.{◌≡◌, ◌⊎◌, ℕ, ◌<◌, ◌≤◌, Bool, true, false, ◌||◌, nat_lt, if◌then◌else◌, Option, None, Some, Result, List, [], ◌∷◌, length, OnOk, OnErr, IsOk, IsErr}
 use Rattle.flow_rules.specs.Call.{Call}
 use Rattle.flow_rules.specs.Feed.{End, Looked, held_count, is_gone}
 use Rattle.flow_rules.specs.declared.feed.standing.Standing.{Standing}
 use Rattle.flow_rules.specs.declared.refusal.NoMemory.{NoMemory}
+use Rattle.publisher_hub.specs.Becoming.{Becomes, ChangesAt}
 use Rattle.publisher_hub.specs.Entry.{EntryState}
 use Rattle.publisher_hub.specs.Hub.{HubState, OnlyEntriesChange, hub_of}
 use Rattle.publisher_hub.specs.Lists.{Each, EachBy, gather}
@@ -22,16 +23,11 @@ pub record StaysRetired (old new : EntryState) : Type 0 where
   pub retired : old.retired ≡ true
   pub same : new ≡ old
 
--- a live one was looked at, and stays
-pub record StaysLive (old new : EntryState) : Type 0 where
-  pub before : End
-  pub after : End
-  pub live : old.retired ≡ false
-  pub was : old.feed ≡ Some before
-  pub follows : Follows before after
-  pub now : new ≡ record old { feed = Some after }
+-- a live subscription was looked at, and stays
+abbrev pub StaysLive : EntryState → EntryState → Type 0
+StaysLive old new = Becomes Follows old new
 
--- a live one was looked at, had ended or was closed, and is retired at this serial number
+-- a live subscription was looked at, had ended or was closed, and is retired at this serial number
 pub record IsRetiredAt (next : ℕ) (old new : EntryState) : Type 0 where
   pub before : End
   pub after : End
@@ -60,20 +56,20 @@ full_by capacity number (Some standing) =
 abbrev pub full : ℕ → List (Option Standing) → List ℕ
 full capacity glances = gather (full_by capacity) 0 glances
 
--- this tells whether looks showed no full buffer
+-- this says whether looks showed no full buffer
 pub record IsRoom (room : Bool) (capacity : ℕ) (glances : List (Option Standing)) : Type 0 where
   pub there : room ≡ true → full capacity glances ≡ []
   pub missing : room ≡ false → 0 < length (full capacity glances)
 
 module _ {F T : Type 0} (meaning : F → End) (does : F → Call T → F → Type 0) where
-  -- an end was looked at, and stood so
+  -- an end was looked at, with this standing
   pub record Stands (standing : Standing) (f g : F) : Type 0 where
     pub look : Looked (meaning f) (meaning g)
     pub ended : standing.ended ≡ (meaning g).over
     pub held : standing.held ≡ held_count (meaning g)
     pub exact : does f (Call.Looks standing) g
 
-  -- an end was to be made ready for one task, and answered so
+  -- an end was to be made ready for a task, with this answer
   pub record Readies (answer : Result Unit NoMemory) (f g : F) : Type 0 where
     pub ok : OnOk answer (meaning g ≡ record (meaning f) { ready = true })
     pub err : OnErr answer (meaning g ≡ meaning f)
@@ -96,7 +92,7 @@ module _ {F T : Type 0} (meaning : F → End) (does : F → Call T → F → Typ
   Glances next None old new = (old.retired ≡ true) × (new ≡ old)
   Glances next (Some standing) old new = Sees next standing old new
 
-  -- a live subscription was to be made ready for one task, and answered so
+  -- a live subscription was to be made ready for a task, with this answer
   pub record IsReadied (answer : Result Unit NoMemory) (old new : Entry F) : Type 0 where
     pub before : F
     pub after : F
@@ -137,7 +133,7 @@ module _ {F T : Type 0} (meaning : F → End) (does : F → Call T → F → Typ
   PreparesAll glances old new =
       EachBy (Prepares old.next) glances old.entries.items new.entries.items
 
-  -- each live subscription was looked at and made ready, and this tells whether none that goes on was full
+  -- each live subscription was looked at and made ready, and this says whether none that goes on was full
   abbrev pub FindsRoom : Hub F → Hub F → Bool → Type 0
   FindsRoom old new room =
       (glances : List (Option Standing))
@@ -152,7 +148,7 @@ abbrev pub living_by : ℕ → Option Standing → List ℕ
 living_by number None = []
 living_by number (Some standing) = if standing.ended then [] else number ∷ []
 
--- how many items wait in the buffer of one that goes on
+-- how many items wait in the buffer of a subscription that goes on
 abbrev pub waiting_by : ℕ → Option Standing → List ℕ
 waiting_by number None = []
 waiting_by number (Some standing) = if standing.ended then [] else standing.held ∷ []
@@ -170,12 +166,8 @@ module _ {F T : Type 0} (meaning : F → End) (does : F → Call T → F → Typ
     pub rest : OnlyEntriesChange (hub_of meaning old) (hub_of meaning new)
     pub entries : EachBy (Glances meaning does old.next) glances old.entries.items new.entries.items
 
-  -- the subscription of this number was looked at, which retires it if that shows its end; one that was retired before, or was never made,
-  -- shows nothing; and nothing else changed
-  pub record LooksAtOne (number : ℕ) (glance : Option Standing) (old new : Hub F) : Type 0 where
-    pub rest : OnlyEntriesChange (hub_of meaning old) (hub_of meaning new)
-    pub none : slice_get old.entries.items number ≡ None
-        → (glance ≡ None) × (new.entries.items ≡ old.entries.items)
-    pub there : (before : Entry F) → slice_get old.entries.items number ≡ Some before
-        → (after : Entry F) × (Glances meaning does old.next glance before after
-        × (new.entries.items ≡ slice_set old.entries.items number after))
+  -- the subscription of this number was looked at, which retires it if that shows its end; one that was retired before,
+  -- or was never made, shows nothing; and nothing else changed
+  abbrev pub LooksAtOne : ℕ → Option Standing → Hub F → Hub F → Type 0
+  LooksAtOne number glance old new =
+      ChangesAt meaning (Glances meaning does old.next) number glance old new

@@ -11,7 +11,7 @@ name_by number entry = if entry.retired then [] else entry.name ∷ []
 abbrev pub live_names : List EntryState → List (List ℕ)
 live_names entries = gather name_by 0 entries
 
--- one that isn't retired has this name
+-- a subscription that isn't retired has this name
 pub record IsSubscribed (name : List ℕ) (entries : List EntryState) : Type 0 where
   pub number : ℕ
   pub entry : EntryState

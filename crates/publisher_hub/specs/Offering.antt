@@ -7,6 +7,7 @@ use Rattle.flow_rules.specs.declared.feed.put.Put.{Put}
 use Rattle.flow_rules.specs.declared.feed.put.Put.TheVariants.{Accepted, Full, Gone}
 use Rattle.flow_rules.specs.declared.item.Item.{Item}
 use Rattle.flow_rules.specs.declared.item.TheConstants.{MOST_PUBLICATIONS}
+use Rattle.publisher_hub.specs.Becoming.{Called}
 use Rattle.publisher_hub.specs.Entry.{EntryState}
 use Rattle.publisher_hub.specs.Gathering.{Second}
 use Rattle.publisher_hub.specs.Hub.{HubState, Progress}
@@ -51,8 +52,8 @@ pub record HasDropped (x : Item) (old new : EntryState) : Type 0 where
   pub now : new ≡ record old { feed = Some after; dropped = old.dropped + 1 }
 
 -- what becomes of a subscription when an item is published to all that have room for it
-abbrev pub IsReached : Item → EntryState → EntryState → Type 0
-IsReached x old new =
+abbrev pub IsOffered : Item → EntryState → EntryState → Type 0
+IsOffered x old new =
     StaysRetired old new ⊎ (HasGrown x old new ⊎ (HasEnded x old new ⊎ HasDropped x old new))
 
 -- the item that a source publishes next
@@ -77,7 +78,7 @@ pub record ReachesAll (x : Item) (old new : HubState) : Type 0 where
     progress = progress_after x new.progress.dropping old.progress;
     entries = new.entries;
   }
-  pub entries : Each (IsReached x) old.entries new.entries
+  pub entries : Each (IsOffered x) old.entries new.entries
   pub drops : (old.progress.dropping ≤ new.progress.dropping)
       × (new.progress.dropping ≤ old.progress.dropping + 1)
   pub dropped : (k : ℕ) (entry : EntryState) → slice_get new.entries k ≡ Some entry
@@ -88,7 +89,7 @@ abbrev pub ReachesAllFrom : ℕ → List ℕ → HubState → HubState → Type 
 ReachesAllFrom source text old new =
     (x : Item) × (((x.source ≡ source) × (x.text ≡ text)) × ReachesAll x old new)
 
--- one publication more was counted, and it was of this source
+-- another publication was counted, and it was of this source
 pub record CountsOne (source : ℕ) (old new : Progress) : Type 0 where
   pub next : new.next ≡ old.next + 1
   pub counts : (count : ℕ) → slice_get old.counts source ≡ Some count
@@ -109,8 +110,8 @@ backlog_by number entry = if entry.retired then [] else held_in entry.feed
 abbrev pub backlogs : List EntryState → List ℕ
 backlogs entries = gather backlog_by 0 entries
 
--- a subscription after an item was offered to its end, by what that answered: a full buffer is counted as a drop, and one that takes
--- no more items is retired before the item
+-- a subscription after an item was offered to its end, by what that answered: a full buffer is counted as a drop, and
+-- a subscription that takes no more items is retired before the item
 abbrev pub entry_after_put : {F T : Type 0} → Item → Put T → F → Entry F → Entry F
 entry_after_put x (Accepted lag start) after old = record old { feed = Some after }
 entry_after_put x (Full back) after old =
@@ -119,23 +120,19 @@ entry_after_put x (Gone back) after old =
     record old { feed = Some after; retired = true; until = x.serial }
 
 module _ {F T : Type 0} (meaning : F → End) (does : F → Call T → F → Type 0) where
-  -- a live subscription was offered an item, and its end answered so
-  pub record Offered (x : Item) (answer : Put T) (old new : Entry F) : Type 0 where
-    pub before : F
-    pub after : F
-    pub live : old.retired ≡ false
-    pub was : old.feed ≡ Some before
-    pub means : Feed.Puts (meaning before) x answer (meaning after)
-    pub exact : does before (Call.Puts x answer) after
-    pub now : new ≡ entry_after_put x answer after old
+  -- a live subscription was offered an item, with this answer of its end
+  abbrev pub Offered : Item → Put T → Entry F → Entry F → Type 0
+  Offered x answer old new =
+      Called meaning does (λ e f. Feed.Puts e x answer f) (Call.Puts x answer)
+      (λ after. entry_after_put x answer after old) old new
 
-  -- what an offer did at any subscription: a retired one answers nothing
-  abbrev pub Gives : Item → Option (Put T) → Entry F → Entry F → Type 0
-  Gives x None old new = (old.retired ≡ true) × (new ≡ old)
-  Gives x (Some answer) old new = Offered x answer old new
+  -- what a put did at any subscription: a retired one answers nothing
+  abbrev pub PutsTo : Item → Option (Put T) → Entry F → Entry F → Type 0
+  PutsTo x None old new = (old.retired ≡ true) × (new ≡ old)
+  PutsTo x (Some answer) old new = Offered x answer old new
 
   -- what the second pass did to a subscription: a second try takes the drop back first
-  abbrev pub GivesAgain : Item → Second T → Entry F → Entry F → Type 0
-  GivesAgain x (Some (Some answer)) old new =
+  abbrev pub PutsAgain : Item → Second T → Entry F → Entry F → Type 0
+  PutsAgain x (Some (Some answer)) old new =
       Offered x answer (record old { dropped = old.dropped - 1 }) new
-  GivesAgain x _ old new = new ≡ old
+  PutsAgain x _ old new = new ≡ old

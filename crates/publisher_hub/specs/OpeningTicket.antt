@@ -7,7 +7,7 @@ use Rattle.close_count.specs.declared.rule.TheConstants.{MOST_TICKETS}
 use Rattle.close_count.specs.declared.ticket.Ticket.{Ticket}
 use Rattle.flow_rules.specs.declared.refusal.Refusal.{Refusal}
 
--- the opening ticket that was held made one ticket of its count
+-- the opening ticket that was there made another ticket of its count
 pub record MakesTicket (ticket : Ticket) (before after : Option Opening) : Type 0 where
   pub held : Opening
   pub left : Opening
@@ -22,7 +22,7 @@ abbrev pub AddsTicket : Option Ticket → Option Opening → Option Opening → 
 AddsTicket None before after = ⊥
 AddsTicket (Some ticket) before after = MakesTicket ticket before after
 
--- why none was: no opening ticket is held, or it made as many as it may; or memory is refused
+-- why no ticket was made: there is no opening ticket, or it made as many as it may; or memory is refused
 abbrev pub RefusesTicket : Refusal → Option Opening → Type 0
 RefusesTicket Refusal.Exhausted None = ⊤
 RefusesTicket Refusal.Exhausted (Some opening) = tickets_made opening ≡ MOST_TICKETS

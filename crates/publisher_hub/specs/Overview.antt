@@ -3,7 +3,7 @@ use Rattle.std.specs.Prelude.{◌≡◌, ◌⊎◌, ◌≤◌, ◌+◌, ℕ, max
 use Rattle.flow_rules.specs.declared.feed.standing.Standing.{Standing}
 use Rattle.publisher_hub.specs.Lists.{greatest}
 use Rattle.publisher_hub.specs.Looking.{IsRoom, full_by, living, living_by, waiting, waiting_by}
-use Rattle.publisher_hub.specs.declared.rounds.looking.Overview.{Overview}
+use Rattle.publisher_hub.specs.declared.hub.look.Overview.{Overview}
 
 -- this is what these looks showed of buffers of this capacity
 pub record Shows (capacity : ℕ) (glances : List (Option Standing)) (overview : Overview)
@@ -12,7 +12,7 @@ pub record Shows (capacity : ℕ) (glances : List (Option Standing)) (overview :
   pub most_waiting : overview.most_waiting ≡ greatest (waiting glances)
   pub room : IsRoom overview.room capacity glances
 
--- what one more look adds to what those before it showed, whichever subscription it was of
+-- what another look adds to what those before it showed, whichever subscription it was of
 pub record CountsLook (capacity : ℕ) (glance : Option Standing) (old new : Overview) : Type 0 where
   pub living : (number : ℕ) → new.living ≡ old.living + length (living_by number glance)
   pub few : new.living ≤ old.living + 1

@@ -8,19 +8,19 @@ use Rattle.flow_rules.specs.declared.feed.standing.Standing.{Standing}
 use Rattle.flow_rules.specs.declared.item.Item.{Item}
 use Rattle.flow_rules.specs.declared.item.TheConstants.{MOST_PUBLICATIONS}
 use Rattle.flow_rules.specs.declared.refusal.Refusal.{Refusal}
-use Rattle.publisher_hub.specs.Gathering.{AreAsked, AreShares, GathersAgain, HasRoom, Second, dropped, lags, lags_again, missed, stands, started, started_again}
+use Rattle.publisher_hub.specs.Gathering.{AreRevisited, AreShares, GathersAgain, CanGather, Second, dropped, lags, lags_again, missed, stands, started, started_again}
 use Rattle.publisher_hub.specs.Hub.{Progress, hub_of}
 use Rattle.publisher_hub.specs.Lists.{EachBy, greatest}
 use Rattle.publisher_hub.specs.Looking.{IsLookedAt, Prepares, PreparesAll, PreparesInPart, full}
-use Rattle.publisher_hub.specs.Offering.{Gives, GivesAgain, ReachesAll}
+use Rattle.publisher_hub.specs.Offering.{PutsTo, PutsAgain, ReachesAll}
 use Rattle.publisher_hub.specs.declared.entry.Entry.{Entry}
-use Rattle.publisher_hub.specs.declared.rounds.gathering.Gathering.{Gathering}
+use Rattle.publisher_hub.specs.declared.hub.gathering.Gathering.{Gathering}
 use Rattle.publisher_hub.specs.declared.hub.Hub.{Hub}
-use Rattle.publisher_hub.specs.declared.hub.publishing.Unpublished.{Unpublished}
-use Rattle.publisher_hub.specs.declared.hub.publishing.Unpublished.TheVariants.{NoRoom, Refused}
+use Rattle.publisher_hub.specs.declared.hub.publish.Unpublished.{Unpublished}
+use Rattle.publisher_hub.specs.declared.hub.publish.Unpublished.TheVariants.{NoRoom, Refused}
 use Rattle.publisher_hub.specs.declared.work.Work.{Work}
 
--- why no item is taken any more: the ending, or that as many were published as may be
+-- why no item is taken any more: the Hub was closed, or the last possible publication was made
 abbrev pub IsRefused : Progress → Option Refusal → Type 0
 IsRefused progress None = (progress.ending ≡ None) × (progress.next ≡ MOST_PUBLICATIONS → ⊥)
 IsRefused progress (Some (Refusal.Closed ending)) = progress.ending ≡ Some ending
@@ -28,7 +28,7 @@ IsRefused progress (Some Refusal.Exhausted) =
     (progress.ending ≡ None) × (progress.next ≡ MOST_PUBLICATIONS)
 IsRefused progress (Some _) = ⊥
 
--- how many offers were dropped anywhere, after one more after which this many drops stand
+-- how many offers were dropped anywhere, after another offer after which this many drops stand
 abbrev pub dropping_after : ℕ → ℕ → ℕ
 dropping_after zero dropping = dropping
 dropping_after (suc drops) dropping = dropping + 1
@@ -41,14 +41,14 @@ offer_answer (suc drops) lag = negsuc drops
 -- a publication of this item has all that it needs
 pub record CanPublish {F T : Type 0} (item : Item) (hub : Hub F) (due : Vec (Work T) Global)
     : Type 0 where
-  pub room : HasRoom (length hub.live.items) hub.gathering due
+  pub room : CanGather (length hub.live.items) hub.gathering due
   pub shares : AreShares item hub.gathering.shares.items
   pub missed : hub.gathering.missed.items ≡ []
   pub lag : hub.gathering.lag ≡ 0
 
 module _ {F T : Type 0} (meaning : F → End) (does : F → Call T → F → Type 0) where
-  -- an item of this source and text was published, with this lag: each subscription was looked at and made ready, each that goes on had
-  -- room, and then each of them was offered the item
+  -- an item of this source and text was published, with this lag: each subscription was looked at and made ready, each
+  -- that goes on had room, and then each of them was offered the item
   pub record Publishes (source : ℕ) (text : List ℕ) (old new : Hub F)
       (due_old due_new : List (Work T)) (lag : ℕ) : Type 0 where
     pub item : Item
@@ -59,25 +59,26 @@ module _ {F T : Type 0} (meaning : F → End) (does : F → Call T → F → Typ
     pub middle : List (Entry F)
     pub looked : EachBy (Prepares meaning does old.next) glances old.entries.items middle
     pub room : full old.capacity glances ≡ []
-    pub given : EachBy (Gives meaning does item) puts middle new.entries.items
+    pub each_put : EachBy (PutsTo meaning does item) puts middle new.entries.items
     pub reaches : ReachesAll item (hub_of meaning old) (hub_of meaning new)
     pub no_drop : missed puts ≡ []
     pub no_dropping : new.dropping ≡ old.dropping
     pub due : due_new ≡ due_old ++ started puts
     pub greatest_lag : lag ≡ greatest (lags puts)
 
-  -- the second pass: it asks about those that missed the item, or about nobody; then their drops stand
+  -- the second pass: the handler is asked about those that missed the item; without a handler their drops stand
   pub record PassesAgain (item : Item) (declines : Bool)
       (puts : List (Option (Put T))) (seconds : List (Second T))
       (xs ys : List (Entry F)) (gathering gathering_new : Gathering)
       (due_old due_new : Vec (Work T) Global) : Type 0 where
-    pub again : EachBy (GivesAgain meaning does item) seconds xs ys
-    pub asked : AreAsked (missed puts) seconds
+    pub again : EachBy (PutsAgain meaning does item) seconds xs ys
+    pub revisited : AreRevisited (missed puts) seconds
     pub declined : declines ≡ true → seconds ≡ map stands puts
     pub gathers : GathersAgain item seconds gathering gathering_new due_old due_new
 
-  -- an item of this source and text was offered, with this answer: each subscription was looked at and made ready; then each that goes on
-  -- was offered the item; and then those that missed it were asked about, and offered it once more if the answer was to try again
+  -- an item of this source and text was offered, with this answer: each subscription was looked at and made ready; then
+  -- each that goes on was offered the item; and then the handler was asked about those that missed it, and they were
+  -- offered it once more if its answer was to try again
   pub record OffersItem (source : ℕ) (text : List ℕ) (declines : Bool) (old new : Hub F)
       (due_old due_new : List (Work T)) (answer : ℤ) : Type 0 where
     pub item : Item
@@ -89,9 +90,9 @@ module _ {F T : Type 0} (meaning : F → End) (does : F → Call T → F → Typ
     pub ready : List (Entry F)
     pub middle : List (Entry F)
     pub looked : EachBy (Prepares meaning does old.next) glances old.entries.items ready
-    pub given : EachBy (Gives meaning does item) puts ready middle
-    pub again : EachBy (GivesAgain meaning does item) seconds middle new.entries.items
-    pub asked : AreAsked (missed puts) seconds
+    pub each_put : EachBy (PutsTo meaning does item) puts ready middle
+    pub again : EachBy (PutsAgain meaning does item) seconds middle new.entries.items
+    pub revisited : AreRevisited (missed puts) seconds
     pub declined : declines ≡ true → seconds ≡ map stands puts
     pub reaches : ReachesAll item (hub_of meaning old) (hub_of meaning new)
     pub counted : new.dropping ≡ dropping_after (length (dropped seconds)) old.dropping
@@ -99,8 +100,8 @@ module _ {F T : Type 0} (meaning : F → End) (does : F → Call T → F → Typ
     pub answers : answer
         ≡ offer_answer (length (dropped seconds)) (greatest (lags puts ++ lags_again seconds))
 
-  -- why an item was not published: memory was refused, and some subscriptions may have been looked at; or all were looked at, and the
-  -- publisher takes no items, or a buffer was full
+  -- why an item was not published: memory was refused, and some subscriptions may have been looked at; or all were
+  -- looked at, and the publisher takes no items, or a buffer was full
   abbrev pub WhyRefused : List ℕ → Hub F → Hub F → Unpublished → Type 0
   WhyRefused text old new (Refused Refusal.NoMemory) = PreparesInPart meaning does old new
   WhyRefused text old new (Refused refusal) = IsRefused (hub_of meaning old).progress (Some refusal)

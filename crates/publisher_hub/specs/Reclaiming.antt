@@ -32,7 +32,8 @@ module _ {F T : Type 0} (meaning : F → End) (does : F → Call T → F → Typ
     pub goes_on : standing.ended ≡ false
     pub now : new ≡ record old { feed = Some after }
 
-  -- a subscription lost its producer's end and its ticket if a look showed that it has ended; one whose end was taken out before is left alone
+  -- a subscription lost its producer's end and its ticket if a look showed that it has ended; a subscription whose end
+  -- was taken out before is left alone
   abbrev pub TakesEnded : ℕ → Option Standing → Option (F × Option Ticket) → Entry F → Entry F
       → Type 0
   TakesEnded next (Some standing) (Some (feed, ticket)) old new =
@@ -41,12 +42,14 @@ module _ {F T : Type 0} (meaning : F → End) (does : F → Call T → F → Typ
   TakesEnded next None (Some taken) old new = ⊥
   TakesEnded next None None old new = (old.feed ≡ None) × (new ≡ old)
 
-  -- the numbers of those that may be live after that, of these before: if a producer's end came out, those of the retired ones are left out
+  -- the numbers of those that may be live after that, of these before: if a producer's end came out, those of the
+  -- retired ones are left out
   abbrev pub live_after : Option (F × Option Ticket) → List EntryState → List ℕ → List ℕ
   live_after None entries live = live
   live_after (Some taken) entries live = live_of entries live
 
-  -- the subscription of this number in a Hub did, and nothing else changed but the numbers of those that may be live
+  -- this became of the subscription of this number, and nothing else of the Hub changed but the numbers of those that
+  -- may be live
   pub record TakesEndedAt (number : ℕ) (taken : Option (F × Option Ticket)) (old new : Hub F)
       : Type 0 where
     pub rest : OnlySubscriptionsChange (hub_of meaning old) (hub_of meaning new)

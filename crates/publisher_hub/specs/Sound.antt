@@ -6,7 +6,7 @@ use Rattle.flow_rules.specs.declared.item.TheConstants.{MOST_PUBLICATIONS}
 use Rattle.publisher_hub.specs.Entry.{EntryState, until_of}
 use Rattle.publisher_hub.specs.Hub.{HubState, Progress}
 use Rattle.publisher_hub.specs.declared.hub.TheConstants.{MOST_SOURCES}
-pub use Rattle.publisher_hub.specs.declared.hub.subscribing.TheConstants.{MOST_ENTRIES, MOST_LIVE}
+pub use Rattle.publisher_hub.specs.declared.hub.TheConstants.{MOST_ENTRIES, MOST_LIVE}
 
 -- of two items, one after the other, the serial number rises, and so does the number among the items of one source
 pub record IsBefore (x y : Item) : Type 0 where
@@ -52,7 +52,7 @@ pub record IsAccepted (entries : List EntryState) (x : Item) : Type 0 where
   pub end_of : entry.feed ≡ Some feed
   pub item : slice_get feed.accepted place ≡ Some x
 
--- items with one serial number are one item, whoever accepted them
+-- items with the same serial number are the same item, whoever accepted them
 abbrev pub AreAgreed : List EntryState → Type 0
 AreAgreed entries = (x y : Item)
     → IsAccepted entries x → IsAccepted entries y → x.serial ≡ y.serial → x ≡ y

@@ -1,4 +1,4 @@
--- What has to hold of one subscription before a step of a round.
+-- What has to hold of a subscription before a step of a round.
 use Rattle.std.specs.Prelude.{◌≡◌, ℕ, ◌<◌, ◌≤◌, false, Some, IsSome, List, length, slice_get}
 use Rattle.flow_rules.specs.Feed.{End, MayStart}
 use Rattle.flow_rules.specs.declared.item.TheConstants.{MOST_PUBLICATIONS}
@@ -22,17 +22,17 @@ abbrev pub AreHere : List EntryState → Type 0
 AreHere entries = (k : ℕ) (entry : EntryState) → slice_get entries k ≡ Some entry → IsHere entry
 
 -- it may be offered an item, and the numbers that grow have room
-pub record CanGive (entry : EntryState) : Type 0 where
+pub record CanPut (entry : EntryState) : Type 0 where
   pub take : CanTake entry
   pub few : HasAcceptedFew entry
   pub few_drops : entry.dropped < MOST_PUBLICATIONS
 
 -- each of these subscriptions may be offered an item
-abbrev pub CanAllGive : List EntryState → Type 0
-CanAllGive entries = (k : ℕ) (entry : EntryState) → slice_get entries k ≡ Some entry → CanGive entry
+abbrev pub CanAllPut : List EntryState → Type 0
+CanAllPut entries = (k : ℕ) (entry : EntryState) → slice_get entries k ≡ Some entry → CanPut entry
 
 -- it has dropped an item, and may be offered it once more
-pub record CanTryAgain (entry : EntryState) : Type 0 where
+pub record CanRetry (entry : EntryState) : Type 0 where
   pub live : entry.retired ≡ false
   pub take : CanTake entry
   pub few : HasAcceptedFew entry
@@ -40,6 +40,6 @@ pub record CanTryAgain (entry : EntryState) : Type 0 where
   pub few_drops : entry.dropped ≤ MOST_PUBLICATIONS
 
 -- each of the subscriptions of these numbers has dropped an item, and may be offered it once more
-abbrev pub CanEachTryAgain : List ℕ → List EntryState → Type 0
-CanEachTryAgain numbers entries = (i k : ℕ) (entry : EntryState) → slice_get numbers i ≡ Some k
-    → slice_get entries k ≡ Some entry → CanTryAgain entry
+abbrev pub CanEachRetry : List ℕ → List EntryState → Type 0
+CanEachRetry numbers entries = (i k : ℕ) (entry : EntryState) → slice_get numbers i ≡ Some k
+    → slice_get entries k ≡ Some entry → CanRetry entry

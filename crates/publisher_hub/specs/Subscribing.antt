@@ -10,6 +10,7 @@ use Rattle.flow_rules.specs.declared.ending.Ending.{Ending}
 use Rattle.flow_rules.specs.declared.feed.standing.Standing.{Standing}
 use Rattle.flow_rules.specs.declared.refusal.Refusal.{Refusal}
 use Rattle.publisher_hub.specs.Adding.{AreAllLive, live_of}
+use Rattle.publisher_hub.specs.Becoming.{Becomes, Called}
 use Rattle.publisher_hub.specs.Entry.{EntryState}
 use Rattle.publisher_hub.specs.Hub.{OnlyEntriesChange, OnlySubscriptionsChange, hub_of}
 use Rattle.publisher_hub.specs.Lists.{Each}
@@ -21,14 +22,9 @@ use Rattle.publisher_hub.specs.declared.entry.Entry.{Entry}
 use Rattle.publisher_hub.specs.declared.hub.Hub.{Hub}
 use Rattle.publisher_hub.specs.declared.work.Work.{Work}
 
--- the producer's end of a live subscription was told of a second subscribing
-pub record WasTold (old new : EntryState) : Type 0 where
-  pub before : End
-  pub after : End
-  pub live : old.retired ≡ false
-  pub was : old.feed ≡ Some before
-  pub told : after ≡ record before { state = true; ready = after.ready }
-  pub now : new ≡ record old { feed = Some after }
+-- a live subscription was doubled: its producer's end heard of a second subscribing
+abbrev pub WasDoubled : EntryState → EntryState → Type 0
+WasDoubled old new = Becomes (λ e f. f ≡ record e { state = true; ready = f.ready }) old new
 
 -- the subscription of this number has this name, or has another
 abbrev pub IsNamed : {F : Type 0} → List ℕ → ℕ → List (Entry F) → Type 0
@@ -49,14 +45,14 @@ abbrev pub IsLiveAt : {F : Type 0} → ℕ → List (Entry F) → Type 0
 IsLiveAt {F} number entries =
     (entry : Entry F) × ((slice_get entries number ≡ Some entry) × (entry.retired ≡ false))
 
--- there is a place for one subscription more
+-- there is a place for another subscription
 pub record HasPlace {F : Type 0} (hub : Hub F) : Type 0 where
   pub entry_place : vec_len hub.entries < vec_capacity hub.entries
   pub number_place : vec_len hub.live < vec_capacity hub.live
   pub few_live : length hub.live.items < MOST_LIVE
   pub few_entries : length hub.entries.items < MOST_ENTRIES
 
--- why there is none: there are as many live ones as there may be; else as many that were ever made; else memory is refused
+-- why there is no place: as many subscriptions are live as may be; else as many were ever made; else memory is refused
 abbrev pub HasNoPlace : {F : Type 0} → Refusal → Hub F → Type 0
 HasNoPlace Refusal.TooMany hub = length hub.live.items ≡ MOST_LIVE
 HasNoPlace Refusal.Exhausted hub =
@@ -86,8 +82,8 @@ first_entry name next feed ticket = record {
 }
 
 module _ {F T : Type 0} (meaning : F → End) (does : F → Call T → F → Type 0) where
-  -- all live subscriptions of a Hub were looked at, the ended ones retired, the others made ready, and the numbers of the retired ones
-  -- left out; nothing else changed
+  -- all live subscriptions of a Hub were looked at, the ended ones retired, the others made ready, and the numbers of
+  -- the retired ones left out; nothing else changed
   pub record IsSeen (old new : Hub F) : Type 0 where
     pub glances : List (Option Standing)
     pub prepared : PreparesAll meaning does glances old new
@@ -96,52 +92,49 @@ module _ {F T : Type 0} (meaning : F → End) (does : F → Call T → F → Typ
     pub all_live : AreAllLive new.live.items (hub_of meaning new).entries
     pub rest : OnlySubscriptionsChange (hub_of meaning old) (hub_of meaning new)
 
-  -- some live subscriptions of a Hub were looked at, the ended ones of these retired, and the others made ready; nothing else changed
+  -- some live subscriptions of a Hub were looked at, the ended ones of these retired, and the others made ready;
+  -- nothing else changed
   pub record IsSeenInPart (old new : Hub F) : Type 0 where
     pub prepared : PreparesInPart meaning does old new
     pub kept : Each (IsKept old.next) (hub_of meaning old).entries (hub_of meaning new).entries
     pub rest : OnlyEntriesChange (hub_of meaning old) (hub_of meaning new)
 
-  -- the producer's end of a live subscription was told once of a second subscribing, which answered this task
-  pub record Told (start : Option T) (old new : Entry F) : Type 0 where
-    pub before : F
-    pub after : F
-    pub live : old.retired ≡ false
-    pub was : old.feed ≡ Some before
-    pub means : Feed.Duplicates (meaning before) start (meaning after)
-    pub exact : does before (Call.Duplicates start) after
-    pub now : new ≡ record old { feed = Some after }
+  -- the producer's end of a live subscription heard once of a second subscribing, which answered this task
+  abbrev pub Doubled : Option T → Entry F → Entry F → Type 0
+  Doubled start old new =
+      Called meaning does (λ e f. Feed.Duplicates e start f) (Call.Duplicates start)
+      (λ after. record old { feed = Some after }) old new
 
-  -- the live subscription of this number was told of a second subscribing; the task that this started is due, and nothing else changed
-  pub record TellsAt (number : ℕ) (due_before due_after : List (Work T)) (old new : Hub F)
+  -- the live subscription of this number was doubled; the task that this started is due, and nothing else changed
+  pub record DoublesAt (number : ℕ) (due_before due_after : List (Work T)) (old new : Hub F)
       : Type 0 where
     pub start : Option T
     pub before : Entry F
     pub after : Entry F
     pub there : slice_get old.entries.items number ≡ Some before
-    pub told : Told start before after
+    pub doubled : Doubled start before after
     pub entries : new.entries.items ≡ slice_set old.entries.items number after
     pub due : due_after ≡ due_before ++ work_of number start
     pub rest : OnlyEntriesChange (hub_of meaning old) (hub_of meaning new)
 
-  -- one live subscription of this name was told of a second subscribing
-  pub record TellsOne (name : List ℕ) (due_before due_after : List (Work T)) (old new : Hub F)
+  -- a live subscription of this name was doubled
+  pub record DoublesOne (name : List ℕ) (due_before due_after : List (Work T)) (old new : Hub F)
       : Type 0 where
     pub number : ℕ
     pub named : IsNamed name number old.entries.items
-    pub tells : TellsAt number due_before due_after old new
+    pub doubles : DoublesAt number due_before due_after old new
 
-  -- no live subscription of a Hub that was looked at has the name, and there is no place for one more
+  -- no live subscription of a Hub that was looked at has the name, and there is no place for another
   pub record FindsNoPlace (name : List ℕ) (refusal : Refusal) (old new : Hub F) : Type 0 where
     pub seen : IsSeen old new
     pub unnamed : IsUnnamed name (hub_of meaning new).entries
     pub why : HasNoPlace refusal new
 
-  -- why a subscribing is refused, and what is left then: a live subscription has the name, and is told of it; else there is no place; or
-  -- memory was refused before all were looked at
+  -- why a subscribing is refused, and what is left then: a live subscription has the name, and is doubled; else there
+  -- is no place; or memory was refused before all were looked at
   abbrev pub Refuses : List ℕ → Refusal → List (Work T) → List (Work T) → Hub F → Hub F → Type 0
   Refuses name Refusal.Duplicate due_before due_after old new =
-      (middle : Hub F) × (IsSeen old middle × TellsOne name due_before due_after middle new)
+      (middle : Hub F) × (IsSeen old middle × DoublesOne name due_before due_after middle new)
   Refuses name Refusal.NoMemory due_before due_after old new =
       (IsSeenInPart old new ⊎ FindsNoPlace name Refusal.NoMemory old new) × (due_after ≡ due_before)
   Refuses name refusal due_before due_after old new =

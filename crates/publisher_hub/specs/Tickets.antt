@@ -12,8 +12,8 @@ use Rattle.publisher_hub.specs.declared.entry.Entry.{Entry}
 use Rattle.publisher_hub.specs.declared.hub.Hub.{Hub}
 
 module _ {F T : Type 0} (meaning : F → End) (does : F → Call T → F → Type 0) where
-  -- a subscription was looked at, retired or not. If that showed its end, it is retired from then on, at this serial number if it
-  -- wasn't before, and its ticket is taken out; else nothing changed but by the look
+  -- a subscription was looked at, retired or not. If that showed its end, it is retired from then on, at this serial
+  -- number if it wasn't before, and its ticket is taken out; else nothing changed but by the look
   pub record HandsOut (next : ℕ) (standing : Standing) (ticket : Option Ticket) (old new : Entry F)
       : Type 0 where
     pub before : F
@@ -30,7 +30,7 @@ module _ {F T : Type 0} (meaning : F → End) (does : F → Call T → F → Typ
     pub kept : standing.ended ≡ false → ticket ≡ None
     pub stays : standing.ended ≡ false → new ≡ record old { feed = Some after }
 
-  -- a subscription was asked for its ticket; one whose producer's end was taken out is left alone
+  -- a subscription was asked for its ticket; a subscription whose producer's end was taken out is left alone
   abbrev pub AsksForTicket : ℕ → Option Standing → Option Ticket → Entry F → Entry F → Type 0
   AsksForTicket next None ticket old new = (old.feed ≡ None) × ((ticket ≡ None) × (new ≡ old))
   AsksForTicket next (Some standing) ticket old new = HandsOut next standing ticket old new

@@ -1,4 +1,5 @@
-//! One subscription of a Hub, with each step that a call or a pass makes of it.
+//! One subscription of a Hub, with each step that a call or a round makes of it. It knows neither the others nor the
+//! numbers of the Hub: a step that needs the next serial number is handed that.
 ghost use Rattle.std.specs.Prelude.{◌≡◌, ◌-◌, ◌<◌, ◌≤◌, if◌then◌else◌, IfOk, IsSome, OnErr, Option, Some, false, true};
 ghost use Rattle.std.specs.Borrow.{sem};
 ghost use Rattle.flow_rules.specs.declared.feed.standing.Standing.{Standing};
@@ -6,10 +7,10 @@ ghost use Rattle.flow_rules.specs.declared.item.TheConstants.{MOST_PUBLICATIONS}
 ghost use Rattle.publisher_hub.specs.Closing.{Closes};
 ghost use Rattle.publisher_hub.specs.Entry.{entry_of};
 ghost use Rattle.publisher_hub.specs.Looking.{FailsToPrepare, Glances, IsReadied, Prepares};
-ghost use Rattle.publisher_hub.specs.Offering.{Gives, GivesAgain};
+ghost use Rattle.publisher_hub.specs.Offering.{PutsTo, PutsAgain};
 ghost use Rattle.publisher_hub.specs.Readiness.{IsReady};
 ghost use Rattle.publisher_hub.specs.Steps.{CanTake, HasAcceptedFew, IsHere};
-ghost use Rattle.publisher_hub.specs.Subscribing.{Told};
+ghost use Rattle.publisher_hub.specs.Subscribing.{Doubled};
 ghost use Rattle.publisher_hub.specs.Reclaiming.{TakesEnded};
 ghost use Rattle.publisher_hub.specs.Taking.{TakesOut};
 ghost use Rattle.publisher_hub.specs.Tickets.{AsksForTicket};
@@ -26,8 +27,8 @@ pub(crate) struct Entry<F> {
     pub since: u64,
     /// The next serial number when it was retired.
     pub until: u64,
-    /// How many publications were dropped because its buffer was full. A second try takes its drop back first, and counts it again if
-    /// the buffer is full still.
+    /// How many publications were dropped because its buffer was full. A second try takes its drop back first, and
+    /// counts it again if the buffer is full still.
     pub dropped: u64,
     /// Whether it takes part in no publication any more.
     pub retired: bool,
@@ -37,7 +38,7 @@ pub(crate) struct Entry<F> {
     pub ticket: Option<Ticket>,
 }
 
-/// What a close did at one subscription; the clauses of [`Hub::end`](crate::Hub::end) name it.
+/// What the end of a Hub did at a subscription; the clauses of [`Hub::end`](crate::Hub::end) name it.
 #[must_use]
 #[derive(Drop)]
 pub enum AtClose<T> {
@@ -97,14 +98,14 @@ impl<F: Feed> Entry<F> {
         }
     }
 
-    /// Offers an item to a subscription that isn't retired. If it takes no more items, it is retired; if its buffer is full, the drop
-    /// is counted.
+    /// Offers an item to a subscription that isn't retired. If it takes no more items, it is retired; if its buffer is
+    /// full, the drop is counted.
     #[must_use]
-    pub fn give(&mut self, item: Item) -> Option<Put<F::Task>>
+    pub fn put(&mut self, item: Item) -> Option<Put<F::Task>>
         requires take { CanTake (entry_of F.meaning self.old) }
         requires few { HasAcceptedFew (entry_of F.meaning self.old) }
         requires few_drops { self.old.dropped < MOST_PUBLICATIONS }
-        ensures { Gives F.meaning F.does item result self.old self.new }
+        ensures { PutsTo F.meaning F.does item result self.old self.new }
     {
         if self.retired {
             return None;
@@ -126,20 +127,20 @@ impl<F: Feed> Entry<F> {
 
     /// Offers an item once more to a subscription that has dropped it, which takes that drop back first.
     #[must_use]
-    pub fn give_again(&mut self, item: Item) -> Option<Put<F::Task>>
+    pub fn put_again(&mut self, item: Item) -> Option<Put<F::Task>>
         requires take { CanTake (entry_of F.meaning self.old) }
         requires few { HasAcceptedFew (entry_of F.meaning self.old) }
         requires live { self.old.retired ≡ false }
         requires dropped { 0 < self.old.dropped }
         requires few_drops { self.old.dropped ≤ MOST_PUBLICATIONS }
         ensures some { IsSome result }
-        ensures again { GivesAgain F.meaning F.does item (Some result) self.old self.new }
+        ensures again { PutsAgain F.meaning F.does item (Some result) self.old self.new }
     {
         self.dropped -= 1;
-        self.give(item)
+        self.put(item)
     }
 
-    /// Closes a subscription that isn't retired.
+    /// Ends a subscription that isn't retired: its producer's end is closed.
     pub fn end(&mut self, ending: Ending) -> AtClose<F::Task>
         requires take { CanTake (entry_of F.meaning self.old) }
         ensures { Closes F.meaning F.does ending result self.old self.new }
@@ -153,12 +154,12 @@ impl<F: Feed> Entry<F> {
         }
     }
 
-    /// Tells a subscription that isn't retired of a second subscribing.
+    /// Notes a second subscribing at a subscription that isn't retired.
     #[must_use]
-    pub fn duplicate(&mut self) -> Option<F::Task>
+    pub fn double(&mut self) -> Option<F::Task>
         requires live { self.old.retired ≡ false }
         requires ready { IsReady (entry_of F.meaning self.old) }
-        ensures { Told F.meaning F.does result self.old self.new }
+        ensures { Doubled F.meaning F.does result self.old self.new }
     {
         match &mut self.feed {
             Some(feed) => feed.duplicate(),
@@ -166,7 +167,8 @@ impl<F: Feed> Entry<F> {
         }
     }
 
-    /// Looks at a subscription, if its producer's end is there. If that shows that it has ended, it is retired and its ticket taken out.
+    /// Looks at a subscription, if its producer's end is there. If that shows that it has ended, it is retired and its
+    /// ticket taken out.
     pub fn ended(&mut self, next: u64) -> Option<Ticket>
         ensures { (glance : Option Standing)
             × AsksForTicket F.meaning F.does next glance result self.old self.new }
@@ -192,8 +194,8 @@ impl<F: Feed> Entry<F> {
         Some(feed)
     }
 
-    /// Looks at a subscription, if its producer's end is there. If that shows that it has ended, it is retired, and its producer's end and its
-    /// ticket are taken out.
+    /// Looks at a subscription, if its producer's end is there. If that shows that it has ended, it is retired, and its
+    /// producer's end and its ticket are taken out.
     pub fn take_ended(&mut self, next: u64) -> Option<(F, Option<Ticket>)>
         ensures { (glance : Option Standing)
             × TakesEnded F.meaning F.does next glance result self.old self.new }
@@ -219,7 +221,7 @@ impl<F: Feed> Entry<F> {
         }
     }
 
-    /// Retires a subscription; one that was retired before stays so since then.
+    /// Retires a subscription. If it was retired before, it stays retired since then.
     fn retire(&mut self, next: u64)
         ensures { self.new ≡ record self.old {
           retired = true;

@@ -1,46 +1,46 @@
-//! What a Hub stores, how it is made and what it shows of itself: the subscriptions of one publisher, each held by its producer's end,
-//! and the numbers of its publications. It runs no subscriber, waits for nobody and takes no lock: whoever calls it sees to it that the
-//! calls come one after the other, and that the tasks they start are run.
-mod admitting;
-mod closing;
-mod ended;
-mod entries;
-mod leaving_out;
-mod looking;
-mod named;
-mod offering;
-mod preparing;
-mod publishing;
-mod seeing;
-mod sources;
-mod standing;
-mod subscribing;
-mod taking;
-mod tickets;
+//! What a Hub stores, how it is made and what it shows of itself: the subscriptions of one publisher, each held by its
+//! producer's end, and the numbers of its publications. It runs no subscriber, waits for nobody and takes no lock:
+//! whoever calls it sees to it that the calls come one after the other, and that the tasks they start are run.
 
-ghost use Rattle.std.specs.Prelude.{Err, ◌⊎◌, ◌≡◌, ◌≤◌, ◌↔◌, IfOk, IfErr, replicate};
+mod close;
+mod gathering;
+mod look;
+mod offer;
+mod prepare;
+mod publish;
+mod retire;
+mod subscribe;
+
+ghost use Rattle.std.specs.Borrow.{sem};
+ghost use Rattle.std.specs.Option.{option_copied, option_copied_mut};
+ghost use Rattle.std.specs.Prelude.{Err, ◌⊎◌, ◌≡◌, ◌≤◌, ◌↔◌, IfOk, IfErr, replicate, IsSome, Some, option_map, slice_get, true, ◌+◌, ◌<◌, IsErr, OnErr};
 ghost use Rattle.flow_rules.specs.Capacity.{capacity_of};
 ghost use Rattle.flow_rules.specs.declared.refusal.Refusal.TheVariants as Refusal;
 ghost use Rattle.publisher_hub.specs.Hub.{hub_of, hub_at_start};
 ghost use Rattle.publisher_hub.specs.Sound.{IsSound};
 
 use crate::entry::Entry;
-use crate::rounds::Gathering;
+use crate::hub::gathering::Gathering;
 use close_count::Opening;
-use flow_rules::{Ending, Feed, MOST_PUBLICATIONS, NoMemory, Refusal, capacity};
-pub use publishing::Unpublished;
+use flow_rules::{Ending, Feed, MOST_PUBLICATIONS, Name, NoMemory, Refusal, capacity};
+pub use publish::Unpublished;
 use std::alloc::Global;
-pub use subscribing::{MOST_ENTRIES, MOST_LIVE};
+
+/// How many live subscriptions a Hub has at most.
+pub const MOST_LIVE: usize = 64;
+
+/// How many subscriptions a Hub ever makes.
+pub const MOST_ENTRIES: usize = 4_294_967_295;
 
 /// How many sources a Hub has at most: submitters, if threads publish.
 pub const MOST_SOURCES: usize = 256;
 
 /// The subscriptions of one publisher, and the numbers of its publications (`SubmissionPublisher`, Java SE 17).
 ///
-/// A new Hub is sound, and each call leaves a sound Hub sound: what each subscription accepted has rising serial numbers; two that
-/// accepted an item of one serial number accepted the same item; and what each accepted and dropped is, in number, what was published
-/// while it took part, from its subscribing until it was retired. An end that [`Hub::feed_mut`] lends has to be left as
-/// [`lent_feeds_keep_hubs_sound`](crate::lent_feeds_keep_hubs_sound) says.
+/// A new Hub is sound, and each call leaves a sound Hub sound: what each subscription accepted has rising serial
+/// numbers; two that accepted an item of one serial number accepted the same item; and what each accepted and dropped
+/// is, in number, what was published while it took part, from its subscribing until it was retired. An end that
+/// [`Hub::feed_mut`] lends has to be left as [`lent_feeds_keep_hubs_sound`](crate::lent_feeds_keep_hubs_sound) says.
 #[derive(Drop)]
 pub struct Hub<F> {
     /// The capacity of each buffer.
@@ -105,14 +105,14 @@ impl<F: Feed> Hub<F> {
         })
     }
 
-    /// The capacity of each buffer (`SubmissionPublisher.getMaxBufferCapacity`).
+    /// Gives the capacity of each buffer (`SubmissionPublisher.getMaxBufferCapacity`).
     pub fn capacity(&self) -> usize
         ensures { result ≡ (hub_of F.meaning self.now).progress.capacity }
     {
         self.capacity
     }
 
-    /// The serial number of the next publication.
+    /// Gives the serial number of the next publication.
     pub fn next_serial(&self) -> u64
         requires { IsSound (hub_of F.meaning self.now) }
         ensures value { result ≡ (hub_of F.meaning self.now).progress.next }
@@ -121,15 +121,127 @@ impl<F: Feed> Hub<F> {
         self.next
     }
 
-    /// How it was closed, if it was (`SubmissionPublisher.isClosed` and `getClosedException`).
+    /// Says how it was closed, if it was (`SubmissionPublisher.isClosed` and `getClosedException`).
     pub fn ending(&self) -> Option<Ending>
         ensures { result ≡ (hub_of F.meaning self.now).progress.ending }
     {
         self.ending
     }
+
+    /// Gives the number of another source, from 0: each source has its own count of the items that it published.
+    ///
+    /// `TooMany` once all [`MOST_SOURCES`] were handed out; nothing has changed then.
+    pub fn next_source(&mut self) -> Result<u32, Refusal>
+        requires sound { IsSound (hub_of F.meaning self.old) }
+        ensures next { IfOk result (λ source. source ≡ (hub_of F.meaning self.old).sources) }
+        ensures counted { IfOk result (λ source.
+            self.new ≡ record self.old { sources = source + 1 }) }
+        ensures below { IfOk result (λ source. source < MOST_SOURCES) }
+        ensures refused { IsErr result ↔ ((hub_of F.meaning self.old).sources ≡ MOST_SOURCES) }
+        ensures refusals { IfErr result (λ refusal. refusal ≡ Refusal.TooMany) }
+        ensures unchanged { OnErr result (self.new ≡ self.old) }
+        ensures sound { IsSound (hub_of F.meaning self.new) }
+    {
+        let source = self.sources;
+        if source as usize == MOST_SOURCES {
+            return Err(Refusal::TooMany);
+        }
+        self.sources += 1;
+        Ok(source)
+    }
 }
 
-/// The counts of a new Hub: no source has published an item.
+/// What a Hub shows of a subscription.
+impl<F: Feed> Hub<F> {
+    ghost use Rattle.publisher_hub.specs.Entry.{EntryState};
+    ghost use Rattle.publisher_hub.specs.Lending.{feed_at, lends_feed_at, lends_feed_if};
+
+    /// Counts the publications that were dropped at the subscription of this number because its buffer was full, after
+    /// the second tries. `None` if no subscription has this number.
+    pub fn dropped(&self, entry: u32) -> Option<u64>
+        ensures { result ≡ option_map (λ (entry : EntryState). entry.dropped)
+            (slice_get (hub_of F.meaning self.now).entries entry) }
+    {
+        match self.entries.get(entry as usize) {
+            Some(it) => Some(it.dropped),
+            None => None,
+        }
+    }
+
+    /// Gives the next serial number when the subscription of this number was made, and `None` if no subscription has
+    /// this number.
+    pub fn since(&self, entry: u32) -> Option<u64>
+        ensures { result ≡ option_map (λ (entry : EntryState). entry.since)
+            (slice_get (hub_of F.meaning self.now).entries entry) }
+    {
+        match self.entries.get(entry as usize) {
+            Some(it) => Some(it.since),
+            None => None,
+        }
+    }
+
+    /// Gives the name that the subscriber of this number subscribed with, and `None` if no subscription has this
+    /// number.
+    pub fn name_of(&self, entry: u32) -> Option<Name>
+        ensures { result ≡ option_map (λ (entry : EntryState). entry.name)
+            (slice_get (hub_of F.meaning self.now).entries entry) }
+    {
+        match self.entries.get(entry as usize) {
+            Some(it) => Some(it.name),
+            None => None,
+        }
+    }
+
+    /// Shows the producer's end of the subscription of this number, and `None` if no subscription has this number or
+    /// the end was taken out.
+    pub fn feed(&self, entry: u32) -> Option<&F>
+        ensures { option_copied result ≡ feed_at self.now entry }
+    {
+        match self.entries.get(entry as usize) {
+            Some(entry) => entry.feed.as_ref(),
+            None => None,
+        }
+    }
+
+    /// Lends the producer's end of the subscription of this number, and `None` if no subscription has this number or
+    /// the end was taken out.
+    ///
+    /// Nothing else of the Hub changes. The Hub stays sound if the end is left with its capacity, what it accepted and
+    /// how it was closed, and if neither an item that was taken nor its end is taken back
+    /// ([`lent_feeds_keep_hubs_sound`](crate::lent_feeds_keep_hubs_sound)).
+    pub fn feed_mut(&mut self, entry: u32) -> Option<&mut F>
+        ensures* writes_back { sem 𝓛 (lends_feed_if F.row self.entry entry result) }
+        ensures value { option_copied_mut result ≡ feed_at self.old entry }
+    {
+        if self.has_feed(entry) {
+            Some(self.feed_at(entry))
+        } else {
+            None
+        }
+    }
+
+    /// Says whether the producer's end of the subscription of this number is there. It isn't if no subscription has
+    /// this number, or the end was taken out.
+    pub fn has_feed(&self, entry: u32) -> bool
+        ensures { (result ≡ true) ↔ IsSome (feed_at self.now entry) }
+    {
+        match self.entries.get(entry as usize) {
+            Some(entry) => entry.feed.is_some(),
+            None => false,
+        }
+    }
+
+    /// Lends the producer's end of the subscription of this number.
+    fn feed_at(&mut self, entry: u32) -> &mut F
+        requires { IsSome (feed_at self.old entry) }
+        ensures* writes_back { sem 𝓛 (lends_feed_at F.row self.entry entry result) }
+        ensures value { feed_at self.old entry ≡ Some result.now }
+    {
+        self.entries[entry as usize].feed_mut()
+    }
+}
+
+/// Makes the counts of a new Hub: no source has published an item.
 fn no_counts(alloc: Global) -> Result<Vec<u64>, NoMemory>
     ensures { IfOk result (λ counts. counts.items ≡ replicate MOST_SOURCES 0) }
 {

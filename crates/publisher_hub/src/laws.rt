@@ -7,9 +7,9 @@ ghost use Rattle.publisher_hub.specs.Sound.{IsSound};
 use crate::hub::Hub;
 use flow_rules::Feed;
 
-/// A Hub whose producer's end was lent by [`Hub::feed_mut`] is sound afterwards, if the end was left with its capacity, what
-/// it accepted and how it was closed, and neither an item that was taken nor its end was taken back, as by a request, a cancel
-/// or a turn. It is so of a retired subscription, too.
+/// Says that a sound Hub whose producer's end was lent by [`Hub::feed_mut`] is sound afterwards, if the end was left
+/// with its capacity, what it accepted and how it was closed, and neither an item that was taken nor its end was taken
+/// back, as by a request, a cancel or a turn. This holds of a retired subscription, too.
 pub fn lent_feeds_keep_hubs_sound<F: Feed>(hub: &Hub<F>)
     requires { IsSound (hub_of F.meaning hub.now) }
     ensures { (number : ℕ) (before after : F) → feed_at hub.now number ≡ Some before

@@ -1,5 +1,5 @@
-//! Many subscriptions behind one publisher, as plain state: who is subscribed, which serial number comes next, and what became of each
-//! publication at each subscription.
+//! Many subscriptions behind one publisher, as plain state: who is subscribed, which serial number comes next, and what
+//! became of each publication at each subscription.
 //!
 //! ```
 //! let mut hub = Hub::new(alloc, 4)?;
@@ -16,7 +16,6 @@
 mod entry;
 mod hub;
 mod laws;
-mod rounds;
 mod work;
 
 pub use entry::AtClose;

@@ -23,7 +23,7 @@ fn subscribed<B: Listener>(
     seen: &mut Seen,
 ) -> Result<Desk<B>, NoMemory>
     requires sized { IsCapacity room }
-    requires untold { B.told subscriber ≡ [] }
+    requires untold { (B.told subscriber ≡ []) × (B.replied subscriber ≡ []) }
 {
     match Desk::new(alloc, room, subscriber) {
         Ok(mut desk) => {
@@ -138,6 +138,7 @@ fn ship<R: BufRead, W: Write + Send + Drop>(
     let published = publish_each(alloc, reader, &mut desk, &mut seen);
     end(&mut desk, &mut seen);
     let shipper = desk.into_subscriber();
+    // Also if only the last flush failed, at the end of the subscription.
     ensure!(!shipper.has_failed(), "a line could not be written");
     published?;
     Ok(shipper)

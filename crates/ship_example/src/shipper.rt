@@ -30,7 +30,7 @@ impl<W: Write> Model for Shipper<W> {
 impl<W: Write> Shipper<W> {
     /// One that was told nothing.
     pub fn new(writer: W) -> Shipper<W>
-        ensures untold { result.told ≡ [] }
+        ensures untold { (result.told ≡ []) × (result.replied ≡ []) }
     {
         Shipper {
             printer: Printer::new(writer),
@@ -38,14 +38,15 @@ impl<W: Write> Shipper<W> {
         }
     }
 
-    /// Whether a write failed. Where none did, each text was written, in order, on a line of its own.
+    /// Tells whether a write or the flush at the end failed, which no answer can say any more. If not, each text was written, in order, on a
+    /// line of its own.
     pub fn has_failed(&self) -> bool
         ensures { result ≡ self.now.has_failed }
     {
         self.printer.has_failed()
     }
 
-    /// The length of the longest text that it was told, in bytes; 0 where it was told none.
+    /// Gives the length of the longest text that it was told, in bytes; 0 if it was told none.
     pub fn longest(&self) -> usize
         ensures { result ≡ longest_of (items_of self.now.told) }
     {
@@ -57,6 +58,8 @@ impl<W: Write + Send + Drop> Listener for Shipper<W> {
     ghost use Rattle.std.specs.Prelude.{false};
 
     ghost told = { λ s. s.told };
+
+    ghost replied = { λ s. s.replied };
 
     ghost is_steady = { λ _. false };
 

@@ -2,20 +2,19 @@
 use super::Pool;
 use crate::crew::{Crew, Look, Over};
 use crate::job::Job;
+use crate::lookout::{Idle, Search};
+use crate::rule::Rule;
+use crate::shutdown::Shutdown;
 use crate::sleepers::Wake;
 use crate::taker::Taker;
 use crossbeam_utils::Backoff;
-use std::sync::atomic::Ordering::SeqCst;
 use std::sync::{MutexGuard, Wait};
 use std::thread;
 
-/// How often a worker looks for a job before it sleeps. It spins in between, some 20 microseconds in all, and doesn't yield: on a kernel that
-/// takes a time slice from a thread that yields, it would get its processor late once it is called.
+/// How often a worker looks for a job before it sleeps. It spins in between, some 20 microseconds in all, and doesn't
+/// yield: on a kernel that takes a time slice from a thread that yields, it would get its processor late once it is
+/// called.
 const LOOKS: u32 = 12;
-
-/// A worker that is counted as one that searches. It can't be dropped: it is counted off.
-#[must_use]
-struct Search(());
 
 /// What became of a worker that was to sleep.
 enum Rested<J: Drop> {
@@ -25,26 +24,26 @@ enum Rested<J: Drop> {
     Over(Over),
 }
 
-impl<J: Job> Pool<J> {
+impl<J: Job, P: Rule<J> + Shutdown, Q: Rule<J>> Pool<J, P, Q> {
     ghost use Rattle.async_pool.specs.Jobs.{IsTakerOf};
     ghost use Rattle.async_pool.specs.Looks.{Looks};
 
     /// Takes the next job, or says that the pool is over. It takes the lock only after it found no job several times.
-    pub(super) fn next_job<R: Wait>(&self, rt: &R, taker: &mut Taker<J>) -> Result<J, Over>
+    pub(super) fn next_job<R: Wait>(&self, rt: &R, taker: &mut Taker<J, Q>) -> Result<J, Over>
         requires { IsTakerOf self.now.jobs taker.old }
         ensures { IsTakerOf self.now.jobs taker.new }
     {
         if let Some(job) = self.jobs.next(rt, taker) {
             return Ok(job);
         }
-        let mut search = self.begin_search();
+        let mut search = self.lookout.begin_search();
         for _ in rt.forever() {
-            if let Some(job) = self.search(rt, taker, search) {
-                return Ok(job);
-            }
-            self.idle.fetch_add(1, SeqCst);
-            let rested = self.rest(rt, taker);
-            self.idle.fetch_sub(1, SeqCst);
+            let idle = match self.search(rt, taker, search) {
+                Ok(job) => return Ok(job),
+                Err(search) => self.lookout.begin_idle(search),
+            };
+            let rested = self.rest(rt, taker, &idle);
+            self.lookout.end_idle(idle);
             match rested {
                 Rested::Found(job) => return Ok(job),
                 Rested::Called(again) => search = again,
@@ -54,50 +53,47 @@ impl<J: Job> Pool<J> {
         unreachable!()
     }
 
-    /// Counts a worker that searches.
-    fn begin_search(&self) -> Search {
-        self.searching.fetch_add(1, SeqCst);
-        Search(())
-    }
-
-    /// Counts it off. Whether it was the last.
-    fn end_search(&self, search: Search) -> bool {
-        let Search(()) = search;
-        self.searching.fetch_sub(1, SeqCst) == 1
-    }
-
-    /// Looks for a job a bounded number of times. The last that searched calls the next worker once it has found one, if another job waits in
-    /// the inbox: whoever put that in called nobody. A job in the queue of a worker has one that runs it next.
-    fn search<R: Wait>(&self, rt: &R, taker: &mut Taker<J>, search: Search) -> Option<J>
+    /// Looks for a job a bounded number of times. A worker that finds none searches still.
+    fn search<R: Wait>(&self, rt: &R, taker: &mut Taker<J, Q>, search: Search) -> Result<J, Search>
         requires { IsTakerOf self.now.jobs taker.old }
         ensures { IsTakerOf self.now.jobs taker.new }
     {
         let backoff = Backoff::new();
         for _ in 0..LOOKS {
             if let Some(job) = self.jobs.next(rt, taker) {
-                if self.end_search(search) && !self.jobs.is_inbox_empty(taker) {
-                    self.call_one(rt);
-                }
-                return Some(job);
+                self.end_search(rt, taker, search);
+                return Ok(job);
             }
             backoff.spin();
         }
-        self.end_search(search);
-        None
+        Err(search)
+    }
+
+    /// Counts a worker off that found a job. The last that searched calls the next worker if another job waits in the
+    /// inbox: whoever put that in called nobody. A job in the queue of a worker has one that runs it next.
+    fn end_search<R: Wait>(&self, rt: &R, taker: &mut Taker<J, Q>, search: Search)
+        requires { IsTakerOf self.now.jobs taker.old }
+        ensures { IsTakerOf self.now.jobs taker.new }
+    {
+        let Some(last) = self.lookout.end_search(search) else {
+            return;
+        };
+        if !self.jobs.is_inbox_empty(taker, last) {
+            self.call_one(rt);
+        }
     }
 
     /// Sleeps until it is called, unless there is a job, or the pool is over.
     ///
-    /// The worker searches no more and was counted as idle, and then looks while it holds the lock. So whoever puts a job somewhere after
-    /// that look finds nobody who searches, or one that looks after it; and else finds the worker counted, and takes the lock to call it;
-    /// and the lock is free only once the worker sleeps.
-    fn rest<R: Wait>(&self, rt: &R, taker: &mut Taker<J>) -> Rested<J>
+    /// Whoever puts a job somewhere after its look finds it counted as idle, and takes the lock to call it; and the
+    /// lock is free only once it sleeps.
+    fn rest<R: Wait>(&self, rt: &R, taker: &mut Taker<J, Q>, idle: &Idle) -> Rested<J>
         requires { IsTakerOf self.now.jobs taker.old }
         ensures { IsTakerOf self.now.jobs taker.new }
     {
         let mut crew = self.crew.lock(rt);
         for _ in rt.forever() {
-            match self.look(rt, taker, &*crew) {
+            match self.look(rt, taker, &*crew, idle) {
                 Look::Found(job) => {
                     let wake = crew.call_one();
                     self.wake(crew, wake);
@@ -108,7 +104,7 @@ impl<J: Job> Pool<J> {
                     let sleeper = crew.lie_down(&searched);
                     crew = self.moved.wait(rt, crew);
                     crew.get_up(sleeper);
-                    return Rested::Called(self.begin_search());
+                    return Rested::Called(self.lookout.begin_search());
                 }
                 Look::OnItsWay => {
                     drop(crew);
@@ -120,20 +116,24 @@ impl<J: Job> Pool<J> {
         unreachable!()
     }
 
-    /// Looks once for a job, of a worker that holds the lock.
-    fn look<R: Wait>(&self, rt: &R, taker: &mut Taker<J>, crew: &Crew<J>) -> Look<J>
+    /// Looks once for a job, of a worker that is idle and holds the lock.
+    fn look<R: Wait>(
+        &self,
+        rt: &R,
+        taker: &mut Taker<J, Q>,
+        crew: &Crew<J, Q>,
+        idle: &Idle,
+    ) -> Look<J, Q>
         requires { IsTakerOf self.now.jobs taker.old }
         ensures of { IsTakerOf self.now.jobs taker.new }
         ensures looks { Looks crew.now result }
     {
-        // Read before the search, which then finds what a call has put in that is counted no more.
-        let comes = self.entering.load(SeqCst) > 0;
-        crew.look(self.jobs.next(rt, taker), comes)
+        crew.judge(crew.see(&self.door, idle).seek(rt, &self.jobs, taker))
     }
 
     /// Wakes a worker that sleeps, if there is one and nobody searches, since a job came.
     pub(super) fn call_one<R: Wait>(&self, rt: &R) {
-        if self.idle.load(SeqCst) == 0 || self.searching.load(SeqCst) > 0 {
+        if !self.lookout.has_to_call() {
             return;
         }
         let mut crew = self.crew.lock(rt);
@@ -142,7 +142,7 @@ impl<J: Job> Pool<J> {
     }
 
     /// Lets go of the lock, and wakes whom the lock said.
-    pub(super) fn wake(&self, crew: MutexGuard<'_, Crew<J>>, wake: Wake) {
+    pub(super) fn wake(&self, crew: MutexGuard<'_, Crew<J, Q>>, wake: Wake) {
         drop(crew);
         match wake {
             Wake::Nobody => {}

@@ -18,17 +18,17 @@ impl<
 > Terminal<'e, L, D, R> {
     /// Subscribes an echo of this name, and requests this many items for it.
     pub(super) fn subscribe(&mut self, name: Name, number: u64) -> Result<Reply, Refusal> {
-        let stage = self.stage;
+        let site = self.site;
         self.named.reserve(1)?;
-        let told = Arc::new(stage.alloc, AtomicU64::new(0))?;
+        let told = Arc::new(site.alloc, AtomicU64::new(0))?;
         let echo = Echo {
             name,
-            screen: Arc::try_clone(&stage.screen)?,
+            screen: Arc::try_clone(&site.screen)?,
             told: Arc::try_clone(&told)?,
         };
-        let subscribed = stage
+        let subscribed = site
             .publisher
-            .subscribe(&stage.rt, stage.alloc, name, Watching::new(echo));
+            .subscribe(&site.rt, site.alloc, name, Watching::new(echo));
         let subscription = match subscribed {
             Ok(subscription) => subscription,
             Err((refusal, _)) => {
@@ -52,7 +52,7 @@ impl<
 
     /// Requests items for the latest subscription of this name. Refused 10 if there is none.
     pub(super) fn request(&mut self, name: Name, number: i64) -> Result<Reply, Refusal> {
-        let rt = self.stage.rt;
+        let rt = self.site.rt;
         let named = self.latest(name)?;
         named.subscription.request(&rt, number)?;
         named.is_ending |= number < 1;
@@ -61,7 +61,7 @@ impl<
 
     /// Cancels the latest subscription of this name. Refused 10 if there is none.
     pub(super) fn cancel(&mut self, name: Name) -> Result<Reply, Refusal> {
-        let rt = self.stage.rt;
+        let rt = self.site.rt;
         let named = self.latest(name)?;
         named.subscription.cancel(&rt)?;
         named.is_ending = true;

@@ -1,6 +1,8 @@
 //! The end of the terminal.
-use super::{Named, Terminal};
+use super::{Named, PAUSE, Terminal};
 use crate::echo::Echoes;
+use crate::fault::ConsoleFault;
+use crate::site::Site;
 use flow_rules::{Ending, NoMemory};
 use publisher::HandedIn;
 use std::sync::Wait;
@@ -10,8 +12,8 @@ use std::thread;
 use std::thread::Threads;
 use std::time::{Clock, Duration};
 
-/// How many milliseconds the terminal sleeps before it looks again whether the sources have done what they can.
-const PAUSE: u64 = 1;
+/// How often the terminal tries to close the publisher, with a pause after each time, before it gives up.
+const MOST_TRIES: u64 = 1000;
 
 impl<
     'e,
@@ -19,40 +21,67 @@ impl<
     D: Ledger + Send + Sync + 'static,
     R: Print + Clock + Threads + Wait + Copy + Send + Sync + 'static,
 > Terminal<'e, L, D, R> {
-    /// Has the sources publish what they can, and end. Nobody requests any more, so a source that waits for room at a subscriber without
-    /// demand would wait for ever: then the publisher is closed, which ends the waiting, and all that is left is refused.
+    /// Has the sources publish what they can, and end. Nobody requests any more, so a source that waits for room at a
+    /// subscriber without demand would wait for ever: then the publisher is closed, which ends the waiting, and all
+    /// that is left is refused. If memory for the close is refused again and again, the program ends without them.
     pub(super) fn end_sources(&self) {
-        let stage = self.stage;
-        for _ in stage.rt.forever() {
-            if stage.unanswered.load(SeqCst) == 0 {
+        let site = self.site;
+        let mut tries = 0_u64;
+        for _ in site.rt.forever() {
+            if site.unanswered.load(SeqCst) == 0 {
                 break;
             }
-            let is_over = stage.screen.fault().is_some() || self.waits_for_demand();
-            if is_over && self.close(Ending::Normal).is_ok() {
-                break;
+            if self.is_over() {
+                if self.close(Ending::Normal).is_ok() {
+                    break;
+                }
+                tries = tries.saturating_add(1);
             }
-            thread::sleep(&stage.rt, Duration::from_millis(PAUSE));
+            if tries >= MOST_TRIES {
+                self.give_up();
+            }
+            thread::sleep(&site.rt, Duration::from_millis(PAUSE));
         }
         for source in &self.sources {
-            source.texts.close(&stage.rt);
+            source.texts.close(&site.rt);
         }
     }
 
-    /// Whether a subscription stands still: it was told all that was requested, its buffer is full, and nobody ends it.
-    fn waits_for_demand(&self) -> bool {
+    /// Has the program end, though the sources can't.
+    fn give_up(&self) {
+        let Site {
+            rt,
+            screen,
+            verdict,
+            ..
+        } = self.site;
+        let fault = match screen.fault() {
+            Some(fault) => fault.into(),
+            None => ConsoleFault::Memory,
+        };
+        verdict.say(rt, Err(fault));
+    }
+
+    /// Whether the sources need not be waited for: a line could not be written, or they wait for demand.
+    pub(super) fn is_over(&self) -> bool {
+        self.site.screen.fault().is_some() || self.stuck().is_some()
+    }
+
+    /// The first subscription that stands still: it was told all that was requested, its buffer is full, and nobody ends it.
+    pub(super) fn stuck(&self) -> Option<&Named<L, D, R>> {
         for named in &self.named {
             if self.is_stuck(named) {
-                return true;
+                return Some(named);
             }
         }
-        false
+        None
     }
 
     fn is_stuck(&self, named: &Named<L, D, R>) -> bool {
-        let stage = self.stage;
+        let site = self.site;
         !named.is_ending
             && named.told.load(SeqCst) == named.subscription.requested()
-            && named.subscription.lag(&stage.rt) == stage.publisher.max_buffer_capacity() as u64
+            && named.subscription.lag(&site.rt) == site.publisher.max_buffer_capacity() as u64
     }
 
     /// Closes the publisher, if nobody has, and hands in what goes back to it.

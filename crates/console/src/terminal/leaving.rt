@@ -4,7 +4,7 @@ ghost use Rattle.console.specs.Leaving.{IsLatestOf, Leaves, LeavesAt, NoneIsName
 
 use super::{Named, Terminal};
 use crate::echo::Echoes;
-use crate::stage::Stage;
+use crate::site::Site;
 use flow_rules::{Name, Refusal};
 use publisher::NamedLane;
 use std::sync::Wait;
@@ -18,25 +18,25 @@ impl<
     D: Ledger + Send + Sync + 'static,
     R: Print + Clock + Threads + Wait + Copy + Send + Sync + 'static,
 > Terminal<'e, L, D, R> {
-    /// Frees the latest subscription of the name that this word is, which has ended, and gives what is left of it. Refused 12 if the word
-    /// is no name, 10 if no subscription has it, and as [`Publisher::reclaim`](publisher::Publisher::reclaim) is; it stays then, and works
-    /// on.
+    /// Frees the latest subscription of the name that this word is, which has ended, and gives what is left of it.
+    /// Refused 12 if the word is no name, 10 if no subscription has it, and as
+    /// [`Publisher::reclaim`](publisher::Publisher::reclaim) is; it stays then, and works on.
     pub(super) fn leave(&mut self, word: &[u8]) -> Result<NamedLane<Echoes<R>>, Refusal> {
         match Name::new(word) {
-            Some(name) => leave_of(self.stage, &mut self.named, name),
+            Some(name) => leave_of(self.site, &mut self.named, name),
             None => Err(Refusal::BadCommand),
         }
     }
 }
 
-/// Frees the latest of these subscriptions that has this name, and gives what is left of it. The others keep their order. If it is refused,
-/// all stay.
+/// Frees the latest of these subscriptions that has this name, and gives what is left of it. The others keep their
+/// order. If it is refused, all stay.
 fn leave_of<
     L: Ledger + Send,
     D: Ledger + Send,
     R: Print + Clock + Wait + Copy + Send + Sync + 'static,
 >(
-    stage: &Stage<L, D, R>,
+    site: &Site<L, D, R>,
     named: &mut Vec<Named<L, D, R>>,
     name: Name,
 ) -> Result<NamedLane<Echoes<R>>, Refusal>
@@ -44,7 +44,7 @@ fn leave_of<
     ensures stays { OnErr result (named.new.items ≡ named.old.items) }
 {
     match latest_of(named.as_slice(), name) {
-        Some(place) => leave_at(stage, named, place),
+        Some(place) => leave_at(site, named, place),
         None => Err(Refusal::Unknown),
     }
 }
@@ -72,7 +72,7 @@ fn leave_at<
     D: Ledger + Send,
     R: Print + Clock + Wait + Copy + Send + Sync + 'static,
 >(
-    stage: &Stage<L, D, R>,
+    site: &Site<L, D, R>,
     named: &mut Vec<Named<L, D, R>>,
     place: usize,
 ) -> Result<NamedLane<Echoes<R>>, Refusal>
@@ -86,10 +86,7 @@ fn leave_at<
         told,
         is_ending,
     } = named.remove(place);
-    match stage
-        .publisher
-        .reclaim(&stage.rt, stage.alloc, subscription)
-    {
+    match site.publisher.reclaim(&site.rt, site.alloc, subscription) {
         Ok(left) => Ok(left),
         Err((refusal, subscription)) => {
             let back = Named {

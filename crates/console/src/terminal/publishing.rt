@@ -1,19 +1,17 @@
 //! What concerns all subscriptions: `offer`, `retry`, `submit`, `close` and `fail`.
-use super::{Source, Terminal};
-use crate::queue::Queue;
-use crate::source::{Texts, start_source};
-use crate::stage::Stage;
+use super::{PAUSE, Source, Terminal};
+use crate::site::Site;
+use crate::source::{MOST_SOURCES, MOST_TEXTS, Texts, start_source};
 use commands::Reply;
 use flow_rules::{DropHandler, Ending, Item, Name, NoMemory, Refusal};
+use inbox::Queue;
 use std::alloc::{AllocError, Global};
 use std::sync::atomic::Ordering::SeqCst;
 use std::sync::ledger::Ledger;
 use std::sync::{Arc, Wait};
+use std::thread;
 use std::thread::{Scope, Threads};
-use std::time::Clock;
-
-/// The most sources of a terminal. Each is a thread.
-const MOST_SOURCES: usize = 16;
+use std::time::{Clock, Duration};
 
 impl<
     'e,
@@ -23,22 +21,25 @@ impl<
 > Terminal<'e, L, D, R> {
     /// Offers a text.
     pub(super) fn offer(&mut self, text: &[u8]) -> Result<Reply, Refusal> {
-        let stage = self.stage;
-        let answer = self.submitter.offer(&stage.rt, stage.alloc, text, None)?;
+        let site = self.site;
+        let answer = self.submitter.offer(&site.rt, site.alloc, text, None)?;
         Ok(Reply::Offered(answer))
     }
 
     /// Offers a text, and once more to each that has no room.
     pub(super) fn retry(&mut self, text: &[u8]) -> Result<Reply, Refusal> {
-        let stage = self.stage;
+        let site = self.site;
         let mut calls = Retries(0);
         let answer = self
             .submitter
-            .offer_with(&stage.rt, stage.alloc, text, &mut calls)?;
+            .offer_with(&site.rt, site.alloc, text, &mut calls)?;
         Ok(Reply::Retried(answer, calls.0))
     }
 
-    /// Hands a text to a source, which is started if it is new, and which answers it.
+    /// Hands a text to a source, which is started if it is new, and which answers it. If that will wait for a
+    /// subscription until a later line requests, it is said, unless another text waits already. It waits while
+    /// [`MOST_TEXTS`] wait for the source. Refused 11 if they wait for demand: only a line that comes later can
+    /// request.
     pub(super) fn submit<'s, 'v: 's>(
         &mut self,
         scope: &'s Scope<'s, &'v ()>,
@@ -49,14 +50,51 @@ impl<
         'e: 's,
     {
         let texts = self.texts_of(scope, number)?;
-        let stage = self.stage;
-        let copy = copy_of(stage.alloc, text)?;
-        stage.unanswered.fetch_add(1, SeqCst);
-        if texts.push(&stage.rt, copy).is_err() {
-            stage.unanswered.fetch_sub(1, SeqCst);
-            return Err(Refusal::NoMemory);
+        let site = self.site;
+        let copy = copy_of(site.alloc, text)?;
+        if site.unanswered.fetch_add(1, SeqCst) == 0 {
+            self.say_waiting(number);
         }
-        Ok(())
+        let handed = self.hand_to(&texts, copy);
+        if handed.is_err() {
+            site.unanswered.fetch_sub(1, SeqCst);
+        }
+        handed
+    }
+
+    /// Says for whom a source is about to wait, if it is.
+    fn say_waiting(&self, number: u32) {
+        let Some(named) = self.stuck() else {
+            return;
+        };
+        let Site {
+            publisher,
+            screen,
+            ..
+        } = self.site;
+        let room = publisher.max_buffer_capacity();
+        // The screen keeps what has failed, and the terminal looks there.
+        let _ = screen.say(format_args!(
+            "= submit {number} waits for {} ({room} of {room})",
+            named.name
+        ));
+    }
+
+    /// Hands a text to the thread of a source, once there is room for it.
+    fn hand_to(&self, texts: &Texts, text: Vec<u8>) -> Result<(), Refusal> {
+        let rt = &self.site.rt;
+        let mut left = text;
+        for _ in rt.forever() {
+            match texts.try_push(rt, left) {
+                Ok(()) => return Ok(()),
+                Err(text) => left = text,
+            }
+            if self.is_over() {
+                return Err(Refusal::WouldWait);
+            }
+            thread::sleep(rt, Duration::from_millis(PAUSE));
+        }
+        unreachable!()
     }
 
     /// The texts that wait for a source, which is started if it is new. Refused 4 if there are [`MOST_SOURCES`] others.
@@ -75,14 +113,14 @@ impl<
         if self.sources.len() >= MOST_SOURCES {
             return Err(Refusal::TooMany);
         }
-        let stage = self.stage;
-        let texts = Arc::new(stage.alloc, Queue::new(stage.alloc))?;
+        let site = self.site;
+        let texts = Arc::new(site.alloc, Queue::new(site.alloc, MOST_TEXTS)?)?;
         let ours = Arc::try_clone(&texts)?;
         self.sources.push(Source {
             number,
             texts: ours,
         })?;
-        if start_source(scope, stage, number, Arc::try_clone(&texts)?).is_err() {
+        if start_source(scope, site, number, Arc::try_clone(&texts)?).is_err() {
             self.sources.pop();
             return Err(Refusal::NoMemory);
         }
@@ -91,12 +129,12 @@ impl<
 
     /// Closes the publisher in this way.
     pub(super) fn close(&self, ending: Ending) -> Result<Reply, Refusal> {
-        let Stage {
+        let Site {
             rt,
             alloc,
             publisher,
             ..
-        } = self.stage;
+        } = self.site;
         let mut note = publisher.note();
         match ending {
             Ending::Normal => publisher.close(rt, *alloc, &mut note)?,

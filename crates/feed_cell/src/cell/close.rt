@@ -2,44 +2,45 @@
 pub mod again;
 mod joined;
 
-ghost use Rattle.std.specs.Prelude.{◌≡◌, ◌%◌, ◌-◌, ◌<◌, ◌≤◌, ◌⊎◌, ℕ, Bool, true, false, [], Option, Some, None, IfSome, IfOk, IfErr};
+ghost use Rattle.std.specs.Prelude.{◌≡◌, ◌%◌, ◌-◌, ◌==◌, ◌<◌, ◌≤◌, ◌⊎◌, ℕ, Bool, true, false, [], Option, Some, None, IfSome, IfOk, IfErr};
 ghost use Rattle.std.specs.Int.{bit_at};
 ghost use Rattle.std.specs.Mem.Slots.{IsFull, slots_items, slots_len};
 ghost use mathlib.Core.Option.{some};
 ghost use lib.ListN.{get_elem?};
 ghost use Rattle.feed_core.specs.World.Table.{MayBegin};
-ghost use Rattle.feed_cell.specs.Control.{MARK, RUNNING};
+ghost use Rattle.feed_cell.specs.Control.{CANCELLED, MARK, RUNNING};
 ghost use Rattle.flow_rules.specs.Feed.{End};
 ghost use Rattle.feed_cell.specs.Left.{IsLeftOf, OnGuest, IsHomeBy, IsLaneWith, lane_without};
 ghost use Rattle.feed_cell.specs.Parties.{HandleState, KnowsEnd, KnowsHandle, not_ready};
 ghost use Rattle.feed_cell.specs.ProducerSteps.{MayOffer};
 ghost use Rattle.feed_cell.specs.Seats.{HasFourWords};
+ghost use Rattle.feed_cell.specs.TaskAnswers.{IsNoted};
 
 use self::joined::{Gather, join_if_of_one_table};
 use super::handle::Handle;
 use super::handle::steps::leave;
 use super::producer::Producer;
 use super::seated::Seated;
-use super::{ASKED, CONTROL, CellSeat, CellTable, HEAD, Held, Lodger, MARK, RUN, TAIL};
+use super::{ASKED, CANCELLED, CONTROL, CellSeat, CellTable, HEAD, Held, Lodger, MARK, RUN, TAIL};
 use atomic_table::Closed;
 use feed_core::Lane;
 use flow_rules::{Listener, UNBOUNDED};
 use std::alloc::Global;
 use std::sync::Arc;
 
-/// Gives back the two ends of a subscription, and takes it apart, with its subscriber. Items that were put and not taken are
-/// dropped. The handle makes no step after this. If the subscription is still shared, by a task or by its own handle, the
-/// producer's end comes back, not ready.
+/// Gives back the two ends of a subscription, and takes it apart, with its subscriber. Items that were put and not
+/// taken are dropped. The handle makes no step after this. If the subscription is still shared, by a task or by its own
+/// handle, the producer's end comes back, not ready.
 ///
-/// A lane that doesn't run is settled: its subscriber was told all that its demand and its ending allow. One that runs has lost
-/// a task, with its subscriber, or its own handle was never closed.
+/// A lane that doesn't run is settled: its subscriber was told all that its demand and its ending allow. One that runs
+/// has lost a task, with its subscriber, or its own handle was never closed.
 ///
-/// With the subscription's own handle, what that requested is part of the total, and its cancel and its bad requests are among
-/// the causes. With the handle of another, nothing is said of what this one's requested.
+/// With the subscription's own handle, what that requested is part of the total, and its cancel and its bad requests
+/// are among the causes. With the handle of another, nothing is said of what this one's requested.
 pub fn close<B: Listener>(producer: Producer<B>, handle: Handle<B>) -> Result<Lane<B>, Producer<B>>
-    ensures left { IfOk result (IsLeftOf B.told producer.end None) }
+    ensures left { IfOk result (IsLeftOf B.told B.replied producer.end None) }
     ensures own { handle.table ≡ producer.table
-        → IfOk result (IsLeftOf B.told producer.end (Some handle)) }
+        → IfOk result (IsLeftOf B.told B.replied producer.end (Some handle)) }
     ensures back { IfErr result (λ back. back ≡ not_ready producer) }
 {
     let mut asking = step_out(handle);
@@ -64,7 +65,8 @@ fn step_out<B: Listener>(handle: Handle<B>) -> CellSeat<B>
     party.into_seat()
 }
 
-/// Takes the table out with the producer's seat, if nobody else shares it. Otherwise the producer's end comes back, not ready.
+/// Takes the table out with the producer's seat, if nobody else shares it. Otherwise the producer's end comes back, not
+/// ready.
 fn unshared<B: Listener>(producer: Producer<B>) -> Result<(CellTable<B>, CellSeat<B>), Producer<B>>
     ensures seat { IfOk result (λ parts. parts.1.table_id ≡ parts.0.shared.table_id) }
     ensures table { IfOk result (λ parts. parts.1.table_id ≡ producer.table) }
@@ -100,13 +102,14 @@ fn unshared<B: Listener>(producer: Producer<B>) -> Result<(CellTable<B>, CellSea
     }
 }
 
-/// Takes a subscription apart that nobody shares any more, with the producer's seat, which may have taken the handle's in.
+/// Takes a subscription apart that nobody shares any more, with the producer's seat, which may have taken the handle's
+/// in.
 fn take_apart<B: Listener>(table: CellTable<B>, seat: CellSeat<B>) -> Lane<B>
     requires table { (seat.table_id ≡ table.shared.table_id) × HasFourWords seat.table_id }
     requires may { (seat.me.0.puts ≡ true) × MayBegin seat.me.0.producing }
     ensures left { (end : End) (handle : Option HandleState)
         → KnowsEnd end seat.me.0 → IfSome handle (λ handle. KnowsHandle handle seat.me.0)
-        → IsLeftOf B.told end handle result }
+        → IsLeftOf B.told B.replied end handle result }
 {
     let closed = table.close_with(seat);
     let head = closed.word(HEAD);
@@ -119,12 +122,15 @@ fn take_apart<B: Listener>(table: CellTable<B>, seat: CellSeat<B>) -> Lane<B>
 
 /// What is left, by the words of a subscription and what its subscriber's slot holds.
 fn lane_of<B: Listener>(head: u64, tail: u64, asked: u64, control: u64, last: Held<B>) -> Lane<B>
-    ensures there { IsHomeBy head control → OnGuest last (IsLaneWith head tail asked result) }
+    ensures there { IsHomeBy head control
+        → OnGuest last (IsLaneWith head tail asked control result) }
+    ensures noted { IsHomeBy head control → OnGuest last (IsNoted B.replied) }
     ensures away { head < MARK → bit_at control RUNNING ≡ 1
-        → result ≡ lane_without (head % MARK) tail (asked % MARK) }
+        → result ≡ lane_without (head % MARK) tail (asked % MARK) (bit_at control CANCELLED == 1) }
 {
     let given = head % MARK;
     let requested = asked % MARK;
+    let cancelled = is_cancelled(control);
     let is_home = head >= MARK || control & RUN == 0;
     match last {
         Held::Guest(guest) if is_home => {
@@ -140,6 +146,8 @@ fn lane_of<B: Listener>(head: u64, tail: u64, asked: u64, control: u64, last: He
                 accepted: tail,
                 given,
                 asked: requested.saturating_add(own).min(UNBOUNDED),
+                requested,
+                cancelled,
                 ending: how,
                 order: Some(answers.order),
                 running: head < MARK && asked < MARK,
@@ -150,6 +158,8 @@ fn lane_of<B: Listener>(head: u64, tail: u64, asked: u64, control: u64, last: He
             accepted: tail,
             given,
             asked: requested,
+            requested,
+            cancelled,
             ending: None,
             order: None,
             running: true,
@@ -157,7 +167,15 @@ fn lane_of<B: Listener>(head: u64, tail: u64, asked: u64, control: u64, last: He
     }
 }
 
-/// What the last slot of a table holds that nobody shares any more. The others are dropped, and the memory is given back.
+/// Whether the handle has cancelled, by the word of marks and causes.
+fn is_cancelled(control: u64) -> bool
+    ensures { result ≡ (bit_at control CANCELLED == 1) }
+{
+    (control >> CANCELLED) & 1 == 1
+}
+
+/// What the last slot of a table holds that nobody shares any more. The others are dropped, and the memory is given
+/// back.
 fn last_slot<B: Listener>(mut closed: Closed<Held<B>, Global>) -> Held<B>
     requires full { IsFull closed.slots }
     requires some { 0 < slots_len closed.slots }

@@ -67,8 +67,15 @@ impl<B: Listener> Handle<B> {
         self.asked
     }
 
-    /// Takes what one started task needs, one more share of the table. A handle that is ready is not refused. After `NoMemory`
-    /// it is as it was.
+    /// Tells whether this handle has cancelled.
+    pub fn has_cancelled(&self) -> bool
+        ensures { result ≡ self.now.cancelled }
+    {
+        self.cancelled
+    }
+
+    /// Takes what one started task needs, one more share of the table. A handle that is ready is not refused. After
+    /// `NoMemory` it is as it was.
     pub fn ready(&mut self) -> Result<(), NoMemory>
         ensures ok { OnOk result (self.new ≡ record self.old { ready = true }) }
         ensures unchanged { OnErr result (self.new ≡ self.old) }
@@ -80,9 +87,9 @@ impl<B: Listener> Handle<B> {
         Ok(())
     }
 
-    /// Adds to the demand (`Flow.Subscription.request`; Reactive Streams 1.0, rules 3.6, 3.8, 3.9 and 3.17). A number that is
-    /// not positive ends the subscription with an error. If the task was at rest, it comes back and has to be run. After a
-    /// cancel this does nothing.
+    /// Adds to the demand (`Flow.Subscription.request`; Reactive Streams 1.0, rules 3.6, 3.8, 3.9 and 3.17). A number
+    /// that is not positive ends the subscription with an error. If the task was at rest, it comes back and has to be
+    /// run. After a cancel this does nothing.
     #[must_use]
     pub fn request(&mut self, n: i64) -> Option<Task<B>>
         requires may { MayAsk self.old }
@@ -107,9 +114,9 @@ impl<B: Listener> Handle<B> {
         start(&self.party, &mut self.spare, task)
     }
 
-    /// Ends the subscription (`Flow.Subscription.cancel`; Reactive Streams 1.0, rules 3.5, 3.7 and 3.12): its subscriber is
-    /// given at most one item more. If the task was at rest, it comes back and has to be run. Only the first cancel does
-    /// anything.
+    /// Ends the subscription (`Flow.Subscription.cancel`; Reactive Streams 1.0, rules 3.5, 3.7 and 3.12): its
+    /// subscriber is given at most one item more. If the task was at rest, it comes back and has to be run. Only the
+    /// first cancel does anything.
     #[must_use]
     pub fn cancel(&mut self) -> Option<Task<B>>
         requires may { MayAsk self.old }

@@ -1,4 +1,5 @@
-//! How a subscription is made: the table is laid and shared, and the seat of its maker is split among the three parties.
+//! How a subscription is made: the table is laid and shared, and the seat of its maker is split among the three
+//! parties.
 ghost use Rattle.std.specs.Prelude.{◌≡◌, ◌+◌, [], ◌∷◌, replicate, IfOk, IfErr, None, true};
 ghost use Rattle.std.specs.Arc.{arc_value};
 ghost use Rattle.crossbeam_utils.specs.Padded.{padded_value};
@@ -29,9 +30,9 @@ use std::sync::Arc;
 pub struct Cell;
 
 impl Cell {
-    /// Makes a new subscription of this subscriber, with a buffer of this capacity, which is one of `capacity`'s values: its
-    /// producer's end, its handle, and its task, which owes the first turn. A closing error overtakes the items. If memory is
-    /// refused, the subscriber comes back.
+    /// Makes a new subscription of this subscriber, with a buffer of this capacity, which is one of `capacity`'s
+    /// values: its producer's end, its handle, and its task, which owes the first turn. A closing error overtakes the
+    /// items. If memory is refused, the subscriber comes back.
     pub fn new<B: Listener>(
         alloc: Global,
         capacity: usize,
@@ -39,6 +40,7 @@ impl Cell {
     ) -> Result<(Producer<B>, Handle<B>, Task<B>), (NoMemory, B)>
         requires capacity { IsCapacity capacity }
         requires untold { B.told subscriber ≡ [] }
+        requires unheard { B.replied subscriber ≡ [] }
         ensures producer { IfOk result (λ made. made.0 ≡ new_producer capacity made.0.table) }
         ensures handle { IfOk result (λ made. made.1 ≡ new_handle capacity made.0.table) }
         ensures task { IfOk result (λ made. IsNewTask made.0.table capacity made.2) }
@@ -47,8 +49,8 @@ impl Cell {
         Cell::new_with(alloc, capacity, ErrorOrder::Overtake, subscriber)
     }
 
-    /// Makes a new subscription, as [`Cell::new`] does, in which a closing error is told in this order. If memory is refused, the
-    /// subscriber comes back.
+    /// Makes a new subscription, as [`Cell::new`] does, in which a closing error is told in this order. If memory is
+    /// refused, the subscriber comes back.
     pub fn new_with<B: Listener>(
         alloc: Global,
         capacity: usize,
@@ -57,6 +59,7 @@ impl Cell {
     ) -> Result<(Producer<B>, Handle<B>, Task<B>), (NoMemory, B)>
         requires capacity { IsCapacity capacity }
         requires untold { B.told subscriber ≡ [] }
+        requires unheard { B.replied subscriber ≡ [] }
         ensures producer { IfOk result
             (λ made. made.0 ≡ new_producer_in order capacity made.0.table) }
         ensures handle { IfOk result
@@ -183,6 +186,7 @@ fn lodger<B: Listener>(
     order: ErrorOrder,
     subscriber: B,
 ) -> Result<BoxedLodger<B>, (NoMemory, B)>
+    requires { B.replied subscriber ≡ [] }
     ensures new { IfOk result (λ guest. guest ≡ new_lodger order subscriber) }
     ensures back { IfErr result (λ refused. refused.1 ≡ subscriber) }
 {

@@ -1,9 +1,9 @@
-//! The producer's end of a subscription, which its publisher has. It is the `Feed` of that publisher's Hub, and calls no
-//! subscriber.
+//! The producer's end of a subscription, which its publisher has. It is the `Feed` of that publisher's Hub, and calls
+//! no subscriber.
 mod plays;
 pub mod steps;
 
-use self::steps::{Found, find_room, look, place, signal_end};
+use self::steps::{Found, find_room, place, see_standing, signal_end};
 use super::seated::Seated;
 use super::signal::{signal, signal_more, start};
 use super::task::Task;
@@ -101,7 +101,7 @@ impl<B: Listener> Feed for Producer<B> {
     }
 
     fn standing(&mut self) -> Standing {
-        let head = look(&mut self.party);
+        let head = see_standing(&mut self.party);
         if head >= MARK {
             Standing {
                 ended: true,

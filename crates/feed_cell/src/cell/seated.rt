@@ -7,7 +7,8 @@ ghost use Rattle.feed_cell.specs.Seats.{HasFourWords};
 use super::{CellSeat, SharedTable};
 use flow_rules::Listener;
 
-/// A party at the table of its subscription: the table, the party's seat there, and how many items the buffer has room for.
+/// A party at the table of its subscription: the table, the party's seat there, and how many items the buffer has room
+/// for.
 #[derive(Drop)]
 pub(crate) struct Seated<B: Listener> {
     pub(crate) table: SharedTable<B>,

@@ -45,10 +45,10 @@ impl Split<View> for HandOver {
     ghost right = { running_handed };
 }
 
-/// Signals an item or a request. If both marks are set already, a load is all that it takes: to set them again would change
-/// nothing. That load must not overtake the store of tail or of asked before it, and the task's loads of these must not
-/// overtake its look. Each step of a table is sequentially consistent, and without that the task could come to rest with an
-/// item that nobody signalled. If the task was at rest, its seat comes back.
+/// Signals an item or a request. If both marks are set already, a load is all that it takes: to set them again would
+/// change nothing. That load must not overtake the store of tail or of asked before it, and the task's loads of these
+/// must not overtake its look. Each step of a table is sequentially consistent, and without that the task could come to
+/// rest with an item that nobody signalled. If the task was at rest, its seat comes back.
 pub(crate) fn signal_more<B: Listener>(party: &mut Seated<B>) -> Option<CellSeat<B>>
     requires may { MaySignal None party.old.seat.me.0 }
     ensures sent { StepsTo party.old.seat (IsSent None result party.old.seat.me) party.new.seat }

@@ -23,8 +23,8 @@ pub enum Stage {
     Going,
 }
 
-/// The task of a subscription. It has to be run until it is at rest or has ended: one that is dropped takes its subscriber with
-/// it.
+/// The task of a subscription. It has to be run until it is at rest or has ended: one that is dropped takes its
+/// subscriber with it.
 #[must_use]
 #[derive(Drop)]
 pub struct Task<B: Listener> {
@@ -41,7 +41,7 @@ impl<B: Listener> fmt::Debug for Task<B> {
 impl<B: Listener> Model for Task<B> {
     ghost use Rattle.std.specs.Prelude.{◌≡◌};
     ghost use Rattle.feed_cell.specs.Parties.{TaskState, known_by_task};
-    ghost use Rattle.feed_cell.specs.TaskPauses.{told_out, IsPaused};
+    ghost use Rattle.feed_cell.specs.TaskPauses.{told_out, replied_out, IsPaused};
     ghost use Rattle.feed_cell.specs.Views.{RunsFree};
 
     ghost Value = { TaskState };
@@ -51,6 +51,7 @@ impl<B: Listener> Model for Task<B> {
       seat = t.party.seat.id;
       knows = known_by_task t.party.seat.me.0;
       told = told_out B.told t.party.seat.me.1;
+      replied = replied_out B.replied t.party.seat.me.1;
     } };
 
     ghost invariant = { λ t.
@@ -58,8 +59,8 @@ impl<B: Listener> Model for Task<B> {
         × IsPaused B.told t.stage t.party.seat.me };
 }
 
-/// The seat of a task that is over, as its last turn gives it back: what it showed last. It does nothing any more, and has no
-/// bytes.
+/// The seat of a task that is over, as its last turn gives it back: what it showed last. It does nothing any more, and
+/// has no bytes.
 #[derive(Drop)]
 pub struct Spent<B: Listener> {
     pub(crate) seat: CellSeat<B>,
@@ -79,7 +80,7 @@ impl<B: Listener> Model for Spent<B> {
     ghost view = { λ s. record {
       table = s.seat.table_id;
       seat = s.seat.id;
-      knows = known_by_task
-          s.seat.me.0;
+      knows = known_by_task s.seat.me.0;
+      replied = s.seat.me.0.replied;
     } };
 }

@@ -34,7 +34,8 @@ within_closing : (c : Causes) (ending : Ending) → c.closing ≡ None → IsWit
 within_closing c ending unclosed = record { order = refl; cancel = λ e. e; argument = λ e. e; state = λ e. e; closing = λ other e. cc; failed = λ code e. e; memory = λ e. e }
 
 -- a signal adds to the causes
-pub within_producer : (cause : Option Cause) (producer : Producing) (c : Causes) → ProducerMay cause producer c.closing → IsWithin c (joined cause c)
+pub within_producer : (cause : Option Cause) (producer : Producing) (c : Causes) → ProducerMay cause producer c.closing
+    → IsWithin c (joined cause c)
 within_producer None producer c may = within_same c
 within_producer (Some Cancel) producer c may = within_cancel c
 within_producer (Some Argument) producer c may = within_argument c
@@ -78,7 +79,8 @@ IsWaitFor c = (c.closing ≡ Some Ending.Normal) ⊎ ((code : ℕ) × (c.closing
 
 closes_cause : (c : Causes) → IsSome (closes c) → IsWaitFor c
 closes_cause c some = by c.closing c.order refl refl some where
-  by : (closing : Option Ending) (order : ErrorOrder) → c.closing ≡ closing → c.order ≡ order → IsSome (end_at_last closing order) → IsWaitFor c
+  by : (closing : Option Ending) (order : ErrorOrder) → c.closing ≡ closing → c.order ≡ order → IsSome (end_at_last closing order)
+      → IsWaitFor c
   by None order e o some = cc
   by (Some Ending.Normal) order e o some = inl e
   by (Some (Ending.Failed code)) Overtake e o some = cc
@@ -98,7 +100,7 @@ closes_within {c} {d} within some = by (closes_cause c some) where
   by (inl e) = normal_closes d (within.closing Ending.Normal e)
   by (inr e) = error_closes d e.0 (sym within.order ∙ e.2) (within.closing (Ending.Failed e.0) e.1)
 
--- the cause of an end at once; a closing error is one where it overtakes the items
+-- the cause of an end at once; a closing error is one if it overtakes the items
 abbrev pub IsStopOf : Causes → How → Type 0
 IsStopOf c How.Completed = ⊥
 IsStopOf c (How.Errored (Published code)) = (c.closing ≡ Some (Ending.Failed code)) × (c.order ≡ Overtake)
@@ -177,14 +179,16 @@ stops_within {c} {d} within some =
     stop_stops d found.0 (stop_within found.0 within (stops_cause c found.0 found.1))
 
 -- a cause of a signal that is an end at once by itself is one beside any others
-pub joined_stops : (cause : Option Cause) (c : Causes) → IsSome (stops (joined cause (no_causes_in c.order))) → IsSome (stops (joined cause c))
+pub joined_stops : (cause : Option Cause) (c : Causes) → IsSome (stops (joined cause (no_causes_in c.order)))
+    → IsSome (stops (joined cause c))
 joined_stops None c some = cc
 joined_stops (Some Cancel) c some = refl
 joined_stops (Some Argument) c some = argument_stops (record c { argument = true }) refl
 joined_stops (Some State) c some = state_stops (record c { state = true }) refl
 joined_stops (Some (Closing Ending.Normal)) c some = cc
 joined_stops (Some (Closing (Ending.Failed code))) c some = by c.order refl some where
-  by : (order : ErrorOrder) → c.order ≡ order → IsSome (error_at_once (Some (Ending.Failed code)) order) → IsSome (stops (record c { closing = Some (Ending.Failed code) }))
+  by : (order : ErrorOrder) → c.order ≡ order → IsSome (error_at_once (Some (Ending.Failed code)) order)
+      → IsSome (stops (record c { closing = Some (Ending.Failed code) }))
   by Overtake o some = error_stops (record c { closing = Some (Ending.Failed code) }) code refl o
   by AfterItems o some = cc
 

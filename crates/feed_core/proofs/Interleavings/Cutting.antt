@@ -30,12 +30,14 @@ may_follow_few (Measured c t a) = omega arith
 may_follow_few Taken = omega arith
 may_follow_few (Over how) = omega arith
 
-signal_cut : (w v : Parts) (cut : ℕ) → IsSome (stops v.causes) → v.given ≡ w.given → v.runner ≡ started w.runner → w.given ≤ cut + may_follow w.runner → IsCut v cut
+signal_cut : (w v : Parts) (cut : ℕ) → IsSome (stops v.causes) → v.given ≡ w.given → v.runner ≡ started w.runner
+    → w.given ≤ cut + may_follow w.runner → IsCut v cut
 signal_cut w v cut stopped given runner few =
     let same = may_follow_started w.runner in let is = ap may_follow runner in
     record { stopped = stopped; few = omega arith }
 
-look_cut : (w v : Parts) (cut : ℕ) → IsSome (stops v.causes) → v.given ≡ w.given → v.runner ≡ Looked v.causes → w.given ≤ cut + may_follow w.runner → IsCut v cut
+look_cut : (w v : Parts) (cut : ℕ) → IsSome (stops v.causes) → v.given ≡ w.given → v.runner ≡ Looked v.causes
+    → w.given ≤ cut + may_follow w.runner → IsCut v cut
 look_cut w v cut stopped given runner few =
     let one = one_where_some (stops v.causes) stopped in let is = ap may_follow runner in let most = may_follow_few w.runner in
     record { stopped = stopped; few = omega arith }
@@ -152,11 +154,12 @@ new_cut Measure w = tt
 new_cut Rest w = tt
 new_cut (End how) w = tt
 
-pub cut_at_kept : (event : Event) (w : Parts) (cut : Option ℕ) → IsPossible event w → IsCutAt cut w → IsCutAt (cut_after event w cut) (after event w)
+pub cut_at_kept : (event : Event) (w : Parts) (cut : Option ℕ) → IsPossible event w → IsCutAt cut w
+    → IsCutAt (cut_after event w cut) (after event w)
 cut_at_kept event w None may c = new_cut event w
 cut_at_kept event w (Some cut) may c = cut_kept event w cut may c
 
--- an event that adds an end at once, where none was before
+-- an event that adds an end at once, if none was before
 adds_stop : (event : Event) (w : Parts) → IsPossible event w → stops w.causes ≡ None → IsSome (stops (after event w).causes)
     → IsCut (after event w) (given_before w.given w.runner)
 adds_stop event w may none stopped = by event may stopped where
@@ -183,8 +186,10 @@ adds_stop event w may none stopped = by event may stopped where
   by Rest may some = absurd (never some)
   by (End how) may some = let before = few in let most = may_follow_few w.runner in record { stopped = some; few = omega arith }
 
--- after an event that leaves an end at once among the causes, the cut may be what was given before it, but for an item that was just taken
-pub fresh_cut : (event : Event) (w : Parts) → IsPossible event w → IsSome (stops (after event w).causes) → IsCut (after event w) (given_before w.given w.runner)
+-- after an event that leaves an end at once among the causes, the cut may be what was given before it, but for an item
+-- that was just taken
+pub fresh_cut : (event : Event) (w : Parts) → IsPossible event w → IsSome (stops (after event w).causes)
+    → IsCut (after event w) (given_before w.given w.runner)
 fresh_cut event w may stopped = by (stops w.causes) refl where
   by : (stop : Option How) → stops w.causes ≡ stop → IsCut (after event w) (given_before w.given w.runner)
   by None e = adds_stop event w may e stopped

@@ -36,9 +36,11 @@ looked_ended c how w s may = by (stops c) refl may where
   by None e may = absurd may
   by (Some due) e may = by_end due how w (stop_ended c due w s.within (stops_cause c due e)) may
 
-measured_ended : (c : Causes) (t a : ℕ) (how : How) (w : Parts) → HasMeasured c t a w → IsStop (closes c) how → w.given ≡ t → EndHasCause how (after (End how) w)
+measured_ended : (c : Causes) (t a : ℕ) (how : How) (w : Parts) → HasMeasured c t a w → IsStop (closes c) how → w.given ≡ t
+    → EndHasCause how (after (End how) w)
 measured_ended c t a how w s may all = by c.closing c.order refl refl may where
-  by : (closing : Option Ending) (order : ErrorOrder) → c.closing ≡ closing → c.order ≡ order → IsStop (end_at_last closing order) how → EndHasCause how (after (End how) w)
+  by : (closing : Option Ending) (order : ErrorOrder) → c.closing ≡ closing → c.order ≡ order → IsStop (end_at_last closing order) how
+      → EndHasCause how (after (End how) w)
   by None order e o may = absurd may
   by (Some Ending.Normal) order e o may =
       by_end How.Completed how w (s.seen.looked.within.closing Ending.Normal e, all ∙ s.seen.last (normal_closes c e)) may

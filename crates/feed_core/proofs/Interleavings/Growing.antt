@@ -1,4 +1,5 @@
--- What the steps of the other two sides do to what holds where the task stands: the numbers and the causes only grow, and what is new is marked.
+-- What the steps of the other two sides do to what holds where the task stands: the numbers and the causes only grow,
+-- and what is new is marked.
 use Rattle.std.proofs.Common.{◌≡◌, ℕ, ◌≤◌, min, false, refl, sym, ap, subst, ◌∙◌, arith}
 use Rattle.std.specs.Prelude.{IsSome}
 use Rattle.feed_core.specs.Prelude.{Published, IllegalArgument, IllegalState, Ending, AfterItems, How}

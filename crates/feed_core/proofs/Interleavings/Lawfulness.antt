@@ -10,7 +10,8 @@ use Rattle.feed_core.proofs.Interleavings.Growing.{stage_at}
 use Rattle.feed_core.proofs.Interleavings.Handing.{coming_few, is_coming}
 
 -- who has one task to hand over
-hands_one : (producer : Producing) (handle : Requesting) → producer_hands producer + handle_hands handle ≡ 1 → (producer ≡ Hands) ⊎ (handle ≡ HandsOver)
+hands_one : (producer : Producing) (handle : Requesting) → producer_hands producer + handle_hands handle ≡ 1
+    → (producer ≡ Hands) ⊎ (handle ≡ HandsOver)
 hands_one Hands handle e = inl refl
 hands_one Free HandsOver e = inr refl
 hands_one HasRoom HandsOver e = inr refl

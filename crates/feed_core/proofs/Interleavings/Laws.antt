@@ -26,11 +26,13 @@ abbrev HasCut : ℕ → Option Parts → Type 0
 HasCut cut None = ⊥
 HasCut cut (Some w) = IsCut w cut
 
-next_cut : (bound : ℕ) (event : Event) (parts : Option Parts) (cut : Option ℕ) → IsPossibleIn event parts → HasCut bound parts → HasCut bound (next_of event parts cut).parts
+next_cut : (bound : ℕ) (event : Event) (parts : Option Parts) (cut : Option ℕ) → IsPossibleIn event parts → HasCut bound parts
+    → HasCut bound (next_of event parts cut).parts
 next_cut bound event None cut may c = absurd c
 next_cut bound event (Some w) cut may c = cut_kept event w bound may c
 
-leads_cut : (bound : ℕ) (old : WorldState) (events : List Event) (new : WorldState) → HasCut bound old.parts → Leads old events new → HasCut bound new.parts
+leads_cut : (bound : ℕ) (old : WorldState) (events : List Event) (new : WorldState) → HasCut bound old.parts → Leads old events new
+    → HasCut bound new.parts
 leads_cut bound old [] new c e = subst (λ (w : WorldState). HasCut bound w.parts) (sym e) c
 leads_cut bound old (event ∷ events) new c leads = leads_cut bound leads.0 events new (step leads.1) leads.2 where
   step : Steps event old leads.0 → HasCut bound leads.0.parts

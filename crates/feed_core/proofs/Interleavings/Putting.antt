@@ -17,24 +17,21 @@ pub begins_idle : {producer : Producing} → MayBegin producer → producer_hand
 begins_idle (inl free) = ap producer_hands free
 begins_idle (inr room) = ap producer_hands room
 
-shown_unput : (b : Bool) → shown_room b ≡ HasPut → ⊥
-shown_unput true e = cc
-shown_unput false e = cc
-
 shown_hands : (b : Bool) → producer_hands (shown_room b) ≡ 0
 shown_hands true = refl
 shown_hands false = refl
 
--- where a look shows room there is room, and the subscription has not ended
+-- if a look shows room there is room, and the subscription has not ended
 pub room_found : (w : Parts) → shown_room (has_room w) ≡ HasRoom → (is_over w.runner ≡ false) × (w.accepted < w.given + w.capacity)
 room_found w e = by (is_over w.runner) (nat_lt (w.accepted - w.given) w.capacity) refl refl e where
-  by : (over room : Bool) → is_over w.runner ≡ over → nat_lt (w.accepted - w.given) w.capacity ≡ room → shown_room (not over && room) ≡ HasRoom
+  by : (over room : Bool) → is_over w.runner ≡ over → nat_lt (w.accepted - w.given) w.capacity ≡ room
+      → shown_room (not over && room) ≡ HasRoom
       → (is_over w.runner ≡ false) × (w.accepted < w.given + w.capacity)
   by true room o r e = cc
   by false false o r e = cc
   by false true o r e = (o, grind (arith, nat_tests))
 
--- where it shows none the subscription has ended, or the buffer is full
+-- if it shows none the subscription has ended, or the buffer is full
 pub room_missing : (w : Parts) → is_over w.runner ≡ false → shown_room (has_room w) ≡ Free → w.capacity ≤ w.accepted - w.given
 room_missing w unended e = by (nat_lt (w.accepted - w.given) w.capacity) refl (ap (λ over. shown_room (not over && nat_lt (w.accepted - w.given) w.capacity)) (sym unended) ∙ e) where
   by : (room : Bool) → nat_lt (w.accepted - w.given) w.capacity ≡ room → shown_room room ≡ Free → w.capacity ≤ w.accepted - w.given

@@ -44,17 +44,20 @@ pub steps_kept : (event : Event) (old new : WorldState) → IsKeptIn old.parts o
 steps_kept event old new k (inl s) = subst (λ (w : WorldState). IsKeptIn w.parts w.cut) (sym s.1) (next_kept event old.parts old.cut k s.0)
 steps_kept event old new k (inr s) = subst (λ (w : WorldState). IsKeptIn w.parts w.cut) (sym s.1) k
 
-pub leads_kept : (old : WorldState) (events : List Event) (new : WorldState) → IsKeptIn old.parts old.cut → Leads old events new → IsKeptIn new.parts new.cut
+pub leads_kept : (old : WorldState) (events : List Event) (new : WorldState) → IsKeptIn old.parts old.cut → Leads old events new
+    → IsKeptIn new.parts new.cut
 leads_kept old [] new k e = subst (λ (w : WorldState). IsKeptIn w.parts w.cut) (sym e) k
 leads_kept old (event ∷ events) new k leads = leads_kept leads.0 events new (steps_kept event old leads.0 k leads.1) leads.2
 
 -- one event more
-pub leads_more : (old : WorldState) (events : List Event) (event : Event) (between new : WorldState) → Leads old events between → Steps event between new → Leads old (events ++ event ∷ []) new
+pub leads_more : (old : WorldState) (events : List Event) (event : Event) (between new : WorldState) → Leads old events between
+    → Steps event between new → Leads old (events ++ event ∷ []) new
 leads_more old [] event between new e step = (new, subst (λ (w : WorldState). Steps event w new) e step, refl)
 leads_more old (first ∷ events) event between new leads step = (leads.0, leads.1, leads_more leads.0 events event between new leads.2 step)
 
 -- every list that leads to a subscription leads, with an event that is possible, to the one after it
-pub leads_event : (events : List Event) (w : Parts) (cut : Option ℕ) (event : Event) → Leads nothing events (world_of w cut) → IsPossible event w
+pub leads_event : (events : List Event) (w : Parts) (cut : Option ℕ) (event : Event) → Leads nothing events (world_of w cut)
+    → IsPossible event w
     → Leads nothing (events ++ event ∷ []) (world_of (after event w) (cut_after event w cut))
 leads_event events w cut event leads may = leads_more nothing events event (world_of w cut) (world_of (after event w) (cut_after event w cut)) leads (inl (may, refl))
 

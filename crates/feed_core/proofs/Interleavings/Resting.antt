@@ -9,7 +9,7 @@ use Rattle.feed_core.proofs.Interleavings.Causing.{none_some}
 use Rattle.feed_core.proofs.Interleavings.Growing.{stage_at}
 use Rattle.feed_core.proofs.Interleavings.Running.{moved_kept}
 
--- where nothing is new since the look, there is nothing to do
+-- if nothing is new since the look, there is nothing to do
 rested : (w : Parts) (c : Causes) (t a : ℕ) → IsKeptParts w → HasMeasured c t a w → w.active ≡ false
     → (t ≤ w.given) ⊎ (a ≤ w.given) → (closes c ≡ None) ⊎ (w.given ≡ t → ⊥) → HasRested (record w { runner = Nobody })
 rested w c t a k s quiet done waits =

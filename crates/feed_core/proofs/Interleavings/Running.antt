@@ -7,7 +7,7 @@ use Rattle.feed_core.specs.World.Kept.{IsAt, IsKeptParts, HasSeen, HasMeasured, 
 use Rattle.feed_core.proofs.Interleavings.Causing.{within_same}
 use Rattle.feed_core.proofs.Interleavings.Growing.{stage_at}
 
--- where the task goes on by itself, only what holds at its new stage is to be shown
+-- if the task goes on by itself, only what holds at its new stage is to be shown
 pub moved_kept : (w : Parts) (r : Runner) → IsKeptParts w → coming w.runner ≡ 0 → coming r ≡ 0 → is_over w.runner ≡ false
     → IsAt r (record w { runner = r }) → IsKeptParts (record w { runner = r })
 moved_kept w r k before after unended stage =
@@ -61,14 +61,16 @@ looks (Answer.Fail _) r may = absurd may
 abbrev learning : Bool → Parts → Parts
 learning active w = record w { active = active; runner = Looked w.causes }
 
-requested_kept : (n : ℤ) (w : Parts) (active : Bool) → IsKeptParts w → coming w.runner ≡ 0 → is_over w.runner ≡ false → IsKeptParts (learning active (requested n w))
+requested_kept : (n : ℤ) (w : Parts) (active : Bool) → IsKeptParts w → coming w.runner ≡ 0 → is_over w.runner ≡ false
+    → IsKeptParts (learning active (requested n w))
 requested_kept (pos zero) w active k quiet unended = looked_kept w active w.own (record w.causes { argument = true }) k quiet unended k.own_bounded (omega arith) refl refl
 requested_kept (pos (suc n)) w active k quiet unended =
     let bounded = k.own_bounded in
     looked_kept w active (total_after w.own (suc n)) w.causes k quiet unended (omega arith) (omega arith) refl refl
 requested_kept (negsuc n) w active k quiet unended = looked_kept w active w.own (record w.causes { argument = true }) k quiet unended k.own_bounded (omega arith) refl refl
 
-answered_kept : (answer : Answer) (w : Parts) (active : Bool) → IsKeptParts w → (coming w.runner ≡ 0) × (is_over w.runner ≡ false) → IsKeptParts (learning active (answered answer w))
+answered_kept : (answer : Answer) (w : Parts) (active : Bool) → IsKeptParts w → (coming w.runner ≡ 0) × (is_over w.runner ≡ false)
+    → IsKeptParts (learning active (answered answer w))
 answered_kept Answer.Go w active k has = looked_kept w active w.own w.causes k has.0 has.1 k.own_bounded (omega arith) refl refl
 answered_kept (Answer.Request n) w active k has = requested_kept n w active k has.0 has.1
 answered_kept Answer.Cancel w active k has = looked_kept w active w.own w.causes k has.0 has.1 k.own_bounded (omega arith) refl refl

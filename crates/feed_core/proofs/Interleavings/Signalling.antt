@@ -30,29 +30,6 @@ starts_nobody (Measured c t a) e = cc
 starts_nobody Taken e = cc
 starts_nobody (Over how) e = cc
 
--- and leaves a started task where it is
-pub started_same : (r : Runner) → is_started r ≡ true → started r ≡ r
-started_same Nobody e = cc
-started_same Coming e = refl
-started_same Fresh e = refl
-started_same Ready e = refl
-started_same (Looked c) e = refl
-started_same (Saw c t) e = refl
-started_same (Measured c t a) e = refl
-started_same Taken e = refl
-started_same (Over how) e = refl
-
-pub is_started_started : (r : Runner) → is_started (started r) ≡ true
-is_started_started Nobody = refl
-is_started_started Coming = refl
-is_started_started Fresh = refl
-is_started_started Ready = refl
-is_started_started (Looked c) = refl
-is_started_started (Saw c t) = refl
-is_started_started (Measured c t a) = refl
-is_started_started Taken = refl
-is_started_started (Over how) = refl
-
 pub is_over_started : (r : Runner) → is_over (started r) ≡ is_over r
 is_over_started Nobody = refl
 is_over_started Coming = refl
@@ -107,7 +84,8 @@ no_room : (b : Bool) → producing_after b ≡ HasRoom → ⊥
 no_room true e = cc
 no_room false e = cc
 
-producer_idle : (cause : Option Cause) (producer : Producing) (w : Parts) → ProducerMay cause producer w.causes.closing → producer_hands producer ≡ 0
+producer_idle : (cause : Option Cause) (producer : Producing) (w : Parts) → ProducerMay cause producer w.causes.closing
+    → producer_hands producer ≡ 0
 producer_idle None producer w may = ap producer_hands may
 producer_idle (Some Cancel) producer w may = absurd may
 producer_idle (Some Argument) producer w may = absurd may
@@ -152,14 +130,16 @@ signal_kept w causes producer handle k within failed memory roomy handed =
       stage = stage_kept grows (started w.runner) (λ e. absurd (started_never w.runner e)) (stage_started w w.runner k.stage);
     }
 
-pub producer_signal_kept : (cause : Option Cause) (w : Parts) → IsKeptParts w → IsPossible (Signal Producer cause) w → IsKeptParts (after (Signal Producer cause) w)
+pub producer_signal_kept : (cause : Option Cause) (w : Parts) → IsKeptParts w → IsPossible (Signal Producer cause) w
+    → IsKeptParts (after (Signal Producer cause) w)
 producer_signal_kept cause w k may =
     let idle = producer_idle cause w.producer w may in let handed = k.handed in
     signal_kept w (joined cause w.causes) (producing_after (is_started w.runner)) w.handle k (within_producer cause w.producer w.causes may)
     (joined_failed cause w.causes) (joined_memory cause w.causes) (λ e. absurd (no_room (is_started w.runner) e))
     (signal_handed w.runner (handle_hands w.handle) (omega arith))
 
-pub handle_signal_kept : (cause : Option Cause) (w : Parts) → IsKeptParts w → IsPossible (Signal Handle cause) w → IsKeptParts (after (Signal Handle cause) w)
+pub handle_signal_kept : (cause : Option Cause) (w : Parts) → IsKeptParts w → IsPossible (Signal Handle cause) w
+    → IsKeptParts (after (Signal Handle cause) w)
 handle_signal_kept cause w k may =
     let idle = handle_idle cause w.handle may in let handed = k.handed in
     let same = same_hands (is_started w.runner) in let one = signal_handed w.runner (producer_hands w.producer) (omega arith) in

@@ -38,12 +38,13 @@ pub record HasRested (w : Parts) : Type 0 where
   pub waits : IsSome (closes w.causes) → w.given < w.accepted
   pub all_given : (w.producer ≡ HasPut → ⊥) → (w.handle ≡ HasAsked → ⊥) → w.given ≡ min w.accepted (total_of w)
 
--- after a look the causes that it saw are there, and all of them where nothing is new
+-- after a look the causes that it saw are there, and all of them if nothing is new
 pub record HasLooked (c : Causes) (w : Parts) : Type 0 where
   pub within : IsWithin c w.causes
   pub newest : w.active ≡ false → w.causes ≡ c
 
--- the items that were seen after it were put, and they are all there are where nothing is new, or where an end waited for them
+-- the items that were seen after it were put, and they are all there are if nothing is new, or if an end waited
+-- for them
 pub record HasSeen (c : Causes) (t : ℕ) (w : Parts) : Type 0 where
   pub looked : HasLooked c w
   pub runs_on : stops c ≡ None
@@ -51,7 +52,7 @@ pub record HasSeen (c : Causes) (t : ℕ) (w : Parts) : Type 0 where
   pub last : IsSome (closes c) → t ≡ w.accepted
   pub all_put : w.active ≡ false → (w.producer ≡ HasPut → ⊥) → t ≡ w.accepted
 
--- the number that was seen after that was requested, and it is the total where nothing is new
+-- the number that was seen after that was requested, and it is the total if nothing is new
 pub record HasMeasured (c : Causes) (t a : ℕ) (w : Parts) : Type 0 where
   pub seen : HasSeen c t w
   pub asked : a ≤ total_of w

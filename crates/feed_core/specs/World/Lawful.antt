@@ -15,8 +15,9 @@ pub record IsQuiet (w : Parts) : Type 0 where
   pub put : w.producer ≡ HasPut → ⊥
   pub asked : w.handle ≡ HasAsked → ⊥
 
--- the law of a subscription (Reactive Streams 1.0, 1.1, 1.5 and 3.8): no item is given that was not put or not requested, the buffer holds
--- no more than its capacity; a task that was started comes from one side alone; at rest nothing is forgotten; an end has its cause
+-- the law of a subscription (Reactive Streams 1.0, 1.1, 1.5 and 3.8): no item is given that was not put or not
+-- requested, the buffer holds no more than its capacity; a task that was started comes from one side alone; at rest
+-- nothing is forgotten; an end has its cause
 pub record IsLawful (w : Parts) : Type 0 where
   pub taken : w.given ≤ w.accepted
   pub fits : w.accepted ≤ w.given + w.capacity

@@ -6,13 +6,13 @@ use Rattle.feed_core.specs.LaneCalls.{IsCapacity}
 use Rattle.feed_core.specs.World.Types.{Event, Make, Signal, Free, Idle, Runner, Fresh, Taken, Parts}
 use Rattle.feed_core.specs.World.Table.{joined, IsPossible, after}
 
--- parts: what there is, if the subscription was made
--- cut: how many items were given before the first signal that ends the subscription at once, but for the one that was just taken then
+-- parts: what there is, if the subscription was made cut: how many items were given before the first signal that ends
+-- the subscription at once, but for the one that was just taken then
 pub record WorldState : Type 0 where
   pub parts : Option Parts
   pub cut : Option ℕ
 
--- a part of what there is, or this, where nothing is
+-- a part of what there is, or this, if nothing is
 abbrev pub part : {A : Type 0} → A → (Parts → A) → Option Parts → A
 part other read None = other
 part other read (Some w) = read w
@@ -29,7 +29,7 @@ world_of w cut = record { parts = Some w; cut = cut }
 abbrev pub made : ℕ → ErrorOrder → Parts
 made capacity order = record { capacity = capacity; accepted = 0; given = 0; asked = 0; own = 0; causes = no_causes_in order; active = false; producer = Free; handle = Idle; runner = Fresh }
 
--- where an event is possible: before the subscription was made, only that it is made
+-- when an event is possible: before the subscription was made, only that it is made
 abbrev pub IsPossibleIn : Event → Option Parts → Type 0
 IsPossibleIn (Make n order) None = IsCapacity n
 IsPossibleIn _ None = ⊥
@@ -59,7 +59,7 @@ next_of (Make n order) None cut = world_of (made n order) None
 next_of _ None cut = nothing
 next_of event (Some w) cut = world_of (after event w) (cut_after event w cut)
 
--- one event: where it is not possible it changes nothing
+-- one event: if it is not possible it changes nothing
 abbrev pub Steps : Event → WorldState → WorldState → Type 0
 Steps event old new =
     (IsPossibleIn event old.parts × (new ≡ next_of event old.parts old.cut))

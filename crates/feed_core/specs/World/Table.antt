@@ -1,4 +1,4 @@
--- The table of events: of a subscription that was made, where each event is possible, and what there is after it.
+-- The table of events: of a subscription that was made, when each event is possible, and what there is after it.
 use Rattle.std.specs.Prelude.{◌≡◌, ℕ, zero, suc, ℤ, pos, negsuc, ◌+◌, ◌-◌, ◌<◌, ◌≤◌, ◌⊎◌, nat_lt, Bool, true, false, ◌&&◌, not, Option, None, Some}
 use Rattle.feed_core.specs.Prelude.{Answer, Ending, How, total_after}
 use Rattle.feed_core.specs.Cause.{stops, closes, with_cause_of}
@@ -22,7 +22,7 @@ is_over _ = false
 abbrev pub MayBegin : Producing → Type 0
 MayBegin producer = (producer ≡ Free) ⊎ (producer ≡ HasRoom)
 
--- where the producer may signal: an item after its put, a second subscribing, and a closing where none was before
+-- when the producer may signal: an item after its put, a second subscribing, and a closing if none was before
 abbrev pub ProducerMay : Option Cause → Producing → Option Ending → Type 0
 ProducerMay None producer closing = producer ≡ HasPut
 ProducerMay (Some Cancel) producer closing = ⊥
@@ -30,7 +30,7 @@ ProducerMay (Some Argument) producer closing = ⊥
 ProducerMay (Some State) producer closing = MayBegin producer
 ProducerMay (Some (Closing _)) producer closing = MayBegin producer × (closing ≡ None)
 
--- where the handle may signal: a request after it was stored, a cancel, and a bad request
+-- when the handle may signal: a request after it was stored, a cancel, and a bad request
 abbrev pub HandleMay : Option Cause → Requesting → Type 0
 HandleMay None handle = handle ≡ HasAsked
 HandleMay (Some Cancel) handle = handle ≡ Idle
@@ -42,8 +42,8 @@ HandleMay (Some (Closing _)) handle = ⊥
 abbrev pub HasMeasuredAll : Runner → Type 0
 HasMeasuredAll runner = (c : Causes) × (t : ℕ) × (a : ℕ) × (runner ≡ Measured c t a)
 
--- where the runner may look or peek, by what the callback before that answered; where it is only ready, and where it has measured, there
--- was none
+-- when the runner may look or peek, by what the callback before that answered; if it is only ready, and if it
+-- has measured, there was none
 abbrev pub MayLook : Answer → Runner → Type 0
 MayLook Answer.Go runner = ((runner ≡ Ready) ⊎ HasMeasuredAll runner) ⊎ ((runner ≡ Fresh) ⊎ (runner ≡ Taken))
 MayLook (Answer.Request _) runner = (runner ≡ Fresh) ⊎ (runner ≡ Taken)
@@ -62,12 +62,12 @@ MayMeasure runner = (c : Causes) × (t : ℕ) × (runner ≡ Saw c t)
 abbrev pub MayTake : ℕ → Runner → Type 0
 MayTake given runner = (c : Causes) × (t : ℕ) × (a : ℕ) × (runner ≡ Measured c t a) × (given < t) × (given < a)
 
--- it rests where it saw no item that was requested, and no end that waited for the items
+-- it rests if it saw no item that was requested, and no end that waited for the items
 abbrev pub MayRest : ℕ → Runner → Type 0
 MayRest given runner = (c : Causes) × (t : ℕ) × (a : ℕ) × (runner ≡ Measured c t a)
     × ((t ≤ given) ⊎ (a ≤ given)) × ((closes c ≡ None) ⊎ (given ≡ t → ⊥))
 
--- the end that a callback answered, or that followed its want of memory
+-- the end that a callback answered, or that followed its refusal of memory
 abbrev pub IsAnswered : How → Type 0
 IsAnswered How.Completed = ⊥
 IsAnswered (How.Errored _) = ⊥
@@ -79,13 +79,13 @@ IsAnswered How.OutOfMemory = Unit {0}
 abbrev pub IsEndBy : How → How → Type 0
 IsEndBy due how = (how ≡ due) ⊎ ((how ≡ How.OutOfMemory) × (due ≡ How.Cancelled → ⊥))
 
--- an end, where one is due
+-- an end, if one is due
 abbrev pub IsStop : Option How → How → Type 0
 IsStop None how = ⊥
 IsStop (Some due) how = IsEndBy due how
 
--- where the runner may end the subscription, with so many items given: by what a callback came back with, by what its look saw, or
--- by the end that waits for the items, where it counted no more items than were given
+-- when the runner may end the subscription, with this many items given: by what a callback came back with, by what its
+-- look saw, or by the end that waits for the items, if it counted no more items than were given
 abbrev pub MayEnd : How → ℕ → Runner → Type 0
 MayEnd how given Fresh = IsAnswered how
 MayEnd how given Taken = IsAnswered how
@@ -93,7 +93,7 @@ MayEnd how given (Looked c) = IsStop (stops c) how
 MayEnd how given (Measured c t a) = IsStop (closes c) how × (given ≡ t)
 MayEnd how given _ = ⊥
 
--- where an event is possible, once the subscription was made
+-- when an event is possible, once the subscription was made
 abbrev pub IsPossible : Event → Parts → Type 0
 IsPossible (Make _ _) w = ⊥
 IsPossible Room w = MayBegin w.producer
@@ -128,7 +128,8 @@ joined (Some Argument) causes = record causes { argument = true }
 joined (Some State) causes = record causes { state = true }
 joined (Some (Closing ending)) causes = record causes { closing = Some ending }
 
--- after a signal of the producer's that found the task started, or not: in the second case it starts the task, and has to hand it over
+-- after a signal of the producer's that found the task started, or not: in the second case it starts the task, and has
+-- to hand it over
 abbrev pub producing_after : Bool → Producing
 producing_after true = Free
 producing_after false = Hands
@@ -143,7 +144,7 @@ abbrev pub started : Runner → Runner
 started Nobody = Coming
 started runner = runner
 
--- a request that a callback answered: it adds to the demand, or is a cause where its number is not positive
+-- a request that a callback answered: it adds to the demand, or is a cause if its number is not positive
 abbrev pub requested : ℤ → Parts → Parts
 requested (pos zero) w = record w { causes = record w.causes { argument = true } }
 requested (pos (suc n)) w = record w { own = total_after w.own (suc n) }

@@ -23,7 +23,7 @@ impl Model for Buffer {
 }
 
 impl Buffer {
-    /// An empty one with room for so many items.
+    /// An empty one with room for this many items.
     pub fn with_room(alloc: Global, capacity: usize) -> Result<Buffer, NoMemory>
         ensures { IfOk result (λ buffer. (buffer.items ≡ []) × (capacity ≤ buffer.room)) }
     {

@@ -2,7 +2,7 @@
 ghost use Rattle.std.specs.Prelude.{◌≡◌, ◌≤◌, ◌+◌, ◌↔◌, true, false, is_some, IsSome};
 ghost use Rattle.feed_core.specs.Desk.{Rests, desk_after_cancel, desk_after_request};
 ghost use Rattle.feed_core.specs.Lane.{IsFlow};
-ghost use Rattle.feed_core.specs.Steps.{Asks};
+ghost use Rattle.feed_core.specs.Steps.{Asks, Notes};
 ghost use Rattle.flow_rules.specs.Amount.{amount_of};
 
 use super::Desk;
@@ -28,7 +28,7 @@ impl<B: Listener> Feed for Desk<B> {
         if self.causes.closing.is_some() {
             return Put::Gone(item);
         }
-        let standing = look(self.how, self.accepted - self.given, &mut self.looks);
+        let standing = see_standing(self.how, self.accepted - self.given, &mut self.looks);
         if standing.ended {
             return Put::Gone(item);
         }
@@ -58,14 +58,14 @@ impl<B: Listener> Feed for Desk<B> {
     }
 
     fn standing(&mut self) -> Standing {
-        look(self.how, self.accepted - self.given, &mut self.looks)
+        see_standing(self.how, self.accepted - self.given, &mut self.looks)
     }
 }
 
 impl<B: Listener> Desk<B> {
-    /// Adds to the demand (`Flow.Subscription.request`; Reactive Streams 1.0, rules 3.6, 3.8, 3.9 and 3.17). A number that is not
-    /// positive ends the subscription with an error. An ended subscription counts a request, too, and is told nothing more; a
-    /// cancelled one ignores it.
+    /// Adds to the demand (`Flow.Subscription.request`; Reactive Streams 1.0, rules 3.6, 3.8, 3.9 and 3.17). A number
+    /// that is not positive ends the subscription with an error. An ended subscription counts a request, too, and is
+    /// told nothing more; a cancelled one ignores it.
     #[must_use]
     pub fn request(&mut self, n: i64) -> Option<()>
         ensures requested { self.new ≡ desk_after_request n self.old }
@@ -75,12 +75,13 @@ impl<B: Listener> Desk<B> {
         if self.cancelled {
             return None;
         }
+        note(n, &mut self.requested, &mut self.asked_badly);
         ask(n, &mut self.asked, &mut self.causes);
         signal(&mut self.started)
     }
 
-    /// Ends the subscription at its next look, and from there on nothing is told (`Flow.Subscription.cancel`; Reactive Streams 1.0,
-    /// rules 3.5 to 3.7). `onSubscribe` may still come before that look. A second time changes nothing.
+    /// Ends the subscription at its next look, and from there on nothing is told (`Flow.Subscription.cancel`; Reactive
+    /// Streams 1.0, rules 3.5 to 3.7). `onSubscribe` may still come before that look. A second time changes nothing.
     #[must_use]
     pub fn cancel(&mut self) -> Option<()>
         ensures cancelled { self.new ≡ desk_after_cancel self.old }
@@ -106,8 +107,17 @@ pub(super) fn ask(n: i64, asked: &mut Demand, causes: &mut Causes)
     }
 }
 
-/// Looks at a subscription: whether it has ended, and how many items its buffer holds.
-fn look(how: Option<How>, held: u64, looks: &mut Amount) -> Standing
+/// Notes a request of the owner, or that it was a bad one.
+fn note(n: i64, requested: &mut Demand, asked_badly: &mut bool)
+    ensures notes { Notes n requested.old requested.new asked_badly.old asked_badly.new }
+{
+    if requested.add(n).is_err() {
+        *asked_badly = true;
+    }
+}
+
+/// Sees how a subscription stands: whether it has ended, and how many items its buffer holds.
+fn see_standing(how: Option<How>, held: u64, looks: &mut Amount) -> Standing
     ensures ended { result.ended ≡ is_some how }
     ensures held { result.held ≡ held }
     ensures counted { amount_of looks.new ≡ amount_of looks.old + 1 }
@@ -119,7 +129,7 @@ fn look(how: Option<How>, held: u64, looks: &mut Amount) -> Standing
     }
 }
 
-/// Starts the task of a subscription, where it is at rest.
+/// Starts the task of a subscription, if it is at rest.
 fn signal(started: &mut bool) -> Option<()>
     ensures started { started.new ≡ true }
     ensures rested { IsSome result ↔ (started.old ≡ false) }

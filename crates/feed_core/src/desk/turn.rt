@@ -2,9 +2,11 @@
 ghost use Rattle.std.specs.Prelude.{◌≡◌, List, ◌<◌, ◌≤◌, ◌+◌, ◌↔◌, true, None, Some, IsSome, min, length, drop};
 ghost use mathlib.Core.List.{IsPrefix};
 ghost use Rattle.feed_core.specs.Prelude.{Signal, Complete, Error, Fault, How, Again, Ended, ITEMS_IN_A_TURN, SIGNALS_IN_A_TURN, items_of};
-ghost use Rattle.feed_core.specs.AnsweredTurn.{Reply};
+ghost use Rattle.feed_core.specs.Accounts.{IsAccounted, GivesBelow};
+ghost use Rattle.feed_core.specs.AnsweredTurn.{Reply, refused};
 ghost use Rattle.feed_core.specs.Cause.{stops, closes, with_cause_of};
 ghost use Rattle.feed_core.specs.Desk.{Owes, desk_after_turn};
+ghost use Rattle.feed_core.specs.EndedBy.{EndsWith, IsEndedBy};
 ghost use Rattle.feed_core.specs.Lane.{IsFlow};
 ghost use Rattle.feed_core.specs.PlainTurn.{plain_turn_of};
 ghost use Rattle.feed_core.specs.Steps.{Looks, Greets, Obeys, OwesEnd, IsMidTurn, TurnsAs};
@@ -18,12 +20,14 @@ use flow_rules::{Answer, Demand, How, Listener, NoMemory};
 
 impl<B: Listener> Desk<B> {
     /// Tells the subscriber what is owed: `onSubscribe` first of all, then items below the demand, 64 at most, then the
-    /// terminal signal. What it was told is what `seen` then holds (`Flow.Subscriber`; Reactive Streams 1.0, rules 1.1, 1.3,
-    /// 1.5, 1.7 and 1.9). What a callback answers is done at once; one that is refused memory ends the subscription.
+    /// terminal signal. What it was told is what `seen` then holds (`Flow.Subscriber`; Reactive Streams 1.0, rules 1.1,
+    /// 1.3, 1.5, 1.7 and 1.9). What a callback answers is done at once; one that is refused memory ends the
+    /// subscription.
     pub fn turn(&mut self, seen: &mut Seen) -> Outlook
         requires owed { Owes self.old }
 
-        // What it tells, and what it changes: the lane as its callbacks came back, the mark of the task, and nothing else.
+        // What it tells, and what it changes: the lane as its callbacks came back, the mark of the task, and nothing
+        // else.
         ensures turned { (replies : List Reply)
             × TurnsAs self.old self.new seen.new.signals result replies }
 
@@ -33,14 +37,22 @@ impl<B: Listener> Desk<B> {
         ensures after { self.old.is_steady ≡ true
             → self.new ≡ desk_after_turn self.old seen.new.signals result }
 
-        // The Flow rules: the next items that were accepted, in order, none where something ends the subscription at once; a demand
-        // that only grows; and the lane as a whole.
+        // The Flow rules: the next items that were accepted, in order, none if something ends the subscription at
+        // once; a demand that only grows; and the lane as a whole.
         ensures in_order { IsPrefix (items_of seen.new.signals)
             (drop self.old.lane.given self.old.lane.accepted) }
         ensures stopped { IsSome (stops self.old.lane.causes)
             → self.new.lane.given ≡ self.old.lane.given }
         ensures demand { self.old.lane.asked ≤ self.new.lane.asked }
         ensures flow { IsFlow self.new.lane }
+
+        // Its demand: each item that it gave was below what the owner requested and the replies before it did. What was
+        // requested in all, the causes of the end, and the end are the owner's and those of the replies, which only the
+        // last one may have brought about.
+        ensures requested { GivesBelow self.old self.new }
+        ensures accounted { IsAccounted self.new }
+        ensures by { IsEndedBy self.old.is_cancelled self.new.lane.how self.new.replied }
+        ensures refused { (result ≡ Ended How.OutOfMemory) ↔ EndsWith refused self.new.replied }
 
         // Its bounds.
         ensures at_most { self.new.lane.given ≤ self.old.lane.given + ITEMS_IN_A_TURN }
@@ -71,7 +83,7 @@ impl<B: Listener> Desk<B> {
         Outlook::Again
     }
 
-    /// Tells `onSubscribe`, where nothing was told yet, and does what its answer asks for.
+    /// Tells `onSubscribe`, if nothing was told yet, and does what its answer asks for.
     fn greet(&mut self, seen: &mut Seen) -> Outlook
         requires owed { Owes self.old }
         requires room { length seen.old.signals < SIGNALS_IN_A_TURN }
@@ -109,8 +121,8 @@ impl<B: Listener> Desk<B> {
         }
     }
 
-    /// Takes the next item, tells it, and does what the answer asks for. Where the callback is refused memory, the item goes back
-    /// to the held ones.
+    /// Takes the next item, tells it, and does what the answer asks for. If the callback is refused memory, the item
+    /// goes back to the held ones.
     fn take(&mut self, seen: &mut Seen) -> Outlook
         requires mid_turn { IsMidTurn self.old }
         requires unstopped { stops self.old.lane.causes ≡ None }

@@ -5,8 +5,9 @@ ghost use Rattle.feed_core.specs.Turn.{EndsIn};
 
 use flow_rules::{How, Signal};
 
-/// Tells the code of an `onNext` that failed, by what a turn told and how it ended the subscription: `Some` exactly if the end is `Failed`
-/// and the last signal is an item. If `onSubscribe` failed, the last signal is `Subscribed`, and the answer is `None`.
+/// Tells the code of an `onNext` that failed, by what a turn told and how it ended the subscription: `Some` exactly if
+/// the end is `Failed` and the last signal is an item. If `onSubscribe` failed, the last signal is `Subscribed`, and
+/// the answer is `None`.
 pub fn failed_item(signals: &[Signal], how: How) -> Option<u32>
     ensures { (code : _) → (result ≡ Some code)
         ↔ ((how ≡ How.Failed code) × ((item : Item) × EndsIn signals.now (Next item))) }

@@ -44,7 +44,7 @@ impl Seen {
         self.signals.clear();
     }
 
-    /// Adds a signal, where there is room.
+    /// Adds a signal, if there is room.
     pub fn push(&mut self, signal: Signal)
         requires { length self.old.signals < SIGNALS_IN_A_TURN }
         ensures { self.new ≡ seen_with (signal ∷ []) self.old }

@@ -1,7 +1,9 @@
-//! The calls of the subscriber, one function a signal. What was told goes into `seen`, and the callback's answer back to the caller.
-ghost use Rattle.std.specs.Prelude.{◌≡◌, ◌<◌, ◌∷◌, ◌++◌, [], true, length, IfOk, OnOk, IfErr, OnErr};
+//! The calls of the subscriber, one function a signal. What was told goes into `seen`, and the callback's answer back
+//! to the caller.
+ghost use Rattle.std.specs.Prelude.{◌≡◌, ◌<◌, ◌∷◌, ◌++◌, [], true, length, Ok, IfOk, OnOk, IfErr, OnErr};
 ghost use Rattle.flow_rules.specs.declared.answer.Answer.TheVariants.{Go};
 ghost use Rattle.feed_core.specs.Prelude.{Subscribed, Next};
+ghost use Rattle.feed_core.specs.AnsweredTurn.{refused, replies_to};
 ghost use Rattle.feed_core.specs.PlainTurn.{terminal_of};
 ghost use Rattle.feed_core.specs.Seen.{seen_with};
 ghost use Rattle.feed_core.specs.Steps.{HasTerminal};
@@ -16,6 +18,10 @@ pub fn tell_subscribed<B: Listener>(subscriber: &mut B, seen: &mut Seen) -> Resu
     ensures seen { OnOk result (seen.new ≡ seen_with (Subscribed ∷ []) seen.old) }
     ensures untold { OnErr result (B.told subscriber.new ≡ B.told subscriber.old) }
     ensures unseen { OnErr result (seen.new ≡ seen.old) }
+    ensures replied { IfOk result
+        (λ answer. B.replied subscriber.new ≡ B.replied subscriber.old ++ Ok answer ∷ []) }
+    ensures refused { OnErr result
+        (B.replied subscriber.new ≡ B.replied subscriber.old ++ refused ∷ []) }
     ensures steady { B.is_steady subscriber.old ≡ true → B.is_steady subscriber.new ≡ true }
     ensures goes_on { B.is_steady subscriber.old ≡ true → IfOk result (λ answer. answer ≡ Go) }
 {
@@ -24,7 +30,7 @@ pub fn tell_subscribed<B: Listener>(subscriber: &mut B, seen: &mut Seen) -> Resu
     Ok(answer)
 }
 
-/// Tells an item, and moves it to what was seen. Where the callback is refused memory, the item comes back.
+/// Tells an item, and moves it to what was seen. If the callback is refused memory, the item comes back.
 pub fn tell_next<B: Listener>(
     subscriber: &mut B,
     item: Item,
@@ -35,6 +41,10 @@ pub fn tell_next<B: Listener>(
     ensures seen { OnOk result (seen.new ≡ seen_with (Next item ∷ []) seen.old) }
     ensures untold { OnErr result (B.told subscriber.new ≡ B.told subscriber.old) }
     ensures unseen { OnErr result (seen.new ≡ seen.old) }
+    ensures replied { IfOk result
+        (λ answer. B.replied subscriber.new ≡ B.replied subscriber.old ++ Ok answer ∷ []) }
+    ensures refused { OnErr result
+        (B.replied subscriber.new ≡ B.replied subscriber.old ++ refused ∷ []) }
     ensures back { IfErr result (λ back. back ≡ item) }
     ensures steady { B.is_steady subscriber.old ≡ true → B.is_steady subscriber.new ≡ true }
     ensures goes_on { B.is_steady subscriber.old ≡ true → IfOk result (λ answer. answer ≡ Go) }
@@ -59,6 +69,10 @@ pub fn tell_terminal<B: Listener>(
     ensures seen { OnOk result (seen.new ≡ seen_with (terminal_of how) seen.old) }
     ensures untold { OnErr result (B.told subscriber.new ≡ B.told subscriber.old) }
     ensures unseen { OnErr result (seen.new ≡ seen.old) }
+    ensures replied { OnOk result (B.replied subscriber.new
+        ≡ B.replied subscriber.old ++ replies_to (terminal_of how)) }
+    ensures refused { OnErr result
+        (B.replied subscriber.new ≡ B.replied subscriber.old ++ refused ∷ []) }
     ensures missed { OnErr result (HasTerminal how) }
     ensures steady { B.is_steady subscriber.old ≡ true → B.is_steady subscriber.new ≡ true }
 {

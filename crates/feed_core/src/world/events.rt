@@ -10,7 +10,7 @@ pub enum Side {
     Handle,
 }
 
-/// What a signal may say, where it tells of more than an item or a request.
+/// What a signal may say, if it tells of more than an item or a request.
 #[derive(Clone, Copy, Debug, PartialEq, Eq)]
 pub enum Cause {
     /// The owner cancelled the subscription.
@@ -36,16 +36,17 @@ pub enum Event {
     See,
     /// The runner stores how many items were taken, one more than before.
     Take,
-    /// The handle stores how many items were requested, so many more than before.
+    /// The handle stores how many items were requested, this many more than before.
     Ask(u64),
-    /// A side sets the mark of the task and the mark of something new, and adds a cause where it has one.
+    /// A side sets the mark of the task and the mark of something new, and adds a cause if it has one.
     Signal(Side, Option<Cause>),
     /// A side whose signal found the mark of the task clear hands the task over.
     Hand(Side),
-    /// The runner clears the mark of something new, and learns the causes. It brings what the callback before it answered.
+    /// The runner clears the mark of something new, and learns the causes. It brings what the callback before it
+    /// answered.
     Look(Answer),
-    /// The runner learns the causes, as by a look, and leaves the mark of something new as it is. It brings what the callback
-    /// before it answered.
+    /// The runner learns the causes, as by a look, and leaves the mark of something new as it is. It brings what the
+    /// callback before it answered.
     Peek(Answer),
     /// The runner loads how many items were requested.
     Measure,

@@ -1,4 +1,4 @@
-//! Where an event is possible: the first half of the table, in code.
+//! When an event is possible: the first half of the table, in code.
 ghost use Rattle.std.specs.Prelude.{◌≡◌, ◌↔◌, true};
 ghost use Rattle.feed_core.specs.LaneCalls.{IsCapacity};
 ghost use Rattle.feed_core.specs.World.Table.{IsPossible, MayBegin, ProducerMay, HandleMay, MayLook, MaySee, MayMeasure, MayTake, MayRest, MayEnd, IsAnswered, IsStop};
@@ -104,7 +104,7 @@ fn may_measure(runner: Runner) -> bool
     matches!(runner, Runner::Saw(_, _))
 }
 
-/// Whether the runner may take an item, of which so many were given.
+/// Whether the runner may take an item, of which this many were given.
 fn may_take(given: u64, runner: Runner) -> bool
     ensures { (result ≡ true) ↔ MayTake given runner }
 {
@@ -138,14 +138,14 @@ fn may_end(how: How, given: u64, runner: Runner) -> bool
     }
 }
 
-/// Whether a callback's answer, or its want of memory, is this end.
+/// Whether a callback's answer, or its refusal of memory, is this end.
 fn is_answered(how: How) -> bool
     ensures { (result ≡ true) ↔ IsAnswered how }
 {
     matches!(how, How::Cancelled | How::Failed(_) | How::OutOfMemory)
 }
 
-/// Whether this end is the one that is due, or want of memory at telling it.
+/// Whether this end is the one that is due, or a refusal of memory at telling it.
 fn is_stop(due: Option<How>, how: How) -> bool
     ensures { (result ≡ true) ↔ IsStop due how }
 {

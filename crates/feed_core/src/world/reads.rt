@@ -66,7 +66,8 @@ impl World {
         }
     }
 
-    /// How many items were given before the first signal that ends the subscription at once, but for one that was just taken then.
+    /// How many items were given before the first signal that ends the subscription at once, but for one that was just
+    /// taken then.
     pub fn cut(&self) -> Option<u64>
         ensures { result ≡ self.now.cut }
     {

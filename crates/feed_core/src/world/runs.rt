@@ -15,7 +15,7 @@ use crate::cause::Causes;
 use flow_rules::ErrorOrder;
 
 impl World {
-    /// One step of one party. Answers whether it is possible now; where it is not, it changes nothing.
+    /// One step of one party. Answers whether it is possible now; if it is not, it changes nothing.
     pub fn apply(&mut self, event: Event) -> bool
         ensures possible { (result ≡ true) ↔ IsPossibleIn event self.old.parts }
         ensures done { result ≡ true → self.new ≡ next_of event self.old.parts self.old.cut }
@@ -52,8 +52,8 @@ impl World {
     }
 }
 
-/// What the events of this list lead to, in their order; those that are not possible where they come are left out. Whatever the list is,
-/// the subscription keeps its law.
+/// What the events of this list lead to, in their order; those that are not possible when they come are left out.
+/// Whatever the list is, the subscription keeps its law.
 pub fn all_runs(events: &[Event]) -> World
     ensures leads { Leads nothing events.now result }
     ensures kept { IsKeptIn result.parts result.cut }

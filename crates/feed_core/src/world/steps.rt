@@ -21,7 +21,7 @@ impl Parts {
         (self.asked + self.own).min(UNBOUNDED)
     }
 
-    /// Does what the event does, where it is possible.
+    /// Does what the event does, if it is possible.
     pub(crate) fn advance(&mut self, event: Event)
         requires kept { IsKeptParts self.old }
         requires possible { IsPossible event self.old }
@@ -76,7 +76,7 @@ impl Parts {
         }
     }
 
-    /// A signal: it marks that something is new, and starts the task where nobody has it.
+    /// A signal: it marks that something is new, and starts the task if nobody has it.
     fn signal(&mut self, side: Side, cause: Option<Cause>)
         ensures { self.new ≡ after (Signal side cause) self.old }
     {
@@ -109,7 +109,7 @@ impl Parts {
         self.runner = Runner::Looked(self.causes);
     }
 
-    /// Does what a callback's answer asks for, where that is a request.
+    /// Does what a callback's answer asks for, if that is a request.
     fn obey(&mut self, answer: Answer)
         requires own { self.old.own ≤ UNBOUNDED }
         ensures { self.new ≡ answered answer self.old }

@@ -9,7 +9,7 @@ pub enum Put<T> {
     Accepted {
         /// How many items the buffer holds now that were not taken for `onNext` yet, this one among them.
         lag: u64,
-        /// The subscription's task, where it was at rest and has to be run now.
+        /// The subscription's task, if it was at rest and has to be run now.
         start: Option<T>,
     },
     /// The buffer holds as many items as it may. The item comes back, and nothing has changed.

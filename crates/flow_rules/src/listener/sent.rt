@@ -5,10 +5,13 @@ use crate::item::Item;
 use crate::refusal::NoMemory;
 use crate::signal::Fault;
 
-/// Meets `Listener + Send`, which a publisher that threads share asks for: so listeners of different types can subscribe to one
-/// publisher. A `Box<dyn Subscriber>` needs no word `Send`, since each [`Subscriber`](crate::Subscriber) has it.
+/// Meets `Listener + Send`, which a publisher that threads share asks for: so listeners of different types can
+/// subscribe to one publisher. A `Box<dyn Subscriber>` needs no word `Send`, since each
+/// [`Subscriber`](crate::Subscriber) has it.
 impl Listener for Box<dyn Listener + Send> {
     ghost told = { λ b. (Listener-box b).told b.value };
+
+    ghost replied = { λ b. (Listener-box b).replied b.value };
 
     ghost is_steady = { λ b. (Listener-box b).is_steady b.value };
 

@@ -1,5 +1,6 @@
 //! What becomes of a refusal at a `?`.
 use super::{BadCapacity, NoMemory, Refusal};
+use crate::name::NotAName;
 use std::alloc::{AllocError, AllocFailed};
 
 impl From<AllocError> for NoMemory {
@@ -33,6 +34,17 @@ impl From<BadCapacity> for Refusal {
 
     fn from(_refused: BadCapacity) -> Refusal {
         Refusal::BadCapacity
+    }
+}
+
+impl From<NotAName> for Refusal {
+    ghost use Rattle.std.specs.Prelude.{◌≡◌};
+    ghost use Rattle.flow_rules.specs.declared.refusal.Refusal.TheVariants.{BadCommand};
+
+    ghost from_gives = { λ _ refusal. refusal ≡ BadCommand };
+
+    fn from(_reason: NotAName) -> Refusal {
+        Refusal::BadCommand
     }
 }
 

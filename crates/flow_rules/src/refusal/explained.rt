@@ -26,7 +26,7 @@ impl fmt::Display for Explained<'_> {
             Refusal::Unsettled(names) => return write_unsettled(names.as_slice(), f),
             Refusal::BadCapacity => "the capacity is 0",
             Refusal::Duplicate => "a live subscription has this name",
-            Refusal::TooMany => "there are as many as there may be at a time",
+            Refusal::TooMany => "there are as many as there may be",
             Refusal::NoMemory => "out of memory",
             Refusal::LineTooLong => "the line or its text is too long",
             Refusal::BadWorkers => "the number of workers is not 1 to 8",
@@ -39,9 +39,9 @@ impl fmt::Display for Explained<'_> {
     }
 }
 
-/// Writes which subscriptions are unsettled.
+/// Writes which subscriptions have not ended.
 fn write_unsettled<W: fmt::Write>(names: &[Name], f: &mut fmt::Formatter<W>) -> fmt::Result {
-    f.write_str("running, or closed and not ended")?;
+    f.write_str("not ended")?;
     let mut mark = ':';
     for name in names {
         write!(f, "{mark} {name}")?;

@@ -1,4 +1,5 @@
--- What a script is answered: a function of its bytes, of the number of subscribers in the stock, and of the points at which memory is refused.
+-- What a script is answered: a function of its bytes, of the number of subscribers in the stock, and of the points at
+-- which memory is refused.
 use Rattle.std.specs.Prelude.{ℕ, ◌==◌, Bool, if◌then◌else◌, nat_lt, Option, Some, None, List, [], ◌∷◌, length}
 use Rattle.lines_demo.specs.Prelude.{Refusal}
 use Rattle.commands.specs.Line.{lines_of, without_return}
@@ -41,7 +42,7 @@ spelled_result (Some command) state refusals =
     result_then (turns_before command state refusals)
     (λ state' left. reply_result (command_result command state' left))
 
--- what comes of a line: nothing where it is empty, and a refusal where it is too long
+-- what comes of a line: nothing if it is empty, and a refusal if it is too long
 unfoldable pub line_result : SessionState → List Bool → List ℕ → LineResult
 line_result state refusals line =
     if length line == 0 then empty_result state refusals

@@ -5,14 +5,16 @@ use Rattle.lines_demo.specs.Prelude.{Item, Ending, ErrorOrder}
 use Rattle.lines_demo.specs.Script.State.{SubscriptionState, SessionState}
 use Rattle.lines_demo.specs.Script.Laws.{SerialsRise, WakesWhoOwes, FewAreLive, OneLiveOfName}
 
--- an item of a script with the texts that were published, by their serial numbers; it was published since this one and before that one
+-- an item of a script with the texts that were published, by their serial numbers; it was published since this one and
+-- before that one
 pub record IsPublished (texts : ℕ → List ℕ) (first next : ℕ) (item : Item) : Type 0 where
   pub is : item
       ≡ record { source = 0; seq = item.serial; serial = item.serial; text = texts item.serial }
   pub since : first ≤ item.serial
   pub before : item.serial < next
 
--- what a subscription keeps while the next serial number is this, errors are told in this order, and the publisher was closed so
+-- what a subscription keeps while the next serial number is this, errors are told in this order, and the publisher was
+-- closed so
 pub record IsKept (texts : ℕ → List ℕ) (next : ℕ) (order : ErrorOrder) (closed : Option Ending)
     (subscription : SubscriptionState) : Type 0 where
   pub sound : IsSoundDesk subscription.desk
@@ -35,5 +37,5 @@ pub record IsLawful (texts : ℕ → List ℕ) (state : SessionState) : Type 0 w
   pub names : OneLiveOfName state
 
 -- where a script may stand
-abbrev pub IsReached : SessionState → Type 0
-IsReached state = (texts : ℕ → List ℕ) × IsLawful texts state
+abbrev pub IsReachable : SessionState → Type 0
+IsReachable state = (texts : ℕ → List ℕ) × IsLawful texts state

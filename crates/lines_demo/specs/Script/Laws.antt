@@ -10,13 +10,13 @@ use Rattle.lines_demo.specs.Script.Waking.{is_live, owes_turn}
 abbrev pub script_state : ℕ → List Bool → List ℕ → SessionState
 script_state stock refusals bytes = (script_result stock refusals bytes).state
 
--- what each subscriber was told is a list of signals that Flow allows: its items are a prefix of what its buffer accepted, in that
 -- this holds at the end of every script, whatever the stock has, and wherever memory is refused
 abbrev pub OfEveryScript : (SessionState → Type 0) → Type 0
 OfEveryScript P =
     (stock : ℕ) → (refusals : List Bool) → (bytes : List ℕ) → P (script_state stock refusals bytes)
 
--- order, no more than were requested, and completion comes only after all of them
+-- what each subscriber was told is a list of signals that Flow allows: its items are a prefix of what its buffer
+-- accepted, in that order, no more than were requested, and completion comes only after all of them
 abbrev pub KeepsFlow : SessionState → Type 0
 KeepsFlow state = All (λ subscription. IsFlow subscription.desk.lane) state.subscriptions
 
@@ -27,7 +27,7 @@ IsSettledSession state =
     → slice_get state.subscriptions number ≡ Some subscription
     → (Contains state.woken number → ⊥) → IsSettled subscription.desk.lane
 
--- all that its buffer accepted was told where it ended with the error that its publisher was closed with
+-- all that its buffer accepted was told if it ended with the error that its publisher was closed with
 abbrev pub TellsAllBeforeError : LaneState → Type 0
 TellsAllBeforeError lane =
     (code : ℕ) → lane.how ≡ Some (How.Errored (Published code)) → items_of lane.told ≡ lane.accepted
@@ -95,7 +95,8 @@ TellsInOneOrder state =
     HaveOneOrder (items_of first.desk.lane.told) (items_of second.desk.lane.told))
     state.subscriptions) state.subscriptions
 
--- what a subscription accepted was published since it subscribed; that and what it dropped is all that was, as long as it has not ended
+-- what a subscription accepted was published since it subscribed; that and what it dropped is all that was, as long as
+-- it has not ended
 pub record IsCountedUpTo (serial : ℕ) (subscription : SubscriptionState) : Type 0 where
   pub since : All (λ item. subscription.since ≤ item.serial) subscription.desk.lane.accepted
   pub published : All (λ item. item.serial < serial) subscription.desk.lane.accepted

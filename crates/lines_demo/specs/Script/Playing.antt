@@ -1,4 +1,5 @@
--- What the code has to do with a definition that may choose: there are refusals under which the definition says just that.
+-- What the code has to do with a definition that may choose: there are refusals under which the definition says just
+-- that.
 use mathlib.Core.List.{IsPrefix}
 use Rattle.std.specs.Prelude.{◌≡◌, ◌⊎◌, ℕ, ◌<◌, ◌≤◌, ℤ, Bool, true, false, Option, Some, None, Result, Ok, Err, List, ◌∷◌, ◌++◌, length, slice_get}
 use Rattle.std.specs.Io.KnownBytes.{Appends}
@@ -20,7 +21,8 @@ pub record Replies (results : List Bool → CommandResult) (reply : Reply) (stat
   pub replies : (more : List Bool)
       → results (used ++ more) ≡ record { reply = reply; state = state; refusals = more }
 
--- under some refusals this is what is written, and the script goes on from this state; where the writing failed, a prefix was written
+-- under some refusals this is what is written, and the script goes on from this state; if the writing failed, a prefix
+-- was written
 pub record Answers (is_done : Bool) (results : List Bool → LineResult) (old new : Option (List ℕ))
     (state : SessionState) : Type 0 where
   pub used : List Bool
@@ -59,7 +61,8 @@ IsLatest name subscriptions (Some number) =
     × ((k : ℕ) (later : SubscriptionState) → number < k → slice_get subscriptions k ≡ Some later
     → is_word later.name name ≡ false)))
 
--- the first of the woken, of this name, made a turn, which told these signals and had this outlook; nothing else changed
+-- the first of the woken, of this name, made a turn, which told these signals and had this outlook; nothing else
+-- changed
 pub record MakesTurn (old new : SessionState) (name : List ℕ) (told : List Signal)
     (outlook : Outlook) : Type 0 where
   pub number : ℕ
@@ -71,7 +74,8 @@ pub record MakesTurn (old new : SessionState) (name : List ℕ) (told : List Sig
   pub plain : MeetsPlainTurn (plain_turn_of before.desk.lane) told outlook
   pub after : new ≡ state_after_turn number before told outlook (record old { woken = rest })
 
--- the lines of a turn are those of the signals by which what the first of the woken was told has grown, and then one for want of memory
+-- the lines of a turn are those of the signals by which what the first of the woken was told has grown, and then one by
+-- a refusal of memory
 pub record PrintsTurn (is_done : Bool) (before after : SessionState) (old new : Option (List ℕ))
     : Type 0 where
   pub number : ℕ

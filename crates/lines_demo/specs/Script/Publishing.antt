@@ -17,7 +17,7 @@ abbrev pub is_full : SubscriptionState → Bool
 is_full subscription = not (is_gone subscription.desk.lane)
     && (lag_of subscription.desk.lane == subscription.desk.capacity)
 
--- a subscription after an item was offered to it: it takes it where it has room, and where it has none the drop is counted
+-- a subscription after an item was offered to it: it takes it if it has room, and if it has none the drop is counted
 abbrev pub subscription_after_offer : Item → SubscriptionState → SubscriptionState
 subscription_after_offer item subscription = record subscription {
   dropped = if is_full subscription then subscription.dropped + 1 else subscription.dropped;
@@ -30,13 +30,13 @@ state_after_publication text state =
     with_subscriptions (map (subscription_after_offer (next_item state text)) state.subscriptions)
     (record state { serial = state.serial + 1 })
 
--- how many items a subscription holds with this one, where it takes it, and else 0
+-- how many items a subscription holds with this one, if it takes it, and else 0
 abbrev pub lag_with : Item → SubscriptionState → ℕ
 lag_with item subscription =
     if accepts subscription.desk.capacity subscription.desk.lane
     then lag_of (lane_with_item item subscription.desk.lane) else 0
 
--- the greatest lag of those that take the item, and 0 where nobody does
+-- the greatest lag of those that take the item, and 0 if nobody does
 abbrev pub greatest_lag : Item → List SubscriptionState → ℕ
 greatest_lag item subscriptions = fold max 0 (map (lag_with item) subscriptions)
 
@@ -44,7 +44,7 @@ greatest_lag item subscriptions = fold max 0 (map (lag_with item) subscriptions)
 abbrev pub drop_count : List SubscriptionState → ℕ
 drop_count subscriptions = count_by is_full subscriptions
 
--- minus the number of drops, or the greatest lag where nobody drops the item (`SubmissionPublisher.offer`, Java SE 17)
+-- minus the number of drops, or the greatest lag if nobody drops the item (`SubmissionPublisher.offer`, Java SE 17)
 abbrev pub drops_or_lag : ℕ → ℕ → ℤ
 drops_or_lag zero lag = pos lag
 drops_or_lag (suc drops) lag = negsuc drops
@@ -67,7 +67,7 @@ refusal_or_wait (Some refusal) waits = Some refusal
 refusal_or_wait None true = Some Refusal.WouldWait
 refusal_or_wait None false = None
 
--- why a text is not submitted, if it is not: a submit would wait where any subscription has no room
+-- why a text is not submitted, if it is not: a submit would wait if any subscription has no room
 abbrev pub submit_refusal : SessionState → Option Refusal
 submit_refusal state =
     refusal_or_wait (publication_refusal state) (list_any is_full state.subscriptions)
@@ -107,7 +107,7 @@ abbrev pub retry_result : SessionState → List Bool → List ℕ → CommandRes
 retry_result state refusals text =
     publication_result publication_refusal retried_reply state refusals text
 
--- `submit TEXT`: it is refused where any subscription has no room, and so drops nothing
+-- `submit TEXT`: it is refused if any subscription has no room, and so drops nothing
 abbrev pub submitted_reply : Item → List SubscriptionState → Reply
 submitted_reply item subscriptions = Submitted (pos (greatest_lag item subscriptions))
 

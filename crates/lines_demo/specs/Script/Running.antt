@@ -11,7 +11,8 @@ abbrev pub subscription_after_turn : List Signal → Outlook → SubscriptionSta
 subscription_after_turn told outlook subscription =
     record subscription { desk = desk_after_turn subscription.desk told outlook }
 
--- where a script stands after this turn of the subscription of this number: it is woken again, after all others, where it owes another
+-- where a script stands after this turn of the subscription of this number: it is woken again, after all others, if it
+-- owes another
 abbrev pub state_after_turn : ℕ → SubscriptionState → List Signal → Outlook → SessionState
     → SessionState
 state_after_turn number subscription told outlook state = record state {
@@ -40,7 +41,7 @@ first_turn_result (number ∷ rest) state refusals =
     turn_result number (slice_get state.subscriptions number)
     (record state { woken = rest }) refusals
 
--- turns as long as anybody is woken, and at most so many
+-- turns as long as anybody is woken, and at most this many
 abbrev pub turns_result : ℕ → SessionState → List Bool → LineResult
 turns_result zero state refusals = empty_result state refusals
 turns_result (suc most) state refusals =

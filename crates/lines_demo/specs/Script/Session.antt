@@ -1,4 +1,5 @@
--- How a script's publisher and its list of the woken stand for where the script stands, and what holds of them between two commands.
+-- How a script's publisher and its list of the woken stand for where the script stands, and what holds of them between two
+-- commands.
 use Rattle.std.specs.Prelude.{◌≡◌, ℕ, true, false, is_some, Option, Some, None, List, map, slice_get}
 use Rattle.feed_core.specs.Feed.{end_of}
 use Rattle.feed_core.specs.LaneCalls.{IsCapacity}
@@ -8,7 +9,7 @@ use Rattle.publisher_hub.specs.declared.entry.Entry.{Entry}
 use Rattle.publisher_hub.specs.declared.hub.Hub.{Hub}
 use Rattle.publisher_hub.specs.declared.work.Work.{Work}
 use Rattle.lines_demo.specs.Prelude.{DeskState, Overtake, desk_without_looks}
-use Rattle.lines_demo.specs.Script.Kept.{IsReached}
+use Rattle.lines_demo.specs.Script.Kept.{IsReachable}
 use Rattle.lines_demo.specs.Script.State.{SubscriptionState, SessionState, state_at_start}
 use Rattle.lines_demo.specs.Script.Subscribing.{desk_at_start}
 use Rattle.lines_demo.specs.declared.script.session.beginning.Beginning.{Beginning}
@@ -29,7 +30,7 @@ subscription_of entry =
       desk = desk_without_looks (desk_in entry.feed);
     }
 
--- where a script stands with this publisher, so many subscribers left, these woken, and this beginning
+-- where a script stands with this publisher, this many subscribers left, these woken, and this beginning
 abbrev pub state_of : Hub DeskState → ℕ → List ℕ → Beginning → SessionState
 state_of hub stock woken beginning = record {
   capacity = hub.capacity;
@@ -68,7 +69,7 @@ pub record IsScriptHub (hub : Hub DeskState) : Type 0 where
 pub record IsSession (hub : Hub DeskState) (stock : ℕ) (woken : List ℕ) (beginning : Beginning)
     : Type 0 where
   pub publisher : IsScriptHub hub
-  pub reached : IsReached (state_of hub stock woken beginning)
+  pub reached : IsReachable (state_of hub stock woken beginning)
   pub fresh : beginning.is_over ≡ false
       → state_of hub stock woken beginning
       ≡ record (state_at_start stock) { capacity = hub.capacity; beginning = beginning }

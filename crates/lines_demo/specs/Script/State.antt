@@ -6,17 +6,17 @@ use Rattle.commands.specs.declared.reply.Reply.TheVariants.{Refused}
 use Rattle.lines_demo.specs.declared.script.session.beginning.Beginning.{Beginning}
 use Rattle.lines_demo.specs.declared.script.session.TheConstants.{DEFAULT_CAPACITY}
 
--- a subscription: its name; the next serial number when it subscribed; how many items its buffer had no room for; and what the
--- publisher has of it, but for how often it has looked at it
+-- a subscription: its name; the next serial number when it subscribed; how many items its buffer had no room for; and
+-- what the publisher has of it, but for how often it has looked at it
 pub record SubscriptionState : Type 0 where
   pub name : List ℕ
   pub since : ℕ
   pub dropped : ℕ
   pub desk : DeskState
 
--- where a script stands: the capacity of each buffer; what else its beginning said, and whether that is over; how the publisher was closed, if
--- it was; the next serial number; how many subscribers are left; all subscriptions, in order; and the numbers of those that are woken,
--- the one whose turn is next first
+-- where a script stands: the capacity of each buffer; what else its beginning said, and whether that is over; how the
+-- publisher was closed, if it was; the next serial number; how many subscribers are left; all subscriptions, in order;
+-- and the numbers of those that are woken, the one whose turn is next first
 pub record SessionState : Type 0 where
   pub capacity : ℕ
   pub beginning : Beginning
@@ -30,7 +30,7 @@ pub record SessionState : Type 0 where
 abbrev pub beginning_at_start : Beginning
 beginning_at_start = record { is_over = false; order = Overtake }
 
--- where a script starts, with so many subscribers to take from
+-- where a script starts, with this many subscribers to take from
 abbrev pub state_at_start : ℕ → SessionState
 state_at_start stock = record {
   capacity = DEFAULT_CAPACITY;
@@ -56,7 +56,8 @@ unchanged_result state refusals reply = record { reply = reply; state = state; r
 abbrev pub refused_result : SessionState → List Bool → Refusal → CommandResult
 refused_result state refusals refusal = unchanged_result state refusals (Refused refusal)
 
--- a point at which memory may be refused: then the call is refused, and changes nothing. Past the end of the list it is not
+-- a point at which memory may be refused: then the call is refused, and changes nothing. Past the end of the list it is
+-- not
 abbrev pub result_unless_no_memory : SessionState → List Bool → (List Bool → CommandResult)
     → CommandResult
 result_unless_no_memory state [] call = call []

@@ -8,9 +8,10 @@ use Rattle.commands.specs.Word.{is_word}
 use Rattle.lines_demo.specs.Script.State.{SubscriptionState, SessionState, CommandResult, refused_result, result_unless_no_memory}
 use Rattle.lines_demo.specs.Script.Waking.{is_live, with_subscriptions}
 use Rattle.commands.specs.declared.reply.Reply.TheVariants.{Name, Refused}
-pub use Rattle.publisher_hub.specs.declared.hub.subscribing.TheConstants.{MOST_ENTRIES, MOST_LIVE}
+pub use Rattle.publisher_hub.specs.declared.hub.TheConstants.{MOST_ENTRIES, MOST_LIVE}
 
--- what the publisher has of a new subscription, which is told a closing error in this order: its first turn is owed, and its subscriber is steady
+-- what the publisher has of a new subscription, which is told a closing error in this order: its first turn is owed,
+-- and its subscriber is steady
 abbrev pub desk_at_start : ErrorOrder → ℕ → DeskState
 desk_at_start order capacity = record {
   lane = empty_lane_in order;
@@ -18,10 +19,13 @@ desk_at_start order capacity = record {
   started = true;
   is_steady = true;
   looks = 0;
+  requested = 0;
+  asked_badly = false;
   is_cancelled = false;
+  replied = [];
 }
 
--- what the publisher has of a subscription before it requests anything: it is closed at once where the publisher was
+-- what the publisher has of a subscription before it requests anything: it is closed at once if the publisher was
 abbrev pub desk_at_subscribing : Option Ending → ErrorOrder → ℕ → DeskState
 desk_at_subscribing None order capacity = desk_at_start order capacity
 desk_at_subscribing (Some ending) order capacity =
@@ -62,7 +66,8 @@ abbrev pub state_after_duplicate : List ℕ → SessionState → SessionState
 state_after_duplicate name state =
     with_subscriptions (map (subscription_after_duplicate name) state.subscriptions) state
 
--- why nobody may subscribe, if nobody may: as many are live as may be, as many were made as may be, or no subscriber is left
+-- why nobody may subscribe, if nobody may: as many are live as may be, as many were made as may be, or no subscriber is
+-- left
 abbrev pub subscribing_refusal : SessionState → Option Refusal
 subscribing_refusal state =
     if nat_le MOST_LIVE (count_by is_live state.subscriptions) then Some Refusal.TooMany

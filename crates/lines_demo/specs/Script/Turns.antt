@@ -26,7 +26,7 @@ abbrev pub signal_lines : List ℕ → List Signal → List ℕ
 signal_lines name [] = []
 signal_lines name (signal ∷ signals) = signal_line name signal ++ signal_lines name signals
 
--- the line of an end of which the subscriber was told nothing, if there is one: that it met want of memory
+-- the line of an end of which the subscriber was told nothing, if there is one: that it was refused memory
 abbrev pub untold_end_line : List ℕ → Option How → List ℕ
 untold_end_line name None = []
 untold_end_line name (Some How.OutOfMemory) = line_of (name ++ codes " memory")
@@ -35,7 +35,7 @@ untold_end_line name (Some (How.Errored _)) = []
 untold_end_line name (Some How.Cancelled) = []
 untold_end_line name (Some (How.Failed _)) = []
 
--- the lines of a turn: what was told, and then want of memory
+-- the lines of a turn: what was told, and then refused memory
 abbrev pub turn_lines : List ℕ → List Signal → Outlook → List ℕ
 turn_lines name told outlook = signal_lines name told ++ untold_end_line name (how_after outlook)
 

@@ -27,7 +27,8 @@ abbrev pub newly_woken : List SubscriptionState → List SubscriptionState → L
 newly_woken before now = filter (λ number. owes_turn now number && not (owes_turn before number))
     (range_with_len 0 (length now))
 
--- where a script stands once a call has left its subscriptions so: whom it has started is woken, after those that are woken already
+-- where a script stands once a call has left its subscriptions so: whom it has started is woken, after those that are
+-- woken already
 abbrev pub with_subscriptions : List SubscriptionState → SessionState → SessionState
 with_subscriptions now state =
     record state { subscriptions = now; woken = state.woken ++ newly_woken state.subscriptions now }

@@ -28,7 +28,7 @@ abbrev pub alone : Result Publication Refusal → Result (List Publication) Refu
 alone (Err refusal) = Err refusal
 alone (Ok publication) = Ok (publication ∷ [])
 
--- the publication that a line spells, and none where it is empty; or why it is refused
+-- the publication that a line spells, and none if it is empty; or why it is refused
 abbrev pub line_publications : List ℕ → Result (List Publication) Refusal
 line_publications line = if length line == 0 then Ok [] else alone (spelled_publication line)
 
@@ -70,7 +70,7 @@ pub record InputState : Type 0 where
   pub publications : List Publication
   pub sources : List ℕ
 
--- a publication might wait for ever for this subscriber, where so many items are published
+-- a publication might wait for ever for this subscriber, if this many items are published
 abbrev pub would_block : ℕ → ℕ → NamedDemand → Bool
 would_block capacity many subscriber = nat_lt (subscriber.demand + capacity) many
 

@@ -4,7 +4,7 @@ use Rattle.std.specs.List.{before_first, after_first, list_any}
 use Rattle.clap.specs.Matches.{first_value, found_of, matched_of, raw_values}
 use Rattle.clap.specs.declared.parser.matches.ArgMatches.{ArgMatches}
 use Rattle.async_pool.specs.declared.crew.TheConstants.{MOST_WORKERS}
-use Rattle.publisher_hub.specs.declared.hub.subscribing.TheConstants.{MOST_LIVE}
+use Rattle.publisher_hub.specs.declared.hub.TheConstants.{MOST_LIVE}
 use Rattle.commands.specs.Number.{spelled_code, spelled_digits, spelled_number}
 use Rattle.lines_demo.specs.Prelude.{Refusal}
 use Rattle.commands.specs.Word.{is_word, spelled_name}
@@ -142,6 +142,6 @@ plan_of_matches matches =
     (option_map raw_values (matched_of found (codes "subscribers")))
     (fail_of (first_value found (codes "fail")))
 
--- this answer, but where memory was refused
+-- this answer, but if memory was refused
 abbrev pub IsOrLacksMemory : {T : Type 0} → Result T Refusal → Result T Refusal → Type 0
 IsOrLacksMemory result answer = (result ≡ answer) ⊎ (result ≡ Err Refusal.NoMemory)

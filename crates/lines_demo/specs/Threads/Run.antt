@@ -4,19 +4,23 @@ use Rattle.lines_demo.specs.Prelude.{Refusal}
 use Rattle.lines_demo.specs.declared.reader.InputFault.{InputFault}
 use Rattle.commands.specs.declared.writing.OutputFault.{OutputFault}
 use Rattle.lines_demo.specs.declared.threads.fault.LinesFault.{LinesFault}
-use Rattle.lines_demo.specs.declared.threads.fault.LinesFault.TheVariants.{Read, Write, Refused}
+use Rattle.lines_demo.specs.declared.threads.fault.LinesFault.TheVariants.{Read, TooLong, Write, Gone, Refused}
 
--- why a run stops where its input can't be read
+-- why a run stops if its input can't be read
 abbrev pub fault_of_input : InputFault → LinesFault
 fault_of_input InputFault.Read = Read
+fault_of_input InputFault.TooLong = TooLong
 fault_of_input InputFault.Memory = Refused Refusal.NoMemory
 
--- why a run stops where its report can't be written
+-- why a run stops if its report can't be written
 abbrev pub fault_of_output : OutputFault → LinesFault
 fault_of_output OutputFault.Write = Write
+fault_of_output OutputFault.Gone = Gone
 fault_of_output OutputFault.Memory = Refused Refusal.NoMemory
 
--- a run stops for this refusal of its input, or since reading or memory failed before, and its writer holds what it held
+-- a run stops for this refusal of its input, or before that since reading or memory failed or the input is too long;
+-- its writer holds what it held
 abbrev pub StopsFor : Refusal → Result ℕ LinesFault → Option (List ℕ) → Option (List ℕ) → Type 0
 StopsFor refusal result old new =
-    (new ≡ old) × ((result ≡ Err (Refused refusal)) ⊎ ((result ≡ Err Read) ⊎ (result ≡ Err (Refused Refusal.NoMemory))))
+    (new ≡ old) × ((result ≡ Err (Refused refusal))
+    ⊎ ((result ≡ Err Read) ⊎ ((result ≡ Err TooLong) ⊎ (result ≡ Err (Refused Refusal.NoMemory)))))

@@ -1,12 +1,9 @@
 //! Says on standard error why lines of a script were refused, and where its subscriptions stand after each `run`.
 use super::explaining::{Explain, Line};
 use super::session::Session;
+use commands::{Excerpt, Mistake};
 use feed_core::Desk;
 use flow_rules::{Listener, Name, Refusal};
-use std::fmt;
-
-/// How many bytes of a line are shown.
-const LONGEST_EXCERPT: usize = 60;
 
 /// Explains a script on standard error. What can't be written there is left out, and changes nothing else.
 #[derive(Drop)]
@@ -37,8 +34,12 @@ impl<'a, R: Eprint> Explainer<'a, R> {
 
 impl<R: Eprint> Explain for Explainer<'_, R> {
     fn refused(&mut self, line: Line<'_>, refusal: &Refusal) {
-        let excerpt = Excerpt { bytes: line.bytes };
-        let _ = eprintln!(self.rt; "line {}: {excerpt}: {}", line.number, refusal.explain());
+        let excerpt = Excerpt::new(line.bytes);
+        // A command that may not stand here is no mistake.
+        let _ = match mistake_of(line.bytes, refusal) {
+            Some(mistake) => eprintln!(self.rt; "line {}: {excerpt}: {mistake}", line.number),
+            None => eprintln!(self.rt; "line {}: {excerpt}: {}", line.number, refusal.explain()),
+        };
     }
 
     fn ran<B: Listener>(&mut self, line: Line<'_>, session: &Session<B>) {
@@ -52,19 +53,10 @@ impl<R: Eprint> Explain for Explainer<'_, R> {
     }
 }
 
-/// The first bytes of a line, of which those that are not printable ASCII are escaped.
-#[derive(Drop)]
-struct Excerpt<'a> {
-    bytes: &'a [u8],
-}
-
-impl fmt::Display for Excerpt<'_> {
-    fn fmt<W: fmt::Write>(&self, f: &mut fmt::Formatter<W>) -> fmt::Result {
-        let shown = &self.bytes[..self.bytes.len().min(LONGEST_EXCERPT)];
-        write!(f, "{}", shown.escape_ascii())?;
-        if shown.len() < self.bytes.len() {
-            f.write_str(" ..")?;
-        }
-        Ok(())
+/// What is wrong with a line that was refused so, if it spells no command.
+fn mistake_of<'a>(line: &'a [u8], refusal: &Refusal) -> Option<Mistake<'a>> {
+    match refusal {
+        Refusal::BadCommand => Mistake::find(line),
+        _ => None,
     }
 }

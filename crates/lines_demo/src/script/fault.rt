@@ -6,13 +6,19 @@ use thiserror::Error;
 /// Why a script stopped. What was written before stays.
 #[derive(Clone, Copy, Debug, PartialEq, Eq, Error)]
 pub enum ScriptFault {
-    /// The reader failed, or the script is longer than it may be.
+    /// The reader failed.
     #[error("read fault")]
     Read,
+    /// The script is longer than it may be.
+    #[error("the input has more than 16,777,216 bytes")]
+    TooLong,
     /// The writer failed, or took no more bytes.
     #[error("write fault")]
     Write,
-    /// Memory was refused where no answer can say so.
+    /// Nobody reads the answers any more.
+    #[error("nobody reads")]
+    Gone,
+    /// Memory was refused if no answer can say so.
     #[error("memory")]
     Memory,
 }
@@ -26,6 +32,7 @@ impl From<OutputFault> for ScriptFault {
     fn from(fault: OutputFault) -> ScriptFault {
         match fault {
             OutputFault::Write => ScriptFault::Write,
+            OutputFault::Gone => ScriptFault::Gone,
             OutputFault::Memory => ScriptFault::Memory,
         }
     }
@@ -40,6 +47,7 @@ impl From<InputFault> for ScriptFault {
     fn from(fault: InputFault) -> ScriptFault {
         match fault {
             InputFault::Read => ScriptFault::Read,
+            InputFault::TooLong => ScriptFault::TooLong,
             InputFault::Memory => ScriptFault::Memory,
         }
     }

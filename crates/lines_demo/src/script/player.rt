@@ -30,9 +30,10 @@ pub struct Player<B: Listener> {
 }
 
 impl<B: Listener> Player<B> {
-    /// The start of a script, with these subscribers to take from. They are steady and were told nothing.
+    /// The start of a script, with these subscribers to take from. They are steady, and have neither been told nor
+    /// replied anything.
     pub fn new(alloc: Global, stock: Vec<B>) -> Result<Player<B>, NoMemory>
-        requires untold { All (λ b. B.told b ≡ []) stock.items }
+        requires untold { All (λ b. (B.told b ≡ []) × (B.replied b ≡ [])) stock.items }
         requires steady { All (λ b. B.is_steady b ≡ true) stock.items }
         ensures { IfOk result (λ player. player.session ≡ state_at_start (length stock.items)) }
     {
@@ -66,7 +67,7 @@ impl<B: Listener> Player<B> {
         Ok(())
     }
 
-    /// Plays a line: nothing where it is empty, and a refusal where it is too long or spells no command.
+    /// Plays a line: nothing if it is empty, and a refusal if it is too long or spells no command.
     fn play_line<W: Write, E: Explain>(
         &mut self,
         number: u64,

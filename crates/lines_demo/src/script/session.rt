@@ -27,7 +27,7 @@ use std::alloc::Global;
 use std::collections::VecDeque;
 use std::marker::Model;
 
-/// The capacity of the buffers where none is asked for (`Flow.defaultBufferSize`, Java SE 17).
+/// The capacity of the buffers if none is asked for (`Flow.defaultBufferSize`, Java SE 17).
 pub const DEFAULT_CAPACITY: usize = 256;
 
 /// Where a script stands: the publisher, the subscribers that are left, and who is woken.
@@ -50,16 +50,17 @@ impl<B: Listener> Model for Session<B> {
 
     ghost view = { λ s. state_of s.hub (length s.stock.items) s.woken s.beginning };
 
-    ghost invariant = { λ s. All (λ b. B.told b ≡ []) s.stock.items
+    ghost invariant = { λ s. All (λ b. (B.told b ≡ []) × (B.replied b ≡ [])) s.stock.items
         × All (λ b. B.is_steady b ≡ true) s.stock.items
         × IsSession s.hub (length s.stock.items) s.woken s.beginning
         × (s.due.items ≡ []) };
 }
 
 impl<B: Listener> Session<B> {
-    /// The start of a script, with these subscribers to take from. They are steady and were told nothing.
+    /// The start of a script, with these subscribers to take from. They are steady, and have neither been told nor
+    /// replied anything.
     pub fn new(alloc: Global, stock: Vec<B>) -> Result<Session<B>, NoMemory>
-        requires untold { All (λ b. B.told b ≡ []) stock.items }
+        requires untold { All (λ b. (B.told b ≡ []) × (B.replied b ≡ [])) stock.items }
         requires steady { All (λ b. B.is_steady b ≡ true) stock.items }
         ensures { IfOk result (λ session. session ≡ state_at_start (length stock.items)) }
     {
@@ -127,8 +128,8 @@ impl<B: Listener> Session<B> {
         Ok(Reply::Done)
     }
 
-    /// Whether anybody is woken. Each subscriber that isn't was told all that its demand and its ending allow. The laws of scripts
-    /// hold in any case.
+    /// Whether anybody is woken. Each subscriber that isn't was told all that its demand and its ending allow. The laws
+    /// of scripts hold in any case.
     pub fn has_woken(&self) -> bool
         ensures value { result ≡ has_woken self.now.woken }
         ensures flow { KeepsFlow self.now }

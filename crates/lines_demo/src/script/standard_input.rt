@@ -5,12 +5,15 @@ use super::explainer::Explainer;
 use super::explaining::{Explain, Silent};
 use super::fault::ScriptFault;
 use super::run::{play_script, run_script};
+use super::stock::shown;
+use commands::OutputFault;
 use flow_rules::{Collector, Subscriber, Tally};
 use std::alloc::Global;
 use std::io;
 use std::io::{BufWriter, Read, Write};
 
-/// How many subscribers a script has, and so how many times it may subscribe. A `sub` that was refused gives its subscriber back.
+/// How many subscribers a script has, and so how many times it may subscribe. A `sub` that was refused gives its
+/// subscriber back.
 const STOCK: usize = 1024;
 
 /// What the subscribers of a script keep of what they are told.
@@ -36,11 +39,11 @@ pub fn play_standard_input<R: Input + Print + AllocGlobal>(
     };
     let flushed = writer.flush();
     played?;
-    flushed.map_err(|_| ScriptFault::Write)
+    flushed.map_err(|error| OutputFault::of(error.kind()).into())
 }
 
-/// Plays the script on standard input, answers on standard output, and explains on standard error. Each answer is written at once, so
-/// that it stands beside what explains it.
+/// Plays the script on standard input, answers on standard output, and explains on standard error. Each answer is
+/// written at once, so that it stands beside what explains it.
 pub fn explain_standard_input<R: Input + Print + Eprint + AllocGlobal>(
     rt: &R,
     keeping: Keeping,
@@ -51,7 +54,8 @@ pub fn explain_standard_input<R: Input + Print + Eprint + AllocGlobal>(
     let mut explainer = Explainer::new(rt);
     match keeping {
         Keeping::Everything => {
-            let stock = steady_and_untold(alloc, collectors(alloc)?)?;
+            let collectors = steady_and_untold(alloc, collectors(alloc)?)?;
+            let stock = shown(alloc, collectors).map_err(|_| ScriptFault::Memory)?;
             play_script(alloc, &mut reader, &mut writer, stock, &mut explainer)
         }
         Keeping::Nothing => play_on_tallies(alloc, &mut reader, &mut writer, &mut explainer),

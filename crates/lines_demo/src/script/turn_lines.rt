@@ -1,4 +1,4 @@
-//! The lines of a turn: a line for each signal that was told, and one for want of memory.
+//! The lines of a turn: a line for each signal that was told, and one by a refusal of memory.
 ghost use Rattle.std.specs.Prelude.{◌≡◌, ◌++◌, ◌∷◌, [], is_ok, codes, IfOk, Some};
 ghost use Rattle.feed_core.specs.Turn.{how_after};
 ghost use Rattle.commands.specs.Writing.{Writes, line_of};

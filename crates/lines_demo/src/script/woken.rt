@@ -9,7 +9,8 @@ use std::alloc::Global;
 use std::collections::VecDeque;
 use std::marker::Model;
 
-/// The numbers of the subscriptions that are woken, the one whose turn is next first. It is made with room for all that may be live.
+/// The numbers of the subscriptions that are woken, the one whose turn is next first. It is made with room for all that
+/// may be live.
 #[derive(Drop)]
 pub struct Woken {
     numbers: VecDeque<u32>,

@@ -1,5 +1,5 @@
-//! Which signals of a list are the items of which submitter. A report has them submitter by submitter, and finds them so in one pass over the
-//! list, however many submitters there are.
+//! Which signals of a list are the items of which submitter. A report has them submitter by submitter, and finds them
+//! so in one pass over the list, however many submitters there are.
 use flow_rules::{NoMemory, Signal};
 use std::alloc::Global;
 
@@ -20,7 +20,8 @@ const EMPTY: Chain = Chain {
     last: 0,
 };
 
-/// The items of each submitter in a list of signals, by their places. Its room is made once, and serves one list after the other.
+/// The items of each submitter in a list of signals, by their places. Its room is made once, and serves one list after
+/// the other.
 #[derive(Drop)]
 pub struct Chains {
     /// The chain of each submitter, by its number.
@@ -30,7 +31,7 @@ pub struct Chains {
 }
 
 impl Chains {
-    /// Room for this many submitters, and for lists of so many signals at most.
+    /// Room for this many submitters, and for lists of this many signals at most.
     pub fn with_room(alloc: Global, submitters: usize, signals: usize) -> Result<Chains, NoMemory> {
         Ok(Chains {
             chains: vec![in alloc; EMPTY; submitters]?,

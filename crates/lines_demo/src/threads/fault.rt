@@ -7,12 +7,18 @@ use thiserror::Error;
 /// Why a run stopped. What was written before stays.
 #[derive(Debug, Drop, PartialEq, Eq, Error)]
 pub enum LinesFault {
-    /// The reader failed, or the input is longer than it may be.
+    /// The reader failed.
     #[error("read fault")]
     Read,
+    /// The input is longer than it may be.
+    #[error("the input has more than 16,777,216 bytes")]
+    TooLong,
     /// The writer failed, or took no more bytes.
     #[error("write fault")]
     Write,
+    /// Nobody reads the report any more.
+    #[error("nobody reads")]
+    Gone,
     /// The command line, the input or a call of the publisher was refused.
     #[error("{0}")]
     Refused(Refusal),
@@ -38,6 +44,7 @@ impl From<InputFault> for LinesFault {
     fn from(fault: InputFault) -> LinesFault {
         match fault {
             InputFault::Read => LinesFault::Read,
+            InputFault::TooLong => LinesFault::TooLong,
             InputFault::Memory => LinesFault::Refused(Refusal::NoMemory),
         }
     }
@@ -52,6 +59,7 @@ impl From<OutputFault> for LinesFault {
     fn from(fault: OutputFault) -> LinesFault {
         match fault {
             OutputFault::Write => LinesFault::Write,
+            OutputFault::Gone => LinesFault::Gone,
             OutputFault::Memory => LinesFault::Refused(Refusal::NoMemory),
         }
     }

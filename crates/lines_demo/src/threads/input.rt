@@ -19,7 +19,7 @@ pub const MOST_SOURCES: usize = 16;
 pub struct Publication<'a> {
     /// The number of the source.
     pub source: u32,
-    /// The text, of 1 to 4,096 bytes where it was read.
+    /// The text, of 1 to 4,096 bytes if it was read.
     pub text: TextBytes<'a>,
 }
 
@@ -45,9 +45,10 @@ impl<'a> Input<'a> {
 
     /// What the lines of these bytes have published by a plan.
     ///
-    /// Refused by the first line that is refused: 12 where its form is not `SOURCE TEXT`, and 6 where its text is too long. Then refused 12
-    /// where there are more than [`MOST_SOURCES`]; and 11 where a publication might wait for ever, since a subscriber requests fewer
-    /// items than there are, and its buffer does not hold the others. 5 where a growth is refused.
+    /// Refused by the first line that is refused: 12 if its form is not `SOURCE TEXT`, and 6 if its text is too long.
+    /// Then refused 12 if there are more than [`MOST_SOURCES`]; and 11 if a publication might wait for ever, since a
+    /// subscriber requests fewer items than there are, and its buffer does not hold the others. 5 if a growth is
+    /// refused.
     pub fn read(alloc: Global, plan: &Plan, bytes: &'a [u8]) -> Result<Input<'a>, Refusal>
         ensures { IsOrLacksMemory result (input_of plan.now bytes.entry.now) }
     {
@@ -113,9 +114,9 @@ fn push_line<'a>(publications: &mut Vec<Publication<'a>>, line: &'a [u8]) -> Res
     Ok(())
 }
 
-/// The publication that a line spells. Refused 12 where its form is wrong, and 6 where its text is too long.
+/// The publication that a line spells. Refused 12 if its form is wrong, and 6 if its text is too long.
 #[tactic(auto, unfolding(crate::specs::Threads::Input::spelled_publication))]
-fn parse_publication(line: &[u8]) -> Result<Publication<'_>, Refusal>
+pub(super) fn parse_publication(line: &[u8]) -> Result<Publication<'_>, Refusal>
     ensures { result ≡ spelled_publication line.entry.now }
 {
     let (word, rest) = split_word(line);
@@ -131,7 +132,7 @@ fn parse_publication(line: &[u8]) -> Result<Publication<'_>, Refusal>
     Ok(Publication { source, text })
 }
 
-/// The sources of these publications. Refused 12 where there are too many.
+/// The sources of these publications. Refused 12 if there are too many.
 fn collect_sources(alloc: Global, publications: &[Publication<'_>]) -> Result<Vec<u32>, Refusal>
     ensures ok { IfOk result (λ sources. (sources.items ≡ sources_of publications.now)
         × (length sources.items ≤ MOST_SOURCES)) }
@@ -152,7 +153,7 @@ fn collect_sources(alloc: Global, publications: &[Publication<'_>]) -> Result<Ve
 }
 
 /// Puts a source at its place among those in ascending order, if it isn't among them.
-fn add_source(sources: &mut Vec<u32>, source: u32) -> Result<(), NoMemory>
+pub(super) fn add_source(sources: &mut Vec<u32>, source: u32) -> Result<(), NoMemory>
     ensures { OnOk result (sources.new.items ≡ with_source source sources.old.items) }
 {
     if has_source(sources, source) {

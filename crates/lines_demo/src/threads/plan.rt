@@ -44,7 +44,8 @@ pub struct NamedFailure {
     pub code: u32,
 }
 
-/// What the command line asks for: a number of workers, a capacity of the buffers, subscribers, and which of them fails, if one does.
+/// What the command line asks for: a number of workers, a capacity of the buffers, subscribers, and which of them
+/// fails, if one does.
 #[derive(Drop)]
 pub struct Plan {
     workers: usize,
@@ -79,12 +80,12 @@ impl Plan {
     ghost use Rattle.lines_demo.specs.Threads.Plan.{IsOrLacksMemory, checked_plan, plan_of, plan_of_matches};
     ghost use Rattle.lines_demo.specs.Threads.Input.{would_block};
 
-    /// The plan that a command line of `threads` spells: its options [`WORKERS`] and [`CAPACITY`], its words [`SUBSCRIBERS`], and its option
-    /// [`FAIL`], if that is there.
+    /// The plan that a command line of `threads` spells: its options [`WORKERS`] and [`CAPACITY`], its words
+    /// [`SUBSCRIBERS`], and its option [`FAIL`], if that is there.
     ///
-    /// Refused 12 if one of the others is missing, or one of them has another form; then 7 for any number of workers but 1 to 8; 1 if the
-    /// capacity is 0; 3 if a name stands twice; 4 if there are more than 64 subscribers; and 10 if no subscriber has the name of the one that
-    /// fails. 5 if a growth is refused.
+    /// Refused 12 if one of the others is missing, or one of them has another form; then 7 for any number of workers
+    /// but 1 to 8; 1 if the capacity is 0; 3 if a name stands twice; 4 if there are more than 64 subscribers; and 10 if
+    /// no subscriber has the name of the one that fails. 5 if a growth is refused.
     pub fn read(alloc: Global, matches: &ArgMatches<'_>) -> Result<Plan, Refusal>
         ensures { IsOrLacksMemory result (plan_of_matches matches.now) }
     {
@@ -185,8 +186,8 @@ impl Plan {
         self.fail
     }
 
-    /// Whether a publication might wait for ever, where so many items are published: some subscriber requests fewer, and its buffer
-    /// does not hold the others.
+    /// Whether a publication might wait for ever, if this many items are published: some subscriber requests fewer, and
+    /// its buffer does not hold the others.
     pub fn would_block(&self, many: usize) -> bool
         ensures { result
             ≡ list_any (would_block (capacity_of self.now.capacity) many) self.now.subscribers }
@@ -201,7 +202,7 @@ impl Plan {
     }
 }
 
-/// The subscribers that the words spell. Refused 12 where one of them spells none.
+/// The subscribers that the words spell. Refused 12 if one of them spells none.
 fn parse_subscribers(alloc: Global, words: &[&str]) -> Result<Vec<NamedDemand>, Refusal>
     ensures ok { IfOk result (λ subscribers.
         spelled_subscribers (map (λ w. w.now) words.now) ≡ Some subscribers.items) }
@@ -223,7 +224,7 @@ fn parse_subscribers(alloc: Global, words: &[&str]) -> Result<Vec<NamedDemand>, 
 
 /// The subscriber that a word `NAME:D` spells.
 #[tactic(auto, unfolding(crate::specs::Threads::Plan::spelled_subscriber))]
-fn parse_subscriber(word: &[u8]) -> Option<NamedDemand>
+pub(super) fn parse_subscriber(word: &[u8]) -> Option<NamedDemand>
     ensures { result ≡ spelled_subscriber word.now }
 {
     let (name, demand) = split_at_byte(word, b':');
@@ -248,7 +249,7 @@ fn read_fail(matches: &ArgMatches<'_>) -> Result<Option<NamedFailure>, Refusal>
 
 /// The failure that a word `NAME:K:C` spells.
 #[tactic(auto, unfolding(crate::specs::Threads::Plan::spelled_failure))]
-fn parse_failure(word: &[u8]) -> Option<NamedFailure>
+pub(super) fn parse_failure(word: &[u8]) -> Option<NamedFailure>
     ensures { result ≡ spelled_failure word.now }
 {
     let (name, rest) = split_at_byte(word, b':');
@@ -272,7 +273,8 @@ fn is_unknown(fail: &Option<NamedFailure>, subscribers: &[NamedDemand]) -> bool
     }
 }
 
-/// Whether a name stands twice. Each is compared with all that follow; a command line has room for some hundred thousand.
+/// Whether a name stands twice. Each is compared with all that follow; a command line has room for some hundred
+/// thousand.
 fn stands_twice(subscribers: &[NamedDemand]) -> bool
     ensures { result ≡ has_twice subscribers.now }
 {

@@ -114,7 +114,7 @@ fn end_line(line: &mut Vec<u8>, text: &[u8]) -> Result<(), AllocError> {
 /// What a subscriber was told.
 fn told_of<S: Subscriber>(left: &NamedLane<Shown<S>>) -> &[Signal] {
     match &left.lane.subscriber {
-        Some(subscriber) => subscriber.0.told(),
+        Some(subscriber) => subscriber.subscriber().told(),
         None => &[],
     }
 }

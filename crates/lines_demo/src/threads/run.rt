@@ -20,15 +20,16 @@ use std::sync::Wait;
 use std::sync::ledger::{Blank, Ledger};
 use std::thread::Threads;
 
-/// The status where every subscriber completed.
+/// The status if every subscriber completed.
 const COMPLETE: u8 = 0;
 
-/// The status where some subscriber did not.
+/// The status if some subscriber did not.
 const INCOMPLETE: u8 = 3;
 
-/// Publishes the lines that the reader gives by a plan, and writes the report of what the subscribers were told. There is one subscriber for
-/// each name of the plan, in its order, and each was told nothing. The handler hears of failures, and the report says of which it heard
-/// last. The answer is the exit status: 0 where every subscriber completed, and else 3. Where the input is refused, nothing is written.
+/// Publishes the lines that the reader gives by a plan, and writes the report of what the subscribers were told. There
+/// is one subscriber for each name of the plan, in its order, and each was told nothing. The handler hears of failures,
+/// and the report says of which it heard last. The answer is the exit status: 0 if every subscriber completed, and else
+/// 3. If the input is refused, nothing is written.
 pub fn run_lines<R: Threads + Wait + Copy + Send + Sync + 'static, I: Read, W: Write>(
     rt: R,
     alloc: Global,
@@ -119,7 +120,7 @@ fn publish_lines<
     requires publications { IsBlankOf publications L.name L.parts }
     requires drops { IsBlankOf drops D.name D.parts }
     requires untold { All (λ s. S.told s ≡ []) subscribers.items }
-    ensures { IfOk result (λ outcome. IsOutcome (λ shown. S.told shown.0) outcome) }
+    ensures { IfOk result (λ outcome. IsOutcome (λ shown. S.told shown.subscriber) (λ shown. shown.replied) outcome) }
 {
     let options = PublisherOptions {
         workers: plan.workers(),
@@ -162,7 +163,7 @@ fn publish_lines<
     }
 }
 
-/// What a publisher leaves, also where some subscription has not ended.
+/// What a publisher leaves, also if some subscription has not ended.
 fn outcome_of<B: Drop, F: FailHandler>(
     finished: Result<Outcome<B, F>, (Refusal, Outcome<B, F>)>,
 ) -> Result<Outcome<B, F>, Refusal>
@@ -200,7 +201,7 @@ fn subscribe_all<
     let mut named = named.iter();
     for subscriber in subscribers {
         if let Some(first) = named.next() {
-            match publisher.subscribe(rt, alloc, first.name, Shown(subscriber)) {
+            match publisher.subscribe(rt, alloc, first.name, Shown::new(subscriber)) {
                 Ok(subscription) => {
                     if subscriptions.push(subscription).is_err() {
                         return Err(Refusal::NoMemory);

@@ -76,8 +76,9 @@ fn text_of(alloc: Global, publication: &Publication<'_>) -> Result<Text, Refusal
     Ok(Text::new(alloc, bytes)?)
 }
 
-/// Publishes all lines: the submitters, in order, those of the sources, each from a thread of its own. The threads have ended then, and
-/// the submitters come back, in order. It is refused where a growth is refused or a thread can't be started.
+/// Publishes all lines: the submitters, in order, those of the sources, each from a thread of its own. The threads have
+/// ended then, and the submitters come back, in order. It is refused if a growth is refused or a thread can't be
+/// started.
 pub fn send_lines<
     L: Ledger + Send + Sync + 'static,
     D: Ledger + Send + Sync + 'static,
@@ -118,7 +119,7 @@ fn make_senders<L: Ledger + Send, D: Ledger + Send, B: Listener + Send, F: FailH
     Ok(senders)
 }
 
-/// The submitters without their sources. It is refused where a line of one was.
+/// The submitters without their sources. It is refused if a line of one was.
 fn take_back<L: Ledger + Send, D: Ledger + Send, B: Listener + Send, F: FailHandler + Send>(
     alloc: Global,
     senders: Vec<Sender<L, D, B, F>>,

@@ -1,34 +1,71 @@
-//! How a publisher is made.
+//! How a publisher is made, by its options.
+//!
+//! How the threads of its workers are started stands in `workers`, and what they do in `job`.
 ghost use Rattle.std.specs.Prelude.{◌≡◌, ◌↔◌, ◌⊎◌, true, Err, IfErr, IfOk};
 ghost use Rattle.flow_rules.specs.declared.refusal.Refusal.TheVariants as Refusal;
 ghost use Rattle.async_pool.specs.Crew.{IsWorkerCount};
 ghost use Rattle.feed_core.specs.Prelude.{Overtake};
+ghost use Rattle.flow_rules.specs.Capacity.{capacity_of};
 ghost use Rattle.publisher.specs.Blanks.{IsBlankOf};
+ghost use Rattle.publisher.specs.Making.{RefusesCapacity, RefusesMaking, RefusesWorkers};
 
 use super::Publisher;
-use crate::options::PublisherOptions;
+use crate::awaiting::Awaiting;
 use crate::shared::Shared;
-use crate::state::State;
+use crate::state::{State, StateLock};
 use async_pool::{MOST_WORKERS, Pool};
 use flow_rules::{ErrorOrder, FailHandler, Listener, NoMemory, Refusal};
 use once_cell::race::OnceBox;
 use std::alloc::Global;
-use std::sync::atomic::AtomicU64;
 use std::sync::ledger::{Blank, Ledger};
-use std::sync::{Arc, Condvar, Mutex, Wait};
+use std::sync::{Arc, Mutex, Wait};
 use std::thread::Threads;
+
+/// How many workers a publisher has, how many items each of its buffers holds, and when its subscribers are told a
+/// closing error.
+#[derive(Clone, Copy, Debug, PartialEq, Eq)]
+pub struct PublisherOptions {
+    /// The worker threads that run the turns of the subscriptions, from 1 to 8.
+    pub workers: usize,
+    /// The items for which each buffer is asked to have room, at least 1; enforced is the next power of two, at most
+    /// 65,536.
+    pub capacity: usize,
+    /// Whether a closing error overtakes the items that wait, or waits for them.
+    pub order: ErrorOrder,
+}
+
+impl PublisherOptions {
+    /// The workers of a publisher for which nothing else is asked.
+    pub const DEFAULT_WORKERS: usize = 2;
+
+    /// The capacity of a publisher for which nothing else is asked (`Flow.defaultBufferSize`, Java SE 17).
+    pub const DEFAULT_CAPACITY: usize = 256;
+}
+
+impl Default for PublisherOptions {
+    /// Gives two workers, and buffers of 256 items, which a closing error overtakes.
+    fn default() -> PublisherOptions
+        ensures { result ≡ record { workers = 2; capacity = 256; order = Overtake } }
+    {
+        PublisherOptions {
+            workers: PublisherOptions::DEFAULT_WORKERS,
+            capacity: PublisherOptions::DEFAULT_CAPACITY,
+            order: ErrorOrder::Overtake,
+        }
+    }
+}
 
 impl<
     L: Ledger + Send + Sync + 'static,
     D: Ledger + Send + Sync + 'static,
     B: Listener + Send + 'static,
 > Publisher<L, D, B> {
-    /// Makes a publisher without subscriptions, whose buffers have the capacity that is enforced if this one is asked for, and whose
-    /// turns this many workers run, each a thread of its own. A closing error overtakes the items. The two blanks are those of its
-    /// ledgers.
+    /// Makes a publisher without subscriptions, whose buffers have the capacity that is enforced if this one is asked
+    /// for, and whose turns this many workers run, each a thread of its own. A closing error overtakes the items. The
+    /// two blanks are those of its ledgers.
     ///
-    /// Refused 7 for any other number of workers than 1 to [`MOST_WORKERS`], then 1 if the capacity is 0, and then 5 if a growth
-    /// is refused or a thread can't be started; those that were started have ended then.
+    /// Refused 7 for any other number of workers than 1 to [`MOST_WORKERS`], then 1 if the capacity is 0, and then 5
+    /// if a growth is refused or a thread can't be started; those that were started have ended then.
     pub fn new<R: Threads + Wait + Copy + Send + 'static>(
         rt: R,
         alloc: Global,
@@ -39,12 +76,12 @@ impl<
     ) -> Result<Publisher<L, D, B>, Refusal>
         requires publications { IsBlankOf publications L.name L.parts }
         requires drops { IsBlankOf drops D.name D.parts }
-        ensures bad_workers { (result ≡ Err Refusal.BadWorkers) ↔ (¬ IsWorkerCount workers) }
-        ensures bad_capacity { IsWorkerCount workers
-            → (result ≡ Err Refusal.BadCapacity) ↔ (capacity ≡ 0) }
-        ensures refusals { IfErr result (λ refusal. (refusal ≡ Refusal.BadWorkers)
-            ⊎ ((refusal ≡ Refusal.BadCapacity) ⊎ (refusal ≡ Refusal.NoMemory))) }
+        ensures bad_workers { RefusesWorkers result workers }
+        ensures bad_capacity { RefusesCapacity result workers capacity }
+        ensures refusals { IfErr result (λ refusal. RefusesMaking refusal) }
         ensures order { IfOk result (λ publisher. publisher.order ≡ Overtake) }
+        ensures capacity { IfOk result
+            (λ publisher. publisher.capacity ≡ capacity_of capacity) }
     {
         let order = ErrorOrder::Overtake;
         let options = PublisherOptions {
@@ -55,8 +92,8 @@ impl<
         Publisher::make(rt, alloc, publications, drops, options)
     }
 
-    /// Does what [`new`](Publisher::new) does, with both numbers by their names, and with the order of a closing error and the items. It is
-    /// refused in the same way.
+    /// Does what [`new`](Publisher::new) does, with both numbers by their names, and with the order of a closing error
+    /// and the items. It is refused in the same way.
     pub fn with_options<R: Threads + Wait + Copy + Send + 'static>(
         rt: R,
         alloc: Global,
@@ -66,13 +103,12 @@ impl<
     ) -> Result<Publisher<L, D, B>, Refusal>
         requires publications { IsBlankOf publications L.name L.parts }
         requires drops { IsBlankOf drops D.name D.parts }
-        ensures bad_workers { (result ≡ Err Refusal.BadWorkers) ↔
-            (¬ IsWorkerCount options.workers) }
-        ensures bad_capacity { IsWorkerCount options.workers
-            → (result ≡ Err Refusal.BadCapacity) ↔ (options.capacity ≡ 0) }
-        ensures refusals { IfErr result (λ refusal. (refusal ≡ Refusal.BadWorkers)
-            ⊎ ((refusal ≡ Refusal.BadCapacity) ⊎ (refusal ≡ Refusal.NoMemory))) }
+        ensures bad_workers { RefusesWorkers result options.workers }
+        ensures bad_capacity { RefusesCapacity result options.workers options.capacity }
+        ensures refusals { IfErr result (λ refusal. RefusesMaking refusal) }
         ensures order { IfOk result (λ publisher. publisher.order ≡ options.order) }
+        ensures capacity { IfOk result
+            (λ publisher. publisher.capacity ≡ capacity_of options.capacity) }
     {
         Publisher::make(rt, alloc, publications, drops, options)
     }
@@ -84,12 +120,13 @@ impl<
     B: Listener + Send + 'static,
     F: FailHandler + Send + 'static,
 > Publisher<L, D, B, F> {
-    /// Does what [`with_options`](Publisher::with_options) does, and has a handler hear of failures (the third constructor of
-    /// `SubmissionPublisher`, Java SE 17). If the `onNext` of a subscriber fails, the handler is called once, with the subscriber's name and
-    /// the code, after the subscription has ended. No other end calls it. It comes back in what [`finish`](crate::finish) leaves.
+    /// Does what [`with_options`](Publisher::with_options) does, and has a handler hear of failures (the third
+    /// constructor of `SubmissionPublisher`, Java SE 17). If the `onNext` of a subscriber fails, the handler is called
+    /// once, with the subscriber's name and the code, after the subscription has ended. No other end calls it. It
+    /// comes back in what [`finish`](crate::finish) leaves.
     ///
-    /// Whoever ran the turn calls it, while a lock of the handler's own is held and no other. A handler that calls `submit` may wait for
-    /// ever.
+    /// Whoever ran the turn calls it, while a lock of the handler's own is held and no other. A handler that calls
+    /// `submit` may wait for ever.
     ///
     /// Refused as [`new`](Publisher::new) is, with the handler back.
     pub fn with_handler<R: Threads + Wait + Copy + Send + 'static>(
@@ -106,9 +143,10 @@ impl<
             (¬ IsWorkerCount options.workers) }
         ensures bad_capacity { IsWorkerCount options.workers
             → (result ≡ Err (Refusal.BadCapacity, handler)) ↔ (options.capacity ≡ 0) }
-        ensures refusals { IfErr result (λ refused. (refused.0 ≡ Refusal.BadWorkers)
-            ⊎ ((refused.0 ≡ Refusal.BadCapacity) ⊎ (refused.0 ≡ Refusal.NoMemory))) }
+        ensures refusals { IfErr result (λ refused. RefusesMaking refused.0) }
         ensures order { IfOk result (λ publisher. publisher.order ≡ options.order) }
+        ensures capacity { IfOk result
+            (λ publisher. publisher.capacity ≡ capacity_of options.capacity) }
         ensures back { IfErr result (λ refused. refused.1 ≡ handler) }
     {
         match Publisher::make(rt, alloc, publications, drops, options) {
@@ -130,13 +168,12 @@ impl<
     ) -> Result<Publisher<L, D, B, F>, Refusal>
         requires publications { IsBlankOf publications L.name L.parts }
         requires drops { IsBlankOf drops D.name D.parts }
-        ensures bad_workers { (result ≡ Err Refusal.BadWorkers) ↔
-            (¬ IsWorkerCount options.workers) }
-        ensures bad_capacity { IsWorkerCount options.workers
-            → (result ≡ Err Refusal.BadCapacity) ↔ (options.capacity ≡ 0) }
-        ensures refusals { IfErr result (λ refusal. (refusal ≡ Refusal.BadWorkers)
-            ⊎ ((refusal ≡ Refusal.BadCapacity) ⊎ (refusal ≡ Refusal.NoMemory))) }
+        ensures bad_workers { RefusesWorkers result options.workers }
+        ensures bad_capacity { RefusesCapacity result options.workers options.capacity }
+        ensures refusals { IfErr result (λ refusal. RefusesMaking refusal) }
         ensures order { IfOk result (λ publisher. publisher.order ≡ options.order) }
+        ensures capacity { IfOk result
+            (λ publisher. publisher.capacity ≡ capacity_of options.capacity) }
     {
         let PublisherOptions {
             workers,
@@ -157,7 +194,7 @@ impl<
         Ok(publisher)
     }
 
-    /// A publisher whose workers were not started.
+    /// Makes a publisher whose workers were not started.
     fn with(
         alloc: Global,
         state: State<L, D, B>,
@@ -167,6 +204,7 @@ impl<
         requires { IsWorkerCount workers }
         ensures workers { IfOk result (λ publisher. publisher.workers ≡ workers) }
         ensures order { IfOk result (λ publisher. publisher.order ≡ order) }
+        ensures capacity { IfOk result (λ publisher. publisher.capacity ≡ state.hub.capacity) }
     {
         let Ok(pool) = Pool::new(alloc, workers) else {
             return Err(NoMemory);
@@ -177,9 +215,8 @@ impl<
                 Shared {
                     capacity: state.capacity(),
                     order,
-                    state: Mutex::new(state),
-                    changed: Condvar::new(),
-                    awaiting: AtomicU64::new(0),
+                    state: StateLock::new(state),
+                    awaiting: Awaiting::nobody(),
                     closing: Arc::new(alloc, OnceBox::new(alloc))?,
                     handler: Mutex::new(None),
                 },
@@ -189,7 +226,7 @@ impl<
     }
 }
 
-/// Whether a publisher may have this many workers.
+/// Tells whether a publisher may have this many workers.
 fn is_worker_count(workers: usize) -> bool
     ensures { (result ≡ true) ↔ IsWorkerCount workers }
 {

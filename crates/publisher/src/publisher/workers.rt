@@ -1,10 +1,12 @@
-//! The threads of a publisher's workers.
+//! How the threads of a publisher's workers are started and ended.
+//!
+//! What each does in between stands in `async_pool` and `job`.
 ghost use Rattle.std.specs.Prelude.{◌<◌};
 ghost use Rattle.std.specs.Arc.{arc_value};
 ghost use Rattle.async_pool.specs.Pool.{pool_workers};
 
 use super::Publisher;
-use crate::shared::{Shared, Worker};
+use crate::job::Worker;
 use async_pool::Wide;
 use flow_rules::{FailHandler, Listener, NoMemory};
 use std::alloc::Global;
@@ -30,15 +32,15 @@ impl<
     {
         let mut context = Worker::new(alloc, &self.shared)?;
         let pool = Arc::try_clone(&self.pool)?;
-        self.shared.lock(&rt).begin_loop();
+        self.shared.state.add_loop(&rt);
         let run = move ||
             requires { worker < pool_workers (arc_value pool) }
         {
             pool.worker_loop(&rt, worker, &Wide, &mut context);
-            end_loop(&rt, &*context.shared);
+            context.shared.state.remove_loop(&rt);
         };
         if thread::spawn(&rt, run).is_err() {
-            end_loop(&rt, &*self.shared);
+            self.shared.state.remove_loop(&rt);
             return Err(NoMemory);
         }
         Ok(())
@@ -54,28 +56,11 @@ impl<L: Ledger + Send, D: Ledger + Send, B: Listener + Send, F: FailHandler + Se
     /// Ends the workers, and drops the tasks that are left.
     pub(crate) fn stop<R: Wait>(&self, rt: &R) {
         self.pool.shut(rt);
-        let mut state = self.shared.lock(rt);
-        for _ in rt.forever() {
-            match state.look_for_loops() {
-                Ok(()) => break,
-                Err(reason) => state = self.shared.wait(rt, state, reason),
-            }
-        }
-        drop(state);
+        let _ended = self.shared.wait_for_loops(rt);
         for _ in rt.forever() {
             if self.pool.run_one(rt).is_none() {
                 return;
             }
         }
     }
-}
-
-/// The loop of a worker has ended.
-fn end_loop<L: Ledger, D: Ledger, B: Listener, F: FailHandler, R: Wait>(
-    rt: &R,
-    shared: &Shared<L, D, B, F>,
-) {
-    let mut state = shared.lock(rt);
-    state.end_loop();
-    shared.tell(state);
 }

@@ -1,22 +1,25 @@
 //! The publication of several texts by one call.
+//!
+//! It is `submit` in all but how often it takes the lock. How the texts are published behind it stands in `state`.
 ghost use Rattle.std.specs.Prelude.{◌≡◌, ◌+◌, ◌<◌, None, Err, IfErr, IfSome, OnOk, length};
 ghost use Rattle.flow_rules.specs.declared.refusal.Refusal.TheVariants as Refusal;
-ghost use Rattle.publisher.specs.Handles.{IsHubRefusal, RefusesPublication, told_by};
+ghost use Rattle.publisher.specs.Handles.{IsHubRefusal, RefusesPublication, after_refusal};
 
 use super::Submitter;
-use crate::state::Stopped;
+use crate::state::{Refused, Stopped};
 use crossbeam_utils::Backoff;
 use flow_rules::{FailHandler, Listener, Refusal, Text};
-use publisher_hub::Unpublished;
 use std::alloc::Global;
 use std::sync::Wait;
 use std::sync::ledger::Ledger;
 
-/// How many texts of a list were published, in their order, before one was refused; and why that one was. Neither that one nor those after
-/// it were published.
+/// Says how far a list of texts was published, in order, before one was refused. Neither that text nor those after it
+/// were published.
 #[derive(Debug, Drop)]
 pub struct Unsent {
+    /// How many texts were published before the one that was refused.
     pub published: usize,
+    /// Why that one was refused.
     pub refusal: Refusal,
 }
 
@@ -26,15 +29,17 @@ impl<L: Ledger + Send, D: Ledger + Send, B: Listener + Send, F: FailHandler + Se
     B,
     F,
 > {
-    /// Publishes texts in order, each as [`submit`](Submitter::submit) publishes one, and waits as long as a subscription has no room. The
-    /// answer is the greatest lag after the last text, in items, or 0 if there is no text.
+    /// Publishes texts in order, each as [`submit`](Submitter::submit) publishes one, and waits as long as a
+    /// subscription has no room. The answer is the longest backlog of any live subscription after the last text, in
+    /// items, or 0 if there is no text.
     ///
-    /// As many texts as there is room for are published while the publisher's lock is held once. Thus many submitters with many texts take it
-    /// far less often; but other calls wait longer for it, by some hundred nanoseconds for each text and subscription. No publication of
-    /// another submitter comes between these texts, and the tasks that they start are handed to the pool after the last of them.
+    /// As many texts as there is room for are published while the publisher's lock is held once. Thus many submitters
+    /// with many texts take it far less often; but other calls wait longer for it, by some hundred nanoseconds for
+    /// each text and subscription. No publication of another submitter comes between these texts, and the tasks that
+    /// they start are handed to the pool after the last of them.
     ///
-    /// It is refused as `submit` is, but never 6, since no [`Text`] is too long. What was published before a refusal stays published, and the
-    /// answer says how many texts these are.
+    /// It is refused as `submit` is, but never 6, since no [`Text`] is too long. What was published before a refusal
+    /// stays published, and the answer says how many texts these are.
     pub fn submit_all<R: Wait>(
         &mut self,
         rt: &R,
@@ -47,8 +52,8 @@ impl<L: Ledger + Send, D: Ledger + Send, B: Listener + Send, F: FailHandler + Se
         })) × (self.new ≡ self.old)) }
         ensures ok { OnOk result (self.new ≡ record self.old
             { published = self.old.published + length texts.now }) }
-        ensures partly { IfErr result (λ unsent. self.new ≡ told_by unsent.refusal (record self.old
-            { published = self.old.published + unsent.published })) }
+        ensures partly { IfErr result (λ unsent. self.new ≡ after_refusal unsent.refusal
+            (record self.old { published = self.old.published + unsent.published })) }
         ensures less { self.old.known ≡ None
             → IfErr result (λ unsent. unsent.published < length texts.now) }
         ensures reasons { IfErr result (λ unsent. IsHubRefusal unsent.refusal) }
@@ -63,24 +68,24 @@ impl<L: Ledger + Send, D: Ledger + Send, B: Listener + Send, F: FailHandler + Se
         }
         match self.publish_all(rt, texts) {
             Ok(lag) => Ok(lag),
-            Err(Unsent { published, refusal }) => Err(Unsent {
+            Err((published, refused)) => Err(Unsent {
                 published,
-                refusal: self.hear(alloc, refusal),
+                refusal: self.hear(alloc, refused),
             }),
         }
     }
 
-    /// Publishes texts in order, and waits as long as there is no room.
-    fn publish_all<R: Wait>(&mut self, rt: &R, texts: &[Text]) -> Result<u64, Unsent>
+    /// Publishes texts in order, and waits as long as there is no room. A refusal comes with how many were published
+    /// before.
+    fn publish_all<R: Wait>(&mut self, rt: &R, texts: &[Text]) -> Result<u64, (usize, Refused)>
         ensures ok { OnOk result (self.new ≡ record self.old
             { published = self.old.published + length texts.now }) }
-        ensures partly { IfErr result (λ unsent. self.new ≡ record self.old
-            { published = self.old.published + unsent.published }) }
-        ensures less { IfErr result (λ unsent. unsent.published < length texts.now) }
-        ensures reasons { IfErr result (λ unsent. IsHubRefusal unsent.refusal) }
+        ensures partly { IfErr result (λ stopped. self.new ≡ record self.old
+            { published = self.old.published + stopped.0 }) }
+        ensures less { IfErr result (λ stopped. stopped.0 < length texts.now) }
     {
         let Submitter {
-            caller,
+            dispatcher,
             own,
             due,
             ..
@@ -89,7 +94,10 @@ impl<L: Ledger + Send, D: Ledger + Send, B: Listener + Send, F: FailHandler + Se
         let mut looks = 0;
         let backoff = Backoff::new();
         for _ in rt.forever() {
-            match caller.publish_all(rt, own, &texts[published..], due) {
+            let left = &texts[published..];
+            let sent = dispatcher.shared.lock(rt).publish_all(own, left, due);
+            dispatcher.start_all(rt, due);
+            match sent {
                 Ok(lag) => return Ok(lag),
                 Err(
                     Stopped {
@@ -98,12 +106,12 @@ impl<L: Ledger + Send, D: Ledger + Send, B: Listener + Send, F: FailHandler + Se
                     },
                 ) => {
                     published += more;
-                    if let Unpublished::Refused(refusal) = why {
-                        return Err(Unsent { published, refusal });
+                    if let Err(refused) = why.text() {
+                        return Err((published, refused));
                     }
                 }
             }
-            looks = caller.pause(rt, looks, &backoff);
+            looks = dispatcher.pause(rt, looks, &backoff);
         }
         unreachable!()
     }

@@ -5,8 +5,9 @@ use Rattle.std.proofs.lemmas.List.{length-append}
 use Rattle.std.proofs.lemmas.List.Sums.{fold-append}
 use Rattle.publisher_hub.specs.Lists.{gather}
 
--- where no answer gathers anything, all of them gather nothing
-pub gather_nothing : {B C : Type 0} (each : ℕ → B → List C) (answers : List B) (place : ℕ) → ((i : ℕ) (answer : B) → slice_get answers i ≡ Some answer → each (place + i) answer ≡ []) → gather each place answers ≡ []
+-- if no answer gathers anything, all of them gather nothing
+pub gather_nothing : {B C : Type 0} (each : ℕ → B → List C) (answers : List B) (place : ℕ)
+    → ((i : ℕ) (answer : B) → slice_get answers i ≡ Some answer → each (place + i) answer ≡ []) → gather each place answers ≡ []
 unfolding gather
 gather_nothing each [] place none = refl
 gather_nothing each (answer ∷ answers) place none =
@@ -14,13 +15,14 @@ gather_nothing each (answer ∷ answers) place none =
     ap (λ cs. cs ++ gather each (suc place) answers) first
     ∙ gather_nothing each answers (suc place) (λ i a at. subst (λ p. each p a ≡ []) (omega arith) (none (suc i) a at))
 
--- a list and another are empty only where both are
+-- two lists, one after the other, are empty only if both are
 both_empty : {C : Type 0} (xs ys : List C) → xs ++ ys ≡ [] → (xs ≡ []) × (ys ≡ [])
 both_empty [] ys e = (refl, e)
 both_empty (x ∷ xs) ys e = cc
 
--- where all gather nothing, each answer gathers nothing
-pub gathers_nothing : {B C : Type 0} (each : ℕ → B → List C) (answers : List B) (place i : ℕ) (answer : B) → gather each place answers ≡ [] → slice_get answers i ≡ Some answer → each (place + i) answer ≡ []
+-- if all gather nothing, each answer gathers nothing
+pub gathers_nothing : {B C : Type 0} (each : ℕ → B → List C) (answers : List B) (place i : ℕ) (answer : B) → gather each place answers ≡ []
+    → slice_get answers i ≡ Some answer → each (place + i) answer ≡ []
 unfolding gather
 gathers_nothing each [] place i answer none at = cc
 gathers_nothing each (first ∷ answers) place zero answer none at =
@@ -32,7 +34,8 @@ gathers_nothing each (first ∷ answers) place (suc i) answer none at =
 
 -- two lists gather the same if their elements do at each place
 pub gather_same : {A B C : Type 0} (f : ℕ → A → List C) (g : ℕ → B → List C) (xs : List A) (ys : List B) (place : ℕ) → length xs ≡ length ys
-    → ((i : ℕ) (x : A) (y : B) → slice_get xs i ≡ Some x → slice_get ys i ≡ Some y → f (place + i) x ≡ g (place + i) y) → gather f place xs ≡ gather g place ys
+    → ((i : ℕ) (x : A) (y : B) → slice_get xs i ≡ Some x → slice_get ys i ≡ Some y → f (place + i) x ≡ g (place + i) y)
+    → gather f place xs ≡ gather g place ys
 unfolding gather
 gather_same f g [] [] place long same = refl
 gather_same f g [] (y ∷ ys) place long same = cc
@@ -43,8 +46,9 @@ gather_same f g (x ∷ xs) (y ∷ ys) place long same =
     ap (λ cs. cs ++ gather f (suc place) xs) first
     ∙ ap (λ cs. g place y ++ cs) (gather_same f g xs ys (suc place) shorter (λ i a b at at'. subst (λ p. f p a ≡ g p b) (omega arith) (same (suc i) a b at at')))
 
--- where each answer gathers at most one, no more are gathered than there are answers
-pub gather_few : {B C : Type 0} (each : ℕ → B → List C) (answers : List B) (place : ℕ) → ((p : ℕ) (answer : B) → length (each p answer) ≤ 1) → length (gather each place answers) ≤ length answers
+-- if each answer gathers at most one element, no more are gathered than there are answers
+pub gather_few : {B C : Type 0} (each : ℕ → B → List C) (answers : List B) (place : ℕ) → ((p : ℕ) (answer : B) → length (each p answer) ≤ 1)
+    → length (gather each place answers) ≤ length answers
 unfolding gather
 gather_few each [] place few = omega arith
 gather_few each (answer ∷ answers) place few =
@@ -61,12 +65,14 @@ fold_from b (n ∷ ns) = let here = fold_from (max b n) ns in let there = fold_f
 pub greatest_from : (b m : ℕ) (ns : List ℕ) → b ≤ m → fold max 0 ns ≤ m → fold max b ns ≤ m
 greatest_from b m ns low few = let is = fold_from b ns in omega arith
 
--- where what each answer gathers is at most this, so is the greatest of all
-pub greatest_below : {B : Type 0} (each : ℕ → B → List ℕ) (answers : List B) (place m : ℕ) → ((i : ℕ) (answer : B) → slice_get answers i ≡ Some answer → fold max 0 (each (place + i) answer) ≤ m)
+-- if what each answer gathers is at most this, then so is the greatest of all
+pub greatest_below : {B : Type 0} (each : ℕ → B → List ℕ) (answers : List B) (place m : ℕ)
+    → ((i : ℕ) (answer : B) → slice_get answers i ≡ Some answer → fold max 0 (each (place + i) answer) ≤ m)
     → fold max 0 (gather each place answers) ≤ m
 unfolding gather
 greatest_below each [] place m few = omega arith
 greatest_below each (answer ∷ answers) place m few =
     let first : fold max 0 (each place answer) ≤ m = subst (λ p. fold max 0 (each p answer) ≤ m) (omega arith) (few 0 answer refl) in
-    let later = greatest_below each answers (suc place) m (λ i a at. subst (λ p. fold max 0 (each p a) ≤ m) (omega arith) (few (suc i) a at)) in
+    let later =
+    greatest_below each answers (suc place) m (λ i a at. subst (λ p. fold max 0 (each p a) ≤ m) (omega arith) (few (suc i) a at)) in
     rw (fold-append max 0 (each place answer) (gather each (suc place) answers)) (greatest_from (fold max 0 (each place answer)) m (gather each (suc place) answers) first later)

@@ -22,18 +22,22 @@ module _ {F T : Type 0} (meaning : F → End) (does : F → Call T → F → Typ
     pub room : vec_len due_new + length live ≤ vec_capacity due_new + n
 
   -- at first none is closed
-  pub closing_none : (xs : List (Entry F)) (due : Vec (Work T) Global) → vec_len due + length live ≤ vec_capacity due → IsClosing 0 xs xs due due
+  pub closing_none : (xs : List (Entry F)) (due : Vec (Work T) Global) → vec_len due + length live ≤ vec_capacity due
+      → IsClosing 0 xs xs due due
   closing_none xs due room = record {
     answers = replicate (length xs) AtClose.Retired;
     upto = upto_none (Closes meaning does ending) AtClose.Retired live xs;
-    due = sym (append-nil due.items) ∙ ap (λ works. due.items ++ works) (sym (gather_none {C = Work T} started_by_end AtClose.Retired (length xs) (λ p. refl)));
+    due = sym (append-nil due.items)
+        ∙ ap (λ works. due.items ++ works) (sym (gather_none {C = Work T} started_by_end AtClose.Retired (length xs) (λ p. refl)));
     room = omega arith;
   }
 
-  -- one more is closed
+  -- the next subscription is closed
   pub closing_next : (n k : ℕ) (xs ys : List (Entry F)) (answer : AtClose T) (x y : Entry F) (due_old due_before due_after : Vec (Work T) Global) → AreNumbers live (length xs)
-      → slice_get live n ≡ Some k → slice_get xs k ≡ Some x → Closes meaning does ending answer x y → due_after.items ≡ due_before.items ++ started_by_end k answer
-      → vec_len due_after ≤ vec_len due_before + 1 → vec_capacity due_after ≡ vec_capacity due_before → IsClosing n xs ys due_old due_before → IsClosing (n + 1) xs (set ys k y) due_old due_after
+      → slice_get live n ≡ Some k → slice_get xs k ≡ Some x → Closes meaning does ending answer x y
+      → due_after.items ≡ due_before.items ++ started_by_end k answer
+      → vec_len due_after ≤ vec_len due_before + 1 → vec_capacity due_after ≡ vec_capacity due_before → IsClosing n xs ys due_old due_before
+      → IsClosing (n + 1) xs (set ys k y) due_old due_after
   closing_next n k xs ys answer x y due_old due_before due_after numbers number at closes due len capacity so_far =
       let answers = so_far.answers in
       let upto = so_far.upto in

@@ -11,12 +11,14 @@ use Rattle.publisher_hub.specs.Looking.{Glances, full, full_by, living, living_b
 use Rattle.publisher_hub.specs.Overview.{CountsLook, Shows}
 use Rattle.publisher_hub.specs.Sound.{AreNumbers}
 use Rattle.publisher_hub.specs.declared.entry.Entry.{Entry}
-use Rattle.publisher_hub.specs.declared.rounds.looking.Overview.{Overview}
+use Rattle.publisher_hub.specs.declared.hub.look.Overview.{Overview}
 use Rattle.publisher_hub.proofs.PartialRounds.Progress.{Upto, gather_next, gather_none, upto_next, upto_none}
 
--- room is told of as before, where one more look is added at the end
-room_next : (was now : Bool) (before more after : List ℕ) → after ≡ before ++ more → (was ≡ true → before ≡ []) → (was ≡ false → 0 < length before)
-    → (now ≡ true → (was ≡ true) × (more ≡ [])) → (now ≡ false → (was ≡ false) ⊎ (0 < length more)) → (now ≡ true → after ≡ []) × (now ≡ false → 0 < length after)
+-- what looks show of room, once another look is added at the end
+room_next : (was now : Bool) (before more after : List ℕ) → after ≡ before ++ more → (was ≡ true → before ≡ [])
+    → (was ≡ false → 0 < length before)
+    → (now ≡ true → (was ≡ true) × (more ≡ [])) → (now ≡ false → (was ≡ false) ⊎ (0 < length more))
+    → (now ≡ true → after ≡ []) × (now ≡ false → 0 < length after)
 room_next was now before more after joined there missing next_there next_missing = (
   λ e. let both = next_there e in joined ∙ ap (λ ns. ns ++ more) (there both.0) ∙ both.1,
   λ e. by (next_missing e),
@@ -45,14 +47,17 @@ module _ {F T : Type 0} (meaning : F → End) (does : F → Call T → F → Typ
     few = omega arith;
   }
 
-  -- one more was looked at
-  pub looking_next : (n k : ℕ) (old new : Overview) (xs ys : List (Entry F)) (glance : Option Standing) (x y : Entry F) → AreNumbers live (length xs) → slice_get live n ≡ Some k
-      → slice_get xs k ≡ Some x → Glances meaning does next glance x y → CountsLook capacity glance old new → IsLooking n old xs ys → IsLooking (n + 1) new xs (set ys k y)
+  -- the next subscription was looked at
+  pub looking_next : (n k : ℕ) (old new : Overview) (xs ys : List (Entry F)) (glance : Option Standing) (x y : Entry F)
+      → AreNumbers live (length xs) → slice_get live n ≡ Some k
+      → slice_get xs k ≡ Some x → Glances meaning does next glance x y → CountsLook capacity glance old new → IsLooking n old xs ys
+      → IsLooking (n + 1) new xs (set ys k y)
   looking_next n k old new xs ys glance x y numbers number at became counts so_far = record {
     glances = set so_far.glances k glance;
     upto = upto_next (Glances meaning does next) None live n k so_far.glances xs ys glance x y numbers number at became so_far.upto;
     shows = record {
-      living = counts.living k ∙ ap (λ m. m + length (living_by k glance)) so_far.shows.living ∙ sym (length-append (living so_far.glances) (living_by k glance)) ∙ sym (ap length lives);
+      living = counts.living k ∙ ap (λ m. m + length (living_by k glance)) so_far.shows.living
+          ∙ sym (length-append (living so_far.glances) (living_by k glance)) ∙ sym (ap length lives);
       most_waiting = counts.most_waiting k ∙ ap (λ m. fold max m (waiting_by k glance)) so_far.shows.most_waiting
           ∙ sym (fold-append max 0 (waiting so_far.glances) (waiting_by k glance)) ∙ sym (ap greatest waits);
       room = let room = room_next old.room new.room (full capacity so_far.glances) (full_by capacity k glance) (full capacity (set so_far.glances k glance)) is_full so_far.shows.room.there
@@ -61,14 +66,18 @@ module _ {F T : Type 0} (meaning : F → End) (does : F → Call T → F → Typ
     few = let few = so_far.few in let few' = counts.few in omega arith;
   } where
     lives : living (set so_far.glances k glance) ≡ living so_far.glances ++ living_by k glance
-    lives = gather_next living_by (Glances meaning does next) None live n k so_far.glances xs ys glance (λ p. refl) numbers number so_far.upto
+    lives =
+        gather_next living_by (Glances meaning does next) None live n k so_far.glances xs ys glance (λ p. refl) numbers number so_far.upto
 
     waits : waiting (set so_far.glances k glance) ≡ waiting so_far.glances ++ waiting_by k glance
-    waits = gather_next waiting_by (Glances meaning does next) None live n k so_far.glances xs ys glance (λ p. refl) numbers number so_far.upto
+    waits =
+        gather_next waiting_by (Glances meaning does next) None live n k so_far.glances xs ys glance (λ p. refl) numbers number so_far.upto
 
     is_full : full capacity (set so_far.glances k glance) ≡ full capacity so_far.glances ++ full_by capacity k glance
-    is_full = gather_next (full_by capacity) (Glances meaning does next) None live n k so_far.glances xs ys glance (λ p. refl) numbers number so_far.upto
+    is_full =
+        gather_next (full_by capacity) (Glances meaning does next) None live n k so_far.glances xs ys glance (λ p. refl) numbers number so_far.upto
 
-    by : (old.room ≡ false) ⊎ ((number : ℕ) → full_by capacity number glance ≡ number ∷ []) → (old.room ≡ false) ⊎ (0 < length (full_by capacity k glance))
+    by : (old.room ≡ false) ⊎ ((number : ℕ) → full_by capacity number glance ≡ number ∷ [])
+        → (old.room ≡ false) ⊎ (0 < length (full_by capacity k glance))
     by (inl before) = inl before
     by (inr this) = inr (let one : length (full_by capacity k glance) ≡ 1 = ap length (this k) in omega arith)

@@ -26,19 +26,24 @@ module _ {F T : Type 0} (meaning : F → End) (does : F → Call T → F → Typ
     is_room = record { there = λ _. gather_none (full_by capacity) None (length xs) (λ p. refl); missing = λ e. cc };
   }
 
-  -- one more was looked at
-  pub preparing_next : (n k : ℕ) (room has : Bool) (xs ys : List (Entry F)) (glance : Option Standing) (x y : Entry F) → AreNumbers live (length xs) → slice_get live n ≡ Some k
-      → slice_get xs k ≡ Some x → Prepares meaning does next glance x y → (has ≡ false → (number : ℕ) → full_by capacity number glance ≡ number ∷ [])
-      → (has ≡ true → (number : ℕ) → full_by capacity number glance ≡ []) → IsPreparing n room xs ys → IsPreparing (n + 1) (room && has) xs (set ys k y)
+  -- the next subscription was looked at
+  pub preparing_next : (n k : ℕ) (room has : Bool) (xs ys : List (Entry F)) (glance : Option Standing) (x y : Entry F)
+      → AreNumbers live (length xs) → slice_get live n ≡ Some k
+      → slice_get xs k ≡ Some x → Prepares meaning does next glance x y
+      → (has ≡ false → (number : ℕ) → full_by capacity number glance ≡ number ∷ [])
+      → (has ≡ true → (number : ℕ) → full_by capacity number glance ≡ []) → IsPreparing n room xs ys
+      → IsPreparing (n + 1) (room && has) xs (set ys k y)
   preparing_next n k room has xs ys glance x y numbers number at became is_full not_full so_far = record {
     glances = set so_far.glances k glance;
     upto = upto_next (Prepares meaning does next) None live n k so_far.glances xs ys glance x y numbers number at became so_far.upto;
     is_room = by room has so_far.is_room is_full not_full;
   } where
     gathered : full capacity (set so_far.glances k glance) ≡ full capacity so_far.glances ++ full_by capacity k glance
-    gathered = gather_next (full_by capacity) (Prepares meaning does next) None live n k so_far.glances xs ys glance (λ p. refl) numbers number so_far.upto
+    gathered =
+        gather_next (full_by capacity) (Prepares meaning does next) None live n k so_far.glances xs ys glance (λ p. refl) numbers number so_far.upto
 
-    by : (room has : Bool) → IsRoom room capacity so_far.glances → (has ≡ false → (number : ℕ) → full_by capacity number glance ≡ number ∷ [])
+    by : (room has : Bool) → IsRoom room capacity so_far.glances
+        → (has ≡ false → (number : ℕ) → full_by capacity number glance ≡ number ∷ [])
         → (has ≡ true → (number : ℕ) → full_by capacity number glance ≡ []) → IsRoom (room && has) capacity (set so_far.glances k glance)
     by true true was is_full not_full = record {
       there = λ _. gathered ∙ ap (λ ns. ns ++ full_by capacity k glance) (was.there refl) ∙ not_full refl k;
@@ -50,12 +55,14 @@ module _ {F T : Type 0} (meaning : F → End) (does : F → Call T → F → Typ
     }
     by false has was is_full not_full = record {
       there = λ e. cc;
-      missing = λ _. let some = was.missing refl in let many = ap length gathered ∙ Rattle.std.proofs.lemmas.List.length-append (full capacity so_far.glances) (full_by capacity k glance) in omega arith;
+      missing = λ _. let some = was.missing refl in let many = ap length gathered
+          ∙ Rattle.std.proofs.lemmas.List.length-append (full capacity so_far.glances) (full_by capacity k glance) in omega arith;
     }
 
-  -- where one can't be prepared, some were looked at
+  -- if a subscription can't be prepared, some were looked at
   pub stopped : (n k : ℕ) (room : Bool) (xs ys : List (Entry F)) (x y : Entry F) → AreNumbers live (length xs) → slice_get live n ≡ Some k
-      → slice_get xs k ≡ Some x → FailsToPrepare meaning does next x y → IsPreparing n room xs ys → Each (MayPrepare meaning does next) xs (set ys k y)
+      → slice_get xs k ≡ Some x → FailsToPrepare meaning does next x y → IsPreparing n room xs ys
+      → Each (MayPrepare meaning does next) xs (set ys k y)
   stopped n k room xs ys x y numbers number at fails so_far =
       let some : Upto (λ _. MayPrepare meaning does next) None live n so_far.glances xs ys = record {
         answered = so_far.upto.answered;
@@ -64,10 +71,13 @@ module _ {F T : Type 0} (meaning : F → End) (does : F → Call T → F → Typ
         rest = so_far.upto.rest;
         quiets = so_far.upto.quiets;
       } in
-      let all = upto_next (λ _. MayPrepare meaning does next) None live n k so_far.glances xs ys None x y numbers number at (inr (inr fails)) some in
-      let each = upto_each (λ _. MayPrepare meaning does next) None live (n + 1) (set so_far.glances k None) xs (set ys k y) (λ _ _ _ _. inl refl) all in
+      let all =
+      upto_next (λ _. MayPrepare meaning does next) None live n k so_far.glances xs ys None x y numbers number at (inr (inr fails)) some in
+      let each =
+      upto_each (λ _. MayPrepare meaning does next) None live (n + 1) (set so_far.glances k None) xs (set ys k y) (λ _ _ _ _. inl refl) all in
       record { as_long = each.as_long; each = λ m old new at at'. each.each m (get_or (set so_far.glances k None) m None) old new (said m old at) at at' } where
-        said : (m : ℕ) (old : Entry F) → slice_get xs m ≡ Some old → slice_get (set so_far.glances k None) m ≡ Some (get_or (set so_far.glances k None) m None)
+        said : (m : ℕ) (old : Entry F) → slice_get xs m ≡ Some old
+            → slice_get (set so_far.glances k None) m ≡ Some (get_or (set so_far.glances k None) m None)
         said m old at =
             let within = slice_get_within xs m old at in
             let answered = so_far.upto.answered in

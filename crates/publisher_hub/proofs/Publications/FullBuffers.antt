@@ -9,39 +9,43 @@ use Rattle.flow_rules.specs.declared.feed.put.Put.TheVariants.{Accepted, Full, G
 use Rattle.flow_rules.specs.Call.{Call}
 use Rattle.flow_rules.specs.Feed.{End}
 use Rattle.flow_rules.specs.declared.item.Item.{Item}
-use Rattle.publisher_hub.specs.Gathering.{AreAsked, AreShares, Second, dropped, dropped_by, lag_again_by, lags_again, missed, missed_by, stands, started_again, started_again_by}
+use Rattle.publisher_hub.specs.Gathering.{AreRevisited, AreShares, Second, dropped, dropped_by, lag_again_by, lags_again, missed, missed_by, stands, started_again, started_again_by}
 use Rattle.publisher_hub.specs.Lists.{EachBy, gather}
-use Rattle.publisher_hub.specs.Offering.{GivesAgain}
+use Rattle.publisher_hub.specs.Offering.{PutsAgain}
 use Rattle.publisher_hub.specs.Publishing.{PassesAgain}
 use Rattle.publisher_hub.specs.Sound.{AreNumbers}
 use Rattle.publisher_hub.specs.declared.entry.Entry.{Entry}
-use Rattle.publisher_hub.specs.declared.rounds.gathering.Gathering.{Gathering}
+use Rattle.publisher_hub.specs.declared.hub.gathering.Gathering.{Gathering}
 use Rattle.publisher_hub.specs.declared.work.Work.{Work}
 use Rattle.publisher_hub.proofs.PartialRounds.Next.{get_before_map, get_mapped}
 use Rattle.publisher_hub.proofs.PartialRounds.Progress.{same_some}
 
 module _ {T : Type 0} where
-  -- the number of a place where the item was missed
+  -- the number of a place that missed the item
   pub record MissedAt (place : ℕ) (puts : List (Option (Put T))) (k : ℕ) : Type 0 where
     pub at : ℕ
     pub back : Item
     pub number : k ≡ place + at
     pub full : slice_get puts at ≡ Some (Some (Full back))
 
-  later : (place : ℕ) (first : Option (Put T)) (puts : List (Option (Put T))) (k : ℕ) → MissedAt (suc place) puts k → MissedAt place (first ∷ puts) k
+  later : (place : ℕ) (first : Option (Put T)) (puts : List (Option (Put T))) (k : ℕ) → MissedAt (suc place) puts k
+      → MissedAt place (first ∷ puts) k
   later place first puts k is = record { at = suc is.at; back = is.back; number = let number = is.number in omega arith; full = is.full }
 
-  -- each gathered number is that of a place where the item was missed
-  pub missed_at : (place : ℕ) (puts : List (Option (Put T))) (i k : ℕ) → slice_get (gather missed_by place puts) i ≡ Some k → MissedAt place puts k
+  -- each gathered number is that of a place that missed the item
+  pub missed_at : (place : ℕ) (puts : List (Option (Put T))) (i k : ℕ) → slice_get (gather missed_by place puts) i ≡ Some k
+      → MissedAt place puts k
   unfolding gather
   missed_at place [] i k at = cc
   missed_at place (None ∷ puts) i k at = later place None puts k (missed_at (suc place) puts i k at)
-  missed_at place (Some (Accepted lag start) ∷ puts) i k at = later place (Some (Accepted lag start)) puts k (missed_at (suc place) puts i k at)
+  missed_at place (Some (Accepted lag start) ∷ puts) i k at =
+      later place (Some (Accepted lag start)) puts k (missed_at (suc place) puts i k at)
   missed_at place (Some (Gone back) ∷ puts) i k at = later place (Some (Gone back)) puts k (missed_at (suc place) puts i k at)
-  missed_at place (Some (Full back) ∷ puts) zero k at = record { at = 0; back = back; number = let same : Some place ≡ Some k = at in same_some (sym same) ∙ omega arith; full = refl }
+  missed_at place (Some (Full back) ∷ puts) zero k at =
+      record { at = 0; back = back; number = let same : Some place ≡ Some k = at in same_some (sym same) ∙ omega arith; full = refl }
   missed_at place (Some (Full back) ∷ puts) (suc i) k at = later place (Some (Full back)) puts k (missed_at (suc place) puts i k at)
 
-  -- each place where the item was missed has its number gathered
+  -- the number of each place that missed the item is gathered
   pub missed_is : (place : ℕ) (puts : List (Option (Put T))) (j : ℕ) (back : Item) → slice_get puts j ≡ Some (Some (Full back))
       → (i : ℕ) × (slice_get (gather missed_by place puts) i ≡ Some (place + j))
   unfolding gather
@@ -58,7 +62,8 @@ module _ {T : Type 0} where
     by (Some (Full back)) found = (suc found.0, found.1 ∙ ap Some (omega arith))
 
   -- the gathered numbers rise
-  missed_rise : (place : ℕ) (puts : List (Option (Put T))) (i j n m : ℕ) → slice_get (gather missed_by place puts) i ≡ Some n → slice_get (gather missed_by place puts) j ≡ Some m → i < j → n < m
+  missed_rise : (place : ℕ) (puts : List (Option (Put T))) (i j n m : ℕ) → slice_get (gather missed_by place puts) i ≡ Some n
+      → slice_get (gather missed_by place puts) j ≡ Some m → i < j → n < m
   unfolding gather
   missed_rise place [] i j n m at at' before = cc
   missed_rise place (None ∷ puts) i j n m at at' before = missed_rise (suc place) puts i j n m at at' before
@@ -87,7 +92,7 @@ module _ {T : Type 0} where
     within = λ i n at. let is = missed_at 0 puts i n at in let number = is.number in let within = slice_get_within puts is.at _ is.full in omega arith;
   }
 
-  -- where nobody is asked, those are counted that missed the item, and nothing is gathered
+  -- if no handler is asked, the places that missed the item are counted, and nothing is gathered
   dropped_stand : (place : ℕ) (puts : List (Option (Put T))) → gather dropped_by place (map stands puts) ≡ gather missed_by place puts
   unfolding gather
   dropped_stand place [] = refl
@@ -119,12 +124,13 @@ module _ {T : Type 0} where
   stands_is (Some (Gone back)) some = cc
   stands_is (Some (Full back)) some = (back, refl)
 
-  stand_asked : (puts : List (Option (Put T))) → AreAsked (missed puts) (map stands puts)
-  stand_asked puts = record {
-    asked = λ i k second at said.
+  stand_revisited : (puts : List (Option (Put T))) → AreRevisited (missed puts) (map stands puts)
+  stand_revisited puts = record {
+    revisited = λ i k second at said.
         let is = missed_at 0 puts i k at in
         let here : k ≡ is.at = let number = is.number in omega arith in
-        let mapped : slice_get (map stands puts) k ≡ Some (Some None) = subst (λ j. slice_get (map stands puts) j ≡ Some (Some None)) (sym here) (get_mapped stands puts is.at (Some (Full is.back)) is.full) in
+        let mapped : slice_get (map stands puts) k ≡ Some (Some None) =
+        subst (λ j. slice_get (map stands puts) j ≡ Some (Some None)) (sym here) (get_mapped stands puts is.at (Some (Full is.back)) is.full) in
         subst (λ (s : Second T). IsSome s) (same_some (sym mapped ∙ said)) some_none;
     others = λ k second said some.
         let old = get_before_map stands puts k second said in
@@ -135,10 +141,10 @@ module _ {T : Type 0} where
     some_none : IsSome {T = Option (Put T)} (Some None)
     some_none = search rules
 
--- the whole second pass where nobody is asked
+-- the whole second pass, if no handler is asked
 pub record Declined {F T : Type 0} (meaning : F → End) (does : F → Call T → F → Type 0) (item : Item) (puts : List (Option (Put T))) (xs : List (Entry F)) : Type 0 where
-  pub again : EachBy (GivesAgain meaning does item) (map stands puts) xs xs
-  pub asked : AreAsked (missed puts) (map stands puts)
+  pub again : EachBy (PutsAgain meaning does item) (map stands puts) xs xs
+  pub revisited : AreRevisited (missed puts) (map stands puts)
   pub due : started_again (map stands puts) ≡ []
   pub lag : lags_again (map stands puts) ≡ []
   pub drops : dropped (map stands puts) ≡ missed puts
@@ -150,28 +156,31 @@ declined {F} {T} meaning does item puts xs long = record {
     as_long = refl;
     each = λ k second x y said at at'. by k second x y (get_before_map stands puts k second said) (same_some (sym at ∙ at'));
   };
-  asked = stand_asked puts;
+  revisited = stand_revisited puts;
   due = started_stand 0 puts;
   lag = lags_stand 0 puts;
   drops = dropped_stand 0 puts;
 } where
-  quiet : (put : Option (Put T)) (x : Entry F) → GivesAgain meaning does item (stands put) x x
+  quiet : (put : Option (Put T)) (x : Entry F) → PutsAgain meaning does item (stands put) x x
   quiet None x = refl
   quiet (Some (Accepted lag start)) x = refl
   quiet (Some (Gone back)) x = refl
   quiet (Some (Full back)) x = refl
 
-  by : (k : ℕ) (second : Second T) (x y : Entry F) → (old : Option (Put T)) × ((slice_get puts k ≡ Some old) × (stands old ≡ second)) → x ≡ y → GivesAgain meaning does item second x y
-  by k second x y old same = subst (λ (entry : Entry F). GivesAgain meaning does item second x entry) same (subst (λ (s : Second T). GivesAgain meaning does item s x x) old.1.1 (quiet old.0 x))
+  by : (k : ℕ) (second : Second T) (x y : Entry F) → (old : Option (Put T)) × ((slice_get puts k ≡ Some old) × (stands old ≡ second))
+      → x ≡ y → PutsAgain meaning does item second x y
+  by k second x y old same =
+      subst (λ (entry : Entry F). PutsAgain meaning does item second x entry) same (subst (λ (s : Second T). PutsAgain meaning does item s x x) old.1.1 (quiet old.0 x))
 
 pub passes_declined : {F T : Type 0} (meaning : F → End) (does : F → Call T → F → Type 0) (item : Item) (declines : Bool) (puts : List (Option (Put T))) (xs : List (Entry F)) (old new : Gathering) (due : Vec (Work T) Global)
-    → length puts ≡ length xs → new.drops ≡ vec_len old.missed → old.missed.items ≡ missed puts → new.lag ≡ old.lag → new.missed ≡ old.missed → new.shares ≡ old.shares → AreShares item old.shares.items
+    → length puts ≡ length xs → new.drops ≡ vec_len old.missed → old.missed.items ≡ missed puts → new.lag ≡ old.lag
+    → new.missed ≡ old.missed → new.shares ≡ old.shares → AreShares item old.shares.items
     → PassesAgain meaning does item declines puts (map stands puts) xs xs old new due due
 passes_declined meaning does item declines puts xs old new due long drops are lag same_missed same_shares shares =
     let none = declined meaning does item puts xs long in
     record {
       again = none.again;
-      asked = none.asked;
+      revisited = none.revisited;
       declined = λ _. refl;
       gathers = record {
         due = sym (append-nil due.items) ∙ ap (λ works. due.items ++ works) (sym none.due);

@@ -9,7 +9,7 @@ use Rattle.flow_rules.specs.declared.item.Item.{Item}
 use Rattle.flow_rules.specs.declared.refusal.NoMemory.{NoMemory}
 use Rattle.publisher_hub.specs.Entry.{entry_of}
 use Rattle.publisher_hub.specs.Looking.{Follows, IsReadied, Prepares}
-use Rattle.publisher_hub.specs.Offering.{Gives, IsReached, Offered, entry_after_put}
+use Rattle.publisher_hub.specs.Offering.{PutsTo, IsOffered, Offered, entry_after_put}
 use Rattle.publisher_hub.specs.Steps.{CanTake}
 use Rattle.publisher_hub.specs.declared.entry.Entry.{Entry}
 use Rattle.publisher_hub.proofs.Subscribed.Ends.{follows_look, look_counted, taken_fits}
@@ -22,7 +22,8 @@ not_both yes_it no_it = let e = sym yes_it ∙ no_it in cc
 
 module _ {F T : Type 0} (meaning : F → End) (does : F → Call T → F → Type 0) (next : ℕ) where
   -- what is ready may start a task
-  ready_starts : (answer : Result Unit NoMemory) (old new : Entry F) → IsOk answer → IsReadied meaning does answer old new → CanTake (entry_of meaning new)
+  ready_starts : (answer : Result Unit NoMemory) (old new : Entry F) → IsOk answer → IsReadied meaning does answer old new
+      → CanTake (entry_of meaning new)
   ready_starts (Ok x) old new ok readied live = (
     meaning readied.after,
     (
@@ -33,7 +34,8 @@ module _ {F T : Type 0} (meaning : F → End) (does : F → Call T → F → Typ
   ready_starts (Err e) old new ok readied live = cc
 
   -- what was prepared may be offered an item
-  pub prepared_can_take : (glance : Option Standing) (old new : Entry F) → Prepares meaning does next glance old new → CanTake (entry_of meaning new)
+  pub prepared_can_take : (glance : Option Standing) (old new : Entry F) → Prepares meaning does next glance old new
+      → CanTake (entry_of meaning new)
   prepared_can_take None old new stays live = not_both (ap (λ (entry : Entry F). entry.retired) stays.1 ∙ stays.0) live
   prepared_can_take (Some standing) old new sees live = by standing.ended refl where
     by : (ended : Bool) → standing.ended ≡ ended → (end : End) × (((entry_of meaning new).feed ≡ Some end) × MayStart end)
@@ -49,7 +51,8 @@ module _ {F T : Type 0} (meaning : F → End) (does : F → Call T → F → Typ
     pub follows : Follows (meaning before) (meaning after)
     pub now : ready ≡ record old { feed = Some after }
 
-  pub prepared_live : (glance : Option Standing) (old ready : Entry F) → Prepares meaning does next glance old ready → ready.retired ≡ false → IsReadyFor old ready
+  pub prepared_live : (glance : Option Standing) (old ready : Entry F) → Prepares meaning does next glance old ready → ready.retired ≡ false
+      → IsReadyFor old ready
   prepared_live None old ready stays live = not_both (ap (λ (entry : Entry F). entry.retired) stays.1 ∙ stays.0) live
   prepared_live (Some standing) old ready sees live = by standing.ended refl where
     by : (ended : Bool) → standing.ended ≡ ended → IsReadyFor old ready
@@ -71,7 +74,7 @@ module _ {F T : Type 0} (meaning : F → End) (does : F → Call T → F → Typ
   module _ (x : Item) where
     -- a subscription that goes on was offered the item
     pub offered_live : (answer : Put T) (old ready new : Entry F) → IsReadyFor old ready → Offered meaning does x answer ready new
-        → ((e : End) → (entry_of meaning old).feed ≡ Some e → e.closing ≡ None) → IsReached x (entry_of meaning old) (entry_of meaning new)
+        → ((e : End) → (entry_of meaning old).feed ≡ Some e → e.closing ≡ None) → IsOffered x (entry_of meaning old) (entry_of meaning new)
     offered_live answer old ready new goes_on offered unclosed =
         by answer offered.means (ap (λ (entry : Entry F). entry_of meaning entry) offered.now) where
           was : (entry_of meaning old).feed ≡ Some (meaning goes_on.before)
@@ -96,7 +99,8 @@ module _ {F T : Type 0} (meaning : F → End) (does : F → Call T → F → Typ
           counted_put m looked = let later = look_counted (meaning offered.before) m looked in let first = follows.looks in omega arith
 
           by : (answer : Put T) → Puts (meaning offered.before) x answer (meaning offered.after)
-              → entry_of meaning new ≡ entry_of meaning (entry_after_put x answer offered.after ready) → IsReached x (entry_of meaning old) (entry_of meaning new)
+              → entry_of meaning new ≡ entry_of meaning (entry_after_put x answer offered.after ready)
+              → IsOffered x (entry_of meaning old) (entry_of meaning new)
           by (Accepted lag start) means now = inr (inl (record {
             before = meaning goes_on.before;
             seen = means.0;
@@ -120,7 +124,8 @@ module _ {F T : Type 0} (meaning : F → End) (does : F → Call T → F → Typ
                 follows = subst (λ (end : End). Follows (meaning goes_on.before) end) (sym same) (follows_put means.0 (look means.0 means.1));
                 looked = subst (λ (end : End). (meaning goes_on.before).looks < end.looks) (sym same) (counted_put means.0 (look means.0 means.1));
                 full = subst (λ (end : End). held_count end ≡ end.capacity) (sym same) means.2.full;
-                now = now ∙ ap (λ (entry : Entry F). entry_of meaning (record entry { feed = Some offered.after; dropped = entry.dropped + 1 })) goes_on.now;
+                now = now
+                    ∙ ap (λ (entry : Entry F). entry_of meaning (record entry { feed = Some offered.after; dropped = entry.dropped + 1 })) goes_on.now;
               })))
           by (Gone back) means now =
               let same : meaning offered.after ≡ means.0 = means.2.unchanged in
@@ -132,17 +137,20 @@ module _ {F T : Type 0} (meaning : F → End) (does : F → Call T → F → Typ
                 follows = subst (λ (end : End). Follows (meaning goes_on.before) end) (sym same) (follows_put means.0 (look means.0 means.1));
                 looked = subst (λ (end : End). (meaning goes_on.before).looks < end.looks) (sym same) (counted_put means.0 (look means.0 means.1));
                 gone = subst (λ (end : End). is_gone end ≡ true) (sym same) means.2.gone;
-                now = now ∙ ap (λ (entry : Entry F). entry_of meaning (record entry { feed = Some offered.after; retired = true; until = x.serial })) goes_on.now;
+                now = now
+                    ∙ ap (λ (entry : Entry F). entry_of meaning (record entry { feed = Some offered.after; retired = true; until = x.serial })) goes_on.now;
               })))
 
-    -- one that missed the item goes on as before, once its drop is taken back
+    -- a subscription that missed the item goes on as before, once its drop is taken back
     pub missed_goes_on : (back : Item) (old ready new : Entry F) → IsReadyFor old ready → Offered meaning does x (Full back) ready new
         → ((e : End) → (entry_of meaning old).feed ≡ Some e → e.closing ≡ None) → IsReadyFor old (record new { dropped = new.dropped - 1 })
     missed_goes_on back old ready new goes_on offered unclosed =
         let was : (entry_of meaning old).feed ≡ Some (meaning goes_on.before) = ap (λ feed. option_map meaning feed) goes_on.was in
         let before_is : offered.before ≡ goes_on.after = same_some (sym offered.was ∙ ap (λ (entry : Entry F). entry.feed) goes_on.now) in
-        let follows : Follows (meaning goes_on.before) (meaning offered.before) = subst (λ (f : F). Follows (meaning goes_on.before) (meaning f)) (sym before_is) goes_on.follows in
-        let is_unclosed : (meaning offered.before).closing ≡ None = ap (λ (end : End). end.closing) follows.rest ∙ unclosed (meaning goes_on.before) was in
+        let follows : Follows (meaning goes_on.before) (meaning offered.before) =
+        subst (λ (f : F). Follows (meaning goes_on.before) (meaning f)) (sym before_is) goes_on.follows in
+        let is_unclosed : (meaning offered.before).closing ≡ None =
+        ap (λ (end : End). end.closing) follows.rest ∙ unclosed (meaning goes_on.before) was in
         let look : Looked (meaning offered.before) offered.means.0 = offered.means.1.unclosed is_unclosed in
         let now : new ≡ record old { feed = Some offered.after; dropped = old.dropped + 1 } =
         offered.now ∙ ap (λ (entry : Entry F). record entry { feed = Some offered.after; dropped = entry.dropped + 1 }) goes_on.now in
@@ -154,17 +162,21 @@ module _ {F T : Type 0} (meaning : F → End) (does : F → Call T → F → Typ
           was = goes_on.was;
           follows = subst (λ (end : End). Follows (meaning goes_on.before) end) (sym offered.means.2.unchanged)
               (follows_on (meaning goes_on.before) (meaning offered.before) offered.means.0 follows (follows_look (meaning offered.before) offered.means.0 look));
-          now = ap (λ (entry : Entry F). record entry { dropped = entry.dropped - 1 }) now ∙ ap (λ n. record old { feed = Some offered.after; dropped = n }) back_to;
+          now = ap (λ (entry : Entry F). record entry { dropped = entry.dropped - 1 }) now
+              ∙ ap (λ n. record old { feed = Some offered.after; dropped = n }) back_to;
         }
 
     -- a subscription was looked at, and offered the item unless it had ended
-    pub prepared_offered : (serial : x.serial ≡ next) (glance : Option Standing) (put : Option (Put T)) (old middle new : Entry F) → ((e : End) → (entry_of meaning old).feed ≡ Some e → e.closing ≡ None)
-        → Prepares meaning does next glance old middle → Gives meaning does x put middle new → IsReached x (entry_of meaning old) (entry_of meaning new)
-    prepared_offered serial glance (Some answer) old middle new unclosed prepared offered = offered_live answer old middle new (prepared_live glance old middle prepared offered.live) offered unclosed
-    prepared_offered serial None None old middle new unclosed stays gives =
-        inl (record { retired = stays.0; same = ap (λ (entry : Entry F). entry_of meaning entry) (gives.1 ∙ stays.1) })
-    prepared_offered serial (Some standing) None old middle new unclosed sees gives = by standing.ended refl where
-      by : (ended : Bool) → standing.ended ≡ ended → IsReached x (entry_of meaning old) (entry_of meaning new)
+    pub prepared_offered : (serial : x.serial ≡ next) (glance : Option Standing) (put : Option (Put T)) (old middle new : Entry F)
+        → ((e : End) → (entry_of meaning old).feed ≡ Some e → e.closing ≡ None)
+        → Prepares meaning does next glance old middle → PutsTo meaning does x put middle new
+        → IsOffered x (entry_of meaning old) (entry_of meaning new)
+    prepared_offered serial glance (Some answer) old middle new unclosed prepared offered =
+        offered_live answer old middle new (prepared_live glance old middle prepared offered.live) offered unclosed
+    prepared_offered serial None None old middle new unclosed stays puts_to =
+        inl (record { retired = stays.0; same = ap (λ (entry : Entry F). entry_of meaning entry) (puts_to.1 ∙ stays.1) })
+    prepared_offered serial (Some standing) None old middle new unclosed sees puts_to = by standing.ended refl where
+      by : (ended : Bool) → standing.ended ≡ ended → IsOffered x (entry_of meaning old) (entry_of meaning new)
       by true is = inr (inr (inl (record {
         before = meaning sees.sees.before;
         after = meaning sees.sees.after;
@@ -172,8 +184,9 @@ module _ {F T : Type 0} (meaning : F → End) (does : F → Call T → F → Typ
         was = ap (λ feed. option_map meaning feed) sees.sees.was;
         follows = follows_look (meaning sees.sees.before) (meaning sees.sees.after) sees.sees.stands.look;
         looked = look_counted (meaning sees.sees.before) (meaning sees.sees.after) sees.sees.stands.look;
-        gone = let over : (meaning sees.sees.after).over ≡ true = sym sees.sees.stands.ended ∙ is in ap (λ b. b || is_some (meaning sees.sees.after).closing) over;
-        now = ap (λ (entry : Entry F). entry_of meaning entry) (gives.1 ∙ sees.ended is ∙ sees.sees.ended is)
+        gone = let over : (meaning sees.sees.after).over ≡ true = sym sees.sees.stands.ended
+            ∙ is in ap (λ b. b || is_some (meaning sees.sees.after).closing) over;
+        now = ap (λ (entry : Entry F). entry_of meaning entry) (puts_to.1 ∙ sees.ended is ∙ sees.sees.ended is)
             ∙ ap (λ until. entry_of meaning (record old { feed = Some sees.sees.after; retired = true; until = until })) (sym serial);
       })))
-      by false is = not_both gives.0 (ap (λ (entry : Entry F). entry.retired) ((sees.stays is).1.1.now ∙ ap (λ (entry : Entry F). record entry { feed = Some (sees.stays is).1.1.after }) (sees.sees.stays is)) ∙ sees.sees.live)
+      by false is = not_both puts_to.0 (ap (λ (entry : Entry F). entry.retired) ((sees.stays is).1.1.now ∙ ap (λ (entry : Entry F). record entry { feed = Some (sees.stays is).1.1.after }) (sees.sees.stays is)) ∙ sees.sees.live)

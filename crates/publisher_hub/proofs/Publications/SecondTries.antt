@@ -12,8 +12,8 @@ use Rattle.publisher_hub.specs.Entry.{EntryState, entry_of}
 use Rattle.publisher_hub.specs.Lists.{EachBy}
 use Rattle.publisher_hub.specs.Looking.{Prepares}
 use Rattle.publisher_hub.specs.Gathering.{Second, dropped_by, missed}
-use Rattle.publisher_hub.specs.Offering.{Gives, GivesAgain, IsReached, Offered}
-use Rattle.publisher_hub.specs.Steps.{CanAllGive, CanEachTryAgain, CanGive, CanTryAgain}
+use Rattle.publisher_hub.specs.Offering.{PutsTo, PutsAgain, IsOffered, Offered}
+use Rattle.publisher_hub.specs.Steps.{CanAllPut, CanEachRetry, CanPut, CanRetry}
 use Rattle.publisher_hub.specs.declared.entry.Entry.{Entry}
 use Rattle.publisher_hub.proofs.PartialRounds.Next.{get_before_map, get_mapped}
 use Rattle.publisher_hub.proofs.Publications.FullBuffers.{missed_at}
@@ -22,19 +22,24 @@ use Rattle.publisher_hub.proofs.PartialRounds.Progress.{same_some}
 use Rattle.publisher_hub.proofs.AnswerLists.Places.{stood_by}
 
 module _ {F T : Type 0} (meaning : F → End) (does : F → Call T → F → Type 0) (x : Item) where
-  -- one that missed the item may be offered it once more
-  can_try_again : (back : Item) (ready new : Entry F) → CanGive (entry_of meaning ready) → ((e : End) → (entry_of meaning ready).feed ≡ Some e → e.closing ≡ None)
-      → Offered meaning does x (Full back) ready new → CanTryAgain (entry_of meaning new)
+  -- a subscription that missed the item may be offered it once more
+  can_try_again : (back : Item) (ready new : Entry F) → CanPut (entry_of meaning ready)
+      → ((e : End) → (entry_of meaning ready).feed ≡ Some e → e.closing ≡ None)
+      → Offered meaning does x (Full back) ready new → CanRetry (entry_of meaning new)
   can_try_again back ready new can unclosed offered =
       let was : (entry_of meaning ready).feed ≡ Some (meaning offered.before) = ap (λ feed. option_map meaning feed) offered.was in
       let look : Looked (meaning offered.before) offered.means.0 = offered.means.1.unclosed (unclosed (meaning offered.before) was) in
       let same : meaning offered.after ≡ offered.means.0 = offered.means.2.unchanged in
-      let is_ready : (meaning offered.after).ready ≡ (meaning offered.before).ready = ap (λ (end : End). end.ready) same ∙ ap (λ (end : End). end.ready) look.rest in
-      let is_closing : (meaning offered.after).closing ≡ (meaning offered.before).closing = ap (λ (end : End). end.closing) same ∙ ap (λ (end : End). end.closing) look.rest in
-      let accepted : (meaning offered.after).accepted ≡ (meaning offered.before).accepted = ap (λ (end : End). end.accepted) same ∙ ap (λ (end : End). end.accepted) look.rest in
+      let is_ready : (meaning offered.after).ready ≡ (meaning offered.before).ready =
+      ap (λ (end : End). end.ready) same ∙ ap (λ (end : End). end.ready) look.rest in
+      let is_closing : (meaning offered.after).closing ≡ (meaning offered.before).closing =
+      ap (λ (end : End). end.closing) same ∙ ap (λ (end : End). end.closing) look.rest in
+      let accepted : (meaning offered.after).accepted ≡ (meaning offered.before).accepted =
+      ap (λ (end : End). end.accepted) same ∙ ap (λ (end : End). end.accepted) look.rest in
       let take = can.take offered.live in
       let may : MayStart (meaning offered.before) = subst (λ (end : End). MayStart end) (same_some (sym take.1.0 ∙ was)) take.1.1 in
-      let now : (entry_of meaning new).feed ≡ Some (meaning offered.after) = ap (λ (entry : Entry F). option_map meaning entry.feed) offered.now in
+      let now : (entry_of meaning new).feed ≡ Some (meaning offered.after) =
+      ap (λ (entry : Entry F). option_map meaning entry.feed) offered.now in
       let few : length (meaning offered.before).accepted < MOST_PUBLICATIONS = can.few (meaning offered.before) was in
       let more : new.dropped ≡ ready.dropped + 1 = ap (λ (entry : Entry F). entry.dropped) offered.now in
       let few_drops = can.few_drops in
@@ -46,42 +51,48 @@ module _ {F T : Type 0} (meaning : F → End) (does : F → Call T → F → Typ
         few_drops = omega arith;
       }
 
-  -- so may each that missed it
-  pub can_each_try_again : (puts : List (Option (Put T))) (ready middle : List (Entry F)) → CanAllGive (map (entry_of meaning) ready) → EachBy (Gives meaning does x) puts ready middle
+  -- so may each subscription that missed it
+  pub can_each_retry : (puts : List (Option (Put T))) (ready middle : List (Entry F)) → CanAllPut (map (entry_of meaning) ready)
+      → EachBy (PutsTo meaning does x) puts ready middle
       → ((k : ℕ) (entry : Entry F) → slice_get ready k ≡ Some entry → (e : End) → (entry_of meaning entry).feed ≡ Some e → e.closing ≡ None)
-      → CanEachTryAgain (missed puts) (map (entry_of meaning) middle)
-  can_each_try_again puts ready middle can given unclosed i k entry at stands =
+      → CanEachRetry (missed puts) (map (entry_of meaning) middle)
+  can_each_retry puts ready middle can given unclosed i k entry at stands =
       let full = missed_at 0 puts i k at in
       let here : k ≡ full.at = let number = full.number in omega arith in
       let now = get_before_map (entry_of meaning) middle k entry stands in
-      let stood = stood_by (Gives meaning does x) puts ready middle k now.0 given now.1.0 in
-      let said : stood.answer ≡ Some (Full full.back) = same_some (sym stood.said ∙ subst (λ j. slice_get puts j ≡ Some (Some (Full full.back))) (sym here) full.full) in
-      subst (λ (state : EntryState). CanTryAgain state) now.1.1
+      let stood = stood_by (PutsTo meaning does x) puts ready middle k now.0 given now.1.0 in
+      let said : stood.answer ≡ Some (Full full.back) =
+      same_some (sym stood.said ∙ subst (λ j. slice_get puts j ≡ Some (Some (Full full.back))) (sym here) full.full) in
+      subst (λ (state : EntryState). CanRetry state) now.1.1
       (can_try_again full.back stood.entry now.0 (can k (entry_of meaning stood.entry) (get_mapped (entry_of meaning) ready k stood.entry stood.at)) (unclosed k stood.entry stood.at)
-      (subst (λ (put : Option (Put T)). Gives meaning does x put stood.entry now.0) said stood.became))
+      (subst (λ (put : Option (Put T)). PutsTo meaning does x put stood.entry now.0) said stood.became))
 
   module _ (next : ℕ) (serial : x.serial ≡ next) where
     -- what became of the item at one subscription, after both passes
-    pub twice_offered : (glance : Option Standing) (put : Option (Put T)) (second : Second T) (old ready middle new : Entry F) → ((e : End) → (entry_of meaning old).feed ≡ Some e → e.closing ≡ None)
-        → (IsSome second → (back : Item) × (put ≡ Some (Full back))) → Prepares meaning does next glance old ready → Gives meaning does x put ready middle → GivesAgain meaning does x second middle new
-        → IsReached x (entry_of meaning old) (entry_of meaning new)
-    twice_offered glance put None old ready middle new unclosed full prepared gives again =
-        subst (λ (entry : Entry F). IsReached x (entry_of meaning old) (entry_of meaning entry)) (sym again) (prepared_offered meaning does next x serial glance put old ready middle unclosed prepared gives)
-    twice_offered glance put (Some None) old ready middle new unclosed full prepared gives again =
-        subst (λ (entry : Entry F). IsReached x (entry_of meaning old) (entry_of meaning entry)) (sym again) (prepared_offered meaning does next x serial glance put old ready middle unclosed prepared gives)
-    twice_offered glance put (Some (Some answer)) old ready middle new unclosed full prepared gives offered =
+    pub twice_offered : (glance : Option Standing) (put : Option (Put T)) (second : Second T) (old ready middle new : Entry F)
+        → ((e : End) → (entry_of meaning old).feed ≡ Some e → e.closing ≡ None)
+        → (IsSome second → (back : Item) × (put ≡ Some (Full back))) → Prepares meaning does next glance old ready
+        → PutsTo meaning does x put ready middle → PutsAgain meaning does x second middle new
+        → IsOffered x (entry_of meaning old) (entry_of meaning new)
+    twice_offered glance put None old ready middle new unclosed full prepared puts_to again =
+        subst (λ (entry : Entry F). IsOffered x (entry_of meaning old) (entry_of meaning entry)) (sym again) (prepared_offered meaning does next x serial glance put old ready middle unclosed prepared puts_to)
+    twice_offered glance put (Some None) old ready middle new unclosed full prepared puts_to again =
+        subst (λ (entry : Entry F). IsOffered x (entry_of meaning old) (entry_of meaning entry)) (sym again) (prepared_offered meaning does next x serial glance put old ready middle unclosed prepared puts_to)
+    twice_offered glance put (Some (Some answer)) old ready middle new unclosed full prepared puts_to offered =
         let was = full (some_some answer) in
-        let first : Offered meaning does x (Full was.0) ready middle = subst (λ (p : Option (Put T)). Gives meaning does x p ready middle) was.1 gives in
+        let first : Offered meaning does x (Full was.0) ready middle =
+        subst (λ (p : Option (Put T)). PutsTo meaning does x p ready middle) was.1 puts_to in
         let goes_on = prepared_live meaning does next glance old ready prepared first.live in
         offered_live meaning does next x answer old (record middle { dropped = middle.dropped - 1 }) new (missed_goes_on meaning does next x was.0 old ready middle goes_on first unclosed) offered unclosed where
           some_some : {X : Type 0} (answer : X) → IsSome {T = Option X} (Some (Some answer))
           some_some answer = search rules
 
-    -- a drop is counted where it stands
+    -- a drop is counted if it stands
     pub twice_dropped : (k : ℕ) (glance : Option Standing) (put : Option (Put T)) (second : Second T) (old ready middle new : Entry F)
         → (IsSome second → (back : Item) × (put ≡ Some (Full back))) → ((back : Item) → put ≡ Some (Full back) → IsSome second)
-        → Prepares meaning does next glance old ready → Gives meaning does x put ready middle → GivesAgain meaning does x second middle new → new.dropped ≡ old.dropped + length (dropped_by k second)
-    twice_dropped k glance put second old ready middle new full asked prepared gives again = by put second full asked gives again where
+        → Prepares meaning does next glance old ready → PutsTo meaning does x put ready middle → PutsAgain meaning does x second middle new
+        → new.dropped ≡ old.dropped + length (dropped_by k second)
+    twice_dropped k glance put second old ready middle new full revisited prepared puts_to again = by put second full revisited puts_to again where
       first : ready.dropped ≡ old.dropped
       first = prepares_dropped glance prepared where
         prepares_dropped : (glance : Option Standing) → Prepares meaning does next glance old ready → ready.dropped ≡ old.dropped
@@ -89,24 +100,32 @@ module _ {F T : Type 0} (meaning : F → End) (does : F → Call T → F → Typ
         prepares_dropped (Some standing) sees = either standing.ended refl where
           either : (ended : Bool) → standing.ended ≡ ended → ready.dropped ≡ old.dropped
           either true is = ap (λ (entry : Entry F). entry.dropped) (sees.ended is ∙ sees.sees.ended is)
-          either false is = ap (λ (entry : Entry F). entry.dropped) ((sees.stays is).1.1.now) ∙ ap (λ (entry : Entry F). entry.dropped) (sees.sees.stays is)
+          either false is = ap (λ (entry : Entry F). entry.dropped) ((sees.stays is).1.1.now)
+              ∙ ap (λ (entry : Entry F). entry.dropped) (sees.sees.stays is)
 
       not_full : {X : Type 0} (back : Item) → IsSome {T = Option (Put T)} None → X
       not_full back some = cc
 
-      by : (put : Option (Put T)) (second : Second T) → (IsSome second → (back : Item) × (put ≡ Some (Full back))) → ((back : Item) → put ≡ Some (Full back) → IsSome second)
-          → Gives meaning does x put ready middle → GivesAgain meaning does x second middle new → new.dropped ≡ old.dropped + length (dropped_by k second)
-      by None None full asked gives again = ap (λ (entry : Entry F). entry.dropped) again ∙ ap (λ (entry : Entry F). entry.dropped) gives.1 ∙ first ∙ omega arith
-      by (Some (Accepted lag start)) None full asked gives again = ap (λ (entry : Entry F). entry.dropped) again ∙ ap (λ (entry : Entry F). entry.dropped) gives.now ∙ first ∙ omega arith
-      by (Some (Gone back)) None full asked gives again = ap (λ (entry : Entry F). entry.dropped) again ∙ ap (λ (entry : Entry F). entry.dropped) gives.now ∙ first ∙ omega arith
-      by (Some (Full back)) None full asked gives again = not_full back (asked back refl)
-      by put (Some None) full asked gives again =
+      by : (put : Option (Put T)) (second : Second T) → (IsSome second → (back : Item) × (put ≡ Some (Full back)))
+          → ((back : Item) → put ≡ Some (Full back) → IsSome second)
+          → PutsTo meaning does x put ready middle → PutsAgain meaning does x second middle new
+          → new.dropped ≡ old.dropped + length (dropped_by k second)
+      by None None full revisited puts_to again = ap (λ (entry : Entry F). entry.dropped) again
+          ∙ ap (λ (entry : Entry F). entry.dropped) puts_to.1 ∙ first ∙ omega arith
+      by (Some (Accepted lag start)) None full revisited puts_to again = ap (λ (entry : Entry F). entry.dropped) again
+          ∙ ap (λ (entry : Entry F). entry.dropped) puts_to.now ∙ first ∙ omega arith
+      by (Some (Gone back)) None full revisited puts_to again = ap (λ (entry : Entry F). entry.dropped) again
+          ∙ ap (λ (entry : Entry F). entry.dropped) puts_to.now ∙ first ∙ omega arith
+      by (Some (Full back)) None full revisited puts_to again = not_full back (revisited back refl)
+      by put (Some None) full revisited puts_to again =
           let was = full (search rules) in
-          let missed_it : Offered meaning does x (Full was.0) ready middle = subst (λ (p : Option (Put T)). Gives meaning does x p ready middle) was.1 gives in
+          let missed_it : Offered meaning does x (Full was.0) ready middle =
+          subst (λ (p : Option (Put T)). PutsTo meaning does x p ready middle) was.1 puts_to in
           ap (λ (entry : Entry F). entry.dropped) again ∙ ap (λ (entry : Entry F). entry.dropped) missed_it.now ∙ ap (λ n. n + 1) first
-      by put (Some (Some answer)) full asked gives again =
+      by put (Some (Some answer)) full revisited puts_to again =
           let was = full (search rules) in
-          let missed_it : Offered meaning does x (Full was.0) ready middle = subst (λ (p : Option (Put T)). Gives meaning does x p ready middle) was.1 gives in
+          let missed_it : Offered meaning does x (Full was.0) ready middle =
+          subst (λ (p : Option (Put T)). PutsTo meaning does x p ready middle) was.1 puts_to in
           let more : middle.dropped ≡ old.dropped + 1 = ap (λ (entry : Entry F). entry.dropped) missed_it.now ∙ ap (λ n. n + 1) first in
           last answer again more where
             last : (answer : Put T) → Offered meaning does x answer (record middle { dropped = middle.dropped - 1 }) new → middle.dropped ≡ old.dropped + 1

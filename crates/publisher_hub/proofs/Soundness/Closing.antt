@@ -19,11 +19,13 @@ use Rattle.publisher_hub.proofs.AnswerLists.Places.{answered_at, stood_at}
 use Rattle.publisher_hub.proofs.Soundness.SameLists.{KeepsLists, RetiresNoLess, agreed_same, live_same}
 
 -- an item that a subscription accepted was published as before
-published_still : (p : Progress) (ending : Ending) (entry : EntryState) (x : Item) → IsPublished p entry x → IsPublished (progress_closed ending p) entry x
+published_still : (p : Progress) (ending : Ending) (entry : EntryState) (x : Item) → IsPublished p entry x
+    → IsPublished (progress_closed ending p) entry x
 published_still p ending entry x is = record { since = is.since; until = is.until; seq = is.seq; source = is.source }
 
 -- a subscription that a close left alone is counted as before
-counted_alone : (p : Progress) (ending : Ending) (entry : EntryState) (e : End) → IsCounted p entry e → IsCounted (progress_closed ending p) entry e
+counted_alone : (p : Progress) (ending : Ending) (entry : EntryState) (e : End) → IsCounted p entry e
+    → IsCounted (progress_closed ending p) entry e
 counted_alone p ending entry e is = record {
   capacity = is.capacity;
   ordered = is.ordered;
@@ -39,9 +41,9 @@ counted_alone p ending entry e is = record {
 counted_closed : (p : Progress) (ending : Ending) (old new : EntryState) → (was : WasClosed ending old new) → IsCounted p old was.before
     → IsCounted (progress_closed ending p) (record old { feed = Some was.after }) was.after
 counted_closed p ending old new was is =
-    let accepted : was.after.accepted ≡ was.before.accepted = ap (λ (end : End). end.accepted) was.closed in
+    let accepted : was.after.accepted ≡ was.before.accepted = ap (λ (end : End). end.accepted) was.became in
     record {
-      capacity = ap (λ (end : End). end.capacity) was.closed ∙ is.capacity;
+      capacity = ap (λ (end : End). end.capacity) was.became ∙ is.capacity;
       ordered = subst (λ (items : List Item). IsOrdered items) (sym accepted) is.ordered;
       items = λ i x at.
           let stood = is.items i x (subst (λ (items : List Item). slice_get items i ≡ Some x) accepted at) in
@@ -53,8 +55,9 @@ counted_closed p ending old new was is =
       unclosed = λ none. cc;
     }
 
--- a subscription of a sound Hub stays one where it is closed
-entry_closed : (p : Progress) (ending : Ending) (old new : EntryState) → IsClosedBy ending old new → IsEntry p old → IsEntry (progress_closed ending p) new
+-- a subscription of a sound Hub stays such a subscription if it is closed
+entry_closed : (p : Progress) (ending : Ending) (old new : EntryState) → IsClosedBy ending old new → IsEntry p old
+    → IsEntry (progress_closed ending p) new
 entry_closed p ending old new (inl stays) is = subst (λ (entry : EntryState). IsEntry (progress_closed ending p) entry) (sym stays.same) (record {
   here = is.here;
   counted = λ e was. counted_alone p ending old e (is.counted e was);
@@ -71,7 +74,7 @@ entry_closed p ending old new (inr was) is = subst (λ (entry : EntryState). IsE
 keeps_lists : (ending : Ending) → KeepsLists (IsClosedBy ending)
 keeps_lists ending old new f (inl stays) at = (f, sym (ap (λ (entry : EntryState). entry.feed) stays.same) ∙ at, refl)
 keeps_lists ending old new f (inr was) at =
-    (was.before, was.was, ap (λ (end : End). end.accepted) (same_end (sym at ∙ ap (λ (entry : EntryState). entry.feed) was.now)) ∙ ap (λ (end : End). end.accepted) was.closed)
+    (was.before, was.was, ap (λ (end : End). end.accepted) (same_end (sym at ∙ ap (λ (entry : EntryState). entry.feed) was.now)) ∙ ap (λ (end : End). end.accepted) was.became)
 
 -- a close makes none live
 retires_no_less : (ending : Ending) → RetiresNoLess (IsClosedBy ending)
@@ -98,14 +101,17 @@ sound_closed ending old new sound closed =
     })
 
 -- no producer's end of a Hub without an ending was closed
-pub none_closed : (hub : HubState) → IsSound hub → hub.progress.ending ≡ None → (k : ℕ) (entry : EntryState) (e : End) → slice_get hub.entries k ≡ Some entry → entry.feed ≡ Some e → e.closing ≡ None
+pub none_closed : (hub : HubState) → IsSound hub → hub.progress.ending ≡ None → (k : ℕ) (entry : EntryState) (e : End)
+    → slice_get hub.entries k ≡ Some entry → entry.feed ≡ Some e → e.closing ≡ None
 none_closed hub sound none k entry e at was = ((sound.entries k entry at).counted e was).unclosed none
 
 module _ {F T : Type 0} (meaning : F → End) (does : F → Call T → F → Type 0) (ending : Ending) where
-  -- what a close did to one subscription, whose end wasn't closed before
-  closed_by : (answer : AtClose T) (x y : Entry F) → ((e : End) → option_map meaning x.feed ≡ Some e → e.closing ≡ None) → Closes meaning does ending answer x y
+  -- what a close did to a subscription whose end wasn't closed before
+  closed_by : (answer : AtClose T) (x y : Entry F) → ((e : End) → option_map meaning x.feed ≡ Some e → e.closing ≡ None)
+      → Closes meaning does ending answer x y
       → IsClosedBy ending (entry_of meaning x) (entry_of meaning y)
-  closed_by AtClose.Retired x y unclosed stays = inl (record { retired = stays.0; same = ap (λ (entry : Entry F). entry_of meaning entry) stays.1 })
+  closed_by AtClose.Retired x y unclosed stays =
+      inl (record { retired = stays.0; same = ap (λ (entry : Entry F). entry_of meaning entry) stays.1 })
   closed_by (AtClose.Ended start) x y unclosed closed =
       let was : option_map meaning x.feed ≡ Some (meaning closed.before) = ap (λ feed. option_map meaning feed) closed.was in
       inr (record {
@@ -113,12 +119,13 @@ module _ {F T : Type 0} (meaning : F → End) (does : F → Call T → F → Typ
         after = meaning closed.after;
         live = closed.live;
         was = was;
-        closed = closed.means.first (unclosed (meaning closed.before) was);
+        became = closed.means.first (unclosed (meaning closed.before) was);
         now = ap (λ (entry : Entry F). entry_of meaning entry) closed.now;
       })
 
   -- what a round of closes did to all
-  pub all_closed_by : (answers : List (AtClose T)) (xs ys : List (Entry F)) → ((k : ℕ) (entry : EntryState) (e : End) → slice_get (map (entry_of meaning) xs) k ≡ Some entry → entry.feed ≡ Some e → e.closing ≡ None)
+  pub all_closed_by : (answers : List (AtClose T)) (xs ys : List (Entry F))
+      → ((k : ℕ) (entry : EntryState) (e : End) → slice_get (map (entry_of meaning) xs) k ≡ Some entry → entry.feed ≡ Some e → e.closing ≡ None)
       → EachBy (Closes meaning does ending) answers xs ys → Each (IsClosedBy ending) (map (entry_of meaning) xs) (map (entry_of meaning) ys)
   all_closed_by answers xs ys unclosed each = record {
     as_long = length-map ys (entry_of meaning) ∙ each.as_long ∙ sym (length-map xs (entry_of meaning));

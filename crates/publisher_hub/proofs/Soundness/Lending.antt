@@ -14,15 +14,17 @@ use Rattle.publisher_hub.specs.declared.hub.Hub.{Hub}
 use Rattle.publisher_hub.proofs.PartialRounds.Next.{get_mapped}
 use Rattle.publisher_hub.proofs.Soundness.Replacing.{sound_replaced}
 
--- where an end is there, the number is that of a subscription
+-- if an end is there, the number is that of a subscription
 pub feed_within : {F : Type 0} (hub : Hub F) (number : ℕ) → IsSome (feed_at hub number) → number < length hub.entries.items
 feed_within {F} hub number some = by (slice_get hub.entries.items number) refl some where
-  by : (at : Option (Entry F)) → slice_get hub.entries.items number ≡ at → IsSome (option_and_then (λ (entry : Entry F). entry.feed) at) → number < length hub.entries.items
+  by : (at : Option (Entry F)) → slice_get hub.entries.items number ≡ at → IsSome (option_and_then (λ (entry : Entry F). entry.feed) at)
+      → number < length hub.entries.items
   by None is some = cc
   by (Some entry) is some = slice_get_within hub.entries.items number entry is
 
 -- the subscription that stands there
-pub entry_there : {F : Type 0} (hub : Hub F) (number : ℕ) (entry : Entry F) → IsSome (feed_at hub number) → entry ≡ slice_index_or hub.entries.items number entry → slice_get hub.entries.items number ≡ Some entry
+pub entry_there : {F : Type 0} (hub : Hub F) (number : ℕ) (entry : Entry F) → IsSome (feed_at hub number)
+    → entry ≡ slice_index_or hub.entries.items number entry → slice_get hub.entries.items number ≡ Some entry
 entry_there hub number entry some is = slice_get-get_or hub.entries.items number entry (feed_within hub number some) ∙ ap Some (sym is)
 
 -- an end that takes no more items still takes none, whatever it becomes
@@ -36,7 +38,8 @@ still_gone e f becomes gone = by e.over f.over refl refl where
       ap (λ over. over || is_some f.closing) b ∙ ap is_some becomes.closing ∙ closed
 
 -- a sound Hub whose producer's end was lent is sound
-pub sound_lent : (hub : HubState) (number : ℕ) (entry : EntryState) (before after : End) → IsSound hub → slice_get hub.entries number ≡ Some entry → entry.feed ≡ Some before
+pub sound_lent : (hub : HubState) (number : ℕ) (entry : EntryState) (before after : End) → IsSound hub
+    → slice_get hub.entries number ≡ Some entry → entry.feed ≡ Some before
     → MayBecome before after → IsSound (with_end hub number entry after)
 sound_lent hub number entry before after sound stands was becomes = sound_replaced hub number entry (record entry { feed = Some after }) sound stands (record {
   before = before;
@@ -59,11 +62,14 @@ hub_with_feed : {F : Type 0} (meaning : F → End) (hub : Hub F) (number : ℕ) 
 hub_with_feed meaning hub number entry feed =
     ap (λ entries. record (hub_of meaning hub) { entries = entries }) (map-set (entry_of meaning) hub.entries.items number (record entry { feed = Some feed }))
 
--- so it is sound as it was
-pub sound_with_feed : {F : Type 0} (meaning : F → End) (hub : Hub F) (number : ℕ) (before after : F) → IsSound (hub_of meaning hub) → feed_at hub number ≡ Some before
-    → MayBecome (meaning before) (meaning after) → IsSound (hub_of meaning (with_feed hub number (slice_get hub.entries.items number) after))
+-- hence it is sound as it was
+pub sound_with_feed : {F : Type 0} (meaning : F → End) (hub : Hub F) (number : ℕ) (before after : F) → IsSound (hub_of meaning hub)
+    → feed_at hub number ≡ Some before
+    → MayBecome (meaning before) (meaning after)
+    → IsSound (hub_of meaning (with_feed hub number (slice_get hub.entries.items number) after))
 sound_with_feed {F} meaning hub number before after sound at becomes = by (slice_get hub.entries.items number) refl at where
-  by : (stands : Option (Entry F)) → slice_get hub.entries.items number ≡ stands → option_and_then (λ (entry : Entry F). entry.feed) stands ≡ Some before
+  by : (stands : Option (Entry F)) → slice_get hub.entries.items number ≡ stands
+      → option_and_then (λ (entry : Entry F). entry.feed) stands ≡ Some before
       → IsSound (hub_of meaning (with_feed hub number stands after))
   by None is was = sound
   by (Some entry) is was = subst (λ (state : HubState). IsSound state) (sym (hub_with_feed meaning hub number entry after))

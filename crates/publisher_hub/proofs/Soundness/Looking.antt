@@ -10,7 +10,7 @@ use Rattle.publisher_hub.specs.Looking.{Follows, IsKept, IsLookedAt}
 use Rattle.publisher_hub.specs.Sound.{AreAgreed, AreLive, IsAccepted, IsCounted, IsEntry, IsPublished, IsSound}
 use Rattle.publisher_hub.proofs.AnswerLists.Places.{stood_at}
 
--- the end of a subscription is one
+-- a subscription has no two ends
 pub same_end : {e f : End} → Some e ≡ Some f → e ≡ f
 same_end e = cc
 
@@ -18,8 +18,10 @@ same_end e = cc
 pub until_next : (next : ℕ) (entry : EntryState) → entry.retired ≡ false → until_of next entry ≡ next
 until_next next entry live = rw live refl
 
--- an item that was published while a subscription took part was so, too, where that is as it was but for its end, or is retired now
-still_published : (p : Progress) (old new : EntryState) (x : Item) → new.since ≡ old.since → until_of p.next new ≡ until_of p.next old → IsPublished p old x → IsPublished p new x
+-- an item that was published while a subscription took part still is such an item if only the end of the subscription
+-- changed, or it is retired now
+still_published : (p : Progress) (old new : EntryState) (x : Item) → new.since ≡ old.since → until_of p.next new ≡ until_of p.next old
+    → IsPublished p old x → IsPublished p new x
 still_published p old new x since until is = record {
   since = subst (λ s. s ≤ x.serial) (sym since) is.since;
   until = subst (λ u. x.serial < u) (sym until) is.until;
@@ -45,14 +47,14 @@ counted_looked p old new e f follows since dropped until within gone is =
       unclosed = λ none. closing ∙ is.unclosed none;
     }
 
--- a subscription of a sound Hub stays one where it is looked at
+-- a subscription of a sound Hub stays such a subscription if it is looked at
 pub entry_kept : (p : Progress) (old new : EntryState) → IsKept p.next old new → IsEntry p old → IsEntry p new
 entry_kept p old new (inl stays) is = subst (λ (entry : EntryState). IsEntry p entry) (sym stays.same) is
 entry_kept p old new (inr (inl stays)) is =
     subst (λ (entry : EntryState). IsEntry p entry) (sym stays.now) (record {
       here = λ live. cc;
       counted = λ f was. subst (λ (end : End). IsCounted p (record old { feed = Some stays.after }) end) (same_end was)
-          (counted_looked p old (record old { feed = Some stays.after }) stays.before stays.after stays.follows refl refl refl
+          (counted_looked p old (record old { feed = Some stays.after }) stays.before stays.after stays.became refl refl refl
           (is.counted stays.before stays.was).until (λ retired. let e = sym stays.live ∙ retired in cc) (is.counted stays.before stays.was));
       drops = is.drops;
     })
@@ -67,10 +69,11 @@ entry_kept p old new (inr (inr now)) is =
     })
 
 -- what a looked-at subscription has accepted it had accepted before
-accepted_before : (next : ℕ) (old new : EntryState) (f : End) → IsKept next old new → new.feed ≡ Some f → (e : End) × (old.feed ≡ Some e) × (f.accepted ≡ e.accepted)
+accepted_before : (next : ℕ) (old new : EntryState) (f : End) → IsKept next old new → new.feed ≡ Some f
+    → (e : End) × (old.feed ≡ Some e) × (f.accepted ≡ e.accepted)
 accepted_before next old new f (inl stays) was = (f, sym (ap (λ (entry : EntryState). entry.feed) stays.same) ∙ was, refl)
 accepted_before next old new f (inr (inl stays)) was =
-    (stays.before, stays.was, ap (λ (end : End). end.accepted) (same_end (sym was ∙ ap (λ (entry : EntryState). entry.feed) stays.now)) ∙ ap (λ (end : End). end.accepted) stays.follows.rest)
+    (stays.before, stays.was, ap (λ (end : End). end.accepted) (same_end (sym was ∙ ap (λ (entry : EntryState). entry.feed) stays.now)) ∙ ap (λ (end : End). end.accepted) stays.became.rest)
 accepted_before next old new f (inr (inr now)) was =
     (now.before, now.was, ap (λ (end : End). end.accepted) (same_end (sym was ∙ ap (λ (entry : EntryState). entry.feed) now.now)) ∙ ap (λ (end : End). end.accepted) now.follows.rest)
 
@@ -95,7 +98,7 @@ was_live next old new (inl stays) live = ap (λ (entry : EntryState). entry.reti
 was_live next old new (inr (inl stays)) live = stays.live
 was_live next old new (inr (inr now)) live = now.live
 
--- the numbers of those that may be live cover the live ones still
+-- the numbers of those that may be live still cover those that are
 live_kept : (next : ℕ) (live : List ℕ) (xs ys : List EntryState) → Each (IsKept next) xs ys → AreLive live xs → AreLive live ys
 live_kept next live xs ys each are = record {
   numbers = record {
@@ -106,7 +109,7 @@ live_kept next live xs ys each are = record {
       are.covers k stood.entry stood.at (was_live next stood.entry entry stood.became lives);
 }
 
--- a sound Hub stays sound where its subscriptions are looked at
+-- a sound Hub stays sound if its subscriptions are looked at
 pub sound_looked_at : (old new : HubState) → IsSound old → IsLookedAt old new → IsSound new
 sound_looked_at old new sound looked =
     let next = old.progress.next in

@@ -1,4 +1,4 @@
--- A sound Hub stays sound where an item is published.
+-- A sound Hub stays sound if an item is published.
 use Rattle.std.proofs.Common.{◌≡◌, ◌⊎◌, ℕ, ◌+◌, ◌<◌, ◌≤◌, true, false, None, Some, List, [], ◌∷◌, ◌++◌, length, refl, ap, sym, subst, ◌∙◌, inl, inr, arith}
 use Rattle.std.specs.Prelude.{IsSome, slice_get}
 use Rattle.std.proofs.lemmas.List.{length-append, length-set}
@@ -10,7 +10,7 @@ use Rattle.publisher_hub.specs.Entry.{EntryState, until_of}
 use Rattle.publisher_hub.specs.Hub.{HubState, Progress}
 use Rattle.publisher_hub.specs.Lists.{Each}
 use Rattle.publisher_hub.specs.Looking.{Follows}
-use Rattle.publisher_hub.specs.Offering.{HasGrown, IsNextItem, IsReached, ReachesAll, progress_after}
+use Rattle.publisher_hub.specs.Offering.{HasGrown, IsNextItem, IsOffered, ReachesAll, progress_after}
 use Rattle.publisher_hub.specs.declared.hub.TheConstants.{MOST_SOURCES}
 use Rattle.publisher_hub.specs.Sound.{AreAgreed, AreLive, IsAccepted, IsBefore, IsCounted, IsEntry, IsOrdered, IsPublished, IsSound, MOST_ENTRIES}
 use Rattle.publisher_hub.proofs.AnswerLists.Updates.{get_grown, get_set, get_set_there}
@@ -22,14 +22,16 @@ module _ (p : Progress) (x : Item) (dropping : ℕ) (next : IsNextItem p x) wher
   q = progress_after x dropping p
 
   -- the number among a source's items is below the source's count still
-  seq_below : (y : Item) → ((count : ℕ) → slice_get p.counts y.source ≡ Some count → y.seq < count) → (count : ℕ) → slice_get q.counts y.source ≡ Some count → y.seq < count
+  seq_below : (y : Item) → ((count : ℕ) → slice_get p.counts y.source ≡ Some count → y.seq < count) → (count : ℕ)
+      → slice_get q.counts y.source ≡ Some count → y.seq < count
   seq_below y below count at = by (get_set p.counts x.source (x.seq + 1) y.source count at) where
     by : (slice_get p.counts y.source ≡ Some count) ⊎ ((y.source ≡ x.source) × (x.seq + 1 ≡ count)) → y.seq < count
     by (inl before) = below count before
     by (inr now) = let before : y.seq < x.seq = below x.seq (subst (λ s. slice_get p.counts s ≡ Some x.seq) (sym now.0) next.seq) in let e = now.1 in omega arith
 
   -- an item that was published before was published, as long as its subscription takes part as long
-  published_before : (old new : EntryState) (y : Item) → new.since ≡ old.since → until_of p.next old ≤ until_of q.next new → IsPublished p old y → IsPublished q new y
+  published_before : (old new : EntryState) (y : Item) → new.since ≡ old.since → until_of p.next old ≤ until_of q.next new
+      → IsPublished p old y → IsPublished q new y
   published_before old new y since longer is = record {
     since = subst (λ s. s ≤ y.serial) (sym since) is.since;
     until = let until = is.until in omega arith;
@@ -39,11 +41,13 @@ module _ (p : Progress) (x : Item) (dropping : ℕ) (next : IsNextItem p x) wher
 
   -- no end of a Hub that was not closed is closed
   never_closed : (old : EntryState) (e f : End) → IsCounted p old e → f.closing ≡ e.closing → IsSome f.closing → ⊥
-  never_closed old e f is closing some = let none : f.closing ≡ None = closing ∙ is.unclosed next.unclosed in let e : IsSome {T = Ending} None = subst (λ c. IsSome c) none some in cc
+  never_closed old e f is closing some = let none : f.closing ≡ None = closing
+      ∙ is.unclosed next.unclosed in let e : IsSome {T = Ending} None = subst (λ c. IsSome c) none some in cc
 
-  -- where its list is as it was, a subscription is counted as the publication goes on
+  -- a subscription whose list is as it was is counted after the publication, too
   counted_same : (old new : EntryState) (e f : End) → Follows e f → new.since ≡ old.since → until_of p.next old ≤ until_of q.next new
-      → until_of q.next new ≤ q.next → new.since + (length e.accepted + new.dropped) ≡ until_of q.next new → (new.retired ≡ true → is_gone f ≡ true)
+      → until_of q.next new ≤ q.next → new.since + (length e.accepted + new.dropped) ≡ until_of q.next new
+      → (new.retired ≡ true → is_gone f ≡ true)
       → IsCounted p old e → IsCounted q new f
   counted_same old new e f follows since longer within count gone is =
       let accepted : f.accepted ≡ e.accepted = ap (λ (end : End). end.accepted) follows.rest in
@@ -60,7 +64,8 @@ module _ (p : Progress) (x : Item) (dropping : ℕ) (next : IsNextItem p x) wher
       }
 
   -- the items that a live subscription had accepted come before this one
-  before_this : (old : EntryState) (e : End) (i : ℕ) (y : Item) → old.retired ≡ false → IsCounted p old e → slice_get e.accepted i ≡ Some y → IsBefore y x
+  before_this : (old : EntryState) (e : End) (i : ℕ) (y : Item) → old.retired ≡ false → IsCounted p old e → slice_get e.accepted i ≡ Some y
+      → IsBefore y x
   before_this old e i y live is at =
       let published = is.items i y at in
       record {
@@ -71,7 +76,8 @@ module _ (p : Progress) (x : Item) (dropping : ℕ) (next : IsNextItem p x) wher
   -- with this item the list rises still
   still_ordered : (old : EntryState) (e : End) → old.retired ≡ false → IsCounted p old e → IsOrdered (e.accepted ++ x ∷ [])
   still_ordered old e live is i j y z at at' before = by (get_grown e.accepted x i y at) (get_grown e.accepted x j z at') where
-    by : (slice_get e.accepted i ≡ Some y) ⊎ ((i ≡ length e.accepted) × (x ≡ y)) → (slice_get e.accepted j ≡ Some z) ⊎ ((j ≡ length e.accepted) × (x ≡ z)) → IsBefore y z
+    by : (slice_get e.accepted i ≡ Some y) ⊎ ((i ≡ length e.accepted) × (x ≡ y))
+        → (slice_get e.accepted j ≡ Some z) ⊎ ((j ≡ length e.accepted) × (x ≡ z)) → IsBefore y z
     by (inl old_y) (inl old_z) = is.ordered i j y z old_y old_z before
     by (inl old_y) (inr new_z) = subst (λ (item : Item). IsBefore y item) new_z.1 (before_this old e i y live is old_y)
     by (inr new_y) (inl old_z) = let within = slice_get_within e.accepted j z old_z in let there = new_y.0 in absurd (omega arith)
@@ -82,8 +88,10 @@ module _ (p : Progress) (x : Item) (dropping : ℕ) (next : IsNextItem p x) wher
       → IsCounted p old g.before → IsCounted q (record old { feed = Some g.after }) g.after
   counted_grown source old new e g is =
       let live = until_next p.next old g.live in
-      let lists : g.after.accepted ≡ g.before.accepted ++ x ∷ [] = ap (λ (end : End). end.accepted) g.grown ∙ ap (λ (end : End). end.accepted ++ x ∷ []) g.follows.rest in
-      let closing : g.after.closing ≡ g.before.closing = ap (λ (end : End). end.closing) g.grown ∙ ap (λ (end : End). end.closing) g.follows.rest in
+      let lists : g.after.accepted ≡ g.before.accepted ++ x ∷ [] =
+      ap (λ (end : End). end.accepted) g.grown ∙ ap (λ (end : End). end.accepted ++ x ∷ []) g.follows.rest in
+      let closing : g.after.closing ≡ g.before.closing =
+      ap (λ (end : End). end.closing) g.grown ∙ ap (λ (end : End). end.closing) g.follows.rest in
       let entry : EntryState = record old { feed = Some g.after } in
       let longer : until_of q.next entry ≡ p.next + 1 = until_next q.next entry g.live in
       let before = is.count in
@@ -127,8 +135,9 @@ module _ (p : Progress) (x : Item) (dropping : ℕ) (next : IsNextItem p x) wher
         unclosed = λ none. is.unclosed next.unclosed;
       }
 
-  -- a subscription of a sound Hub stays one where an item is offered to it
-  entry_offered : x.source < MOST_SOURCES → (old new : EntryState) → IsReached x old new → new.dropped ≤ dropping → IsEntry p old → IsEntry q new
+  -- a subscription of a sound Hub stays such a subscription if an item is offered to it
+  entry_offered : x.source < MOST_SOURCES → (old new : EntryState) → IsOffered x old new → new.dropped ≤ dropping → IsEntry p old
+      → IsEntry q new
   entry_offered source old new (inl stays) few is = subst (λ (entry : EntryState). IsEntry q entry) (sym stays.same) (record {
     here = is.here;
     counted = λ e was. counted_retired old e stays.retired (is.counted e was);
@@ -167,12 +176,15 @@ module _ (p : Progress) (x : Item) (dropping : ℕ) (next : IsNextItem p x) wher
       })
 
   -- an item that a subscription has accepted after the publication was accepted before, or is this one
-  accepted_or_this : (old new : EntryState) (f : End) (place : ℕ) (y : Item) → IsReached x old new → new.feed ≡ Some f → slice_get f.accepted place ≡ Some y
+  accepted_or_this : (old new : EntryState) (f : End) (place : ℕ) (y : Item) → IsOffered x old new → new.feed ≡ Some f
+      → slice_get f.accepted place ≡ Some y
       → ((e : End) × (old.feed ≡ Some e) × (slice_get e.accepted place ≡ Some y)) ⊎ (x ≡ y)
   accepted_or_this old new f place y (inl stays) was at = inl (f, sym (ap (λ (entry : EntryState). entry.feed) stays.same) ∙ was, at)
   accepted_or_this old new f place y (inr (inl grown)) was at =
       let same : grown.after ≡ f = same_end (sym (ap (λ (entry : EntryState). entry.feed) grown.now) ∙ was) in
-      let lists : f.accepted ≡ grown.before.accepted ++ x ∷ [] = ap (λ (end : End). end.accepted) (sym same) ∙ ap (λ (end : End). end.accepted) grown.grown ∙ ap (λ (end : End). end.accepted ++ x ∷ []) grown.follows.rest in
+      let lists : f.accepted ≡ grown.before.accepted ++ x ∷ [] =
+      ap (λ (end : End). end.accepted) (sym same) ∙ ap (λ (end : End). end.accepted) grown.grown
+      ∙ ap (λ (end : End). end.accepted ++ x ∷ []) grown.follows.rest in
       by (get_grown grown.before.accepted x place y (subst (λ (items : List Item). slice_get items place ≡ Some y) lists at)) where
         by : (slice_get grown.before.accepted place ≡ Some y) ⊎ ((place ≡ length grown.before.accepted) × (x ≡ y))
             → ((e : End) × (old.feed ≡ Some e) × (slice_get e.accepted place ≡ Some y)) ⊎ (x ≡ y)
@@ -180,33 +192,35 @@ module _ (p : Progress) (x : Item) (dropping : ℕ) (next : IsNextItem p x) wher
         by (inr added) = inr added.1
   accepted_or_this old new f place y (inr (inr (inl ended))) was at =
       let same : ended.after ≡ f = same_end (sym (ap (λ (entry : EntryState). entry.feed) ended.now) ∙ was) in
-      let lists : f.accepted ≡ ended.before.accepted = ap (λ (end : End). end.accepted) (sym same) ∙ ap (λ (end : End). end.accepted) ended.follows.rest in
+      let lists : f.accepted ≡ ended.before.accepted =
+      ap (λ (end : End). end.accepted) (sym same) ∙ ap (λ (end : End). end.accepted) ended.follows.rest in
       inl (ended.before, ended.was, subst (λ (items : List Item). slice_get items place ≡ Some y) lists at)
   accepted_or_this old new f place y (inr (inr (inr dropped))) was at =
       let same : dropped.after ≡ f = same_end (sym (ap (λ (entry : EntryState). entry.feed) dropped.now) ∙ was) in
-      let lists : f.accepted ≡ dropped.before.accepted = ap (λ (end : End). end.accepted) (sym same) ∙ ap (λ (end : End). end.accepted) dropped.follows.rest in
+      let lists : f.accepted ≡ dropped.before.accepted =
+      ap (λ (end : End). end.accepted) (sym same) ∙ ap (λ (end : End). end.accepted) dropped.follows.rest in
       inl (dropped.before, dropped.was, subst (λ (items : List Item). slice_get items place ≡ Some y) lists at)
 
   -- the same of a Hub's subscriptions
-  hub_accepted : (xs ys : List EntryState) (y : Item) → Each (IsReached x) xs ys → IsAccepted ys y → IsAccepted xs y ⊎ (x ≡ y)
+  hub_accepted : (xs ys : List EntryState) (y : Item) → Each (IsOffered x) xs ys → IsAccepted ys y → IsAccepted xs y ⊎ (x ≡ y)
   hub_accepted xs ys y each is =
-      let stood = stood_at (IsReached x) xs ys is.number is.entry each is.stands in
+      let stood = stood_at (IsOffered x) xs ys is.number is.entry each is.stands in
       by (accepted_or_this stood.entry is.entry is.feed is.place y stood.became is.end_of is.item) where
-        by : ((e : End) × ((stood_at (IsReached x) xs ys is.number is.entry each is.stands).entry.feed ≡ Some e) × (slice_get e.accepted is.place ≡ Some y)) ⊎ (x ≡ y)
+        by : ((e : End) × ((stood_at (IsOffered x) xs ys is.number is.entry each is.stands).entry.feed ≡ Some e) × (slice_get e.accepted is.place ≡ Some y)) ⊎ (x ≡ y)
             → IsAccepted xs y ⊎ (x ≡ y)
         by (inl before) = inl (record {
           number = is.number;
           place = is.place;
-          entry = (stood_at (IsReached x) xs ys is.number is.entry each is.stands).entry;
+          entry = (stood_at (IsOffered x) xs ys is.number is.entry each is.stands).entry;
           feed = before.0;
-          stands = (stood_at (IsReached x) xs ys is.number is.entry each is.stands).at;
+          stands = (stood_at (IsOffered x) xs ys is.number is.entry each is.stands).at;
           end_of = before.1;
           item = before.2;
         })
         by (inr this) = inr this
 
   -- a subscription that isn't retired now was not before
-  was_live : (old new : EntryState) → IsReached x old new → new.retired ≡ false → old.retired ≡ false
+  was_live : (old new : EntryState) → IsOffered x old new → new.retired ≡ false → old.retired ≡ false
   was_live old new (inl stays) live = ap (λ (entry : EntryState). entry.retired) (sym stays.same) ∙ live
   was_live old new (inr (inl grown)) live = grown.live
   was_live old new (inr (inr (inl ended))) live = ended.live
@@ -219,33 +233,36 @@ accepted_below hub y sound is =
     let published = counted.items is.place y is.item in
     let until = published.until in let within = counted.until in omega arith
 
--- items with one serial number are one item still
-still_agreed : (old : HubState) (ys : List EntryState) (x : Item) (dropping : ℕ) → IsSound old → IsNextItem old.progress x → Each (IsReached x) old.entries ys → AreAgreed ys
-still_agreed old ys x dropping sound next each y z a b same = by (hub_accepted old.progress x dropping next old.entries ys y each a) (hub_accepted old.progress x dropping next old.entries ys z each b) where
-  by : IsAccepted old.entries y ⊎ (x ≡ y) → IsAccepted old.entries z ⊎ (x ≡ z) → y ≡ z
-  by (inl before) (inl before') = sound.agreed y z before before' same
-  by (inl before) (inr this) =
-      let low = accepted_below old y sound before in
-      let serial = next.serial in
-      let high : x.serial ≡ z.serial = ap (λ (item : Item). item.serial) this in absurd (omega arith)
-  by (inr this) (inl before) =
-      let low = accepted_below old z sound before in
-      let serial = next.serial in
-      let high : x.serial ≡ y.serial = ap (λ (item : Item). item.serial) this in absurd (omega arith)
-  by (inr this) (inr this') = sym this ∙ this'
+-- items with the same serial number still are the same item
+still_agreed : (old : HubState) (ys : List EntryState) (x : Item) (dropping : ℕ) → IsSound old → IsNextItem old.progress x
+    → Each (IsOffered x) old.entries ys → AreAgreed ys
+still_agreed old ys x dropping sound next each y z a b same =
+    by (hub_accepted old.progress x dropping next old.entries ys y each a) (hub_accepted old.progress x dropping next old.entries ys z each b) where
+      by : IsAccepted old.entries y ⊎ (x ≡ y) → IsAccepted old.entries z ⊎ (x ≡ z) → y ≡ z
+      by (inl before) (inl before') = sound.agreed y z before before' same
+      by (inl before) (inr this) =
+          let low = accepted_below old y sound before in
+          let serial = next.serial in
+          let high : x.serial ≡ z.serial = ap (λ (item : Item). item.serial) this in absurd (omega arith)
+      by (inr this) (inl before) =
+          let low = accepted_below old z sound before in
+          let serial = next.serial in
+          let high : x.serial ≡ y.serial = ap (λ (item : Item). item.serial) this in absurd (omega arith)
+      by (inr this) (inr this') = sym this ∙ this'
 
--- the numbers of those that may be live cover the live ones still
-live_offered : (old : HubState) (ys : List EntryState) (x : Item) (dropping : ℕ) → IsNextItem old.progress x → Each (IsReached x) old.entries ys → AreLive old.live old.entries → AreLive old.live ys
+-- the numbers of those that may be live still cover those that are
+live_offered : (old : HubState) (ys : List EntryState) (x : Item) (dropping : ℕ) → IsNextItem old.progress x
+    → Each (IsOffered x) old.entries ys → AreLive old.live old.entries → AreLive old.live ys
 live_offered old ys x dropping next each are = record {
   numbers = record {
     rising = are.numbers.rising;
     within = λ i n at. subst (λ many. n < many) (sym each.as_long) (are.numbers.within i n at);
   };
-  covers = λ k entry at lives. let stood = stood_at (IsReached x) old.entries ys k entry each at in
+  covers = λ k entry at lives. let stood = stood_at (IsOffered x) old.entries ys k entry each at in
       are.covers k stood.entry stood.at (was_live old.progress x dropping next stood.entry entry stood.became lives);
 }
 
--- a sound Hub stays sound where an item is published
+-- a sound Hub stays sound if an item is published
 pub sound_offered : (old new : HubState) (x : Item) → x.source < MOST_SOURCES → IsSound old → ReachesAll x old new → IsSound new
 sound_offered old new x source sound offers =
     let p = old.progress in
@@ -255,7 +272,7 @@ sound_offered old new x source sound offers =
     let drops = offers.drops.1 in
     let few_drops = sound.few_drops in
     subst (λ (hub : HubState). IsSound hub) (sym offers.rest) (record {
-      entries = λ k entry at. let stood = stood_at (IsReached x) old.entries ys k entry offers.entries at in
+      entries = λ k entry at. let stood = stood_at (IsOffered x) old.entries ys k entry offers.entries at in
           entry_offered p x dropping offers.next source stood.entry entry stood.became (offers.dropped k entry at) (sound.entries k stood.entry stood.at);
       agreed = still_agreed old ys x dropping sound offers.next offers.entries;
       live = live_offered old ys x dropping offers.next offers.entries sound.live;
@@ -267,6 +284,7 @@ sound_offered old new x source sound offers =
       all_sources = length-set p.counts x.source (x.seq + 1) ∙ sound.all_sources;
       few_counts = λ s count at. by s count (get_set p.counts x.source (x.seq + 1) s count at);
     }) where
-      by : (s count : ℕ) → (slice_get old.progress.counts s ≡ Some count) ⊎ ((s ≡ x.source) × (x.seq + 1 ≡ count)) → count ≤ old.progress.next + 1
+      by : (s count : ℕ) → (slice_get old.progress.counts s ≡ Some count) ⊎ ((s ≡ x.source) × (x.seq + 1 ≡ count))
+          → count ≤ old.progress.next + 1
       by s count (inl before) = let few = sound.few_counts s count before in omega arith
       by s count (inr now) = let few = sound.few_counts x.source x.seq offers.next.seq in let e = now.1 in omega arith

@@ -1,4 +1,4 @@
--- A sound Hub stays sound where the producer's end of a subscription that has ended is taken out.
+-- A sound Hub stays sound if the producer's end of a subscription that has ended is taken out.
 use Rattle.std.proofs.Common.{◌≡◌, ℕ, Option, None, Some, map, refl, sym, subst, ◌∙◌, set}
 use Rattle.std.specs.Prelude.{slice_get}
 use Rattle.std.specs.Vec.{with_item}
@@ -22,10 +22,13 @@ use Rattle.publisher_hub.proofs.Soundness.Replacing.{replaces_taken, sound_with}
 use Rattle.publisher_hub.proofs.Soundness.Tickets.{sound_asked}
 
 module _ {F T : Type 0} (meaning : F → End) (does : F → Call T → F → Type 0) where
-  -- the one that stands there lost its end, and the numbers of the retired ones were left out
-  pub ended_there : (number : ℕ) (taken : F × Option Ticket) (hub new : Hub F) (before after : Entry F) (glance : Option Standing) → slice_get hub.entries.items number ≡ Some before
-      → TakesEnded meaning does hub.next glance (Some taken) before after → new.live.items ≡ live_of (map (entry_of meaning) (with_item hub.entries number after).items) hub.live.items
-      → new ≡ record hub { entries = with_item hub.entries number after; live = new.live } → TakesEndedAt meaning does number (Some taken) hub new
+  -- the subscription that stands there lost its end, and the numbers of the retired ones were left out
+  pub ended_there : (number : ℕ) (taken : F × Option Ticket) (hub new : Hub F) (before after : Entry F) (glance : Option Standing)
+      → slice_get hub.entries.items number ≡ Some before
+      → TakesEnded meaning does hub.next glance (Some taken) before after
+      → new.live.items ≡ live_of (map (entry_of meaning) (with_item hub.entries number after).items) hub.live.items
+      → new ≡ record hub { entries = with_item hub.entries number after; live = new.live }
+      → TakesEndedAt meaning does number (Some taken) hub new
   ended_there number taken hub new before after glance at takes left is = subst (λ (other : Hub F). TakesEndedAt meaning does number (Some taken) hub other) (sym is) (record {
     rest = refl;
     live = left;
@@ -33,8 +36,9 @@ module _ {F T : Type 0} (meaning : F → End) (does : F → Call T → F → Typ
     there = λ entry on. (glance, after, (subst (λ (old : Entry F). TakesEnded meaning does hub.next glance (Some taken) old after) (same_some (sym at ∙ on)) takes, refl));
   })
 
-  -- one that goes on was looked at as one that is asked for its ticket
-  asks_of : (next : ℕ) (glance : Option Standing) (before after : Entry F) → TakesEnded meaning does next glance None before after → AsksForTicket meaning does next glance None before after
+  -- a subscription that goes on was looked at as if it were asked for its ticket
+  asks_of : (next : ℕ) (glance : Option Standing) (before after : Entry F) → TakesEnded meaning does next glance None before after
+      → AsksForTicket meaning does next glance None before after
   asks_of next None before after left = (left.0, (refl, left.1))
   asks_of next (Some standing) before after on = record {
     before = on.before;
@@ -47,9 +51,11 @@ module _ {F T : Type 0} (meaning : F → End) (does : F → Call T → F → Typ
     stays = λ _. on.now;
   }
 
-  -- a sound Hub stays sound where it was looked at, or lost its end
-  pub sound_ended : (number : ℕ) (taken : Option (F × Option Ticket)) (hub : Hub F) (before after : Entry F) (glance : Option Standing) → IsSound (hub_of meaning hub) → slice_get hub.entries.items number ≡ Some before
-      → TakesEnded meaning does hub.next glance taken before after → IsSound (hub_of meaning (record hub { entries = with_item hub.entries number after }))
+  -- a sound Hub stays sound if a subscription was looked at, or lost its end
+  pub sound_ended : (number : ℕ) (taken : Option (F × Option Ticket)) (hub : Hub F) (before after : Entry F) (glance : Option Standing)
+      → IsSound (hub_of meaning hub) → slice_get hub.entries.items number ≡ Some before
+      → TakesEnded meaning does hub.next glance taken before after
+      → IsSound (hub_of meaning (record hub { entries = with_item hub.entries number after }))
   sound_ended number None hub before after glance sound at takes = sound_asked meaning does number None hub (record hub { entries = with_item hub.entries number after }) sound (record {
     rest = refl;
     none = λ none. let no : None ≡ Some before = sym none ∙ at in cc;

@@ -1,4 +1,5 @@
--- A sound Hub stays sound where one subscription is replaced by one that accepted and dropped the same, or whose producer's end was taken out.
+-- A sound Hub stays sound if a subscription is replaced by another that accepted and dropped the same, or whose
+-- producer's end was taken out.
 use Rattle.std.proofs.Common.{rules, ◌≡◌, ◌⊎◌, ℕ, zero, suc, ◌<◌, ◌≤◌, true, false, None, Some, List, [], ◌∷◌, set, refl, ap, sym, subst, ◌∙◌, inl, inr}
 use Rattle.std.specs.Prelude.{IsSome, slice_get}
 use Rattle.std.proofs.lemmas.List.{length-set}
@@ -11,7 +12,7 @@ use Rattle.publisher_hub.specs.Sound.{AreLive, IsAccepted, IsCounted, IsEntry, I
 use Rattle.publisher_hub.proofs.PartialRounds.Progress.{same_some}
 use Rattle.publisher_hub.proofs.AnswerLists.Places.{stood_at}
 
--- a subscription after a call that neither gave it an item nor closed it, where its end is there
+-- a subscription whose end is there, after a call that neither put an item into it nor closed it
 pub record Succeeds (progress : Progress) (old new : EntryState) : Type 0 where
   pub before : End
   pub after : End
@@ -53,17 +54,17 @@ entry_after p old new s is = record {
   drops = subst (λ dropped. dropped ≤ p.dropping) (sym s.dropped) is.drops;
 }
 
--- what a subscription owes to the one in whose place it stands, so that a sound Hub stays sound
+-- what a subscription owes to the subscription whose place it takes, for a sound Hub to stay sound
 pub record Replaces (p : Progress) (old new : EntryState) : Type 0 where
   pub entry : IsEntry p old → IsEntry p new
   pub lives : new.retired ≡ false → old.retired ≡ false
   pub had : (f : End) → new.feed ≡ Some f → (e : End) × (old.feed ≡ Some e) × (f.accepted ≡ e.accepted)
 
--- it owes nothing where it is the same
+-- it owes nothing if it is the same
 replaces_same : (p : Progress) (entry : EntryState) → Replaces p entry entry
 replaces_same p entry = record { entry = λ is. is; lives = λ lives. lives; had = λ f is. (f, is, refl) }
 
--- and where it accepted and dropped the same
+-- and if it accepted and dropped the same
 replaces_after : (p : Progress) (old new : EntryState) → Succeeds p old new → Replaces p old new
 replaces_after p old new s = record {
   entry = entry_after p old new s;
@@ -71,8 +72,9 @@ replaces_after p old new s = record {
   had = λ f is. (s.before, s.was, ap (λ (end : End). end.accepted) (same_some (sym is ∙ s.now)) ∙ s.accepted);
 }
 
--- or where it was retired and its producer's end was taken out
-pub replaces_taken : (p : Progress) (old new : EntryState) → new.retired ≡ true → new.feed ≡ None → new.dropped ≡ old.dropped → Replaces p old new
+-- or if it was retired and its producer's end was taken out
+pub replaces_taken : (p : Progress) (old new : EntryState) → new.retired ≡ true → new.feed ≡ None → new.dropped ≡ old.dropped
+    → Replaces p old new
 replaces_taken p old new retired none dropped = record {
   entry = λ is. record {
     here = λ lives. let never : true ≡ false = sym retired ∙ lives in cc;
@@ -107,14 +109,15 @@ live_after p live xs ys each are = record {
       are.covers k stood.entry stood.at (stood.became.lives lives);
 }
 
--- a list where an element was set to what it was
+-- a list in which an element was set to what it was
 pub set_same : {X : Type 0} (xs : List X) (k : ℕ) (x : X) → slice_get xs k ≡ Some x → set xs k x ≡ xs
 set_same [] k x at = refl
 set_same (first ∷ xs) zero x at = ap (λ y. y ∷ xs) (sym (same_some at))
 set_same (first ∷ xs) (suc k) x at = ap (λ ys. first ∷ ys) (set_same xs k x at)
 
--- what stands in a list where one place was set
-pub set_or_stood : {X : Type 0} (xs : List X) (place : ℕ) (value : X) (i : ℕ) (y : X) → slice_get (set xs place value) i ≡ Some y → ((place ≡ i) × (value ≡ y)) ⊎ (slice_get xs i ≡ Some y)
+-- what stands in a list in which a place was set
+pub set_or_stood : {X : Type 0} (xs : List X) (place : ℕ) (value : X) (i : ℕ) (y : X) → slice_get (set xs place value) i ≡ Some y
+    → ((place ≡ i) × (value ≡ y)) ⊎ (slice_get xs i ≡ Some y)
 set_or_stood [] place value i y at = inr at
 set_or_stood (first ∷ xs) zero value zero y at = inl (refl, same_some at)
 set_or_stood (first ∷ xs) zero value (suc i) y at = inr at
@@ -124,7 +127,8 @@ set_or_stood {X} (first ∷ xs) (suc place) value (suc i) y at = by (set_or_stoo
   by (inl now) = inl (ap suc now.0, now.1)
   by (inr before) = inr before
 
-each_replaces : (p : Progress) (xs : List EntryState) (number : ℕ) (old new : EntryState) → slice_get xs number ≡ Some old → Replaces p old new → Each (Replaces p) xs (set xs number new)
+each_replaces : (p : Progress) (xs : List EntryState) (number : ℕ) (old new : EntryState) → slice_get xs number ≡ Some old
+    → Replaces p old new → Each (Replaces p) xs (set xs number new)
 each_replaces p xs number old new stood s = record {
   as_long = length-set xs number new;
   each = λ k x y at at'. by k x y at (set_or_stood xs number new k y at');
@@ -135,8 +139,9 @@ each_replaces p xs number old new stood s = record {
       subst (λ (entry : EntryState). Replaces p x entry) now.1 (subst (λ (entry : EntryState). Replaces p entry new) same s)
   by k x y at (inr before) = subst (λ (entry : EntryState). Replaces p x entry) (same_some (sym at ∙ before)) (replaces_same p x)
 
--- a sound Hub stays sound where one subscription is replaced so
-pub sound_with : (hub : HubState) (number : ℕ) (old new : EntryState) → IsSound hub → slice_get hub.entries number ≡ Some old → Replaces hub.progress old new
+-- a sound Hub stays sound if a subscription is replaced in this way
+pub sound_with : (hub : HubState) (number : ℕ) (old new : EntryState) → IsSound hub → slice_get hub.entries number ≡ Some old
+    → Replaces hub.progress old new
     → IsSound (record hub { entries = set hub.entries number new })
 sound_with hub number old new sound stood s =
     let p = hub.progress in
@@ -156,7 +161,8 @@ sound_with hub number old new sound stood s =
       few_counts = sound.few_counts;
     }
 
--- so by one that accepted and dropped the same
-pub sound_replaced : (hub : HubState) (number : ℕ) (old new : EntryState) → IsSound hub → slice_get hub.entries number ≡ Some old → Succeeds hub.progress old new
+-- in particular by a subscription that accepted and dropped the same
+pub sound_replaced : (hub : HubState) (number : ℕ) (old new : EntryState) → IsSound hub → slice_get hub.entries number ≡ Some old
+    → Succeeds hub.progress old new
     → IsSound (record hub { entries = set hub.entries number new })
 sound_replaced hub number old new sound stood s = sound_with hub number old new sound stood (replaces_after hub.progress old new s)

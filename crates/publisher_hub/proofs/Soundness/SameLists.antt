@@ -10,7 +10,8 @@ use Rattle.publisher_hub.proofs.AnswerLists.Places.{stood_at}
 
 -- what a subscription that became another has accepted it had accepted before
 abbrev pub KeepsLists : (EntryState → EntryState → Type 0) → Type 0
-KeepsLists R = (old new : EntryState) (f : End) → R old new → new.feed ≡ Some f → (e : End) × (old.feed ≡ Some e) × (f.accepted ≡ e.accepted)
+KeepsLists R =
+    (old new : EntryState) (f : End) → R old new → new.feed ≡ Some f → (e : End) × (old.feed ≡ Some e) × (f.accepted ≡ e.accepted)
 
 -- a subscription that isn't retired was not before
 abbrev pub RetiresNoLess : (EntryState → EntryState → Type 0) → Type 0
@@ -32,11 +33,11 @@ module _ (R : EntryState → EntryState → Type 0) (xs ys : List EntryState) (e
         item = subst (λ (items : List Item). slice_get items is.place ≡ Some x) before.2 is.item;
       }
 
-  -- items with one serial number are one item still
+  -- items with the same serial number still are the same item
   pub agreed_same : KeepsLists R → AreAgreed xs → AreAgreed ys
   agreed_same keeps agreed x y a b same = agreed x y (accepted_before keeps x a) (accepted_before keeps y b) same
 
-  -- the numbers of those that may be live cover the live ones still
+  -- the numbers of those that may be live still cover those that are
   pub live_same : RetiresNoLess R → (live : List ℕ) → AreLive live xs → AreLive live ys
   live_same goes_on live are = record {
     numbers = record {

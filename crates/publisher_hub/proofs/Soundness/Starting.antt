@@ -11,7 +11,7 @@ use Rattle.publisher_hub.specs.declared.hub.TheConstants.{MOST_SOURCES}
 nothing_at : {X : Type 0} (place : ℕ) (x : X) → slice_get {X = X} [] place ≡ Some x → ⊥
 nothing_at place x e = cc
 
--- where all elements are 0, the one at any place is
+-- if all elements are 0, the element at any place is
 zero_at : (many place count : ℕ) → slice_get (replicate many 0) place ≡ Some count → count ≡ 0
 zero_at zero place count e = cc
 zero_at (suc many) zero count e = cc

@@ -1,4 +1,4 @@
--- A sound Hub stays sound where a subscription is asked for its ticket, or its ticket is taken out.
+-- A sound Hub stays sound if a subscription is asked for its ticket, or its ticket is taken out.
 use Rattle.std.proofs.Common.{◌≡◌, ◌||◌, ℕ, ◌≤◌, Bool, true, false, Option, None, Some, is_some, List, map, option_map, length, refl, ap, sym, subst, ◌∙◌, set, arith}
 use Rattle.std.specs.Prelude.{if◌then◌else◌, slice_get}
 use Rattle.std.specs.Vec.{with_item}
@@ -30,7 +30,8 @@ gone_looked e f look gone = by e.over f.over refl refl where
 
 module _ {F T : Type 0} (meaning : F → End) (does : F → Call T → F → Type 0) where
   -- a subscription that was asked for its ticket accepted and dropped the same
-  asked_succeeds : (p : Progress) (standing : Standing) (ticket : Option Ticket) (old new : Entry F) → IsEntry p (entry_of meaning old) → HandsOut meaning does p.next standing ticket old new
+  asked_succeeds : (p : Progress) (standing : Standing) (ticket : Option Ticket) (old new : Entry F) → IsEntry p (entry_of meaning old)
+      → HandsOut meaning does p.next standing ticket old new
       → Succeeds p (entry_of meaning old) (entry_of meaning new)
   asked_succeeds p standing ticket old new is asked = by standing.ended refl where
     was : option_map meaning old.feed ≡ Some (meaning asked.before)
@@ -53,7 +54,8 @@ module _ {F T : Type 0} (meaning : F → End) (does : F → Call T → F → Typ
       since = refl;
       dropped = refl;
       until = until old.retired refl;
-      gone = λ _. let over : (meaning asked.after).over ≡ true = sym asked.stands.ended ∙ ended in ap (λ over. over || is_some (meaning asked.after).closing) over;
+      gone = λ _. let over : (meaning asked.after).over ≡ true = sym asked.stands.ended
+          ∙ ended in ap (λ over. over || is_some (meaning asked.after).closing) over;
       lives = λ lives. cc;
       capacity = ap (λ (end : End). end.capacity) look.rest;
       accepted = ap (λ (end : End). end.accepted) look.rest;
@@ -74,9 +76,11 @@ module _ {F T : Type 0} (meaning : F → End) (does : F → Call T → F → Typ
       closing = ap (λ (end : End). end.closing) look.rest;
     })
 
-  -- the one that stands there was asked
-  pub asks_there : (number : ℕ) (ticket : Option Ticket) (hub : Hub F) (before after : Entry F) (glance : Option Standing) → slice_get hub.entries.items number ≡ Some before
-      → AsksForTicket meaning does hub.next glance ticket before after → AsksForTicketAt meaning does number ticket hub (record hub { entries = with_item hub.entries number after })
+  -- the subscription that stands there was asked for its ticket
+  pub asks_there : (number : ℕ) (ticket : Option Ticket) (hub : Hub F) (before after : Entry F) (glance : Option Standing)
+      → slice_get hub.entries.items number ≡ Some before
+      → AsksForTicket meaning does hub.next glance ticket before after
+      → AsksForTicketAt meaning does number ticket hub (record hub { entries = with_item hub.entries number after })
   asks_there number ticket hub before after glance at asked = record {
     rest = refl;
     none = λ none. let no : None ≡ Some before = sym none ∙ at in cc;
@@ -92,26 +96,29 @@ module _ {F T : Type 0} (meaning : F → End) (does : F → Call T → F → Typ
   }
 
   -- a sound Hub stays sound
-  pub sound_asked : (number : ℕ) (ticket : Option Ticket) (old new : Hub F) → IsSound (hub_of meaning old) → AsksForTicketAt meaning does number ticket old new → IsSound (hub_of meaning new)
-  sound_asked number ticket old new sound asks = subst (λ (hub : HubState). IsSound hub) (sym asks.rest) (by (slice_get old.entries.items number) refl) where
-    with_items : List (Entry F) → HubState
-    with_items items = record (hub_of meaning old) { entries = map (entry_of meaning) items }
+  pub sound_asked : (number : ℕ) (ticket : Option Ticket) (old new : Hub F) → IsSound (hub_of meaning old)
+      → AsksForTicketAt meaning does number ticket old new → IsSound (hub_of meaning new)
+  sound_asked number ticket old new sound asks =
+      subst (λ (hub : HubState). IsSound hub) (sym asks.rest) (by (slice_get old.entries.items number) refl) where
+        with_items : List (Entry F) → HubState
+        with_items items = record (hub_of meaning old) { entries = map (entry_of meaning) items }
 
-    asked : (before after : Entry F) (glance : Option Standing) → slice_get old.entries.items number ≡ Some before → AsksForTicket meaning does old.next glance ticket before after
-        → IsSound (with_items (set old.entries.items number after))
-    asked before after None at left = subst (λ items. IsSound (with_items items))
-        (sym (ap (λ (entry : Entry F). set old.entries.items number entry) left.1.1 ∙ set_same old.entries.items number before at)) sound
-    asked before after (Some standing) at hands =
-        let there = get_mapped (entry_of meaning) old.entries.items number before at in
-        subst (λ entries. IsSound (record (hub_of meaning old) { entries = entries })) (sym (map-set (entry_of meaning) old.entries.items number after))
-        (sound_replaced (hub_of meaning old) number (entry_of meaning before) (entry_of meaning after) sound there
-        (asked_succeeds (hub_of meaning old).progress standing ticket before after (sound.entries number (entry_of meaning before) there) hands))
+        asked : (before after : Entry F) (glance : Option Standing) → slice_get old.entries.items number ≡ Some before
+            → AsksForTicket meaning does old.next glance ticket before after
+            → IsSound (with_items (set old.entries.items number after))
+        asked before after None at left = subst (λ items. IsSound (with_items items))
+            (sym (ap (λ (entry : Entry F). set old.entries.items number entry) left.1.1 ∙ set_same old.entries.items number before at)) sound
+        asked before after (Some standing) at hands =
+            let there = get_mapped (entry_of meaning) old.entries.items number before at in
+            subst (λ entries. IsSound (record (hub_of meaning old) { entries = entries })) (sym (map-set (entry_of meaning) old.entries.items number after))
+            (sound_replaced (hub_of meaning old) number (entry_of meaning before) (entry_of meaning after) sound there
+            (asked_succeeds (hub_of meaning old).progress standing ticket before after (sound.entries number (entry_of meaning before) there) hands))
 
-    by : (at : Option (Entry F)) → slice_get old.entries.items number ≡ at → IsSound (with_items new.entries.items)
-    by None at = subst (λ items. IsSound (with_items items)) (sym (asks.none at).1) sound
-    by (Some before) at =
-        let there = asks.there before at in
-        subst (λ items. IsSound (with_items items)) (sym there.2.1) (asked before there.1 there.0 at there.2.0)
+        by : (at : Option (Entry F)) → slice_get old.entries.items number ≡ at → IsSound (with_items new.entries.items)
+        by None at = subst (λ items. IsSound (with_items items)) (sym (asks.none at).1) sound
+        by (Some before) at =
+            let there = asks.there before at in
+            subst (λ items. IsSound (with_items items)) (sym there.2.1) (asked before there.1 there.0 at there.2.0)
 
 -- a subscription without its ticket is counted as with it
 counted_without : (p : Progress) (entry : EntryState) (e : End) → IsCounted p entry e → IsCounted p (record entry { ticket = None }) e
@@ -133,16 +140,18 @@ replaces_ticketed p entry = record {
   had = λ f is. (f, is, refl);
 }
 
--- a sound Hub stays sound where a ticket is taken out
-pub sound_unticketed : {F : Type 0} (meaning : F → End) (hub : Hub F) (number : ℕ) (entry : Entry F) → IsSound (hub_of meaning hub) → slice_get hub.entries.items number ≡ Some entry
+-- a sound Hub stays sound if a ticket is taken out
+pub sound_unticketed : {F : Type 0} (meaning : F → End) (hub : Hub F) (number : ℕ) (entry : Entry F) → IsSound (hub_of meaning hub)
+    → slice_get hub.entries.items number ≡ Some entry
     → IsSound (hub_of meaning (without_ticket hub number (Some entry)))
 sound_unticketed meaning hub number entry sound at =
     let stored = entry_of meaning entry in
     subst (λ entries. IsSound (record (hub_of meaning hub) { entries = entries })) (sym (map-set (entry_of meaning) hub.entries.items number (record entry { ticket = None })))
     (sound_with (hub_of meaning hub) number stored (record stored { ticket = None }) sound (get_mapped (entry_of meaning) hub.entries.items number entry at) (replaces_ticketed (hub_of meaning hub).progress stored))
 
--- where there was no ticket, what is stored stays
-pub unticketed_same : {F : Type 0} (meaning : F → End) (hub : Hub F) (number : ℕ) (entry : Entry F) → slice_get hub.entries.items number ≡ Some entry → entry.ticket ≡ None
+-- if there was no ticket, what is stored stays
+pub unticketed_same : {F : Type 0} (meaning : F → End) (hub : Hub F) (number : ℕ) (entry : Entry F)
+    → slice_get hub.entries.items number ≡ Some entry → entry.ticket ≡ None
     → hub_of meaning (without_ticket hub number (Some entry)) ≡ hub_of meaning hub
 unticketed_same {F} meaning hub number entry at none =
     ap (λ ticket. record (hub_of meaning hub) { entries = map (entry_of meaning) (set hub.entries.items number (record entry { ticket = ticket })) }) (sym none)

@@ -24,23 +24,26 @@ use Rattle.publisher_hub.proofs.PartialRounds.Progress.{same_some}
 use Rattle.publisher_hub.proofs.AnswerLists.Places.{answered_at, there}
 
 module _ {F T : Type 0} (meaning : F → End) (does : F → Call T → F → Type 0) where
-  -- where no live number is that of one with the name, none that isn't retired has it
+  -- if no live number is that of a subscription with the name, none that isn't retired has it
   pub unnamed_of : (name : List ℕ) (hub : Hub F) → AreAllLive hub.live.items (hub_of meaning hub).entries
-      → ((i number : ℕ) → slice_get hub.live.items i ≡ Some number → IsNotNamed name number hub.entries.items) → IsUnnamed name (hub_of meaning hub).entries
+      → ((i number : ℕ) → slice_get hub.live.items i ≡ Some number → IsNotNamed name number hub.entries.items)
+      → IsUnnamed name (hub_of meaning hub).entries
   unnamed_of name hub all none k entry at live named =
       let found = all.are.covers k entry at live in
       let raw = get_before_map (entry_of meaning) hub.entries.items k entry at in
       none found.0 k found.1 raw.0 raw.1.0 (ap (λ (e : EntryState). e.name) raw.1.1 ∙ named)
 
-  -- a live number is that of one that isn't retired
-  pub live_at : (hub : Hub F) (i number : ℕ) → AreAllLive hub.live.items (hub_of meaning hub).entries → slice_get hub.live.items i ≡ Some number → IsLiveAt number hub.entries.items
+  -- a live number is that of a subscription that isn't retired
+  pub live_at : (hub : Hub F) (i number : ℕ) → AreAllLive hub.live.items (hub_of meaning hub).entries
+      → slice_get hub.live.items i ≡ Some number → IsLiveAt number hub.entries.items
   live_at hub i number all at =
       let found = all.only i number at in
       let raw = get_before_map (entry_of meaning) hub.entries.items number found.0 found.1.0 in
       (raw.0, (raw.1.0, ap (λ (e : EntryState). e.retired) raw.1.1 ∙ found.1.1))
 
   -- a place changes nothing of what was seen
-  pub seen_with_place : (old middle new : Hub F) → IsSeen meaning does old middle → new.entries.items ≡ middle.entries.items → new.live.items ≡ middle.live.items
+  pub seen_with_place : (old middle new : Hub F) → IsSeen meaning does old middle → new.entries.items ≡ middle.entries.items
+      → new.live.items ≡ middle.live.items
       → hub_of meaning new ≡ hub_of meaning middle → IsSeen meaning does old new
   seen_with_place old middle new seen entries live same = record {
     glances = seen.glances;
@@ -52,25 +55,31 @@ module _ {F T : Type 0} (meaning : F → End) (does : F → Call T → F → Typ
   }
 
   -- a subscription that isn't retired after its look was not before, and has the same name
-  lived_before : (next : ℕ) (glance : Option Standing) (x y : Entry F) → Prepares meaning does next glance x y → y.retired ≡ false → (x.retired ≡ false) × (y.name ≡ x.name)
+  lived_before : (next : ℕ) (glance : Option Standing) (x y : Entry F) → Prepares meaning does next glance x y → y.retired ≡ false
+      → (x.retired ≡ false) × (y.name ≡ x.name)
   lived_before next None x y stays live = (ap (λ (e : Entry F). e.retired) (sym stays.1) ∙ live, ap (λ (e : Entry F). e.name) stays.1)
   lived_before next (Some standing) x y sees live = (sees.sees.live, by standing.ended refl) where
     by : (ended : Rattle.std.proofs.Common.Bool) → standing.ended ≡ ended → y.name ≡ x.name
     by true is = ap (λ (e : Entry F). e.name) (sees.ended is ∙ sees.sees.ended is)
-    by false is = let stays = sees.stays is in ap (λ (e : Entry F). e.name) stays.1.1.now ∙ ap (λ (e : Entry F). e.name) (sees.sees.stays is)
+    by false is = let stays = sees.stays is in ap (λ (e : Entry F). e.name) stays.1.1.now
+        ∙ ap (λ (e : Entry F). e.name) (sees.sees.stays is)
 
-  -- no live one has the name after looks where none had it before
-  pub still_unnamed : (name : List ℕ) (old new : Hub F) → IsSeen meaning does old new → IsUnnamed name (hub_of meaning old).entries → IsUnnamed name (hub_of meaning new).entries
+  -- no live subscription has the name after looks if none had it before
+  pub still_unnamed : (name : List ℕ) (old new : Hub F) → IsSeen meaning does old new → IsUnnamed name (hub_of meaning old).entries
+      → IsUnnamed name (hub_of meaning new).entries
   still_unnamed name old new seen none k entry at live named =
       let now = get_before_map (entry_of meaning) new.entries.items k entry at in
       let each = seen.prepared in
-      let was = there old.entries.items k (let within = slice_get_within new.entries.items k now.0 now.1.0 in let many = each.as_long in omega arith) in
+      let was =
+      there old.entries.items k (let within = slice_get_within new.entries.items k now.0 now.1.0 in let many = each.as_long in omega arith) in
       let glance = answered_at (Prepares meaning does old.next) seen.glances old.entries.items new.entries.items k was.0 each was.1 in
-      let lived = lived_before old.next glance.0 was.0 now.0 (each.each k glance.0 was.0 now.0 glance.1 was.1 now.1.0) (ap (λ (e : EntryState). e.retired) now.1.1 ∙ live) in
+      let lived =
+      lived_before old.next glance.0 was.0 now.0 (each.each k glance.0 was.0 now.0 glance.1 was.1 now.1.0) (ap (λ (e : EntryState). e.retired) now.1.1 ∙ live) in
       none k (entry_of meaning was.0) (get_mapped (entry_of meaning) old.entries.items k was.0 was.1) lived.0 (sym lived.1 ∙ ap (λ (e : EntryState). e.name) now.1.1 ∙ named)
 
-  -- a live one of the name is found only where one had it before
-  pub found_none : (name : List ℕ) (old new : Hub F) (i number : ℕ) → IsSeen meaning does old new → IsUnnamed name (hub_of meaning old).entries
+  -- a live subscription of the name is found only if one had it before
+  pub found_none : (name : List ℕ) (old new : Hub F) (i number : ℕ) → IsSeen meaning does old new
+      → IsUnnamed name (hub_of meaning old).entries
       → slice_get new.live.items i ≡ Some number → IsNamed name number new.entries.items → ⊥
   found_none name old new i number seen none at named =
       let live = live_at new i number seen.all_live at in
@@ -79,7 +88,8 @@ module _ {F T : Type 0} (meaning : F → End) (does : F → Call T → F → Typ
       (ap (λ (e : Entry F). e.name) same ∙ named.1.1)
 
   -- a place that was there is there still after looks
-  pub still_place : (old new : Hub F) → IsSeen meaning does old new → vec_capacity new.entries ≡ vec_capacity old.entries → vec_capacity new.live ≡ vec_capacity old.live
+  pub still_place : (old new : Hub F) → IsSeen meaning does old new → vec_capacity new.entries ≡ vec_capacity old.entries
+      → vec_capacity new.live ≡ vec_capacity old.live
       → HasPlace old → HasPlace new
   still_place old new seen entries live place =
       let entries_before : vec_len old.entries ≡ length old.entries.items = old.entries.ok.0 in
@@ -102,15 +112,17 @@ module _ {F T : Type 0} (meaning : F → End) (does : F → Call T → F → Typ
   pub seen_ending : (old new : Hub F) → IsSeen meaning does old new → new.ending ≡ old.ending
   seen_ending old new seen = ap (λ (hub : HubState). hub.progress.ending) seen.rest
 
-  -- what is left of a Hub that was looked at, where then only its subscriptions and the live numbers changed
+  -- what is left of a Hub that was looked at, if then only its subscriptions and the live numbers changed
   pub rest_seen : (old middle new : Hub F) → IsSeen meaning does old middle → new ≡ record middle { entries = new.entries; live = new.live }
       → hub_of meaning new ≡ record (hub_of meaning old) { entries = (hub_of meaning new).entries; live = new.live.items }
   rest_seen old middle new seen rest = ap (λ (hub : Hub F). hub_of meaning hub) rest
       ∙ ap (λ (hub : HubState). record hub { entries = (hub_of meaning new).entries; live = new.live.items }) seen.rest
 
-  -- a Hub that was looked at, where then the numbers of the retired ones were left out
-  pub seen_left : (old middle new : Hub F) (glances : List (Option Standing)) → EachBy (Prepares meaning does old.next) glances old.entries.items middle.entries.items
-      → IsLookedAt (hub_of meaning old) (hub_of meaning middle) → new ≡ record middle { live = new.live } → new.live.items ≡ live_of (hub_of meaning middle).entries middle.live.items
+  -- a Hub that was looked at, and then left the numbers of the retired ones out
+  pub seen_left : (old middle new : Hub F) (glances : List (Option Standing))
+      → EachBy (Prepares meaning does old.next) glances old.entries.items middle.entries.items
+      → IsLookedAt (hub_of meaning old) (hub_of meaning middle) → new ≡ record middle { live = new.live }
+      → new.live.items ≡ live_of (hub_of meaning middle).entries middle.live.items
       → AreAllLive new.live.items (hub_of meaning middle).entries → IsSeen meaning does old new
   seen_left old middle new glances prepared looked rest left are = subst (λ (hub : Hub F). IsSeen meaning does old hub) (sym rest) (record {
     glances = glances;
@@ -121,9 +133,11 @@ module _ {F T : Type 0} (meaning : F → End) (does : F → Call T → F → Typ
     rest = ap (λ (hub : HubState). record hub { live = new.live.items }) looked.rest;
   })
 
-  -- with a place, a subscription of a name that no live one has may be added
-  pub can_admit : (name : List ℕ) (result : Result Unit Refusal) (middle new : Hub F) (due : Vec (Work T) Global) → OnOk result (HasPlace new) → vec_len due < vec_capacity due
-      → AreReady (hub_of meaning middle).entries → IsUnnamed name (hub_of meaning middle).entries → hub_of meaning new ≡ hub_of meaning middle → OnOk result (CanAdmit meaning name new due)
+  -- with a place, a subscription of a name that no live subscription has may be added
+  pub can_admit : (name : List ℕ) (result : Result Unit Refusal) (middle new : Hub F) (due : Vec (Work T) Global)
+      → OnOk result (HasPlace new) → vec_len due < vec_capacity due
+      → AreReady (hub_of meaning middle).entries → IsUnnamed name (hub_of meaning middle).entries
+      → hub_of meaning new ≡ hub_of meaning middle → OnOk result (CanAdmit meaning name new due)
   can_admit name (Ok x) middle new due place room ready unnamed same = record {
     due_place = room;
     place = place;
@@ -137,12 +151,16 @@ pub on_ok : {A E : Type 0} (r : Result A E) (P : Type 0) → P → OnOk r P
 on_ok (Ok x) P p = p
 on_ok (Err e) P p = _
 
--- where no place is found, a subscribing is refused
+-- if no place is found, a subscribing is refused
 pub refused_place : {F T : Type 0} (meaning : F → End) (does : F → Call T → F → Type 0) (name : List ℕ) (result : Result Unit Refusal) (due_before due_after : List (Work T)) (old new : Hub F)
-    → IsSeen meaning does old new → IsUnnamed name (hub_of meaning new).entries → due_after ≡ due_before → IfErr result (λ refusal. HasNoPlace refusal new)
+    → IsSeen meaning does old new → IsUnnamed name (hub_of meaning new).entries → due_after ≡ due_before
+    → IfErr result (λ refusal. HasNoPlace refusal new)
     → IfErr result (λ refusal. Refuses meaning does name refusal due_before due_after old new)
 refused_place meaning does name (Ok x) due_before due_after old new seen unnamed due why = _
-refused_place meaning does name (Err Refusal.TooMany) due_before due_after old new seen unnamed due why = (record { seen = seen; unnamed = unnamed; why = why }, due)
-refused_place meaning does name (Err Refusal.Exhausted) due_before due_after old new seen unnamed due why = (record { seen = seen; unnamed = unnamed; why = why }, due)
-refused_place meaning does name (Err Refusal.NoMemory) due_before due_after old new seen unnamed due why = (inr (record { seen = seen; unnamed = unnamed; why = why }), due)
+refused_place meaning does name (Err Refusal.TooMany) due_before due_after old new seen unnamed due why =
+    (record { seen = seen; unnamed = unnamed; why = why }, due)
+refused_place meaning does name (Err Refusal.Exhausted) due_before due_after old new seen unnamed due why =
+    (record { seen = seen; unnamed = unnamed; why = why }, due)
+refused_place meaning does name (Err Refusal.NoMemory) due_before due_after old new seen unnamed due why =
+    (inr (record { seen = seen; unnamed = unnamed; why = why }), due)
 refused_place meaning does name (Err _) due_before due_after old new seen unnamed due why = absurd why

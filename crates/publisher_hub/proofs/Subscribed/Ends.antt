@@ -22,7 +22,7 @@ follows_look e f look =
 pub look_counted : (e f : End) → Looked e f → e.looks < f.looks
 look_counted e f look = let looks : f.looks ≡ e.looks + 1 = ap (λ (end : End). end.looks) look.rest in omega arith
 
--- where there was room, one item more fits
+-- if there was room, another item fits
 pub taken_fits : {T : Type 0} → (e f : End) (x : Item) (lag : ℕ) (start : Option T) → TakesItem e x lag start f → held_count f ≤ f.capacity
 taken_fits e f x lag start takes =
     let lists : f.accepted ≡ e.accepted ++ x ∷ [] = ap (λ (end : End). end.accepted) takes.taken in

@@ -24,26 +24,31 @@ not_both (Ok x) ok err = cc
 not_both (Err e) ok err = cc
 
 -- an end that was made ready is
-now_ready : {F T : Type 0} (meaning : F → End) (does : F → Call T → F → Type 0) (answer : Result Unit NoMemory) (f g : F) → IsOk answer → Readies meaning does answer f g → (meaning g).ready ≡ true
+now_ready : {F T : Type 0} (meaning : F → End) (does : F → Call T → F → Type 0) (answer : Result Unit NoMemory) (f g : F) → IsOk answer
+    → Readies meaning does answer f g → (meaning g).ready ≡ true
 now_ready meaning does (Ok x) f g ok readies = ap (λ (end : End). end.ready) readies.ok
 now_ready meaning does (Err e) f g ok readies = cc
 
 module _ {F T : Type 0} (meaning : F → End) (does : F → Call T → F → Type 0) (next : ℕ) where
-  -- one that is ready can be prepared
+  -- a subscription that is ready can be prepared
   pub ready_is_prepared : (old new : Entry F) → FailsToPrepare meaning does next old new → IsReady (entry_of meaning old) → ⊥
   ready_is_prepared old new fails ready =
       let has = ready fails.sees.live in
       let same : has.0 ≡ meaning fails.sees.before = same_some (sym has.1.0 ∙ ap (λ feed. option_map meaning feed) fails.sees.was) in
       let stays = fails.sees.stays fails.goes_on in
-      let looked : fails.sees.after ≡ fails.readied.before = same_some (sym (ap (λ (entry : Entry F). entry.feed) stays) ∙ fails.readied.was) in
-      let kept : (meaning fails.sees.after).ready ≡ (meaning fails.sees.before).ready = ap (λ (end : End). end.ready) fails.sees.stands.look.rest in
+      let looked : fails.sees.after ≡ fails.readied.before =
+      same_some (sym (ap (λ (entry : Entry F). entry.feed) stays) ∙ fails.readied.was) in
+      let kept : (meaning fails.sees.after).ready ≡ (meaning fails.sees.before).ready =
+      ap (λ (end : End). end.ready) fails.sees.stands.look.rest in
       let is : (meaning fails.readied.before).ready ≡ true =
       ap (λ f. (meaning f).ready) (sym looked) ∙ kept ∙ ap (λ (end : End). end.ready) (sym same) ∙ has.1.1 in
       not_both fails.answer (fails.readied.readies.stays is) fails.refused
 
   -- what was prepared is ready
-  pub prepared_ready : (glance : Option Standing) (old new : Entry F) → Prepares meaning does next glance old new → IsReady (entry_of meaning new)
-  prepared_ready None old new stays live = let e : new.retired ≡ true = ap (λ (entry : Entry F). entry.retired) stays.1 ∙ stays.0 in let no : true ≡ false = sym e ∙ live in cc
+  pub prepared_ready : (glance : Option Standing) (old new : Entry F) → Prepares meaning does next glance old new
+      → IsReady (entry_of meaning new)
+  prepared_ready None old new stays live = let e : new.retired ≡ true = ap (λ (entry : Entry F). entry.retired) stays.1
+      ∙ stays.0 in let no : true ≡ false = sym e ∙ live in cc
   prepared_ready (Some standing) old new sees live = by standing.ended refl where
     by : (ended : Bool) → standing.ended ≡ ended → (end : End) × ((option_map meaning new.feed ≡ Some end) × (end.ready ≡ true))
     by true is =
@@ -54,7 +59,8 @@ module _ {F T : Type 0} (meaning : F → End) (does : F → Call T → F → Typ
         let readied = stays.1.1 in
         (meaning readied.after, (ap (λ (entry : Entry F). option_map meaning entry.feed) readied.now, now_ready meaning does stays.0 readied.before readied.after stays.1.0 readied.readies))
 
-  pub all_prepared_ready : (glances : List (Option Standing)) (xs ys : List (Entry F)) → EachBy (Prepares meaning does next) glances xs ys → AreReady (map (entry_of meaning) ys)
+  pub all_prepared_ready : (glances : List (Option Standing)) (xs ys : List (Entry F)) → EachBy (Prepares meaning does next) glances xs ys
+      → AreReady (map (entry_of meaning) ys)
   all_prepared_ready glances xs ys each k entry at =
       let now = get_before_map (entry_of meaning) ys k entry at in
       let old = there xs k (let within = slice_get_within ys k now.0 now.1.0 in let many = each.as_long in omega arith) in
@@ -67,7 +73,7 @@ ready_can_take entries ready k entry at live =
     let has = ready k entry at live in
     (has.0, (has.1.0, ap (λ b. b || is_some has.0.closing) has.1.1))
 
--- what a round has made ready is, where it isn't refused
+-- what a round has made ready is ready, if it isn't refused
 pub on_ok_ready : {F T : Type 0} (meaning : F → End) (does : F → Call T → F → Type 0) (next capacity : ℕ) (result : Result Bool NoMemory) (xs ys : List (Entry F))
     → IfOk result (λ room. (glances : List (Option Standing)) × (EachBy (Prepares meaning does next) glances xs ys × IsRoom room capacity glances)) → OnOk result (AreReady (map (entry_of meaning) ys))
 on_ok_ready meaning does next capacity (Ok room) xs ys ok = all_prepared_ready meaning does next ok.0 xs ys ok.1.0

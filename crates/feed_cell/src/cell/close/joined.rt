@@ -1,4 +1,5 @@
-//! How the producer's seat takes in the handle's at a close. The other may be of another table, and then nothing is taken in.
+//! How the producer's seat takes in the handle's at a close. The other may be of another table, and then nothing is
+//! taken in.
 ghost use Rattle.std.specs.Prelude.{◌≡◌, ◌⊎◌};
 ghost use Rattle.atomic_table.specs.Table.{Joins};
 
@@ -10,9 +11,9 @@ use std::sync::atomic::raw;
 
 /// Takes the other seat in, if that is of this table, too. Otherwise the seat stays as it was.
 ///
-/// No program can tell which of the two it is, and none needs to: a seat has no bytes, and what it knows is for the proof
-/// alone. The load, of a word of its own, is for the proof, too: a proof may open the rule of a table only beside a step on
-/// some word.
+/// No program can tell which of the two it is, and none needs to: a seat has no bytes, and what it knows is for the
+/// proof alone. The load, of a word of its own, is for the proof, too: a proof may open the rule of a table only beside
+/// a step on some word.
 pub(crate) fn join_if_of_one_table<S, V, K, P: TableRule<S, V, K>, M: Join<V>>(
     table: &Shared<S, V, K, P>,
     seat: &mut Seat<S, V>,

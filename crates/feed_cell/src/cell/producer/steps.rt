@@ -53,7 +53,7 @@ fn look_for_room<B: Listener>(party: &mut Seated<B>) -> u64
 }
 
 /// Loads head.
-pub(crate) fn look<B: Listener>(party: &mut Seated<B>) -> u64
+pub(crate) fn see_standing<B: Listener>(party: &mut Seated<B>) -> u64
     requires may { MayOffer party.old.seat.me }
     ensures stands { StepsTo party.old.seat (FindsHead party.old.seat.me result) party.new.seat }
 {
@@ -73,7 +73,8 @@ pub(crate) fn place<B: Listener>(party: &mut Seated<B>, tail: u64, item: Item)
     table.store::<PutStep>(&mut party.seat, TAIL, tail + 1);
 }
 
-/// Leaves what an empty slot held. To drop it would be to read it, which would fetch the slot from the task's cache once more.
+/// Leaves what an empty slot held. To drop it would be to read it, which would fetch the slot from the task's cache
+/// once more.
 fn leave<B: Listener>(nothing: Held<B>)
     requires empty { nothing ≡ Held.Empty }
 {

@@ -1,9 +1,9 @@
 //! The calls of the subscriber, and what its answers change beside it. Nothing here touches a word of the subscription.
-ghost use Rattle.std.specs.Prelude.{◌≡◌, ◌<◌, length, IfSome, IfNone};
+ghost use Rattle.std.specs.Prelude.{◌≡◌, ◌<◌, length, None, IfSome, IfNone};
 ghost use Rattle.feed_core.specs.Prelude.{Subscribed, Next, UNBOUNDED};
 ghost use Rattle.feed_core.specs.declared.turn.TheConstants.{SIGNALS_IN_A_TURN};
 ghost use Rattle.feed_cell.specs.TaskSteps.{IsGoOn, IsQuietEnd, GoesOnWith, EndsWith, FinishesWith};
-ghost use Rattle.feed_cell.specs.TaskAnswers.{after_answer, after_end};
+ghost use Rattle.feed_cell.specs.TaskAnswers.{after_answer, after_end, IsObeyed, RepliesLast, RepliesOnce};
 
 use crate::cell::{BoxedLodger, Lodger};
 use feed_core::{Seen, tell_next, tell_subscribed, tell_terminal};
@@ -13,10 +13,12 @@ impl<B: Listener> BoxedLodger<B> {
     /// Tells `onSubscribe`, and does what its answer asks for: the end, if it does.
     pub(crate) fn greet(&mut self, seen: &mut Seen) -> Option<How>
         requires room { length seen.old.signals < SIGNALS_IN_A_TURN }
+        requires going { self.old.how ≡ None }
         ensures goes { IfNone result
             (GoesOnWith B.told Subscribed 0 self.old self.new seen.old seen.new) }
         ensures ends { IfSome result
             (λ how. EndsWith B.told Subscribed 0 how self.old self.new seen.old seen.new) }
+        ensures replies { RepliesOnce B.replied result self.old self.new }
     {
         let guest: &mut Lodger<B> = &mut self.lodger;
         match tell_subscribed(&mut guest.subscriber, seen) {
@@ -28,11 +30,13 @@ impl<B: Listener> BoxedLodger<B> {
     /// Tells an item that was taken, and does what the answer asks for: the end, if it does.
     pub(crate) fn give(&mut self, item: Item, seen: &mut Seen) -> Option<How>
         requires room { length seen.old.signals < SIGNALS_IN_A_TURN }
+        requires going { self.old.how ≡ None }
         requires few { self.old.given < UNBOUNDED }
         ensures goes { IfNone result
             (GoesOnWith B.told (Next item) 1 self.old self.new seen.old seen.new) }
         ensures ends { IfSome result
             (λ how. EndsWith B.told (Next item) 1 how self.old self.new seen.old seen.new) }
+        ensures replies { RepliesOnce B.replied result self.old self.new }
     {
         let guest: &mut Lodger<B> = &mut self.lodger;
         guest.given += 1;
@@ -45,11 +49,16 @@ impl<B: Listener> BoxedLodger<B> {
     /// Tells the end that is due, if it has a signal. Answers the end that it is.
     pub(crate) fn finish(&mut self, due: How, seen: &mut Seen) -> How
         requires room { length seen.old.signals < SIGNALS_IN_A_TURN }
-        ensures { FinishesWith B.told due result self.old self.new seen.old seen.new }
+        requires going { self.old.how ≡ None }
+        ensures finishes { FinishesWith B.told due result self.old self.new seen.old seen.new }
+        ensures replies { RepliesLast B.replied due result self.old self.new }
     {
         let guest: &mut Lodger<B> = &mut self.lodger;
         match tell_terminal(&mut guest.subscriber, due, seen) {
-            Ok(()) => end_as(guest, due),
+            Ok(()) => {
+                guest.how = Some(due);
+                due
+            }
             Err(NoMemory) => end_as(guest, How::OutOfMemory),
         }
     }
@@ -59,6 +68,7 @@ impl<B: Listener> BoxedLodger<B> {
 fn obey<B: Listener>(guest: &mut Lodger<B>, answer: Answer) -> Option<How>
     ensures goes { IfNone result (IsGoOn answer × (guest.new ≡ after_answer answer guest.old)) }
     ensures ends { IfSome result (λ how. IsQuietEnd how × (guest.new ≡ after_end how guest.old)) }
+    ensures obeys { IsObeyed answer result guest.old guest.new }
 {
     match answer {
         Answer::Go => None,

@@ -1,5 +1,6 @@
-//! What the task does after a look or a peek: it gives one item, or ends the subscription, or rests. If it finds nothing to do
-//! after a peek, it waits a moment and peeks again, a few times, and then it looks, for it rests only after a look.
+//! What the task does after a look or a peek: it gives one item, or ends the subscription, or rests. If it finds
+//! nothing to do after a peek, it waits a moment and peeks again, a few times, and then it looks, for it rests only
+//! after a look.
 ghost use Rattle.std.specs.Prelude.{◌≡◌, ◌+◌, ◌≤◌, ◌<◌, length, ◌==◌, IfSome, IfNone};
 ghost use Rattle.std.specs.Int.{bit_at};
 ghost use Rattle.feed_core.specs.Prelude.{UNBOUNDED};
@@ -7,7 +8,7 @@ ghost use Rattle.feed_core.specs.World.Table.{MayRest, MaySee};
 ghost use Rattle.feed_core.specs.declared.turn.TheConstants.{SIGNALS_IN_A_TURN};
 ghost use Rattle.feed_cell.specs.Control.{NEW};
 ghost use Rattle.feed_cell.specs.TaskSteps.{notes_of, MayFinish, Carries, HasLookedAt, HasTaken, HasNoneToGive, FindsNone, TakesNext};
-ghost use Rattle.feed_cell.specs.TaskLooks.{Serves, ServesOnce, ServesSoon, GivesAs, FinishesAs, RestsIfQuiet, EndsOrRests};
+ghost use Rattle.feed_cell.specs.TaskLooks.{IsNotedOut, Serves, ServesOnce, ServesSoon, GivesAs, FinishesAs, RestsIfQuiet, EndsOrRests};
 ghost use Rattle.feed_cell.specs.Seats.{IsSameSeat};
 
 use super::causes::causes_in;
@@ -18,8 +19,9 @@ use crossbeam_utils::Backoff;
 use feed_core::{Causes, Seen};
 use flow_rules::{How, Item, Listener, UNBOUNDED};
 
-/// How often a task that finds nothing to do peeks again before it looks and rests. It spins before each of these peeks, some 3 to 4
-/// microseconds in all: to rest and be started again costs more than the item that is likely to come meanwhile.
+/// How often a task that finds nothing to do peeks again before it looks and rests. It spins before each of these
+/// peeks, some 3 to 4 microseconds in all: to rest and be started again costs more than the item that is likely to come
+/// meanwhile.
 const PATIENCE: u32 = 6;
 
 /// What the task did after a look, or after some peeks and a look.
@@ -35,13 +37,14 @@ pub(crate) enum Served {
     Ended(How),
 }
 
-/// Does what a peek that left this word allows: the end at once, or the next item, or the end that waits for the items, or rest. To
-/// rest it waits a moment and looks first, which may show something else to do.
+/// Does what a peek that left this word allows: the end at once, or the next item, or the end that waits for the items,
+/// or rest. To rest it waits a moment and looks first, which may show something else to do.
 pub(crate) fn serve<B: Listener>(party: &mut Seated<B>, word: u64, seen: &mut Seen) -> Served
     requires looked { HasLookedAt B.told word party.old.seat.me }
     requires room { length seen.old.signals < SIGNALS_IN_A_TURN }
     ensures seat { IsSameSeat party.old.seat party.new.seat }
-    ensures serves { Serves B.told result party.old.seat.me party.new.seat.me seen.old seen.new }
+    ensures serves { Serves B.told B.replied result
+        party.old.seat.me party.new.seat.me seen.old seen.new }
 {
     if let Some(served) = serve_soon(party, word, seen) {
         return served;
@@ -53,13 +56,13 @@ pub(crate) fn serve<B: Listener>(party: &mut Seated<B>, word: u64, seen: &mut Se
     }
 }
 
-/// Does what a peek that left this word allows, or one of the peeks that it makes in the moment after that. Answers nothing if there
-/// was nothing to do until then, and something was new at each peek.
+/// Does what a peek that left this word allows, or one of the peeks that it makes in the moment after that. Answers
+/// nothing if there was nothing to do until then, and something was new at each peek.
 fn serve_soon<B: Listener>(party: &mut Seated<B>, word: u64, seen: &mut Seen) -> Option<Served>
     requires looked { HasLookedAt B.told word party.old.seat.me }
     requires room { length seen.old.signals < SIGNALS_IN_A_TURN }
     ensures seat { IsSameSeat party.old.seat party.new.seat }
-    ensures serves { ServesSoon B.told result
+    ensures serves { ServesSoon B.told B.replied result
         party.old.seat.me party.new.seat.me seen.old seen.new }
 {
     if let Some(served) = serve_once(party, word, seen) {
@@ -76,12 +79,13 @@ fn serve_soon<B: Listener>(party: &mut Seated<B>, word: u64, seen: &mut Seen) ->
     None
 }
 
-/// Does what a look or a peek that left this word allows. Answers nothing if that is to rest, and something was new at the peek.
+/// Does what a look or a peek that left this word allows. Answers nothing if that is to rest, and something was new at
+/// the peek.
 fn serve_once<B: Listener>(party: &mut Seated<B>, word: u64, seen: &mut Seen) -> Option<Served>
     requires looked { HasLookedAt B.told word party.old.seat.me }
     requires room { length seen.old.signals < SIGNALS_IN_A_TURN }
     ensures seat { IsSameSeat party.old.seat party.new.seat }
-    ensures serves { ServesOnce B.told word result
+    ensures serves { ServesOnce B.told B.replied word result
         party.old.seat.me party.new.seat.me seen.old seen.new }
 {
     let (given, own, answers) = notes(party);
@@ -96,13 +100,14 @@ fn serve_once<B: Listener>(party: &mut Seated<B>, word: u64, seen: &mut Seen) ->
     }
 }
 
-/// What lies beside the subscriber: how many items were taken, how many its answers requested, and the causes that they brought
-/// about.
+/// What lies beside the subscriber: how many items were taken, how many its answers requested, and the causes that they
+/// brought about.
 fn notes<B: Listener>(party: &mut Seated<B>) -> (u64, u64, Causes)
     requires carries { Carries B.told party.old.seat.me }
     ensures seat { IsSameSeat party.old.seat party.new.seat }
     ensures same { party.new.seat.me ≡ party.old.seat.me }
     ensures notes { result ≡ notes_of party.old.seat.me.0 }
+    ensures noted { IsNotedOut B.replied party.old.seat.me }
 {
     match party
         .seat
@@ -141,7 +146,7 @@ fn give<B: Listener>(party: &mut Seated<B>, given: u64, item: Item, seen: &mut S
     requires counted { (length party.old.seat.me.0.taken ≡ given + 1) × (given < UNBOUNDED) }
     requires room { length seen.old.signals < SIGNALS_IN_A_TURN }
     ensures seat { IsSameSeat party.old.seat party.new.seat }
-    ensures gives { GivesAs B.told item result
+    ensures gives { GivesAs B.told B.replied item result
         party.old.seat.me party.new.seat.me seen.old seen.new }
 {
     match party
@@ -159,8 +164,8 @@ fn give<B: Listener>(party: &mut Seated<B>, given: u64, item: Item, seen: &mut S
     }
 }
 
-/// Does what is left to do if no item is to be given: the end that waits for the items, if all of them were given, or rest.
-/// Answers nothing if that is to rest, and something was new at the peek.
+/// Does what is left to do if no item is to be given: the end that waits for the items, if all of them were given, or
+/// rest. Answers nothing if that is to rest, and something was new at the peek.
 fn close_or_rest<B: Listener>(
     party: &mut Seated<B>,
     given: u64,
@@ -175,7 +180,7 @@ fn close_or_rest<B: Listener>(
     requires look { party.old.seat.me.0.look ≡ word }
     requires room { length seen.old.signals < SIGNALS_IN_A_TURN }
     ensures seat { IsSameSeat party.old.seat party.new.seat }
-    ensures concludes { EndsOrRests B.told word result
+    ensures concludes { EndsOrRests B.told B.replied word result
         party.old.seat.me party.new.seat.me seen.old seen.new }
 {
     match due {
@@ -184,13 +189,15 @@ fn close_or_rest<B: Listener>(
     }
 }
 
-/// Rests, unless something is new since the look that left this word. After a peek that found something new it answers nothing.
+/// Rests, unless something is new since the look that left this word. After a peek that found something new it answers
+/// nothing.
 fn rest<B: Listener>(party: &mut Seated<B>, word: u64) -> Option<Served>
     requires carries { Carries B.told party.old.seat.me }
     requires may { MayRest (length party.old.seat.me.0.taken) party.old.seat.me.0.runner }
     requires look { party.old.seat.me.0.look ≡ word }
     ensures seat { IsSameSeat party.old.seat party.new.seat }
-    ensures rests { RestsIfQuiet B.told word result party.old.seat.me party.new.seat.me }
+    ensures rests { RestsIfQuiet B.told B.replied word result
+        party.old.seat.me party.new.seat.me }
 {
     if has_news(word) {
         None
@@ -215,7 +222,7 @@ fn finish<B: Listener>(party: &mut Seated<B>, given: u64, due: How, seen: &mut S
     requires counted { (length party.old.seat.me.0.taken ≡ given) × (given ≤ UNBOUNDED) }
     requires room { length seen.old.signals < SIGNALS_IN_A_TURN }
     ensures seat { IsSameSeat party.old.seat party.new.seat }
-    ensures finishes { FinishesAs B.told due result
+    ensures finishes { FinishesAs B.told B.replied due result
         party.old.seat.me party.new.seat.me seen.old seen.new }
 {
     match party

@@ -81,7 +81,7 @@ pub(crate) struct RestStep;
 impl<B: Listener> Play<Held<B>, View> for RestStep {
     ghost use Rattle.feed_cell.specs.TaskPlays.{IsRest};
 
-    ghost then = { λ step. IsRest step.first };
+    ghost then = { λ step. IsRest B.replied step.first };
 }
 
 /// The subscription ends: a store of head, with its mark.
@@ -90,5 +90,5 @@ pub(crate) struct EndStep;
 impl<B: Listener> Play<Held<B>, View> for EndStep {
     ghost use Rattle.feed_cell.specs.TaskPlays.{IsEnd};
 
-    ghost then = { λ _ before _. IsEnd before };
+    ghost then = { λ _ before _. IsEnd B.replied before };
 }

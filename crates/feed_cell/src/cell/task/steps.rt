@@ -8,7 +8,7 @@ ghost use Rattle.feed_core.specs.World.Table.{MaySee, MayMeasure, MayTake, MayRe
 ghost use Rattle.feed_core.specs.declared.turn.outlook.Outlook.TheVariants.{Resting};
 ghost use Rattle.feed_cell.specs.Types.{Nobody, Ready, Taken};
 ghost use Rattle.feed_cell.specs.Control.{MARK, NEW};
-ghost use Rattle.feed_cell.specs.Parties.{IsGoing, IsHome};
+ghost use Rattle.feed_cell.specs.Parties.{CanLook, IsHome};
 ghost use Rattle.feed_cell.specs.Seats.{how_out};
 ghost use Rattle.feed_cell.specs.TaskPlays.{SeesPut, Measures, MeasuresNone, grants_by, outlook_by};
 ghost use Rattle.feed_cell.specs.TaskSteps.{HasItem, KeepsCounts, KeepsSubscriber, Carries, HasLookedAt, IsEnding, MovesOut, ComesToRest, HasMissed, HasLeft};
@@ -27,7 +27,7 @@ use flow_rules::{Item, Listener};
 /// Looks at the marks and causes, and clears the mark of something new. Answers the word that this leaves.
 pub(crate) fn look<B: Listener>(party: &mut Seated<B>) -> u64
     requires runner { RunsFree party.old.seat.me.0 }
-    requires going { IsGoing B.told party.old.seat.me }
+    requires can { CanLook B.told party.old.seat.me }
     ensures seat { IsSameSeat party.old.seat party.new.seat }
     ensures looked { HasLookedAt B.told result party.new.seat.me }
     ensures counts { KeepsCounts party.old.seat.me.0 party.new.seat.me.0 }
@@ -38,10 +38,11 @@ pub(crate) fn look<B: Listener>(party: &mut Seated<B>) -> u64
     table.fetch_and::<LookStep>(&mut party.seat, CONTROL, QUIET) & QUIET
 }
 
-/// Peeks at the marks and causes: a look that leaves the mark of something new, and is a load. Answers the word that it found.
+/// Peeks at the marks and causes: a look that leaves the mark of something new, and is a load. Answers the word that it
+/// found.
 pub(crate) fn peek<B: Listener>(party: &mut Seated<B>) -> u64
     requires runner { RunsFree party.old.seat.me.0 }
-    requires going { IsGoing B.told party.old.seat.me }
+    requires can { CanLook B.told party.old.seat.me }
     ensures seat { IsSameSeat party.old.seat party.new.seat }
     ensures looked { HasLookedAt B.told result party.new.seat.me }
     ensures counts { KeepsCounts party.old.seat.me.0 party.new.seat.me.0 }
@@ -51,7 +52,8 @@ pub(crate) fn peek<B: Listener>(party: &mut Seated<B>) -> u64
     table.load::<PeekStep>(&mut party.seat, CONTROL)
 }
 
-/// The first peek of a task that was handed over. It takes the subscriber out of its slot. Answers the word that it found.
+/// The first peek of a task that was handed over. It takes the subscriber out of its slot. Answers the word that it
+/// found.
 pub(crate) fn peek_first<B: Listener>(party: &mut Seated<B>) -> u64
     requires runner { RunsFree party.old.seat.me.0 }
     requires home { IsHome party.old.seat.me }
@@ -122,7 +124,7 @@ pub(crate) fn try_rest<B: Listener>(party: &mut Seated<B>, word: u64) -> bool
     requires look { party.old.seat.me.0.look ≡ word }
     requires quiet { bit_at word NEW ≡ 0 }
     ensures seat { IsSameSeat party.old.seat party.new.seat }
-    ensures rests { result ≡ true → ComesToRest party.old.seat.me party.new.seat.me }
+    ensures rests { result ≡ true → ComesToRest B.replied party.old.seat.me party.new.seat.me }
     ensures missed { result ≡ false → HasMissed party.old.seat.me party.new.seat.me }
 {
     let table = &party.table.shared;
@@ -133,7 +135,7 @@ pub(crate) fn try_rest<B: Listener>(party: &mut Seated<B>, word: u64) -> bool
 pub(crate) fn end<B: Listener>(party: &mut Seated<B>, given: u64)
     requires ending { (how : How) × IsEnding B.told how party.old.seat.me }
     requires counted { (length party.old.seat.me.0.taken ≡ given) × (given < MARK) }
-    ensures ended { StepsTo party.old.seat (HasLeft party.old.seat.me) party.new.seat }
+    ensures ended { StepsTo party.old.seat (HasLeft B.replied party.old.seat.me) party.new.seat }
 {
     let table = &party.table.shared;
     table.store::<EndStep>(&mut party.seat, HEAD, given + MARK);

@@ -1,6 +1,7 @@
-//! A turn of a task: a greeting, if one is owed, and looks until it gave 64 items, rested or ended. Its words are the same as
-//! those of `Desk::turn`, which is a turn of one thread.
-ghost use Rattle.std.specs.Prelude.{◌≡◌, ◌≤◌, ◌↔◌, [], length, Err, IfOk, IfErr, OnOk};
+//! A turn of a task: a greeting, if one is owed, and looks until it gave 64 items, rested or ended. Its words are the
+//! same as those of `Desk::turn`, which is a turn of one thread.
+ghost use Rattle.std.specs.Prelude.{◌≡◌, ◌≤◌, ◌↔◌, [], length, Err, Some, IfOk, IfErr, OnOk};
+ghost use Rattle.feed_core.specs.EndedBy.{IsEndedBy};
 ghost use Rattle.feed_core.specs.Prelude.{Complete, Error, Fault, How, items_of};
 ghost use Rattle.feed_core.specs.Turn.{EndsIn, EndsInObeyed};
 ghost use Rattle.feed_core.specs.declared.turn.TheConstants.{ITEMS_IN_A_TURN, SIGNALS_IN_A_TURN};
@@ -8,7 +9,7 @@ ghost use Rattle.feed_core.specs.declared.turn.outlook.Outlook.TheVariants.{Agai
 ghost use Rattle.feed_cell.specs.TaskPauses.{IsPaused};
 ghost use Rattle.feed_cell.specs.TaskSteps.{HasLookedAt, KeepsCounts};
 ghost use Rattle.feed_cell.specs.Seats.{IsSameSeat};
-ghost use Rattle.feed_cell.specs.TaskTurns.{MayGoOn, OnAgain, outlook_of, IsBeforeLook, RunsAs, TurnsInto, MayLookNext, KeepsGoing};
+ghost use Rattle.feed_cell.specs.TaskTurns.{MayGoOn, OnAgain, OnEnded, has_cancel, outlook_of, IsBeforeLook, RunsAs, TurnsInto, MayLookNext, KeepsGoing};
 ghost use Rattle.feed_cell.specs.Views.{RunsFree};
 
 use super::looks::{Served, serve};
@@ -33,11 +34,12 @@ pub enum Turn<B: Listener> {
 
 impl<B: Listener> Task<B> {
     /// Tells the subscriber what is owed: `onSubscribe` first of all, then items below the demand, 64 at most, then the
-    /// terminal signal. What it was told is what `seen` then holds (`Flow.Subscriber`; Reactive Streams 1.0, rules 1.1, 1.3,
-    /// 1.5, 1.7 and 1.9). Before each item it looks or peeks: that showed no cancel, bad request, second subscribing or error that
-    /// overtakes the items, and a measure after it showed that the item was requested. What a callback answers is done at once;
-    /// one that is refused memory ends the subscription. If nothing is left to tell, it spins for a few microseconds in case more
-    /// comes. It goes on only after 64 items, or if something was new when it would have rested.
+    /// terminal signal. What it was told is what `seen` then holds (`Flow.Subscriber`; Reactive Streams 1.0, rules 1.1,
+    /// 1.3, 1.5, 1.7 and 1.9). Before each item it looks or peeks: that showed no cancel, bad request, second
+    /// subscribing or error that overtakes the items, and a measure after it showed that the item was requested. What a
+    /// callback answers is done at once; one that is refused memory ends the subscription. If nothing is left to tell,
+    /// it spins for a few microseconds in case more comes. It goes on only after 64 items, or if something was new when
+    /// it would have rested.
     pub fn turn(self, seen: &mut Seen) -> Turn<B>
 
         // What it tells, by what it takes each item, and what became of the task.
@@ -54,6 +56,10 @@ impl<B: Listener> Task<B> {
             ↔ (outlook_of result ≡ Ended How.Completed) }
         ensures errored { (fault : Fault)
             → EndsIn seen.new.signals (Error fault) ↔ (outlook_of result ≡ Ended (How.Errored fault)) }
+
+        // Who asked for the end: its last reply, or the handle, by the word that its last look left.
+        ensures asked_for { OnEnded result (λ how spent.
+            IsEndedBy (has_cancel spent.knows.look) (Some how) spent.replied) }
 
         // Whose failure ended it: that of the callback whose signal it told last.
         ensures failed { (code : _) → outlook_of result ≡ Ended (How.Failed code)
@@ -85,7 +91,8 @@ fn run<B: Listener>(party: &mut Seated<B>, stage: Stage, seen: &mut Seen) -> Out
     requires nothing { seen.old.signals ≡ [] }
     ensures seat { IsSameSeat party.old.seat party.new.seat }
     ensures runner { result ≡ Again → RunsFree party.new.seat.me.0 }
-    ensures runs { RunsAs B.told result party.old.seat.me party.new.seat.me seen.new.signals }
+    ensures runs { RunsAs B.told B.replied result
+        party.old.seat.me party.new.seat.me seen.new.signals }
     ensures failed { (code : _) → result ≡ Ended (How.Failed code)
         → EndsInObeyed seen.new.signals }
     ensures room { seen.new.room ≡ seen.old.room }
@@ -106,8 +113,8 @@ fn run<B: Listener>(party: &mut Seated<B>, stage: Stage, seen: &mut Seen) -> Out
     Outlook::Again
 }
 
-/// Tells `onSubscribe`, if nothing was told yet. Answers where the task stands then, or the end, if what the callback answers
-/// is one.
+/// Tells `onSubscribe`, if nothing was told yet. Answers where the task stands then, or the end, if what the callback
+/// answers is one.
 fn greet<B: Listener>(party: &mut Seated<B>, stage: Stage, seen: &mut Seen) -> Result<Stage, How>
     requires runner { RunsFree party.old.seat.me.0 }
     requires paused { IsPaused B.told stage party.old.seat.me }
@@ -115,9 +122,9 @@ fn greet<B: Listener>(party: &mut Seated<B>, stage: Stage, seen: &mut Seen) -> R
     ensures seat { IsSameSeat party.old.seat party.new.seat }
     ensures runner { OnOk result (RunsFree party.new.seat.me.0) }
     ensures goes { IfOk result (λ stage.
-        IsBeforeLook B.told stage 0 party.old.seat.me party.new.seat.me seen.new.signals) }
+        IsBeforeLook B.told B.replied stage 0 party.old.seat.me party.new.seat.me seen.new.signals) }
     ensures ends { IfErr result (λ how.
-        RunsAs B.told (Ended how) party.old.seat.me party.new.seat.me seen.new.signals) }
+        RunsAs B.told B.replied (Ended how) party.old.seat.me party.new.seat.me seen.new.signals) }
     ensures failed { (code : _) → result ≡ Err (How.Failed code)
         → EndsInObeyed seen.new.signals }
     ensures room { seen.new.room ≡ seen.old.room }
@@ -140,8 +147,8 @@ fn greet<B: Listener>(party: &mut Seated<B>, stage: Stage, seen: &mut Seen) -> R
     }
 }
 
-/// Peeks at the marks and causes: a look, which is dearer, is needed only before rest. The first peek of a task that a signal started
-/// takes its subscriber with it.
+/// Peeks at the marks and causes: a look, which is dearer, is needed only before rest. The first peek of a task that a
+/// signal started takes its subscriber with it.
 fn peek_next<B: Listener>(party: &mut Seated<B>, stage: Stage) -> u64
     requires runner { RunsFree party.old.seat.me.0 }
     requires may { MayLookNext B.told stage party.old.seat.me }

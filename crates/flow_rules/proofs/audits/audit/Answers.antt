@@ -1,4 +1,4 @@
--- Where the machine stops, the list is not allowed; at the end it has gone through all of it.
+-- If the machine stops, the list is not allowed; at the end it has gone through all of it.
 use Rattle.std.proofs.Common.{◌≡◌, ◌∷◌, [], List, refl, arith, drop, false, ◌∙◌, true}
 use Rattle.std.proofs.lemmas.List.{drop_all}
 use Rattle.flow_rules.specs.declared.signal.Signal.{Signal}

@@ -1,5 +1,5 @@
 use Rattle.std.proofs.Common.{◌<◌, length, arith}
-use Rattle.lines_demo.proofs.Reading.{all_read}
+use Rattle.lines_demo.proofs.Inputs.Reading.{all_read}
 use Rattle.lines_demo.proofs.reader.read_whole.Goals as goal
 
 pub returns-clause-known : goal.returns-clause-known

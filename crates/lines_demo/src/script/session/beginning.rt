@@ -29,7 +29,7 @@ impl<B: Listener> Session<B> {
         }
     }
 
-    /// Asks for a capacity. Refused after the beginning, and where the capacity is 0.
+    /// Asks for a capacity. Refused after the beginning, and if the capacity is 0.
     pub(super) fn set_capacity(&mut self, alloc: Global, asked: usize) -> Result<Reply, Refusal>
         ensures { Replies (λ refusals. cap_result self.old refusals asked)
             (reply_or_refusal result) self.new }

@@ -40,7 +40,7 @@ impl<B: Listener> Session<B> {
         Ok(Reply::Retried(answer, drops_of(answer)))
     }
 
-    /// Offers a text to all live subscriptions. Where a handler is given, each drop is tried once more as it answers.
+    /// Offers a text to all live subscriptions. If a handler is given, each drop is tried once more as it answers.
     fn offer_text(
         &mut self,
         text: Text,
@@ -55,7 +55,7 @@ impl<B: Listener> Session<B> {
         Ok(answer)
     }
 
-    /// Publishes a text to all live subscriptions, and is refused where that would wait for room.
+    /// Publishes a text to all live subscriptions, and is refused if that would wait for room.
     pub(super) fn submit(&mut self, alloc: Global, text: &[u8]) -> Result<Reply, Refusal>
         requires begun { self.old.beginning.is_over ≡ true }
         ensures { Replies (λ refusals. submit_result self.old refusals text.now)

@@ -13,7 +13,8 @@ use flow_rules::{ErrorOrder, Listener, Name, NoMemory, Refusal};
 use std::alloc::Global;
 
 impl<B: Listener> Session<B> {
-    /// The next subscriber of the stock subscribes. Where memory is refused for its buffer, it goes to the end of the stock.
+    /// The next subscriber of the stock subscribes. If memory is refused for its buffer, it goes to the end of the
+    /// stock.
     pub(super) fn subscribe(
         &mut self,
         alloc: Global,
@@ -47,7 +48,8 @@ impl<B: Listener> Session<B> {
     }
 }
 
-/// A new subscription of this subscriber, which has requested so many items, and is told a closing error in this order. Where memory is refused, the subscriber comes back.
+/// A new subscription of this subscriber, which has requested this many items, and is told a closing error in this
+/// order. If memory is refused, the subscriber comes back.
 fn new_desk<B: Listener>(
     alloc: Global,
     capacity: usize,
@@ -55,7 +57,7 @@ fn new_desk<B: Listener>(
     subscriber: B,
     number: u64,
 ) -> Result<Desk<B>, B>
-    requires untold { B.told subscriber ≡ [] }
+    requires untold { (B.told subscriber ≡ []) × (B.replied subscriber ≡ []) }
     requires steady { B.is_steady subscriber ≡ true }
     requires sized { IsCapacity capacity }
     requires bounded { number ≤ UNBOUNDED }

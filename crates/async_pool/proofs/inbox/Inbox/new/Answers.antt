@@ -1,5 +1,4 @@
-use Rattle.async_pool.proofs.Steps.{begins}
 use Rattle.async_pool.proofs.inbox.Inbox.new.Goals as goal
 
 pub ruled-requires-clause-rule : goal.ruled-requires-clause-rule
-ruled-requires-clause-rule g c = begins
+ruled-requires-clause-rule g c = c.requires

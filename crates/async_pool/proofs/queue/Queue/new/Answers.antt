@@ -1,5 +1,4 @@
-use Rattle.async_pool.proofs.Steps.{begins}
 use Rattle.async_pool.proofs.queue.Queue.new.Goals as goal
 
 pub fifo_as-requires : goal.fifo_as-requires
-fifo_as-requires g c = begins
+fifo_as-requires g c = c.requires

@@ -1,6 +1,6 @@
--- The producer's seat takes in the handle's, where that is of the same subscription.
+-- The producer's seat takes in the handle's, if that is of the same subscription.
 use Rattle.std.proofs.Common.{◌≡◌, true, ap, sym, ◌∙◌, None, Some}
-use Rattle.feed_cell.proofs.OneSeat.{gathers, still, in_it}
+use Rattle.feed_cell.proofs.Left.OneSeat.{gathers, still, in_it}
 use Rattle.feed_cell.specs.Parties.{KnowsHandle, known_end}
 use Rattle.feed_core.specs.World.Table.{MayBegin}
 use Rattle.feed_cell.proofs.cell.close.close.Goals as goal

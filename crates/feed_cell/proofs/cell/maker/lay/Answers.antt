@@ -1,6 +1,6 @@
 use Rattle.std.proofs.Common.{List, sym, subst}
 use Rattle.atomic_table.specs.Table.{opening}
-use Rattle.feed_cell.proofs.FirstSeats.{opens}
+use Rattle.feed_cell.proofs.Table.FirstSeats.{opens}
 use Rattle.feed_cell.specs.Cell.{CellRule, words_by}
 use Rattle.feed_cell.specs.Views.{first_view}
 use Rattle.feed_cell.specs.declared.cell.Held.{Held}

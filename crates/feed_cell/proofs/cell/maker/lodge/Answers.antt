@@ -1,5 +1,5 @@
 use Rattle.std.proofs.Common.{rules}
-use Rattle.feed_cell.proofs.FirstSeats.{enters}
+use Rattle.feed_cell.proofs.Table.FirstSeats.{enters}
 use Rattle.feed_cell.proofs.cell.maker.lodge.Goals as goal
 
 pub load-slot-requires : goal.load-slot-requires

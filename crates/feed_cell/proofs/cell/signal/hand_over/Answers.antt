@@ -1,6 +1,6 @@
 use Rattle.std.proofs.Common.{rules, refl, sym, ap, ◌∙◌, [], ℕ}
 use Rattle.feed_cell.specs.Views.{ready_view}
-use Rattle.feed_cell.proofs.HandOver.{low_bit, low_set, hands_over}
+use Rattle.feed_cell.proofs.Signals.HandOver.{low_bit, low_set, hands_over}
 use Rattle.feed_cell.proofs.cell.signal.hand_over.Goals as goal
 
 pub split_seat-requires : goal.split_seat-requires

@@ -2,9 +2,9 @@ use Rattle.std.proofs.Common.{rules, ◌∙◌, ap, []}
 use Rattle.feed_core.specs.Prelude.{ErrorOrder}
 use Rattle.feed_cell.specs.Control.{cause_in}
 use Rattle.feed_cell.specs.Views.{ready_view}
-use Rattle.feed_cell.proofs.HandOver.{on_some}
-use Rattle.feed_cell.proofs.SignalStep.{signals}
-use Rattle.feed_cell.proofs.SignalSent.{signalled, must_hand_over}
+use Rattle.feed_cell.proofs.Signals.HandOver.{on_some}
+use Rattle.feed_cell.proofs.Signals.Step.{signals}
+use Rattle.feed_cell.proofs.Signals.Sent.{signalled, must_hand_over}
 use Rattle.feed_cell.proofs.cell.signal.signal.Goals as goal
 
 pub fetch_or-found-requires : goal.fetch_or-found-requires

@@ -1,5 +1,5 @@
 use Rattle.std.proofs.Common.{rules}
-use Rattle.feed_cell.proofs.SignalMarks.{finds_marks}
+use Rattle.feed_cell.proofs.Signals.Marks.{finds_marks}
 use Rattle.feed_cell.proofs.cell.signal.signal_more.Goals as goal
 
 pub load-found-requires : goal.load-found-requires

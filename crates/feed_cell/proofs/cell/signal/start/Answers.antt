@@ -1,6 +1,6 @@
--- Where no task was started, what is spare stays as it was.
+-- If no task was started, what is spare stays as it was.
 use Rattle.std.proofs.Common.{◌≡◌, None, refl}
-use Rattle.feed_cell.proofs.HandOver.{if_none}
+use Rattle.feed_cell.proofs.Signals.HandOver.{if_none}
 use Rattle.feed_cell.proofs.cell.signal.start.Goals as goal
 
 pub returns-in_err-seat-clause-none : goal.returns-in_err-seat-clause-none

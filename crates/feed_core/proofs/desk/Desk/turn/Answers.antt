@@ -2,11 +2,12 @@
 use Rattle.std.proofs.Common.{length, ap, ◌∙◌, arith}
 use Rattle.feed_core.specs.Prelude.{Complete, Error}
 use Rattle.feed_core.specs.Seen.{SeenState}
-use Rattle.feed_core.proofs.FailedTurns.{failed_last}
-use Rattle.feed_core.proofs.GreetedTurns.{completes_greeted, errs_greeted, few_greeted, in_order_greeted, turns_greeted}
-use Rattle.feed_core.proofs.SteadyTurns.{turn_changes, turn_meets}
-use Rattle.feed_core.proofs.StoppedLooks.{stopped_gives_nothing}
-use Rattle.feed_core.proofs.TurnLoop.{completes, errs, few_signals, in_order, in_order_yet, items_of-so_far, length-so_far, no_terminal_yet, so_far_more, turns_end, turns_full}
+use Rattle.feed_core.proofs.Turns.Failed.{failed_last}
+use Rattle.feed_core.proofs.Turns.Greeted.{completes_greeted, errs_greeted, few_greeted, in_order_greeted, turns_greeted}
+use Rattle.feed_core.proofs.Turns.Replied.{turn_ended_by, turn_refused}
+use Rattle.feed_core.proofs.Turns.Steady.{turn_changes, turn_meets}
+use Rattle.feed_core.proofs.Turns.StoppedLooks.{stopped_gives_nothing}
+use Rattle.feed_core.proofs.Turns.Loop.{completes, errs, few_signals, in_order, in_order_yet, items_of-so_far, length-so_far, no_terminal_yet, part_after, so_far_more, turns_end, turns_full}
 use Rattle.feed_core.proofs.desk.Desk.turn.Goals as goal
 
 pub look-requires-clause-mid_turn : goal.look-requires-clause-mid_turn
@@ -34,6 +35,10 @@ returns-in_default g c =
       stopped = stopped_gives_nothing turns.1;
       demand = greets.part.grows;
       flow = greets.part.flow;
+      requested = greets.part.below;
+      accounted = greets.part.accounted;
+      by = turn_ended_by greets.part;
+      refused = turn_refused greets.part;
       at_most = let given = greets.given in omega arith;
       few = few_greeted greets other nothing;
       room = c.greet.ensures.room ∙ ap (λ (seen : SeenState). seen.room) c.clear.ensures;
@@ -49,6 +54,7 @@ returns-in_default-look g c =
     let looks = c.look.ensures.looks in
     let other = c.in_default-look.not-Again in
     let turns = turns_end so_far looks other c.loop-test.true in
+    let part = part_after so_far looks in
     record {
       turned = turns;
       plain = turn_meets turns.1 c.requires.owed.1;
@@ -57,6 +63,10 @@ returns-in_default-look g c =
       stopped = stopped_gives_nothing turns.1;
       demand = omega (arith, so_far.part.grows, looks.part.grows);
       flow = looks.part.flow;
+      requested = part.below;
+      accounted = part.accounted;
+      by = turn_ended_by part;
+      refused = turn_refused part;
       at_most = let given = so_far.given in let one = looks.few in let under = c.loop-test.true in omega arith;
       few = few_signals so_far looks c.loop-test.true;
       room = c.look.ensures.room ∙ c.loop.invariant.1;
@@ -91,3 +101,9 @@ returns-clause-completed g c = (λ ends. absurd (no_terminal_yet c.loop.invarian
 
 pub returns-clause-errored : goal.returns-clause-errored
 returns-clause-errored g c fault = (λ ends. absurd (no_terminal_yet c.loop.invariant.0 (Error fault) tt ends), λ e. cc)
+
+pub returns-clause-refused : goal.returns-clause-refused
+returns-clause-refused g c = turn_refused c.loop.invariant.0.part
+
+pub returns-clause-by : goal.returns-clause-by
+returns-clause-by g c = turn_ended_by c.loop.invariant.0.part

@@ -67,13 +67,13 @@ module _ (X Y : RattleType) (g : Ghosts Y.Denot X.Denot) (d : Dict) {M : Type 1}
 
     walks : Goes (p ∷ [])
     walks =
-        let v : Val = vstruct vnil in let r : denote.Triple.Entry.Res (ended X Y g d).signature z.0.0 = g.signals z.0.3.0.now in
+        let v : Val = vstruct vnil in let r : denote.Triple.Entry.Res (ended X Y g d).signature z.0.0 = g.heard z.0.3.0.now in
         let O : Fml = (type_at (ended X Y g d).signature.result z.0.0).own_val r (v ∷ []) in
         qed 𝓛 ((raw (alive 𝓛 (ended X Y g d).signature z.0.0 z.0.1) ⊛ ‵ (owns (types_at (ended X Y g d).signature.params z.0.0) z.0.3 (p ∷ [], tt))) ∷ raw ((held z.0.0 z.0.3).requires z.1) ∷ []) ∵ split ! $ keep ! (0 ∷ []) $
         enter ! C Λ (function X Y g d) (p ∷ []) _ $ alloc_all ! (λ l. pass_all ! refl ((tt, tt), tt) $
         sets ! (agg ! (no_more !)) refl (tt, tt) $
         returns ! (look_at ! 0 refl) $ free_all ! refl $
-        use0 𝓛 (‵ O) (makes_shadow 𝓛 O (λ _. (((λ vss. (tt, tt)), tt), tt)) ((record { signals = r }, (refl, tt)), (((tt, (refl, tt)), tt), tt))) $
+        use0 𝓛 (‵ O) (makes_shadow 𝓛 O (λ _. (((λ vss. (tt, tt)), tt), tt)) ((record { heard = r }, (refl, tt)), (((tt, (refl, tt)), tt), tt))) $
         suffices ! _ (ends_at 𝓛 (ended X Y g d) (stayed X Y g d) held (At (p ∷ [])) v r (tt, tt) (tt, tt)) $ says ! refl $
         nothing ! $ nothing ! $ fjoin ! $ join ! $ move ! (1 ∷ 0 ∷ []) $ join ! $ done !)
 

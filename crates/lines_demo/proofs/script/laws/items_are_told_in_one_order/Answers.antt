@@ -1,6 +1,6 @@
 use Rattle.lines_demo.specs.Script.Laws.{script_state}
-use Rattle.lines_demo.proofs.KeptScripts.{script_reached}
-use Rattle.lines_demo.proofs.ScriptLaws.{reached_order}
+use Rattle.lines_demo.proofs.Kept.Scripts.{script_reached}
+use Rattle.lines_demo.proofs.Scripts.Laws.{reached_order}
 use Rattle.lines_demo.proofs.script.laws.items_are_told_in_one_order.Goals as goal
 
 pub returns : goal.returns

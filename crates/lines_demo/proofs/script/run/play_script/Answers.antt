@@ -1,7 +1,7 @@
 use Rattle.std.proofs.Common.{refl, true, false, Ok, Err}
 use Rattle.std.proofs.lemmas.Result.{err_from_is_err_and}
 use Rattle.lines_demo.specs.Script.Fault.{reading_fault, script_fault}
-use Rattle.lines_demo.proofs.Reading.{reading_stopped, reading_writes_nothing, script_played, fault_played}
+use Rattle.lines_demo.proofs.Inputs.Reading.{reading_stopped, reading_writes_nothing, script_played, fault_played}
 use Rattle.lines_demo.proofs.script.run.play_script.Goals as goal
 
 pub returns-in_err-bytes-clause-plays : goal.returns-in_err-bytes-clause-plays
@@ -10,7 +10,7 @@ returns-in_err-bytes-clause-plays g c =
     rw (failed.1, failed.2) (reading_stopped (reading_fault c.in_err-bytes.field-0.0) _ _ _ (reading_writes_nothing c.in_err-bytes.field-0.0))
 
 pub returns-in_default-clause-plays : goal.returns-in_default-clause-plays
-returns-in_default-clause-plays g c = reading_stopped _ _ _ _ (λ e. cc)
+returns-in_default-clause-plays g c = reading_stopped _ _ _ _ tt
 
 pub returns-clause-plays : goal.returns-clause-plays
 returns-clause-plays g c =

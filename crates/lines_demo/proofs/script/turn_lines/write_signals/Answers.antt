@@ -1,7 +1,7 @@
 use Rattle.std.proofs.Common.{◌+◌}
 use Rattle.std.proofs.lemmas.Result.{err_from_is_err_and}
 use Rattle.commands.proofs.Writers.{writes_less, writes_after, writes_done}
-use Rattle.lines_demo.proofs.SignalLines.{signal_lines_more, signal_lines_rest}
+use Rattle.lines_demo.proofs.Scripts.SignalLines.{signal_lines_more, signal_lines_rest}
 use Rattle.lines_demo.proofs.script.turn_lines.write_signals.Goals as goal
 
 pub returns-in_err-write_signal : goal.returns-in_err-write_signal

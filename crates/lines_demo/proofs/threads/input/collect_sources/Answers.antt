@@ -1,7 +1,7 @@
 use Rattle.std.proofs.Common.{◌≡◌, ◌<◌, ◌≤◌, ◌+◌, ap, refl, inr, take, length, arith, rules}
 use Rattle.lines_demo.specs.Threads.Input.{sources_of, with_source}
 use Rattle.lines_demo.specs.declared.threads.input.TheConstants.{MOST_SOURCES}
-use Rattle.lines_demo.proofs.InputSources.{sources_more, sources_fewer}
+use Rattle.lines_demo.proofs.Inputs.Sources.{sources_more, sources_fewer}
 use Rattle.lines_demo.proofs.threads.input.collect_sources.Goals as goal
 
 pub returns-then-len-gt-MOST_SOURCES-clause-refusals : goal.returns-then-len-gt-MOST_SOURCES-clause-refusals

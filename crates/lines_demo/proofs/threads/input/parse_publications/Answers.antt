@@ -1,7 +1,7 @@
 use Rattle.std.proofs.Common.{◌<◌, length, rules}
 use Rattle.lines_demo.specs.Threads.Input.{AddsLine}
-use Rattle.lines_demo.proofs.InputLines.{SpellsFirst, spells_none, spells_first, spells_more, spells_all, refused_line}
-use Rattle.lines_demo.proofs.Lines.{lines_split}
+use Rattle.lines_demo.proofs.Inputs.Lines.{SpellsFirst, spells_none, spells_first, spells_more, spells_all, refused_line}
+use Rattle.lines_demo.proofs.Scripts.Lines.{lines_split}
 use Rattle.commands.proofs.Writers.{empty_is}
 use Rattle.lines_demo.proofs.threads.input.parse_publications.Goals as goal
 

@@ -1,5 +1,5 @@
 use Rattle.std.proofs.Common.{length}
-use Rattle.lines_demo.proofs.InputLines.{Spells}
+use Rattle.lines_demo.proofs.Inputs.Lines.{Spells}
 use Rattle.lines_demo.proofs.threads.input.parse_publications.Given as goal
 
 -- the publications of the lines so far were read

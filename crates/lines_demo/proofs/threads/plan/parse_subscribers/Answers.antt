@@ -1,6 +1,6 @@
 use Rattle.std.proofs.Common.{◌≡◌, ◌∙◌, [], ◌∷◌, ◌++◌, refl, sym, ap, inl, inr, rules}
 use Rattle.lines_demo.specs.Threads.Plan.{spelled_subscriber}
-use Rattle.lines_demo.proofs.PlannedSubscribers.{reads_none, reads_more, reads_wrong, reads_all, texts_from, texts_past}
+use Rattle.lines_demo.proofs.Inputs.PlannedSubscribers.{reads_none, reads_more, reads_wrong, reads_all, texts_from, texts_past}
 use Rattle.lines_demo.proofs.threads.plan.parse_subscribers.Goals as goal
 
 pub loop-word-init : goal.loop-word-init

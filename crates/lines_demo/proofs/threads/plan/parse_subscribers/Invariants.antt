@@ -1,5 +1,5 @@
 use Rattle.std.proofs.Common.{drop, map}
-use Rattle.lines_demo.proofs.PlannedSubscribers.{Reads}
+use Rattle.lines_demo.proofs.Inputs.PlannedSubscribers.{Reads}
 use Rattle.lines_demo.proofs.threads.plan.parse_subscribers.Given as goal
 
 -- the subscribers of the words so far were read

@@ -4,5 +4,7 @@ use Rattle.publisher.proofs.state.State.publish_all.Given as goal
 
 -- as many of the texts as were gone over were published, and the submitter's share has grown by that number
 abbrev pub invariant-loop-published : goal.invariant-loop-published
-invariant-loop-published g l = PublishesFirst l.initial.own.source l.texts l.published l.initial.self.hub l.self.hub l.initial.due.items l.due.items l.lag
-    × ((l.own.publications.amount ≡ l.initial.own.publications.amount + l.published) × ((l.own.source ≡ l.initial.own.source) × (l.own.drops.amount ≡ l.initial.own.drops.amount)))
+invariant-loop-published g l = PublishesFirst l.initial.own.source l.texts l.published l.initial.self.hub l.self.hub
+    l.initial.due.items l.due.items l.lag
+    × ((l.own.publications.amount ≡ l.initial.own.publications.amount + l.published)
+    × ((l.own.source ≡ l.initial.own.source) × (l.own.drops.amount ≡ l.initial.own.drops.amount)))

@@ -3,7 +3,7 @@ use Rattle.std.proofs.Common.{true, false, Option, ap, subst}
 use Rattle.feed_cell.specs.Parties.{ProducerState}
 use Rattle.publisher.specs.Reclaiming.{TakesEnd}
 use Rattle.publisher.specs.State.{PublisherState}
-use Rattle.publisher.proofs.ReclaimedStates.{reclaims_of, refuses_later, refuses_living, shows_end, state_viewed}
+use Rattle.publisher.proofs.SoundStates.ReclaimedStates.{reclaims_of, refuses_later, refuses_living, shows_end, state_viewed}
 use Rattle.publisher.proofs.state.State.reclaim.Goals as goal
 
 pub returns-then-not-has_ended-clause-refused : goal.returns-then-not-has_ended-clause-refused
@@ -15,17 +15,22 @@ returns-then-not-has_ended-clause-refused g c =
 pub returns-in-Some-take_end-clause-ok : goal.returns-in-Some-take_end-clause-ok
 returns-in-Some-take_end-clause-ok g c =
     let look = c.has_ended-has_ended in
-    reclaims_of c.args.entry c.in-Some.known c.args.handle c.in-Some-take_end.producer c.with.result look.new.self c.take_end.new.self _ (state_viewed _ look.new.self _ c.self.view_is c.self.invariant)
-    (ap (λ (s : PublisherState). s.counted) c.self.view_is) c.in-Some.ensures (subst (λ p. TakesEnd c.args.entry p look.new.self c.take_end.new.self) c.in-Some-take_end.is c.take_end.ensures) c.with.ensures c.args.self.now
+    reclaims_of c.args.entry c.in-Some.known c.args.handle c.in-Some-take_end.producer c.with.result look.new.self
+    c.take_end.new.self _ (state_viewed _ look.new.self _ c.self.view_is c.self.invariant)
+    (ap (λ (s : PublisherState). s.counted) c.self.view_is) c.in-Some.ensures
+    (subst (λ p. TakesEnd c.args.entry p look.new.self c.take_end.new.self) c.in-Some-take_end.is
+    c.take_end.ensures) c.with.ensures c.args.self.now
     (shows_end c.args.entry look.result true c.args.self.now look.new.self c.if-not-has_ended.false look.ensures.looks look.ensures.rest)
 
 pub returns-in-None-take_end-clause-refused : goal.returns-in-None-take_end-clause-refused
 returns-in-None-take_end-clause-refused g c =
     let look = c.has_ended-has_ended in
-    refuses_later c.args.entry c.in-Some.known.name c.args.self.now c.take_end.new.self c.unsettled-in-None-take_end.result c.unsettled-in-None-take_end.ensures (
+    refuses_later c.args.entry c.in-Some.known.name c.args.self.now c.take_end.new.self
+    c.unsettled-in-None-take_end.result c.unsettled-in-None-take_end.ensures (
       look.new.self,
       (
         shows_end c.args.entry look.result true c.args.self.now look.new.self c.if-not-has_ended.false look.ensures.looks look.ensures.rest,
-        subst (λ (p : Option ProducerState). TakesEnd c.args.entry p look.new.self c.take_end.new.self) c.in-None-take_end.is c.take_end.ensures,
+        subst (λ (p : Option ProducerState). TakesEnd c.args.entry p look.new.self c.take_end.new.self)
+            c.in-None-take_end.is c.take_end.ensures,
       ),
     )

@@ -1,15 +1,17 @@
 use Rattle.std.proofs.Common.{◌≡◌, None, Some, is_some, refl, sym, ap, ◌∙◌}
-use Rattle.publisher.proofs.Ticketed.{last_stays}
-use Rattle.publisher.proofs.AskedStates.{state_asked, state_spent}
+use Rattle.publisher.proofs.Tickets.Ticketed.{last_stays}
+use Rattle.publisher.proofs.SoundStates.AskedStates.{state_asked, state_spent}
 use Rattle.publisher.proofs.state.State.spend_ticket.Goals as goal
 
 pub invariant_of-self : goal.invariant_of-self
 invariant_of-self g c = rw c.keep_last.ensures
-    (state_spent c.self.inside.hub c.ended.new.self c.args.entry c.ended.result c.ended.ensures.looks _ c.in-Some.ticket c.spend.result c.is_some-is_closed.result c.self.invariant c.ended.ensures.sound c.in-Some.is c.spend.ensures.count
+    (state_spent c.self.inside.hub c.ended.new.self c.args.entry c.ended.result c.ended.ensures.looks _
+    c.in-Some.ticket c.spend.result c.is_some-is_closed.result c.self.invariant c.ended.ensures.sound c.in-Some.is c.spend.ensures.count
     (λ closed. sym (c.is_some-is_closed.ensures ∙ ap is_some c.ending.ensures) ∙ closed))
 
 pub invariant_of-self-in_default : goal.invariant_of-self-in_default
-invariant_of-self-in_default g c = state_asked c.self.inside.hub c.ended.new.self c.args.entry c.ended.result c.ended.ensures.looks _ c.self.invariant c.ended.ensures.sound
+invariant_of-self-in_default g c = state_asked c.self.inside.hub c.ended.new.self c.args.entry c.ended.result
+    c.ended.ensures.looks _ c.self.invariant c.ended.ensures.sound
 
 pub returns-in-Some : goal.returns-in-Some
 returns-in-Some g c = rw (← c.self.view_is) (record {

@@ -1,9 +1,9 @@
--- A closed Hub answers no ticket; what an open one answers is of its opening ticket.
+-- A closed Hub answers no ticket; what an open Hub answers is of the count of its opening ticket.
 use Rattle.std.proofs.Common.{Result, Ok, Err, OnErr, Option, ap, refl}
 use Rattle.close_count.specs.declared.opening.Opening.{Opening}
 use Rattle.publisher_hub.proofs.hub.Hub.add_ticket.Goals as goal
 
--- what is so after a refusal, where something else is
+-- what holds after a refusal, if no refusal was made
 refused : {A E : Type 0} {P Q : Type 0} (r : Result A E) → (P → Q) → OnErr r P → OnErr r Q
 refused (Ok x) more so = tt
 refused (Err e) more so = more so
@@ -30,7 +30,8 @@ pub returns-clause-refusals : goal.returns-clause-refusals
 returns-clause-refusals g c = c.one_more.ensures.refusals
 
 pub returns-clause-unchanged : goal.returns-clause-unchanged
-returns-clause-unchanged g c = refused c.one_more.result (λ same. ap (λ (opening : Option Opening). record c.args.self.now { opening = opening }) same) c.one_more.ensures.unchanged
+returns-clause-unchanged g c =
+    refused c.one_more.result (λ same. ap (λ (opening : Option Opening). record c.args.self.now { opening = opening }) same) c.one_more.ensures.unchanged
 
 pub returns-clause-rest : goal.returns-clause-rest
 returns-clause-rest g c = refl

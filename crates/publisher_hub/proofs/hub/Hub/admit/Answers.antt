@@ -30,7 +30,8 @@ returns-clause-ok g c =
       after = c.close_new-feed.result;
       closes = subst (λ (e : Option Ending). ClosesNew g.F.Feed.meaning g.F.Feed.does e c.args.feed closed.0 c.close_new-feed.result) ending closed.1.0;
       due = closed.1.1 ∙ ap (λ due. due ++ work_of c.len-number.result closed.0) c.in_ok-may_subscribe.ensures.nothing_due;
-      entries = c.add.ensures.entries ∙ ap (λ n. middle.entries.items ++ first_entry c.args.name n c.close_new-feed.result c.args.ticket ∷ []) next;
+      entries = c.add.ensures.entries
+          ∙ ap (λ n. middle.entries.items ++ first_entry c.args.name n c.close_new-feed.result c.args.ticket ∷ []) next;
       live = c.add.ensures.live ∙ ap (λ n. middle.live.items ++ n ∷ []) (sym (number ∙ long));
       rest = rest_seen g.F.Feed.meaning g.F.Feed.does old middle c.add.new.self seen c.add.ensures.rest;
     }

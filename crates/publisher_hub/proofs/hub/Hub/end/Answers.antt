@@ -14,23 +14,25 @@ not_some o test is off some = let no : true ≡ false = sym some ∙ sym is ∙ 
 not_none : {A : Type 0} (o : Option A) (test : Bool) → test ≡ is_some o → test ≡ true → o ≡ None → ⊥
 not_none o test is on none = let no : true ≡ false = sym on ∙ is ∙ ap is_some none in cc
 
-pub close-requires-clause-unclosed : goal.close-requires-clause-unclosed
-close-requires-clause-unclosed g c = none_by c.args.self.now.ending (sym c.is_some.ensures ∙ c.if-is_some.false)
+pub end_open-requires-clause-unclosed : goal.end_open-requires-clause-unclosed
+end_open-requires-clause-unclosed g c = none_by c.args.self.now.ending (sym c.is_some.ensures ∙ c.if-is_some.false)
 
 pub returns-clause-first : goal.returns-clause-first
-returns-clause-first g c none = c.close.ensures.closes
+returns-clause-first g c none = c.end_open.ensures.closes
 
 pub returns-clause-means : goal.returns-clause-means
-returns-clause-means g c none = c.close.ensures.means
+returns-clause-means g c none = c.end_open.ensures.means
 
 pub returns-clause-later : goal.returns-clause-later
 returns-clause-later g c some = absurd (not_some c.args.self.now.ending c.is_some.result c.is_some.ensures c.if-is_some.false some)
 
 pub returns-then-is_some-clause-first : goal.returns-then-is_some-clause-first
-returns-then-is_some-clause-first g c none = absurd (not_none c.args.self.now.ending c.is_some.result c.is_some.ensures c.if-is_some.true none)
+returns-then-is_some-clause-first g c none =
+    absurd (not_none c.args.self.now.ending c.is_some.result c.is_some.ensures c.if-is_some.true none)
 
 pub returns-then-is_some-clause-means : goal.returns-then-is_some-clause-means
-returns-then-is_some-clause-means g c none = absurd (not_none c.args.self.now.ending c.is_some.result c.is_some.ensures c.if-is_some.true none)
+returns-then-is_some-clause-means g c none =
+    absurd (not_none c.args.self.now.ending c.is_some.result c.is_some.ensures c.if-is_some.true none)
 
 pub returns-then-is_some-clause-later : goal.returns-then-is_some-clause-later
 returns-then-is_some-clause-later g c some = (refl, (refl, refl))

@@ -9,7 +9,8 @@ pub end_all-requires-clause-live : goal.end_all-requires-clause-live
 end_all-requires-clause-live g c = rw (c.deref.ensures.value, c.deref_mut.ensures.value) c.requires.sound.live
 
 pub end_all-requires-clause-take : goal.end_all-requires-clause-take
-end_all-requires-clause-take g c = rw c.deref_mut.ensures.value (ready_can_take (hub_of g.F.Feed.meaning c.args.self.now).entries c.requires.ready)
+end_all-requires-clause-take g c =
+    rw c.deref_mut.ensures.value (ready_can_take (hub_of g.F.Feed.meaning c.args.self.now).entries c.requires.ready)
 
 pub returns-clause-closes : goal.returns-clause-closes
 returns-clause-closes g c =

@@ -9,4 +9,5 @@ returns-in-Some g c =
     rw (← c.deref.ensures.value, slice_get_read c.deref.result.now _ c.args.entry c.in-Some.entry.now refl lookup.3.0 lookup.1) (search rules)
 
 pub returns-in-None : goal.returns-in-None
-returns-in-None g c = rw (← c.deref.ensures.value, slice_get_past c.deref.result.now c.args.entry c.in-None.ensures.lookup.3) ((λ on. on), (λ there. there))
+returns-in-None g c =
+    rw (← c.deref.ensures.value, slice_get_past c.deref.result.now c.args.entry c.in-None.ensures.lookup.3) ((λ on. on), (λ there. there))

@@ -8,13 +8,15 @@ use Rattle.publisher_hub.proofs.hub.Hub.take_feed.Goals as goal
 pub returns-in-Some-clause-takes : goal.returns-in-Some-clause-takes
 returns-in-Some-clause-takes g c =
     let within : c.args.entry < length c.args.self.now.entries.items = search rules in
-    let there = slice_get-get_or c.args.self.now.entries.items c.args.entry c.in-Some.entry.now within ∙ ap Some (sym c.in-Some.ensures.value) in
+    let there =
+    slice_get-get_or c.args.self.now.entries.items c.args.entry c.in-Some.entry.now within ∙ ap Some (sym c.in-Some.ensures.value) in
     takes_there g.F.Feed.meaning c.args.entry c.take_feed.result c.args.self.now c.in-Some.entry.now c.take_feed.new.self there c.take_feed.ensures
 
 pub returns-in-Some-clause-sound : goal.returns-in-Some-clause-sound
 returns-in-Some-clause-sound g c =
     let within : c.args.entry < length c.args.self.now.entries.items = search rules in
-    let there = slice_get-get_or c.args.self.now.entries.items c.args.entry c.in-Some.entry.now within ∙ ap Some (sym c.in-Some.ensures.value) in
+    let there =
+    slice_get-get_or c.args.self.now.entries.items c.args.entry c.in-Some.entry.now within ∙ ap Some (sym c.in-Some.ensures.value) in
     sound_without g.F.Feed.meaning c.args.entry c.take_feed.result c.args.self.now (record c.args.self.now { entries = with_item c.args.self.now.entries c.args.entry c.take_feed.new.self })
     c.requires.sound (takes_there g.F.Feed.meaning c.args.entry c.take_feed.result c.args.self.now c.in-Some.entry.now c.take_feed.new.self there c.take_feed.ensures)
 

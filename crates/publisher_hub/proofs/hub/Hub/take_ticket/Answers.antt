@@ -19,7 +19,8 @@ there g c =
     slice_get-get_or c.args.self.now.entries.items c.args.entry c.in-Some.entry.now within ∙ ap Some (sym c.in-Some.ensures.value)
 
 after : (g : Over) (c : After-take g) → record c.args.self.now { entries = with_item c.args.self.now.entries c.args.entry (record c.in-Some.entry.now { ticket = c.take.new.self }) } ≡ without_ticket c.args.self.now c.args.entry (Some c.in-Some.entry.now)
-after g c = ap (λ t. record c.args.self.now { entries = with_item c.args.self.now.entries c.args.entry (record c.in-Some.entry.now { ticket = t }) }) c.take.ensures.after
+after g c =
+    ap (λ t. record c.args.self.now { entries = with_item c.args.self.now.entries c.args.entry (record c.in-Some.entry.now { ticket = t }) }) c.take.ensures.after
 
 pub returns-in-Some-clause-ticket : goal.returns-in-Some-clause-ticket
 returns-in-Some-clause-ticket g c =
@@ -34,7 +35,8 @@ returns-in-Some-clause-taken g c =
 pub returns-in-Some-clause-none : goal.returns-in-Some-clause-none
 returns-in-Some-clause-none g c = λ none.
     let left = (goal.at.returns-in-Some-clause-none g c).After-take in
-    ap (hub_of g.F.Feed.meaning) (after g left) ∙ unticketed_same g.F.Feed.meaning c.args.self.now c.args.entry c.in-Some.entry.now (there g left) (sym c.take.ensures.value ∙ none)
+    ap (hub_of g.F.Feed.meaning) (after g left)
+    ∙ unticketed_same g.F.Feed.meaning c.args.self.now c.args.entry c.in-Some.entry.now (there g left) (sym c.take.ensures.value ∙ none)
 
 pub returns-in-Some-clause-sound : goal.returns-in-Some-clause-sound
 returns-in-Some-clause-sound g c =

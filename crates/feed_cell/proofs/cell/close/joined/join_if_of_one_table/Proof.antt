@@ -1,4 +1,5 @@
--- `join_if_of_one_table` is a load of a word of its own, beside which one seat takes in another's view if both are of one table.
+-- `join_if_of_one_table` is a load of a word of its own, beside which one seat takes in another's view if both are of
+-- one table.
 use Rattle.atomic_table.proofs.Names.{◌≡◌, ℕ, List, [], ◌∷◌, sym, refl, lit<, a_type, dcons, dnil, named, Val, vunit, vptr, inst_fn, SProp, emp, via, Lft, Fml, fsep, flft, ftrue, ‵, raw, ◌⊛◌, given, mean, at_ret, ◌$◌, ◌∵◌, !, qed, by, move, keep, drop, split, split3, join, fsplit, fsplit3, fjoin, fjoin3, learn, use0, use1, use3, rewrite, feq_i, stop, addr, lit, unit_lit, of_opd, no_more, and_then, first, blocks, exec, Calls-last, returns, enter, alloc_all, pass_all, free_all, look_at, get, sets, lands_last, env, agg, tables, yes, RattleType, owns, types_at, plain, Ptr, block_ptr, nothing, param, bounded, Stays, stay_dropped, walk_of, Goes-dropped, fact, fact_i, Coded, RefOf, mut_vals, mut_Tells, shr_vals, shr_Tells, opens, closes, stay_ref, Goes-ref, unhide, hidden_shr, lent_out, Tuple, shr_bor-open, obor_close, tokens_halve}
 use types.Run.{from}
 use types.ByLocal.{take_at, give_at}
@@ -11,7 +12,7 @@ use Rattle.atomic_table.specs.contracts.shared.Shared as table
 use Rattle.atomic_table.specs.contracts.shared.Seat as seat
 use Rattle.atomic_table.proofs.Fields.{HandData}
 use Rattle.atomic_table.proofs.Calls.{fm, seq_cst, found, finds, loads}
-use Rattle.feed_cell.proofs.JoinWalk.{same_table, which_one, me_after, it_after, joined, takes_in}
+use Rattle.feed_cell.proofs.Left.JoinWalk.{same_table, which_one, me_after, it_after, joined, takes_in}
 use Rattle.feed_cell.specs.contracts.cell.close.joined.join_if_of_one_table.{ended, clauses}
 use Rattle.feed_cell.specs.contracts.cell.close.joined.join_if_of_one_table.Key.{name as #self}
 use Rattle.feed_cell.proofs.cell.close.joined.join_if_of_one_table.Statement.{statement}
@@ -38,7 +39,8 @@ join_if_of_one_table_spec 𝓤 𝓛 𝓜 𝓡 wired T U Q P Mv _ _ _ _ _ g d g' 
     enter ! 𝓣.C 𝓣.Λ fn (vptr a.0.ref_ptr.0 a.0.ref_ptr.1 ∷ vptr a.1.0.ref_ptr.0 a.1.0.ref_ptr.1 ∷ vptr a.1.1.0.ref_ptr.0 a.1.1.0.ref_ptr.1 ∷ []) Post $ alloc_all ! (λ l. pass_all ! refl ((tt, tt), ((tt, tt), ((tt, tt), tt))) $ let Ev = env fn.locals l in
     use1 𝓛 (‵ (hidden_shr D κ (w, (p, (tt, tt))) b o) ⊛ ‵ (base.Fml.fhide (table.the_lent R W X Y g t (block_ptr b o) κ))) (lent_out 𝓛 (table.struct R W X Y g) (table.the_codes T.Denot U.Denot Q.Denot P.Denot R.coded W.coded X.coded Y.coded (marker.the_row (Tuple (Y ∷ W ∷ X ∷ []))).coded) (table.the_heap R W X Y g) (table.the_lent R W X Y g) κ t b o) $
     split ! $ drop ! $ unhide ! $ fsplit ! $ move ! (0 ∷ 2 ∷ []) $
-    -- [the table's lifetime; the token; the rule; the seat; its borrow; its token; the types' tokens; the other seat; its borrow; its token]
+    -- [the table's lifetime; the token; the rule; the seat; its borrow; its token; the types' tokens; the other seat;
+    -- its borrow; its token]
     shr_bor-open ! tt (tokens_halve 𝓛 α) (λ s. let out : ℕ → Fml = joined 𝓛 R cv (g.holds t.key) w p z (l 4) 0 s id v zo k.id u₂ lv g'.spent is_one in
     move ! (7 ∷ 8 ∷ 9 ∷ []) $ opens ! tt Sr b₂ o₂ (λ ts₂. move ! (1 ∷ []) $ fsplit ! $ move ! (9 ∷ 10 ∷ 11 ∷ []) $
     opens ! tt Sr b' o' (λ ts. move ! (1 ∷ []) $ fsplit ! $ rewrite ! 1 (λ (x : TableId). ‵ (mine R cv.code x id v)) asked.0 refl $ move ! (1 ∷ 7 ∷ []) $ fjoin ! $

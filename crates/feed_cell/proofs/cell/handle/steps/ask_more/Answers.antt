@@ -1,6 +1,6 @@
 use Rattle.std.proofs.Common.{ℕ, rules, sym, ap, ◌∙◌}
 use Rattle.feed_core.specs.Prelude.{total_after}
-use Rattle.feed_cell.proofs.HandleSteps.{asks_more}
+use Rattle.feed_cell.proofs.Table.HandleSteps.{asks_more}
 use Rattle.feed_cell.proofs.cell.handle.steps.ask_more.Goals as goal
 
 pub store-requires : goal.store-requires

@@ -1,5 +1,5 @@
 use Rattle.std.proofs.Common.{rules}
-use Rattle.feed_cell.proofs.HandleSteps.{leaves}
+use Rattle.feed_cell.proofs.Table.HandleSteps.{leaves}
 use Rattle.feed_cell.proofs.cell.handle.steps.leave.Goals as goal
 
 pub store-requires : goal.store-requires

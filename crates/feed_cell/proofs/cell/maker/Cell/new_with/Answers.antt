@@ -1,7 +1,7 @@
 -- The maker's seat is split twice, and what each party knows at first is what the maker knew.
 use Rattle.std.proofs.Common.{rules, ap, ◌∙◌}
 use Rattle.atomic_table.specs.Seated.{TableId}
-use Rattle.feed_cell.proofs.FirstSeats.{holds_one, splits_handle, splits_runner, producer_first, handle_first, task_first}
+use Rattle.feed_cell.proofs.Table.FirstSeats.{holds_one, splits_handle, splits_runner, producer_first, handle_first, task_first}
 use Rattle.feed_cell.proofs.cell.maker.Cell.new_with.Goals as goal
 
 pub split_seat-running-requires : goal.split_seat-running-requires

@@ -1,6 +1,6 @@
 use Rattle.std.proofs.Common.{◌+◌, is_some, rules, subst}
 use Rattle.flow_rules.specs.Feed.{End, LookedIfOpen, TakesItem}
-use Rattle.feed_cell.proofs.ProducerCalls.{accepted}
+use Rattle.feed_cell.proofs.Producers.Calls.{accepted}
 use Rattle.feed_cell.specs.Offering.{Finds}
 use Rattle.feed_cell.specs.Parties.{ProducerState, known_end}
 use Rattle.feed_cell.specs.declared.cell.producer.steps.Found.{Found}

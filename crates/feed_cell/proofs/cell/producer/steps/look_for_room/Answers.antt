@@ -1,5 +1,5 @@
 use Rattle.std.proofs.Common.{rules}
-use Rattle.feed_cell.proofs.ProducerRoom.{rooms}
+use Rattle.feed_cell.proofs.Producers.Room.{rooms}
 use Rattle.feed_cell.proofs.cell.producer.steps.look_for_room.Goals as goal
 
 pub load-requires : goal.load-requires

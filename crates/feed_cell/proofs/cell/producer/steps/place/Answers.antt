@@ -1,5 +1,5 @@
 use Rattle.std.proofs.Common.{rules, refl}
-use Rattle.feed_cell.proofs.ProducerPut.{puts_placed}
+use Rattle.feed_cell.proofs.Producers.Put.{puts_placed}
 use Rattle.feed_cell.proofs.cell.producer.steps.place.Goals as goal
 
 pub store-requires : goal.store-requires

@@ -1,4 +1,4 @@
-use Rattle.feed_cell.proofs.ControlBits.{flagged}
+use Rattle.feed_cell.proofs.Words.ControlBits.{flagged}
 use Rattle.feed_cell.proofs.cell.task.causes.is_set.Goals as goal
 
 pub returns : goal.returns

@@ -1,6 +1,6 @@
 -- What the seat and the measure say of the numbers that the code compares.
 use Rattle.std.proofs.Common.{sym, ◌∙◌, arith, rules}
-use Rattle.feed_cell.proofs.TaskItem.{may_take, measured_is, takes_next, finds_none, finds_no_demand}
+use Rattle.feed_cell.proofs.Tasks.Item.{may_take, measured_is, takes_next, finds_none, finds_no_demand}
 use Rattle.feed_cell.proofs.cell.task.looks.next_item.Goals as goal
 
 pub take-requires-clause-may : goal.take-requires-clause-may

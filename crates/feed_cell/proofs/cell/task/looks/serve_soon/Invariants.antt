@@ -6,6 +6,6 @@ use Rattle.feed_cell.proofs.cell.task.looks.serve_soon.Given as goal
 
 abbrev pub invariant-loop : goal.invariant-loop
 invariant-loop g l =
-    HasPassed g.B.Listener.told l.fn.party.seat.me l.party.seat.me
+    HasPassed g.B.Listener.told g.B.Listener.replied l.fn.party.seat.me l.party.seat.me
     × (l.seen ≡ l.fn.seen)
     × IsSameSeat l.fn.party.seat l.party.seat

@@ -1,13 +1,13 @@
 use Rattle.std.proofs.Common.{rules}
 use Rattle.feed_cell.specs.TaskPlays.{cleared}
-use Rattle.feed_cell.proofs.TaskSteps.{looks_going, looked_going, quiet_bit}
+use Rattle.feed_cell.proofs.Tasks.Steps.{looks_going, looked_going, quiet_bit}
 use Rattle.feed_cell.proofs.cell.task.steps.look.Goals as goal
 
 pub fetch_and-requires : goal.fetch_and-requires
-fetch_and-requires g c = (search rules, search rules, looks_going g.B.Listener.told _ _ _ _ c.requires.runner.0 c.requires.runner.1 c.requires.going)
+fetch_and-requires g c = (search rules, search rules, looks_going g.B.Listener.told _ _ _ _ c.requires.runner.0 c.requires.runner.1 c.requires.can)
 
 pub returns-clause-looked : goal.returns-clause-looked
-returns-clause-looked g c = looked_going g.B.Listener.told cleared c.args.party.now.seat.me _ _ c.requires.runner.0 c.requires.runner.1 c.requires.going c.fetch_and.ensures.2
+returns-clause-looked g c = looked_going g.B.Listener.told cleared c.args.party.now.seat.me _ _ c.requires.runner.0 c.requires.runner.1 c.requires.can c.fetch_and.ensures.2
 
 pub returns-clause-quiet : goal.returns-clause-quiet
 returns-clause-quiet g c = quiet_bit _

@@ -1,5 +1,5 @@
 use Rattle.std.proofs.Common.{rules}
-use Rattle.feed_cell.proofs.TaskSteps.{measures_out}
+use Rattle.feed_cell.proofs.Tasks.Steps.{measures_out}
 use Rattle.feed_cell.proofs.cell.task.steps.measure.Goals as goal
 
 pub load-requires : goal.load-requires

@@ -1,5 +1,5 @@
 use Rattle.std.proofs.Common.{rules}
-use Rattle.feed_cell.proofs.TaskSee.{measures_none}
+use Rattle.feed_cell.proofs.Tasks.See.{measures_none}
 use Rattle.feed_cell.proofs.cell.task.steps.measure_none.Goals as goal
 
 pub load-requires : goal.load-requires

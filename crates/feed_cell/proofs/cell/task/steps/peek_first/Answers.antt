@@ -1,6 +1,6 @@
 use Rattle.std.proofs.Common.{rules}
-use Rattle.feed_cell.proofs.TaskLook.{peeks_first}
-use Rattle.feed_cell.proofs.TaskSteps.{peeked_first}
+use Rattle.feed_cell.proofs.Tasks.Look.{peeks_first}
+use Rattle.feed_cell.proofs.Tasks.Steps.{peeked_first}
 use Rattle.feed_cell.proofs.cell.task.steps.peek_first.Goals as goal
 
 pub load-requires : goal.load-requires

@@ -1,5 +1,5 @@
 use Rattle.std.proofs.Common.{rules}
-use Rattle.feed_cell.proofs.TaskSee.{sees_item}
+use Rattle.feed_cell.proofs.Tasks.See.{sees_item}
 use Rattle.feed_cell.proofs.cell.task.steps.see.Goals as goal
 
 pub load-requires : goal.load-requires

@@ -1,5 +1,5 @@
 use Rattle.std.proofs.Common.{rules, refl}
-use Rattle.feed_cell.proofs.TaskSteps.{takes_out}
+use Rattle.feed_cell.proofs.Tasks.Steps.{takes_out}
 use Rattle.feed_cell.proofs.cell.task.steps.take.Goals as goal
 
 pub store-requires : goal.store-requires

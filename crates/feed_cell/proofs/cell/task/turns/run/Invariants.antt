@@ -7,7 +7,7 @@ use Rattle.feed_cell.proofs.cell.task.turns.run.Given as goal
 
 abbrev pub invariant-loop : goal.invariant-loop
 invariant-loop g l =
-    IsBeforeLook g.B.Listener.told l.stage l.counter l.fn.party.seat.me l.party.seat.me l.seen.signals
+    IsBeforeLook g.B.Listener.told g.B.Listener.replied l.stage l.counter l.fn.party.seat.me l.party.seat.me l.seen.signals
     × (l.seen.room ≡ l.fn.seen.room)
     × IsSameSeat l.fn.party.seat l.party.seat
     × RunsFree l.party.seat.me.0

@@ -2,8 +2,8 @@
 use Rattle.std.proofs.Common.{rules}
 use Rattle.feed_core.specs.Lane.{LaneState}
 use Rattle.feed_core.specs.Sound.{lane_of}
-use Rattle.feed_core.proofs.FlowRules.{flow_kept}
-use Rattle.feed_core.proofs.SoundLanes.{sound_lane_with_duplicate}
+use Rattle.feed_core.proofs.Lanes.FlowRules.{flow_kept}
+use Rattle.feed_core.proofs.Lanes.Sound.{sound_lane_with_duplicate}
 use Rattle.feed_core.proofs.desk.call.DeskFeed.duplicate.Goals as goal
 
 pub returns-clause-exact : goal.returns-clause-exact
@@ -13,5 +13,5 @@ returns-clause-exact g c =
     record {
       marked = search rules;
       starts = search rules;
-      flow = flow_kept (sound_lane_with_duplicate lane c.self.invariant.in_order.sound);
+      flow = flow_kept (sound_lane_with_duplicate lane c.self.invariant.0.in_order.sound);
     }

@@ -3,8 +3,8 @@ use Rattle.std.proofs.Common.{◌≡◌, None, subst, rules}
 use Rattle.feed_core.specs.Desk.{DeskState}
 use Rattle.feed_core.specs.Lane.{LaneState, IsFlow}
 use Rattle.feed_core.specs.Sound.{lane_of}
-use Rattle.feed_core.proofs.FlowRules.{flow_kept}
-use Rattle.feed_core.proofs.SoundLanes.{sound_lane_with_closing}
+use Rattle.feed_core.proofs.Lanes.FlowRules.{flow_kept}
+use Rattle.feed_core.proofs.Lanes.Sound.{sound_lane_with_closing}
 use Rattle.feed_core.proofs.desk.call.DeskFeed.end.Goals as goal
 
 pub returns-then-is_none-clause-exact : goal.returns-then-is_none-clause-exact
@@ -16,7 +16,7 @@ returns-then-is_none-clause-exact g c =
       first = search rules;
       later = search rules;
       starts = search rules;
-      flow = flow_kept (sound_lane_with_closing lane c.args.ending c.self.invariant.in_order.sound unclosed);
+      flow = flow_kept (sound_lane_with_closing lane c.args.ending c.self.invariant.0.in_order.sound unclosed);
     }
 
 pub returns-else-is_none-clause-exact : goal.returns-else-is_none-clause-exact
@@ -24,5 +24,5 @@ returns-else-is_none-clause-exact g c = record {
   first = search rules;
   later = search rules;
   starts = search rules;
-  flow = subst (λ (desk : DeskState). IsFlow desk.lane) c.self.view_is (flow_kept c.self.invariant.in_order.sound);
+  flow = subst (λ (desk : DeskState). IsFlow desk.lane) c.self.view_is (flow_kept c.self.invariant.0.in_order.sound);
 }

@@ -1,7 +1,7 @@
 use Rattle.std.proofs.Common.{◌≡◌, true, false, sym, ◌∙◌}
 use Rattle.std.proofs.lemmas.Result.{err_from_is_err_and}
 use Rattle.commands.specs.declared.command.Command.TheVariants.{Run}
-use Rattle.lines_demo.proofs.Lines.{command_called, run_called, run_fault}
+use Rattle.lines_demo.proofs.Scripts.Lines.{command_called, run_called, run_fault}
 use Rattle.lines_demo.proofs.script.player.Player.play_command.Goals as goal
 use Rattle.lines_demo.proofs.script.player.Player.play_command.Goals.{in-Run, in_default, then-matches+in_ok-play_turns, else-matches}
 

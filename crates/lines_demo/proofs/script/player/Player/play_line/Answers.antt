@@ -1,5 +1,5 @@
 use Rattle.std.proofs.Common.{sym}
-use Rattle.lines_demo.proofs.Lines.{line_empty, line_long, line_wrong, line_command}
+use Rattle.lines_demo.proofs.Scripts.Lines.{line_empty, line_long, line_wrong, line_command}
 use Rattle.lines_demo.proofs.script.player.Player.play_line.Goals as goal
 
 pub returns-then-is_empty : goal.returns-then-is_empty

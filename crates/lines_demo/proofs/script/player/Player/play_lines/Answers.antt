@@ -1,8 +1,8 @@
 use Rattle.std.proofs.Common.{◌≡◌, ◌<◌, [], length, rules}
 use Rattle.std.proofs.lemmas.Result.{err_from_is_err_and}
-use Rattle.lines_demo.proofs.Results.{progress_start}
+use Rattle.lines_demo.proofs.Scripts.Results.{progress_start}
 use Rattle.commands.proofs.Writers.{empty_is}
-use Rattle.lines_demo.proofs.Lines.{lines_more, lines_fault, lines_end}
+use Rattle.lines_demo.proofs.Scripts.Lines.{lines_more, lines_fault, lines_end}
 use Rattle.lines_demo.proofs.script.player.Player.play_lines.Goals as goal
 
 pub loop-rest-init : goal.loop-rest-init

@@ -1,6 +1,6 @@
 use Rattle.std.proofs.Common.{length}
-use Rattle.lines_demo.proofs.Results.{Progress}
-use Rattle.lines_demo.proofs.Lines.{bytes_result}
+use Rattle.lines_demo.proofs.Scripts.Results.{Progress}
+use Rattle.lines_demo.proofs.Scripts.Lines.{bytes_result}
 use Rattle.lines_demo.proofs.script.player.Player.play_lines.Given as goal
 
 -- the lines so far were played, and those of the bytes that are left follow

@@ -1,4 +1,4 @@
-use Rattle.lines_demo.proofs.Turns.{turn_answers, turn_prints}
+use Rattle.lines_demo.proofs.Scripts.Turns.{turn_answers, turn_prints}
 use Rattle.lines_demo.proofs.script.player.Player.play_turn.Goals as goal
 
 pub returns-clause-turn : goal.returns-clause-turn

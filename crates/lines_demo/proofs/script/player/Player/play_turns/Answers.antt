@@ -1,6 +1,6 @@
 use Rattle.std.proofs.Common.{sym}
 use Rattle.std.proofs.lemmas.Result.{err_from_is_err_and}
-use Rattle.lines_demo.proofs.Turns.{running_start, running_more, running_end, running_fault}
+use Rattle.lines_demo.proofs.Scripts.Turns.{running_start, running_more, running_end, running_fault}
 use Rattle.lines_demo.proofs.script.player.Player.play_turns.Goals as goal
 
 pub loop-self-init : goal.loop-self-init

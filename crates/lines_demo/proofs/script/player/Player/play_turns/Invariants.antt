@@ -1,5 +1,5 @@
 use Rattle.lines_demo.specs.Script.Running.{most_turns}
-use Rattle.lines_demo.proofs.Turns.{Running}
+use Rattle.lines_demo.proofs.Scripts.Turns.{Running}
 use Rattle.lines_demo.proofs.script.player.Player.play_turns.Given as goal
 
 abbrev pub invariant-loop-self : goal.invariant-loop-self

@@ -3,11 +3,11 @@ use Rattle.lines_demo.specs.Script.Obeying.{act_result}
 use Rattle.lines_demo.specs.Script.Playing.{IsLatest}
 use Rattle.lines_demo.specs.Script.State.{SessionState}
 use Rattle.commands.specs.declared.reply.Reply.TheVariants.{Done}
-use Rattle.lines_demo.proofs.ActingSessions.{acted, acted_room, latest_there}
-use Rattle.lines_demo.proofs.AnsweredSessions.{IsAnswered}
-use Rattle.lines_demo.proofs.Inside.{state_inside, woken_with}
-use Rattle.lines_demo.proofs.LatestNames.{nobody_known}
-use Rattle.lines_demo.proofs.Replying.{act_unknown}
+use Rattle.lines_demo.proofs.Sessions.Acting.{acted, acted_room, latest_there}
+use Rattle.lines_demo.proofs.Sessions.Answered.{IsAnswered}
+use Rattle.lines_demo.proofs.Sessions.Inside.{state_inside, woken_with}
+use Rattle.lines_demo.proofs.Kept.LatestNames.{nobody_known}
+use Rattle.lines_demo.proofs.Scripts.Replying.{act_unknown}
 use Rattle.lines_demo.proofs.script.session.Session.act.Given.{Over}
 use Rattle.lines_demo.proofs.script.session.Session.act.Goals as goal
 use Rattle.lines_demo.proofs.script.session.Session.act.Goals.{In-Some, After-act_at-is_started}

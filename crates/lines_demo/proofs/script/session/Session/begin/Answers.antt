@@ -1,5 +1,5 @@
 use Rattle.std.proofs.Common.{◌≡◌, true, false, sym, ◌∙◌}
-use Rattle.lines_demo.proofs.Sessions.{session_begun, begun_by}
+use Rattle.lines_demo.proofs.Sessions.Between.{session_begun, begun_by}
 use Rattle.lines_demo.proofs.script.session.Session.begin.Goals as goal
 use Rattle.lines_demo.proofs.script.session.Session.begin.Goals.{in-Cap, in-Cap-2, in_default}
 

@@ -8,13 +8,13 @@ use Rattle.lines_demo.specs.Script.Obeying.{closing_result}
 use Rattle.lines_demo.specs.Script.Session.{numbers_of}
 use Rattle.lines_demo.specs.Script.State.{SessionState}
 use Rattle.commands.specs.declared.reply.Reply.TheVariants.{Done}
-use Rattle.lines_demo.proofs.AnsweredSessions.{IsAnswered}
-use Rattle.lines_demo.proofs.HubCloses.{closed, closed_room}
-use Rattle.lines_demo.proofs.HubLooks.{may_prepare_all_same}
-use Rattle.lines_demo.proofs.Inside.{state_inside}
-use Rattle.lines_demo.proofs.LookedSessions.{IsSameSession, session_looked}
-use Rattle.lines_demo.proofs.Replying.{closing_again, closing_no_memory}
-use Rattle.lines_demo.proofs.SessionStates.{no_value}
+use Rattle.lines_demo.proofs.Sessions.Answered.{IsAnswered}
+use Rattle.lines_demo.proofs.HubCalls.Closes.{closed, closed_room}
+use Rattle.lines_demo.proofs.HubCalls.Looks.{may_prepare_all_same}
+use Rattle.lines_demo.proofs.Sessions.Inside.{state_inside}
+use Rattle.lines_demo.proofs.Sessions.Looked.{IsSameSession, session_looked}
+use Rattle.lines_demo.proofs.Scripts.Replying.{closing_again, closing_no_memory}
+use Rattle.lines_demo.proofs.Sessions.States.{no_value}
 use Rattle.lines_demo.proofs.script.session.Session.close.Given.{Over}
 use Rattle.lines_demo.proofs.script.session.Session.close.Goals as goal
 use Rattle.lines_demo.proofs.script.session.Session.close.Goals.{After-from_residual, In_ok-end}
@@ -23,7 +23,8 @@ pub returns-then-is_some : goal.returns-then-is_some
 returns-then-is_some g c = rw (← c.self.view_is) (closing_again c.args.ending (state_inside c.self.inside) (ap is_some (sym c.ending.ensures) ∙ sym c.is_some.ensures ∙ c.if-is_some.true))
 
 -- memory was refused after some looks
-looked : (g : Over) (c : After-from_residual g) → IsSameSession c.self.inside.hub c.end.new.self (length c.self.inside.stock.items) c.self.inside.woken c.self.inside.beginning
+looked : (g : Over) (c : After-from_residual g)
+    → IsSameSession c.self.inside.hub c.end.new.self (length c.self.inside.stock.items) c.self.inside.woken c.self.inside.beginning
 looked g c =
     let old = c.self.inside.hub in
     let is = c.self.invariant.2 in
@@ -48,7 +49,8 @@ unclosed : (g : Over) (c : In_ok-end g) → c.self.inside.hub.ending ≡ None
 unclosed g c = no_value c.self.inside.hub.ending (sym (c.is_some.ensures ∙ ap is_some c.ending.ensures) ∙ c.if-is_some.false)
 
 -- and is now
-closes : (g : Over) (c : In_ok-end g) → ClosesAll end_of DoesCall c.args.ending c.self.inside.due.items c.end.new.due.items c.self.inside.hub c.end.new.self
+closes : (g : Over) (c : In_ok-end g)
+    → ClosesAll end_of DoesCall c.args.ending c.self.inside.due.items c.end.new.due.items c.self.inside.hub c.end.new.self
 closes g c = (c.in_ok-end.ensures.first (unclosed g c)).1
 
 -- what that leaves

@@ -1,6 +1,6 @@
 use Rattle.std.proofs.Common.{subst}
 use Rattle.lines_demo.specs.Script.Laws.{KeepsFlow, IsSettledSession, TellsAllBeforeErrors, SerialsRiseIn, AgreesOnItems, TellsInOneOrder, CountsPublications}
-use Rattle.lines_demo.proofs.ScriptLaws.{reached_flow, reached_settled, reached_waits, reached_rise, reached_agrees, reached_order, reached_counted}
+use Rattle.lines_demo.proofs.Scripts.Laws.{reached_flow, reached_settled, reached_waits, reached_rise, reached_agrees, reached_order, reached_counted}
 use Rattle.lines_demo.proofs.script.session.Session.has_woken.Goals as goal
 
 pub returns-clause-flow : goal.returns-clause-flow

@@ -1,7 +1,7 @@
 use Rattle.std.proofs.Common.{◌≡◌, ℕ, ◌+◌, if◌then◌else◌, Option, Some, List, sym, ap, subst, ◌∙◌, arith}
 use Rattle.std.specs.Prelude.{option_map, slice_get}
 use Rattle.lines_demo.specs.Script.State.{SessionState, SubscriptionState}
-use Rattle.lines_demo.proofs.SearchedNames.{Searched, known_name, known_within, searched_all, searched_more, searched_none}
+use Rattle.lines_demo.proofs.Kept.SearchedNames.{Searched, known_name, known_within, searched_all, searched_more, searched_none}
 use Rattle.lines_demo.proofs.script.session.Session.latest.Given.{Over}
 use Rattle.lines_demo.proofs.script.session.Session.latest.Goals as goal
 use Rattle.lines_demo.proofs.script.session.Session.latest.Goals.{then-eq, else-eq}
@@ -10,7 +10,8 @@ pub loop-other-init : goal.loop-other-init
 loop-other-init g c = searched_none c.args.name c.args.self.now.subscriptions
 
 -- the next name is that of the next subscription that a script sees
-next_name : (g : Over) (c : goal.Joined-eq g) → option_map (λ (s : SubscriptionState). s.name) (slice_get c.args.self.now.subscriptions c.loop-other.entry) ≡ Some c.in-Some.other
+next_name : (g : Over) (c : goal.Joined-eq g)
+    → option_map (λ (s : SubscriptionState). s.name) (slice_get c.args.self.now.subscriptions c.loop-other.entry) ≡ Some c.in-Some.other
 next_name g c =
     let name_of : SessionState → Option (List ℕ) = λ state. option_map (λ (s : SubscriptionState). s.name) (slice_get state.subscriptions c.loop-other.entry) in
     sym (ap name_of c.self.view_is) ∙ sym (known_name c.self.inside.hub.entries.items c.loop-other.entry) ∙ sym c.name_of.ensures ∙ c.in-Some.is

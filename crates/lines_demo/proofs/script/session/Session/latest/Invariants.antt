@@ -1,5 +1,5 @@
 use Rattle.std.proofs.Common.{◌-◌, length}
-use Rattle.lines_demo.proofs.SearchedNames.{Searched}
+use Rattle.lines_demo.proofs.Kept.SearchedNames.{Searched}
 use Rattle.lines_demo.proofs.script.session.Session.latest.Given as goal
 
 abbrev pub invariant-loop-other : goal.invariant-loop-other

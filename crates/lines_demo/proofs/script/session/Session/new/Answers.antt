@@ -1,4 +1,4 @@
-use Rattle.lines_demo.proofs.Sessions.{session_of_default, state_of_default}
+use Rattle.lines_demo.proofs.Sessions.Between.{session_of_default, state_of_default}
 use Rattle.lines_demo.proofs.script.session.Session.new.Goals as goal
 
 pub invariant_of-result : goal.invariant_of-result

@@ -1,7 +1,7 @@
 use Rattle.std.proofs.Common.{rules, to_z, of_z, w64, ◌≡◌}
 use Rattle.std.proofs.lemmas.Result.{err_from_is_err_and}
 use Rattle.lines_demo.specs.Script.Publishing.{offered_reply, publication_refusal}
-use Rattle.lines_demo.proofs.RepliedTexts.{replies_no_text, replies_offered, replies_refused}
+use Rattle.lines_demo.proofs.HubCalls.RepliedTexts.{replies_no_text, replies_offered, replies_refused}
 use Rattle.lines_demo.proofs.script.session.Session.offer.Goals as goal
 
 pub returns-in_err-text : goal.returns-in_err-text

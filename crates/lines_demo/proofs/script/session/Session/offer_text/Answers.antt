@@ -1,9 +1,9 @@
 use Rattle.std.proofs.Common.{rules, to_z, of_z, w64, ◌≡◌, [], true, length, ◌∙◌, sym, ap, subst}
 use Rattle.std.proofs.lemmas.Result.{err_from_is_err_and}
 use Rattle.lines_demo.specs.Script.State.{SessionState}
-use Rattle.lines_demo.proofs.HubOffers.{HubOffered, OfferRefused, hub_offered, offer_refused}
-use Rattle.lines_demo.proofs.LookedSessions.{session_looked}
-use Rattle.lines_demo.proofs.SessionOffers.{published_room, published_session, text_offered, text_refused}
+use Rattle.lines_demo.proofs.HubCalls.Offers.{HubOffered, OfferRefused, hub_offered, offer_refused}
+use Rattle.lines_demo.proofs.Sessions.Looked.{session_looked}
+use Rattle.lines_demo.proofs.Sessions.Offers.{published_room, published_session, text_offered, text_refused}
 use Rattle.lines_demo.proofs.script.session.Session.offer_text.Given.{Over}
 use Rattle.lines_demo.proofs.script.session.Session.offer_text.Goals as goal
 
@@ -32,7 +32,8 @@ push_all-requires g c =
     record { room = published_room old c.offer.new.self (length c.self.inside.stock.items) c.self.inside.woken c.self.inside.beginning is c.args.text c.offer.new.due.items all.published }
 
 -- the text was offered
-offered : (g : Over) (c : goal.After-push_all g) → HubOffered c.args.text c.self.inside.hub c.offer.new.self c.offer.new.due.items c.in_ok-answer.answer
+offered : (g : Over) (c : goal.After-push_all g)
+    → HubOffered c.args.text c.self.inside.hub c.offer.new.self c.offer.new.due.items c.in_ok-answer.answer
 offered g c =
     hub_offered c.args.text _ c.self.inside.hub c.offer.new.self c.self.inside.due.items c.offer.new.due.items c.in_ok-answer.answer c.self.invariant.2.publisher c.self.invariant.3
     c.in_ok-answer.ensures.sound c.in_ok-answer.ensures.ok

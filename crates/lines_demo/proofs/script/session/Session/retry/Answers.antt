@@ -1,8 +1,8 @@
 use Rattle.std.proofs.Common.{rules, to_z, of_z, w64, ◌≡◌}
 use Rattle.std.proofs.lemmas.Result.{err_from_is_err_and}
 use Rattle.lines_demo.specs.Script.Publishing.{publication_refusal, retried_reply}
-use Rattle.lines_demo.proofs.RepliedTexts.{replies_no_text, replies_refused, replies_retried}
-use Rattle.lines_demo.proofs.Replying.{publication_no_memory}
+use Rattle.lines_demo.proofs.HubCalls.RepliedTexts.{replies_no_text, replies_refused, replies_retried}
+use Rattle.lines_demo.proofs.Scripts.Replying.{publication_no_memory}
 use Rattle.lines_demo.proofs.script.session.Session.retry.Goals as goal
 
 pub returns-in_err-text : goal.returns-in_err-text

@@ -1,10 +1,10 @@
 use Rattle.std.proofs.Common.{◌≡◌, ◌<◌, Err, ap, length, inl, inr, refl, subst, arith}
 use Rattle.std.proofs.lemmas.Result.{err_from_is_err_and}
 use Rattle.lines_demo.specs.Prelude.{Refusal}
-use Rattle.lines_demo.proofs.Replying.{above_0, cap_done, cap_late, cap_no_memory, cap_zero}
+use Rattle.lines_demo.proofs.Scripts.Replying.{above_0, cap_done, cap_late, cap_no_memory, cap_zero}
 use Rattle.flow_rules.specs.Capacity.{IsCapacityOf}
-use Rattle.lines_demo.proofs.Sessions.{session_resized, state_resized}
-use Rattle.lines_demo.proofs.Inside.{state_inside}
+use Rattle.lines_demo.proofs.Sessions.Between.{session_resized, state_resized}
+use Rattle.lines_demo.proofs.Sessions.Inside.{state_inside}
 use Rattle.lines_demo.proofs.script.session.Session.set_capacity.Goals as goal
 
 pub returns-then-self : goal.returns-then-self

@@ -1,6 +1,6 @@
-use Rattle.lines_demo.proofs.Inside.{state_inside}
-use Rattle.lines_demo.proofs.Replying.{late_done, late_over}
-use Rattle.lines_demo.proofs.Sessions.{session_late}
+use Rattle.lines_demo.proofs.Sessions.Inside.{state_inside}
+use Rattle.lines_demo.proofs.Scripts.Replying.{late_done, late_over}
+use Rattle.lines_demo.proofs.Sessions.Between.{session_late}
 use Rattle.lines_demo.proofs.script.session.Session.set_late.Goals as goal
 
 pub invariant_of-self : goal.invariant_of-self

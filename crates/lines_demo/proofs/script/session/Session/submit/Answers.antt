@@ -6,10 +6,10 @@ use Rattle.publisher_hub.specs.Publishing.{RefusesItem}
 use Rattle.lines_demo.specs.Prelude.{Refusal}
 use Rattle.lines_demo.specs.Script.Publishing.{submit_refusal, submitted_reply}
 use Rattle.lines_demo.specs.Script.State.{SessionState}
-use Rattle.lines_demo.proofs.HubSubmits.{HubSubmitted, SubmitRefused, hub_submitted, submit_refused, submit_waits}
-use Rattle.lines_demo.proofs.LookedSessions.{session_looked}
-use Rattle.lines_demo.proofs.RepliedTexts.{replies_no_text}
-use Rattle.lines_demo.proofs.SessionOffers.{lag_small, not_submitted_replies, published_room, published_session, submitted_replies}
+use Rattle.lines_demo.proofs.HubCalls.Submits.{HubSubmitted, SubmitRefused, hub_submitted, submit_refused, submit_waits}
+use Rattle.lines_demo.proofs.Sessions.Looked.{session_looked}
+use Rattle.lines_demo.proofs.HubCalls.RepliedTexts.{replies_no_text}
+use Rattle.lines_demo.proofs.Sessions.Offers.{lag_small, not_submitted_replies, published_room, published_session, submitted_replies}
 use Rattle.lines_demo.proofs.script.session.Session.submit.Given.{Over}
 use Rattle.lines_demo.proofs.script.session.Session.submit.Goals as goal
 
@@ -27,7 +27,8 @@ push_all-requires g c =
     record { room = published_room old new (length c.self.inside.stock.items) c.self.inside.woken c.self.inside.beginning is c.in_ok-text.text c.publish.new.due.items all.published }
 
 -- what was submitted
-submitted : (g : Over) (c : goal.After-push_all g) → HubSubmitted c.in_ok-text.text c.self.inside.hub c.publish.new.self c.publish.new.due.items c.in-Ok.lag
+submitted : (g : Over) (c : goal.After-push_all g)
+    → HubSubmitted c.in_ok-text.text c.self.inside.hub c.publish.new.self c.publish.new.due.items c.in-Ok.lag
 submitted g c =
     hub_submitted c.in_ok-text.text c.self.inside.hub c.publish.new.self c.self.inside.due.items c.publish.new.due.items c.in-Ok.lag c.self.invariant.2.publisher c.self.invariant.3 c.in-Ok.ensures.sound c.in-Ok.ensures.ok
 

@@ -8,8 +8,8 @@ use Rattle.lines_demo.specs.Script.Session.{numbers_of}
 use Rattle.lines_demo.specs.Script.State.{SessionState}
 use Rattle.lines_demo.specs.Script.Subscribing.{desk_at_start}
 use Rattle.commands.specs.declared.reply.Reply.TheVariants.{Name, Refused}
-use Rattle.lines_demo.proofs.Inside.{state_inside}
-use Rattle.lines_demo.proofs.SubscribingSessions.{AnswersSub, refused, finds_nobody, gets_no_buffer, admitted, admitted_starts_nothing, all_back, few_are_woken, nobody, one_back, one_fewer, room_after}
+use Rattle.lines_demo.proofs.Sessions.Inside.{state_inside}
+use Rattle.lines_demo.proofs.Sessions.Subscribing.{AnswersSub, refused, finds_nobody, gets_no_buffer, admitted, admitted_starts_nothing, all_back, few_are_woken, nobody, one_back, one_fewer, room_after}
 use Rattle.lines_demo.proofs.script.session.Session.subscribe.Given.{Over}
 use Rattle.lines_demo.proofs.script.session.Session.subscribe.Goals as goal
 
@@ -53,7 +53,7 @@ nobody_left g c =
 
 pub invariant_of-self-in_default-pop_front : goal.invariant_of-self-in_default-pop_front
 invariant_of-self-in_default-pop_front g c = (
-  All-same (λ b. g.B.Listener.told b ≡ []) _ _ (sym c.in_default-pop_front.ensures.items) c.self.invariant.0,
+  All-same (λ b. (g.B.Listener.told b ≡ []) × (g.B.Listener.replied b ≡ [])) _ _ (sym c.in_default-pop_front.ensures.items) c.self.invariant.0,
   All-same (λ b. g.B.Listener.is_steady b ≡ true) _ _ (sym c.in_default-pop_front.ensures.items) c.self.invariant.1,
   (nobody_left g c).session,
   c.in_default.ensures.nothing_due ∙ c.self.invariant.3,
@@ -72,7 +72,8 @@ push-requires g c = record {
 }
 
 -- what it has requested
-requested : (g : Over) (c : goal.After-push g) → c.in-Ok.desk ≡ desk_after_demand c.args.number (desk_at_start c.self.inside.beginning.order c.may_subscribe.new.self.capacity)
+requested : (g : Over) (c : goal.After-push g)
+    → c.in-Ok.desk ≡ desk_after_demand c.args.number (desk_at_start c.self.inside.beginning.order c.may_subscribe.new.self.capacity)
 requested g c = c.in-Ok.ensures.ok ∙ ap (λ n. desk_after_demand c.args.number (desk_at_start c.self.inside.beginning.order n)) c.capacity.ensures
 
 -- the publisher added it, while nothing was due
@@ -94,7 +95,7 @@ subscribed g c =
 
 pub invariant_of-self-in-Ok : goal.invariant_of-self-in-Ok
 invariant_of-self-in-Ok g c = (
-  All-rest (λ b. g.B.Listener.told b ≡ []) _ _ _ c.in-Some.ensures.items c.self.invariant.0,
+  All-rest (λ b. (g.B.Listener.told b ≡ []) × (g.B.Listener.replied b ≡ [])) _ _ _ c.in-Some.ensures.items c.self.invariant.0,
   All-rest (λ b. g.B.Listener.is_steady b ≡ true) _ _ _ c.in-Some.ensures.items c.self.invariant.1,
   (subscribed g c).session,
   admitted_starts_nothing c.self.inside.hub (length c.self.inside.stock.items) c.self.inside.woken c.self.inside.beginning c.args.name c.args.number c.self.invariant.2
@@ -121,7 +122,7 @@ pub invariant_of-self-in-Err-new_desk : goal.invariant_of-self-in-Err-new_desk
 invariant_of-self-in-Err-new_desk g c =
     let back = λ (P : g.row.B.Denot → Type 0).
     all_back P c.in-Some.subscriber c.in-Err-new_desk.subscriber c.self.inside.stock.items c.pop_front.new.self.items c.push_back_reserved.new.self.items c.in-Some.ensures.items c.in-Err-new_desk.ensures.back c.push_back_reserved.ensures.items in (
-      back (λ b. g.B.Listener.told b ≡ []) c.self.invariant.0,
+      back (λ b. (g.B.Listener.told b ≡ []) × (g.B.Listener.replied b ≡ [])) c.self.invariant.0,
       back (λ b. g.B.Listener.is_steady b ≡ true) c.self.invariant.1,
       (no_buffer g c).session,
       ◌∙◌ {A = List (Work Unit)} c.in_default.ensures.nothing_due c.self.invariant.3,

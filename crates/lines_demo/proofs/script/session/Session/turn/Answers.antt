@@ -1,9 +1,9 @@
 use Rattle.std.proofs.Common.{◌≡◌, ◌∷◌, length, sym, ap, ◌∙◌}
 use Rattle.std.specs.Prelude.{is_some}
 use Rattle.feed_core.specs.Turn.{is_again}
-use Rattle.lines_demo.proofs.Inside.{state_inside, woken_with}
-use Rattle.lines_demo.proofs.SessionTurns.{first_of, not_again, room_again}
-use Rattle.lines_demo.proofs.TurningSessions.{HasTurned, first_named, first_turn, turned}
+use Rattle.lines_demo.proofs.Sessions.Inside.{state_inside, woken_with}
+use Rattle.lines_demo.proofs.Sessions.Turns.{first_of, not_again, room_again}
+use Rattle.lines_demo.proofs.Sessions.Turning.{HasTurned, first_named, first_turn, turned}
 use Rattle.lines_demo.proofs.script.session.Session.turn.Given.{Over}
 use Rattle.lines_demo.proofs.script.session.Session.turn.Goals as goal
 use Rattle.lines_demo.proofs.script.session.Session.turn.Goals.{After-unwrap-entry, After-push_if, in-Again, in_default}

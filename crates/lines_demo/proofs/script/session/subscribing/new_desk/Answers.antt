@@ -2,8 +2,8 @@
 use Rattle.std.proofs.Common.{◌≡◌, ap, ◌∙◌, arith, rules}
 use Rattle.lines_demo.specs.Prelude.{desk_after_demand, desk_after_request}
 use Rattle.lines_demo.specs.Script.Subscribing.{desk_at_start}
-use Rattle.lines_demo.proofs.SmallNumbers.{small_signed}
-use Rattle.lines_demo.proofs.Admissions.{requests_demand}
+use Rattle.lines_demo.proofs.Scripts.SmallNumbers.{small_signed}
+use Rattle.lines_demo.proofs.Sessions.Admissions.{requests_demand}
 use Rattle.lines_demo.proofs.script.session.subscribing.new_desk.Goals as goal
 use Rattle.lines_demo.proofs.script.session.subscribing.new_desk.Goals.{then-number-gt0, else-number-gt0}
 

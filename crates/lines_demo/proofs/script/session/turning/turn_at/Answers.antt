@@ -5,7 +5,7 @@ use Rattle.std.proofs.lemmas.Option.{same_Some}
 use Rattle.feed_core.specs.Desk.{Owes}
 use Rattle.publisher_hub.specs.Lending.{feed_at, with_feed}
 use Rattle.lines_demo.specs.Prelude.{DeskState}
-use Rattle.lines_demo.proofs.LentSessions.{lends_some}
+use Rattle.lines_demo.proofs.Sessions.Lent.{lends_some}
 use Rattle.lines_demo.proofs.script.session.turning.turn_at.Goals as goal
 
 pub unwrap-requires : goal.unwrap-requires

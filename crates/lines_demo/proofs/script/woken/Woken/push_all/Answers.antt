@@ -1,7 +1,7 @@
 use Rattle.std.proofs.Common.{◌∷◌, ◌++◌, [], ap, ◌∙◌, length, take, slice_index_or, append_assoc, arith, sym}
 use Rattle.std.proofs.lemmas.List.{append-nil, length-append}
 use Rattle.lines_demo.specs.Script.Session.{numbers_of}
-use Rattle.lines_demo.proofs.WokenTasks.{numbers_more, numbers_few, numbers_all}
+use Rattle.lines_demo.proofs.Woken.Tasks.{numbers_more, numbers_few, numbers_all}
 use Rattle.lines_demo.proofs.script.woken.Woken.push_all.Goals as goal
 
 pub loop-work-init : goal.loop-work-init

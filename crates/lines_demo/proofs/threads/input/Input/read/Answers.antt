@@ -3,7 +3,7 @@ use Rattle.std.specs.List.{list_any}
 use Rattle.lines_demo.specs.Prelude.{capacity_of}
 use Rattle.lines_demo.specs.Threads.Input.{would_block}
 use Rattle.std.proofs.lemmas.Result.{err_from_is_err_and}
-use Rattle.lines_demo.proofs.CheckedInputs.{line_refused, sources_refused, blocking_refused, input_passes}
+use Rattle.lines_demo.proofs.Inputs.Checked.{line_refused, sources_refused, blocking_refused, input_passes}
 use Rattle.lines_demo.proofs.threads.input.Input.read.Goals as goal
 
 pub returns-in_err-publications : goal.returns-in_err-publications

@@ -1,4 +1,0 @@
-pub mod Counting
-pub mod Letters
-pub mod Refusing
-pub mod Row

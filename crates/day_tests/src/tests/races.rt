@@ -1,0 +1,105 @@
+//! Days that are played often: what a submitter finds when it is about to sleep is another in each round.
+use super::day::Day;
+use super::step::Step::{
+    CancelAmid, Close, Join, Request, Rest, Send, Serve, Source, Stir, Submit, Subscribe, Turns,
+};
+
+pub const DAYS: [Day; 4] = [
+    Day {
+        name: "a close comes when five submitters look for room",
+        capacity: 1,
+        steps: &[
+            (Subscribe("a", 0), "sub a"),
+            (Source, ""),
+            (Source, ""),
+            (Source, ""),
+            (Source, ""),
+            (Source, ""),
+            (Source, ""),
+            (Submit(0, 1), "lag 1"),
+            (Send(1), ""),
+            (Send(1), ""),
+            (Send(1), ""),
+            (Send(1), ""),
+            (Send(1), ""),
+            (Turns, ""),
+            (Close, "ok"),
+            (
+                Join,
+                "sent 0; Closed(Normal); sent 0; Closed(Normal); sent 0; Closed(Normal); sent 0; Closed(Normal); sent 0; Closed(Normal)",
+            ),
+            (Request(0, 1), ""),
+            (Rest(3, 0), ""),
+        ],
+        left: &[
+            "done, published 1, drained",
+            "a Some(Completed) 1 + 0 of 1: s 0.0.1 c",
+        ],
+    },
+    Day {
+        name: "a submitter finds room for each of its texts, however late",
+        capacity: 1,
+        steps: &[
+            (Subscribe("a", 0), "sub a"),
+            (Source, ""),
+            (Rest(1, 1), ""),
+            (Send(40), ""),
+            (Serve(0, 40), ""),
+            (Join, "sent 40"),
+            (Close, "ok"),
+            (Rest(42, 0), ""),
+        ],
+        left: &[
+            "done, published 40, drained",
+            "a Some(Completed) 40 + 0 of 40: 42 signals",
+        ],
+    },
+    Day {
+        name: "a close comes when turns that make no room have five submitters get up and lie down again",
+        capacity: 1,
+        steps: &[
+            (Subscribe("a", 0), "sub a"),
+            (Subscribe("z", 1), "sub z"),
+            (Source, ""),
+            (Source, ""),
+            (Source, ""),
+            (Source, ""),
+            (Source, ""),
+            (Source, ""),
+            (Submit(0, 1), "lag 1"),
+            (Rest(3, 2), ""),
+            (Send(1), ""),
+            (Send(1), ""),
+            (Send(1), ""),
+            (Send(1), ""),
+            (Send(1), ""),
+            (Turns, ""),
+            (Stir(1, 50), ""),
+            (Close, "ok"),
+            (
+                Join,
+                "sent 0; Closed(Normal); sent 0; Closed(Normal); sent 0; Closed(Normal); sent 0; Closed(Normal); sent 0; Closed(Normal)",
+            ),
+            (Request(0, 1), ""),
+            (Rest(6, 0), ""),
+        ],
+        left: &[
+            "done, published 1, drained",
+            "a Some(Completed) 1 + 0 of 1: s 0.0.1 c",
+            "z Some(Completed) 1 + 0 of 51: s 0.0.1 c",
+        ],
+    },
+    Day {
+        name: "a cancel comes while items are told",
+        capacity: 4,
+        steps: &[
+            (Subscribe("a", i64::MAX), "sub a"),
+            (Source, ""),
+            (Send(100), ""),
+            (Turns, ""),
+            (CancelAmid(0, 20), ""),
+            (Join, "sent 100"),
+        ],
+        left: &["done, published 100, open", "a Some(Cancelled) amid"],
+    },
+];

@@ -1,0 +1,19 @@
+-- The steps of a task, a turn made of them, and what its subscriber was told and replied.
+pub mod Answered
+pub mod Calls
+pub mod End
+pub mod EndedBy
+pub mod Item
+pub mod Look
+pub mod Looks
+pub mod Move
+pub mod Opens
+pub mod Passes
+pub mod Rest
+pub mod See
+pub mod Stages
+pub mod Steps
+pub mod Take
+pub mod TurnEnds
+pub mod TurnSignals
+pub mod Turns

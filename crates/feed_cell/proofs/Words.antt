@@ -1,0 +1,4 @@
+-- Marks, causes and numbers in the words of a subscription.
+pub mod ControlBits
+pub mod ControlWord
+pub mod Marks

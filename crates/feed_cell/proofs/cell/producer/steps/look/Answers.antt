@@ -1,6 +1,0 @@
-use Rattle.std.proofs.Common.{rules}
-use Rattle.feed_cell.proofs.ProducerRoom.{stands}
-use Rattle.feed_cell.proofs.cell.producer.steps.look.Goals as goal
-
-pub load-requires : goal.load-requires
-load-requires g c = (search rules, search rules, stands g.B.Listener.told _ _ _ _ c.requires.may.is c.requires.may.none_out c.requires.may.begins)

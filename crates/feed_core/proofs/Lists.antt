@@ -1,0 +1,3 @@
+-- Lists of signals and of replies.
+pub mod Replies
+pub mod Signals

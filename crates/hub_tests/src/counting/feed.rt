@@ -1,0 +1,110 @@
+//! What the producer's end answers.
+ghost use Rattle.std.specs.Prelude.{◌<◌, ◌≡◌, [], None, false, vec_capacity, vec_len};
+
+use super::Counting;
+use flow_rules::{Amount, Ending, Feed, Item, NoMemory, Put, Standing};
+use std::alloc::Global;
+use test_kit::Notes;
+
+impl Counting {
+    ghost use Rattle.hub_tests.specs.Counting.{end_of_counting};
+    ghost use Rattle.flow_rules.specs.Feed.{Answers, Looked};
+    ghost use Rattle.publisher_hub.specs.Adding.{IsFresh};
+
+    /// One of this capacity that accepted nothing.
+    pub fn new(alloc: Global, capacity: usize, notes: Notes, letter: u8, frees_at: u64) -> Counting
+        ensures { IsFresh capacity (end_of_counting result) }
+    {
+        Counting {
+            notes,
+            letter,
+            capacity,
+            accepted: Vec::new(alloc),
+            taken: 0,
+            looks: Amount::zero(),
+            over: false,
+            closing: None,
+            state: false,
+            puts: 0,
+            frees_at,
+        }
+    }
+
+    /// Looks before a put. One that is refused the place of an item has ended.
+    fn look(&mut self)
+        ensures looked { Looked (end_of_counting self.old) (end_of_counting self.new) }
+        ensures place { self.new.over ≡ false
+            → vec_len self.new.accepted < vec_capacity self.new.accepted }
+    {
+        self.looks.add_one();
+        if self.puts == self.frees_at {
+            self.taken = self.accepted.len();
+        }
+        if self.accepted.reserve(1).is_err() {
+            self.over = true;
+        }
+    }
+
+    /// Takes an item, where there is room.
+    fn take(&mut self, item: Item) -> Put<()>
+        requires unclosed { self.old.closing ≡ None }
+        requires place { self.old.over ≡ false
+            → vec_len self.old.accepted < vec_capacity self.old.accepted }
+        ensures { Answers (end_of_counting self.old) item result (end_of_counting self.new) }
+    {
+        if self.over {
+            return Put::Gone(item);
+        }
+        let held = self.accepted.len() - self.taken;
+        if held == self.capacity {
+            return Put::Full(item);
+        }
+        self.accepted.push_reserved(item);
+        Put::Accepted {
+            lag: held as u64 + 1,
+            start: None,
+        }
+    }
+}
+
+impl Feed for Counting {
+    ghost use Rattle.hub_tests.specs.Counting.{end_of_counting};
+
+    type Task = ();
+
+    ghost meaning = { end_of_counting };
+
+    fn ready(&mut self) -> Result<(), NoMemory> {
+        Ok(())
+    }
+
+    fn put(&mut self, item: Item) -> Put<()> {
+        self.notes.note(self.letter);
+        self.puts = self.puts.saturating_add(1);
+        if self.closing.is_some() {
+            return Put::Gone(item);
+        }
+        self.look();
+        self.take(item)
+    }
+
+    fn end(&mut self, ending: Ending) -> Option<()> {
+        if self.closing.is_none() {
+            self.closing = Some(ending);
+        }
+        None
+    }
+
+    fn duplicate(&mut self) -> Option<()> {
+        self.state = true;
+        None
+    }
+
+    fn standing(&mut self) -> Standing {
+        self.looks.add_one();
+        Standing {
+            ended: self.over,
+            held: (self.accepted.len() - self.taken) as u64,
+        }
+    }
+}

@@ -1,0 +1,4 @@
+//! Tests of the public calls, one subject a file: what no clause can say.
+mod count;
+mod hub;
+mod pool;

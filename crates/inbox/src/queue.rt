@@ -1,0 +1,118 @@
+//! A queue of bounded length that some threads fill and another one empties. All of its room is made with it.
+ghost use Rattle.std.specs.Prelude.{◌≡◌, ◌≤◌, ◌∷◌, ◌++◌, [], IfErr, OnErr, OnOk};
+ghost use Rattle.std.specs.VecDeque.{deque_capacity, deque_len};
+
+use flow_rules::NoMemory;
+use std::alloc::Global;
+use std::collections::VecDeque;
+use std::sync::{Condvar, Mutex, Wait};
+
+/// Values that wait, the first in first, until the queue is closed.
+#[derive(Drop)]
+pub struct Queue<T: Drop> {
+    state: Mutex<State<T>>,
+    changed: Condvar,
+}
+
+#[derive(Drop)]
+struct State<T: Drop> {
+    /// No more than it has room for, so that it never grows.
+    waiting: VecDeque<T>,
+    is_closed: bool,
+}
+
+impl<T: Drop> State<T> {
+    /// Puts a value behind all others if there is room for it, and else gives it back.
+    fn put(&mut self, value: T) -> Result<(), T>
+        ensures behind { OnOk result (self.new.waiting.items ≡ self.old.waiting.items ++ value ∷ []) }
+        ensures back { IfErr result (λ given. given ≡ value) }
+        ensures full { OnErr result (deque_capacity self.old.waiting ≤ deque_len self.old.waiting) }
+        ensures unchanged { OnErr result (self.new ≡ self.old) }
+    {
+        if self.waiting.len() >= self.waiting.capacity() {
+            return Err(value);
+        }
+        match self.waiting.push_back(value) {
+            Ok(()) => Ok(()),
+            Err(_) => unreachable!(),
+        }
+    }
+}
+
+impl<T: Drop> Queue<T> {
+    /// An open queue with room for this many values, in which nothing waits. `NoMemory` if that room is refused.
+    pub fn new(alloc: Global, most: usize) -> Result<Queue<T>, NoMemory> {
+        Ok(Queue {
+            state: Mutex::new(State {
+                waiting: VecDeque::with_capacity(alloc, most)?,
+                is_closed: false,
+            }),
+            changed: Condvar::new(),
+        })
+    }
+
+    /// Puts a value behind all others, and waits until there is room for it. The answer is whether the queue is open: after a close the
+    /// value is dropped.
+    pub fn push<R: Wait>(&self, rt: &R, value: T) -> bool {
+        let mut state = self.state.lock(rt);
+        let mut left = value;
+        for _ in rt.forever() {
+            if state.is_closed {
+                return false;
+            }
+            match state.put(left) {
+                Ok(()) => {
+                    drop(state);
+                    self.changed.notify_all();
+                    return true;
+                }
+                Err(value) => left = value,
+            }
+            state = self.changed.wait(rt, state);
+        }
+        unreachable!()
+    }
+
+    /// Puts a value behind all others if there is room for it, and else gives it back. After a close it is dropped.
+    pub fn try_push<R: Wait>(&self, rt: &R, value: T) -> Result<(), T> {
+        let mut state = self.state.lock(rt);
+        let put = if state.is_closed {
+            Ok(())
+        } else {
+            state.put(value)
+        };
+        drop(state);
+        self.changed.notify_all();
+        put
+    }
+
+    /// Takes the first value, and waits until there is one; `None` once the queue is closed and nothing is left in it.
+    pub fn pop<R: Wait>(&self, rt: &R) -> Option<T> {
+        let mut state = self.state.lock(rt);
+        for _ in rt.forever() {
+            let first = state.waiting.pop_front();
+            if first.is_some() || state.is_closed {
+                drop(state);
+                self.changed.notify_all();
+                return first;
+            }
+            state = self.changed.wait(rt, state);
+        }
+        unreachable!()
+    }
+
+    /// Closes the queue. What waits in it still comes out.
+    pub fn close<R: Wait>(&self, rt: &R) {
+        self.state.lock(rt).is_closed = true;
+        self.changed.notify_all();
+    }
+
+    /// Closes the queue, and drops what waits in it.
+    pub fn cut<R: Wait>(&self, rt: &R) {
+        let mut state = self.state.lock(rt);
+        state.is_closed = true;
+        state.waiting.clear();
+        drop(state);
+        self.changed.notify_all();
+    }
+}

@@ -1,0 +1,3 @@
+-- What submitters have published, one after the other and together.
+pub mod Batches
+pub mod TogetherSums

@@ -1,0 +1,50 @@
+-- What a subscribing gives.
+use Rattle.std.proofs.Common.{◌≡◌, ℕ, Option, None, Some, List, length, refl, sym, ap, subst, ◌∙◌}
+use Rattle.std.specs.Prelude.{slice_get}
+use Rattle.std.proofs.lemmas.List.{length-map}
+use Rattle.close_count.specs.declared.ticket.Ticket.{Ticket}
+use Rattle.feed_cell.specs.Offering.{DoesCall}
+use Rattle.feed_cell.specs.Parties.{IsNewTaskIn, ProducerState, TaskState, new_handle_in}
+use Rattle.flow_rules.specs.declared.ending.Ending.{Ending}
+use Rattle.flow_rules.specs.declared.error_order.ErrorOrder.{ErrorOrder}
+use Rattle.publisher_hub.specs.Entry.{entry_of}
+use Rattle.publisher_hub.specs.Hub.{HubState}
+use Rattle.publisher_hub.specs.Subscribing.{Admits, ClosesNew, first_entry}
+use Rattle.publisher_hub.specs.declared.work.Work.{Work}
+use Rattle.publisher.specs.State.{PublisherState, producer_end}
+use Rattle.publisher.specs.Subscribing.{IsSubscription}
+use Rattle.publisher.specs.declared.state.subscribe.Subscribed.{Subscribed}
+use Rattle.publisher.proofs.BothEnds.LongerLists.{get_last}
+
+-- a close leaves a producer's end that of its subscription
+same_subscription : (ending : Option Ending) (feed after : ProducerState) (start : Option TaskState)
+    → ClosesNew producer_end DoesCall ending feed start after → after.table ≡ feed.table
+same_subscription None feed after start closes = ap (λ (p : ProducerState). p.table) closes.1
+same_subscription (Some ending) feed after start closes = closes.1.table
+
+pub subscribed_is : {B : Type 0} (name : List ℕ) (order : ErrorOrder) (producer : ProducerState)
+    (ticket : Option Ticket) (due_before due_after : List (Work TaskState)) (old new : PublisherState) (subscribed : Subscribed B)
+    → Admits producer_end DoesCall name producer ticket subscribed.entry due_before due_after old.hub new.hub
+    → subscribed.handle ≡ new_handle_in order old.hub.capacity producer.table
+    → IsNewTaskIn order producer.table old.hub.capacity subscribed.task
+    → IsSubscription name order subscribed new
+subscribed_is name order producer ticket due_before due_after old new subscribed admits handle task =
+    let first = first_entry name old.hub.next admits.after ticket in
+    let long : length admits.middle.entries.items ≡ length old.hub.entries.items =
+    sym (length-map admits.middle.entries.items (entry_of producer_end)) ∙ admits.seen.kept.as_long
+    ∙ length-map old.hub.entries.items (entry_of producer_end) in
+    let number : subscribed.entry ≡ length admits.middle.entries.items = admits.is_next ∙ sym long in
+    let table : admits.after.table ≡ producer.table = same_subscription old.hub.ending producer admits.after admits.start admits.closes in
+    let capacity : new.hub.capacity ≡ old.hub.capacity = ap (λ (h : HubState). h.progress.capacity) admits.rest in
+    record {
+      entry = first;
+      producer = admits.after;
+      stands = ap (slice_get new.hub.entries.items) number
+          ∙ ap (λ items. slice_get items (length admits.middle.entries.items)) admits.entries ∙ get_last admits.middle.entries.items first;
+      named = refl;
+      there = refl;
+      handle_is = handle ∙ ap (λ n. new_handle_in order n producer.table) (sym capacity)
+          ∙ ap (λ t. new_handle_in order new.hub.capacity t) (sym table);
+      task_is = subst (λ t. IsNewTaskIn order t new.hub.capacity subscribed.task) (sym table)
+          (subst (λ n. IsNewTaskIn order producer.table n subscribed.task) (sym capacity) task);
+    }

@@ -1,9 +1,0 @@
-use Rattle.std.proofs.Common.{◌≡◌, length}
-use Rattle.publisher.proofs.Placing.{IsPlacing}
-use Rattle.publisher.proofs.state.finding.place_all.Given as goal
-
-abbrev pub invariant-loop-subscription : goal.invariant-loop-subscription
-invariant-loop-subscription g l = IsPlacing l.initial.subscriptions.items l.subscriptions.items l.handles l.all × (length l.handles ≡ length l.initial.handles)
-
-abbrev pub decreases-loop-subscription : goal.decreases-loop-subscription
-decreases-loop-subscription g l = length l.subscriptions.items

@@ -1,6 +1,0 @@
-use Rattle.std.proofs.Common.{◌≤◌}
-use Rattle.publisher.proofs.Compared.{AreCompared}
-use Rattle.publisher.proofs.state.tickets.compare_tickets.Given as goal
-
-abbrev pub invariant-loop-entry : goal.invariant-loop-entry
-invariant-loop-entry g l = AreCompared l.initial.hub l.hub l.initial.last l.last l.entry × (l.entry ≤ l.initial.entries)

@@ -1,0 +1,166 @@
+//! How the two ends of each subscription of a publisher are brought together at its end, while the lock is held.
+//!
+//! The handles come from the subscriptions that were handed in, and the producers' ends from the Hub. Nothing is
+//! closed here.
+ghost use Rattle.std.specs.Prelude.{◌≡◌, ◌<◌, ◌≤◌, ◌↔◌, [], length, None, Some, slice_get, slice_set, true, vec_capacity};
+ghost use Rattle.publisher_hub.specs.Hub.{hub_of};
+ghost use Rattle.publisher_hub.specs.Sound.{IsSound};
+ghost use Rattle.publisher.specs.Finding.{AreNone, ArePlaced, FindsAll, FindsOne, is_reclaimed};
+ghost use Rattle.publisher.specs.State.{producer_end};
+ghost use Rattle.publisher.specs.Tickets.{IsLate};
+
+use crate::subscription::Subscription;
+use feed_cell::{Handle, Producer};
+use flow_rules::{FailHandler, Listener, Name};
+use publisher_hub::Hub;
+use std::sync::ledger::Ledger;
+
+/// The two ends of a subscription, with what its publisher knows of it.
+#[derive(Drop)]
+pub struct Taken<B: Listener> {
+    /// The name that its subscriber subscribed with.
+    pub name: Name,
+    /// The serial number of the next publication when it was subscribed.
+    pub since: u64,
+    /// How many publications found its buffer full.
+    pub dropped: u64,
+    /// Whether it was subscribed after the close.
+    pub late: bool,
+    /// The publisher's end.
+    pub producer: Producer<B>,
+    /// The owner's end.
+    pub handle: Handle<B>,
+}
+
+/// What is found of a subscription.
+#[derive(Drop)]
+pub enum Found<B: Listener> {
+    /// Both its ends.
+    Both(Taken<B>),
+    /// Its handle was not handed in.
+    Missing(Name),
+    /// It was reclaimed: its producer's end was taken out before.
+    Reclaimed,
+}
+
+impl<B: Listener> Found<B> {
+    /// Tells whether it was reclaimed.
+    fn is_reclaimed(&self) -> bool
+        ensures { result ≡ is_reclaimed self.now }
+    {
+        match self {
+            Found::Both(_) => false,
+            Found::Missing(_) => false,
+            Found::Reclaimed => true,
+        }
+    }
+}
+
+/// Lays the handle of each subscription at the place of its number. The answer is whether each has a place.
+pub fn place_all<L: Ledger + Send, D: Ledger + Send, B: Listener + Send, F: FailHandler + Send>(
+    handles: &mut [Option<Handle<B>>],
+    mut subscriptions: Vec<Subscription<L, D, B, F>>,
+) -> bool
+    requires empty { AreNone handles.old }
+    ensures placed { ArePlaced subscriptions.items handles.new result }
+    ensures length { length handles.new ≡ length handles.old }
+{
+    let mut all = true;
+    while let Some(subscription) = subscriptions.pop() {
+        let (entry, handle) = subscription.into_parts();
+        // Not `&&`: the others are laid down, also after one that has no place.
+        all &= place(handles, entry as usize, handle);
+    }
+    all
+}
+
+/// Lays a handle at this place. The answer is whether there is one.
+fn place<B: Listener>(handles: &mut [Option<Handle<B>>], place: usize, handle: Handle<B>) -> bool
+    ensures set { handles.new ≡ slice_set handles.old place (Some handle) }
+    ensures there { result ≡ true → place < length handles.old }
+{
+    let is_there = place < handles.len();
+    if is_there {
+        handles[place] = Some(handle);
+    }
+    is_there
+}
+
+/// Finds what there is of each subscription, in order. The answer is whether a handle is that of a reclaimed one.
+pub fn find_all<B: Listener>(
+    hub: &mut Hub<Producer<B>>,
+    counted: Option<u32>,
+    handles: &mut [Option<Handle<B>>],
+    founds: &mut Vec<Found<B>>,
+) -> bool
+    requires sound { IsSound (hub_of producer_end hub.old) }
+    requires all { length handles.old ≡ length hub.old.entries.items }
+    requires empty { founds.old.items ≡ [] }
+    requires room { length handles.old ≤ vec_capacity founds.old }
+    ensures { FindsAll hub.old hub.new counted handles.old founds.new.items result }
+{
+    let mut gone = false;
+    for number in 0..handles.len() {
+        let handle = take_at(handles, number);
+        let is_handed = handle.is_some();
+        let found = find_one(hub, counted, number as u32, handle);
+        // Two Bools that are there already, so `&` leaves nothing out.
+        gone |= is_handed & found.is_reclaimed();
+        founds.push_reserved(found);
+    }
+    gone
+}
+
+/// Takes the handle of this place, if it is there.
+fn take_at<B: Listener>(handles: &mut [Option<Handle<B>>], place: usize) -> Option<Handle<B>>
+    requires { place < length handles.old }
+    ensures taken { slice_get handles.old place ≡ Some result }
+    ensures left { handles.new ≡ slice_set handles.old place None }
+{
+    handles[place].take()
+}
+
+/// Finds what there is of the subscription of this number, with this handle, if that was handed in.
+fn find_one<B: Listener>(
+    hub: &mut Hub<Producer<B>>,
+    counted: Option<u32>,
+    number: u32,
+    handle: Option<Handle<B>>,
+) -> Found<B>
+    requires sound { IsSound (hub_of producer_end hub.old) }
+    requires there { number < length hub.old.entries.items }
+    ensures finds { FindsOne counted number handle result hub.old hub.new }
+    ensures sound { IsSound (hub_of producer_end hub.new) }
+{
+    let name = hub.name_of(number).unwrap();
+    let since = hub.since(number).unwrap();
+    let dropped = hub.dropped(number).unwrap();
+    let Some(handle) = handle else {
+        return if hub.has_feed(number) {
+            Found::Missing(name)
+        } else {
+            Found::Reclaimed
+        };
+    };
+    match hub.take_feed(number) {
+        Some(producer) => Found::Both(Taken {
+            name,
+            since,
+            dropped,
+            late: is_late(counted, number),
+            producer,
+            handle,
+        }),
+        None => Found::Reclaimed,
+    }
+}
+
+/// Tells whether the subscription of this number was made after the close, before which this many were.
+pub fn is_late(counted: Option<u32>, number: u32) -> bool
+    ensures { (result ≡ true) ↔ IsLate counted number }
+{
+    match counted {
+        Some(many) => many <= number,
+        None => false,
+    }
+}

@@ -1,0 +1,99 @@
+//! How a publisher gives back a subscription that has ended, before its own end.
+//!
+//! What is taken out from behind the lock for that stands in `state`. All others are closed at the end, in `finishing`.
+ghost use Rattle.std.specs.Prelude.{◌≡◌, None, IfErr, IfOk};
+ghost use Rattle.feed_cell.specs.Left.{IsLeftOf};
+ghost use Rattle.publisher.specs.Leaving.{IsLaneOfTaken};
+ghost use Rattle.publisher.specs.Outcome.{HasOwnersPart};
+ghost use Rattle.publisher.specs.Reclaiming.{IsReclaimed, IsRefusalOfReclaim};
+
+use super::Publisher;
+use crate::finishing::close::OwnersPart;
+use crate::finishing::find::Taken;
+use crate::outcome::NamedLane;
+use crate::subscription::Subscription;
+use feed_cell::{Handle, Producer, close, close_again};
+use feed_core::Lane;
+use flow_rules::{FailHandler, Listener, Refusal};
+use std::alloc::Global;
+use std::sync::Wait;
+use std::sync::ledger::Ledger;
+
+impl<L: Ledger + Send, D: Ledger + Send, B: Listener + Send, F: FailHandler + Send> Publisher<
+    L,
+    D,
+    B,
+    F,
+> {
+    /// Gives what is left of a subscription that has ended, with its subscriber, as [`finish`](crate::finish) would,
+    /// and frees the rest (Reactive Streams 1.0, rule 3.13). What is kept of it are the numbers of its entry. It takes
+    /// constant time, and waits for the publisher's lock.
+    ///
+    /// Refused, with the subscription back: 9 if it has not ended, by its name; 8 if the thread that ended it has not
+    /// yet let go of its task, which is a matter of a few instructions; and 5 if the memory for the list of that one
+    /// name is refused. Nothing has changed then.
+    pub fn reclaim<R: Wait>(
+        &self,
+        rt: &R,
+        alloc: Global,
+        subscription: Subscription<L, D, B, F>,
+    ) -> Result<NamedLane<B>, (Refusal, Subscription<L, D, B, F>)>
+        ensures lane { IfOk result (λ left. IsReclaimed B.told B.replied left) }
+        ensures entry { IfOk result (λ left. left.entry ≡ subscription.entry) }
+        ensures owner { IfOk result (λ left. HasOwnersPart subscription.handle left.lane) }
+        ensures unchanged { IfErr result (λ refused. refused.1 ≡ subscription) }
+        ensures refusals { IfErr result (λ refused. IsRefusalOfReclaim refused.0) }
+    {
+        let (dispatcher, entry, handle) = subscription.into_all();
+        let taken = self.shared.lock(rt).reclaim(alloc, entry, handle);
+        match taken {
+            Ok(taken) => Ok(close_ended(rt, entry, taken)),
+            Err((refusal, handle)) => Err((refusal, Subscription::new(dispatcher, entry, handle))),
+        }
+    }
+}
+
+/// Closes a subscription that was taken out, whose number this is.
+fn close_ended<B: Listener, R: Wait>(rt: &R, number: u32, taken: Taken<B>) -> NamedLane<B>
+    ensures { IsLaneOfTaken B.told B.replied number taken result }
+{
+    let Taken {
+        name,
+        since,
+        dropped,
+        late,
+        producer,
+        handle,
+    } = taken;
+    NamedLane {
+        name,
+        entry: number,
+        since,
+        dropped,
+        late,
+        lane: close_alone(rt, producer, handle),
+    }
+}
+
+/// Closes a subscription that nobody else shares. No thread has its task any more and the handle is its own, so the
+/// first close gives the lane, which has its owner's part; the loop says so to the proof, which doesn't see how many
+/// share it and that the ends belong together.
+fn close_alone<B: Listener, R: Wait>(rt: &R, producer: Producer<B>, handle: Handle<B>) -> Lane<B>
+    ensures left { IsLeftOf B.told B.replied producer.end None result }
+    ensures owner { HasOwnersPart handle result }
+{
+    let owner = OwnersPart::of(&handle);
+    let mut closed = close(producer, handle);
+    for _ in rt.forever() {
+        closed = match closed {
+            Ok(lane) => {
+                if owner.is_in(&lane) {
+                    return lane;
+                }
+                Ok(lane)
+            }
+            Err(back) => close_again(back),
+        };
+    }
+    unreachable!()
+}

@@ -1,0 +1,215 @@
+//! Publications: of one text, of several in a row, and the offer of one.
+//!
+//! What a submitter owns of them stands in `sources`, and whether there is room in `look`. Nothing here waits. A
+//! refusal of the Hub comes as a value that is made here alone, so whoever learns from it how the publisher is closed
+//! can't have made that up.
+ghost use Rattle.std.specs.Prelude.{◌≡◌, ◌+◌, IfErr, IfOk, OnErr, OnOk, is_none, length};
+ghost use Rattle.feed_cell.specs.Offering.{DoesCall};
+ghost use Rattle.publisher_hub.specs.Publishing.{OffersItem, Publishes, RefusesItem, RefusesOffer};
+ghost use Rattle.publisher_hub.specs.declared.hub.publish.Unpublished.TheVariants as Unpublished;
+ghost use Rattle.publisher.specs.Handles.{IsHubRefusal};
+ghost use Rattle.publisher.specs.Publishing.{PublishesFirst, RefusesShared, StopsAt, drop_of};
+ghost use Rattle.publisher.specs.State.{producer_end};
+
+use super::{Own, State};
+use feed_cell::Task;
+use flow_rules::{DropHandler, Listener, NoMemory, Refusal, Text};
+use publisher_hub::{Unpublished, Work};
+use std::marker::Model;
+use std::sync::ledger::{Book, Ledger, Share};
+
+/// A refusal of the Hub. Only a publication that the Hub refused gives one.
+#[must_use]
+#[derive(Drop)]
+pub struct Refused(Refusal);
+
+impl Model for Refused {
+    ghost use Rattle.flow_rules.specs.declared.refusal.Refusal.{Refusal};
+    ghost use Rattle.publisher.specs.Handles.{IsHubRefusal};
+
+    ghost Value = { Refusal };
+
+    ghost view = { λ refused. refused.0 };
+
+    ghost invariant = { λ refused. IsHubRefusal refused.0 };
+}
+
+impl Refused {
+    /// Tells which refusal it is.
+    pub fn refusal(self) -> Refusal
+        ensures is { result ≡ self }
+        ensures reason { IsHubRefusal result }
+    {
+        let Refused(refusal) = self;
+        refusal
+    }
+}
+
+/// Why a text was not published. Only a publication in vain gives one.
+#[must_use]
+#[derive(Drop)]
+pub struct NotPublished(Unpublished);
+
+impl Model for NotPublished {
+    ghost use Rattle.publisher_hub.specs.declared.hub.publish.Unpublished.{Unpublished};
+    ghost use Rattle.publisher.specs.Handles.{IsHubReason};
+
+    ghost Value = { Unpublished };
+
+    ghost view = { λ it. it.0 };
+
+    ghost invariant = { λ it. IsHubReason it.0 };
+}
+
+impl NotPublished {
+    /// Gives the text back if a live subscription had no room for it, and else the refusal.
+    pub fn text(self) -> Result<Text, Refused>
+        ensures back { IfOk result (λ text. self ≡ Unpublished.NoRoom text) }
+        ensures refused { IfErr result (λ refusal. self ≡ Unpublished.Refused refusal) }
+    {
+        let NotPublished(why) = self;
+        match why {
+            Unpublished::NoRoom(text) => Ok(text),
+            Unpublished::Refused(refusal) => Err(Refused(refusal)),
+        }
+    }
+}
+
+/// Says how far a list of texts was published, in order.
+#[derive(Drop)]
+pub struct Stopped {
+    /// How many were published before the first that was not.
+    pub published: usize,
+    /// Why that one was not.
+    pub why: NotPublished,
+}
+
+impl<L: Ledger, D: Ledger, B: Listener> State<L, D, B> {
+    /// Publishes a text to all live subscriptions at once, if all have room. Only then the submitter's share rises, by
+    /// one.
+    pub fn publish(
+        &mut self,
+        own: &mut Own<L, D>,
+        text: Text,
+        due: &mut Vec<Work<Task<B>>>,
+    ) -> Result<u64, NotPublished>
+        ensures ok { IfOk result (λ lag. Publishes producer_end DoesCall own.old.source text
+            self.old.hub self.new.hub due.old.items due.new.items lag) }
+        ensures refusals { IfErr result
+            (λ why. RefusesItem producer_end DoesCall text self.old.hub self.new.hub why) }
+        ensures nothing_due { OnErr result (due.new.items ≡ due.old.items) }
+        ensures one_more { OnOk result
+            (own.new.publications.amount ≡ own.old.publications.amount + 1) }
+        ensures none { OnErr result (own.new.publications.amount ≡ own.old.publications.amount) }
+        ensures source { own.new.source ≡ own.old.source }
+        ensures drops { own.new.drops.amount ≡ own.old.drops.amount }
+    {
+        let State { hub, published, .. } = self;
+        let lag = match hub.publish(own.source, text, due) {
+            Ok(lag) => lag,
+            Err(why) => return Err(NotPublished(why)),
+        };
+        published.add(&mut own.publications, 1);
+        Ok(lag)
+    }
+
+    /// Publishes texts in order, each as [`publish`](State::publish) publishes one, up to one that is not published.
+    /// The answer is the lag after the last, or 0 if there is no text.
+    pub fn publish_all(
+        &mut self,
+        own: &mut Own<L, D>,
+        texts: &[Text],
+        due: &mut Vec<Work<Task<B>>>,
+    ) -> Result<u64, Stopped>
+        ensures ok { IfOk result (λ lag. PublishesFirst own.old.source texts.now (length texts.now)
+            self.old.hub self.new.hub due.old.items due.new.items lag) }
+        ensures stopped { IfErr result (λ stopped. StopsAt own.old.source texts.now stopped
+            self.old self.new due.old.items due.new.items) }
+        ensures all { OnOk result (own.new.publications.amount
+            ≡ own.old.publications.amount + length texts.now) }
+        ensures some { IfErr result (λ stopped. own.new.publications.amount
+            ≡ own.old.publications.amount + stopped.published) }
+        ensures source { own.new.source ≡ own.old.source }
+        ensures drops { own.new.drops.amount ≡ own.old.drops.amount }
+    {
+        let mut lag = 0;
+        for (published, text) in texts.iter().enumerate() {
+            match self.publish_shared(own, text, due) {
+                Ok(after) => lag = after,
+                Err(why) => return Err(Stopped { published, why }),
+            }
+        }
+        Ok(lag)
+    }
+
+    /// Publishes a share of a text, as [`publish`](State::publish) publishes a text.
+    fn publish_shared(
+        &mut self,
+        own: &mut Own<L, D>,
+        text: &Text,
+        due: &mut Vec<Work<Task<B>>>,
+    ) -> Result<u64, NotPublished>
+        ensures ok { IfOk result (λ lag. Publishes producer_end DoesCall own.old.source text.now
+            self.old.hub self.new.hub due.old.items due.new.items lag) }
+        ensures refusals { IfErr result (RefusesShared text.now self.old self.new) }
+        ensures nothing_due { OnErr result (due.new.items ≡ due.old.items) }
+        ensures one_more { OnOk result
+            (own.new.publications.amount ≡ own.old.publications.amount + 1) }
+        ensures none { OnErr result (own.new.publications.amount ≡ own.old.publications.amount) }
+        ensures source { own.new.source ≡ own.old.source }
+        ensures drops { own.new.drops.amount ≡ own.old.drops.amount }
+    {
+        match text.share() {
+            Ok(text) => self.publish(own, text, due),
+            Err(NoMemory) => Err(NotPublished(Unpublished::Refused(Refusal::NoMemory))),
+        }
+    }
+
+    /// Gives a text to all live subscriptions that have room, and drops it at the others. Only then the submitter's
+    /// share rises, by one, and that of the drops if any dropped it.
+    pub fn offer<H: DropHandler>(
+        &mut self,
+        own: &mut Own<L, D>,
+        text: Text,
+        handler: Option<&mut H>,
+        due: &mut Vec<Work<Task<B>>>,
+    ) -> Result<i64, Refused>
+        ensures ok { IfOk result (λ answer. OffersItem producer_end DoesCall own.old.source text
+            (is_none handler.entry) self.old.hub self.new.hub due.old.items due.new.items answer) }
+        ensures refusals { IfErr result
+            (λ refusal. RefusesOffer producer_end DoesCall self.old.hub self.new.hub refusal) }
+        ensures one_more { OnOk result
+            (own.new.publications.amount ≡ own.old.publications.amount + 1) }
+        ensures none { OnErr result (own.new.publications.amount ≡ own.old.publications.amount) }
+        ensures dropped { IfOk result
+            (λ answer. own.new.drops.amount ≡ own.old.drops.amount + drop_of answer) }
+        ensures none_dropped { OnErr result (own.new.drops.amount ≡ own.old.drops.amount) }
+        ensures source { own.new.source ≡ own.old.source }
+    {
+        let State {
+            hub,
+            published,
+            dropping,
+            ..
+        } = self;
+        let answer = match hub.offer_with(own.source, text, handler, due) {
+            Ok(answer) => answer,
+            Err(refusal) => return Err(Refused(refusal)),
+        };
+        published.add(&mut own.publications, 1);
+        count_drop(dropping, &mut own.drops, answer);
+        Ok(answer)
+    }
+}
+
+/// Counts an offer that found a buffer full.
+fn count_drop<D: Ledger>(dropping: &mut Book<D>, drops: &mut Share<D>, answer: i64)
+    requires { drops.old.parts ≡ 1 }
+    ensures amount { drops.new.amount ≡ drops.old.amount + drop_of answer }
+    ensures total { dropping.new.total ≡ dropping.old.total + drop_of answer }
+    ensures parts { drops.new.parts ≡ 1 }
+{
+    if answer < 0 {
+        dropping.add(drops, 1);
+    }
+}

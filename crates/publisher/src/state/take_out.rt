@@ -1,0 +1,197 @@
+//! What is taken out from behind the lock: one subscription that has ended, or all at the end of the publisher.
+//!
+//! Only the two ends of subscriptions come out. They are closed outside the lock, by whoever took them out.
+ghost use Rattle.std.specs.Prelude.{◌≡◌, IfErr, IfOk, IfSome};
+ghost use Rattle.publisher.specs.declared.state.TheConstants.{PARTS};
+ghost use Rattle.publisher.specs.Finishing.{IsNothing, TakesBooksOut};
+ghost use Rattle.publisher.specs.Reclaiming.{Knows, NamesOne, Reclaims, RefusesReclaim, TakesEnd};
+
+use super::State;
+use super::close::{compare_tickets, keep_last};
+use crate::finishing::find::{Taken, find_all, is_late, place_all};
+use crate::finishing::judge::Books;
+use crate::finishing::room::{Places, new_places};
+use crate::outcome::Outcome;
+use crate::submitter::Submitter;
+use crate::subscription::Subscription;
+use feed_cell::{Handle, Producer, is_shared};
+use flow_rules::{FailHandler, Listener, Name, Refusal};
+use std::alloc::Global;
+use std::sync::ledger::Ledger;
+
+/// What a publisher knows of a subscription without its ends.
+#[derive(Drop)]
+pub struct Known {
+    name: Name,
+    /// The serial number of the next publication when it was subscribed.
+    since: u64,
+    /// How many publications found its buffer full.
+    dropped: u64,
+    /// Whether it was subscribed after the close.
+    late: bool,
+}
+
+impl Known {
+    /// Adds both ends of the subscription to what is known of it.
+    fn with<B: Listener>(self, producer: Producer<B>, handle: Handle<B>) -> Taken<B>
+        ensures { result ≡ record {
+          name = self.name;
+          since = self.since;
+          dropped = self.dropped;
+          late = self.late;
+          producer = producer;
+          handle = handle;
+        } }
+    {
+        Taken {
+            name: self.name,
+            since: self.since,
+            dropped: self.dropped,
+            late: self.late,
+            producer,
+            handle,
+        }
+    }
+}
+
+impl<L: Ledger, D: Ledger, B: Listener> State<L, D, B> {
+    /// Takes the producer's end of the subscription of this number out, if that has ended, for its handle, which this
+    /// is. Its ticket is spent, if it wasn't.
+    ///
+    /// Refused, with the handle back: 9 if a look shows that it has not ended, by its name; 8 if a thread has its task
+    /// still; and 5 if the memory for the list of that one name is refused, or if no subscription has the number.
+    /// Nothing has changed then but by looks.
+    pub fn reclaim(
+        &mut self,
+        alloc: Global,
+        entry: u32,
+        handle: Handle<B>,
+    ) -> Result<Taken<B>, (Refusal, Handle<B>)>
+        ensures ok { IfOk result (λ taken. Reclaims entry handle taken self.old self.new) }
+        ensures back { IfErr result (λ refused. refused.1 ≡ handle) }
+        ensures refused { IfErr result (λ refused.
+            RefusesReclaim entry refused.0 self.old self.new) }
+    {
+        let has_ended = self.has_ended(entry);
+        let Some(known) = self.known(entry) else {
+            return Err((Refusal::NoMemory, handle));
+        };
+        if !has_ended {
+            return Err((unsettled(alloc, known.name), handle));
+        }
+        let is_held = match self.hub.feed(entry) {
+            Some(producer) => is_shared(producer, &handle),
+            None => false,
+        };
+        if is_held {
+            return Err((Refusal::StillHeld(known.name), handle));
+        }
+        match self.take_end(entry) {
+            Some(producer) => Ok(known.with(producer, handle)),
+            None => Err((unsettled(alloc, known.name), handle)),
+        }
+    }
+
+    /// Gives what is known of the subscription of this number, if there is one.
+    fn known(&self, entry: u32) -> Option<Known>
+        ensures { IfSome result (Knows self.now entry) }
+    {
+        Some(Known {
+            name: self.hub.name_of(entry)?,
+            since: self.hub.since(entry)?,
+            dropped: self.hub.dropped(entry)?,
+            late: is_late(self.counted, entry),
+        })
+    }
+
+    /// Looks at the subscription of this number. If that shows that it has ended, its producer's end is taken out, its
+    /// number is none of those that may be live, and its ticket is spent.
+    fn take_end(&mut self, entry: u32) -> Option<Producer<B>>
+        ensures { TakesEnd entry result self.old self.new }
+    {
+        let (producer, ticket) = self.hub.take_ended(entry)?;
+        if let Some(ticket) = ticket {
+            let is_closed = self.hub.ending().is_some();
+            keep_last(&mut self.last, ticket.spend(), is_closed);
+        }
+        Some(producer)
+    }
+}
+
+impl<L: Ledger + Send, D: Ledger + Send, B: Listener + Send> State<L, D, B> {
+    /// Takes the producer's end of each subscription out that was handed in, and sums up the shares of the submitters.
+    /// If a growth is refused, the answer is an outcome without lanes and without a handler.
+    pub fn take_out<F: FailHandler + Send>(
+        &mut self,
+        alloc: Global,
+        submitters: Vec<Submitter<L, D, B, F>>,
+        subscriptions: Vec<Subscription<L, D, B, F>>,
+    ) -> Result<Books<B>, Outcome<B, F>>
+        requires { (L.parts ≡ PARTS) × (D.parts ≡ PARTS) }
+        ensures ok { IfOk result
+            (λ books. TakesBooksOut submitters.items subscriptions.items self.old books) }
+        ensures nothing { IfErr result (λ outcome. IsNothing outcome) }
+    {
+        let Ok(
+            Places {
+                mut handles,
+                mut founds,
+                room,
+            },
+        ) = new_places(alloc, self.entries as usize)
+        else {
+            return Err(self.nothing(alloc));
+        };
+        let all = place_all(&mut handles, subscriptions);
+        compare_tickets(&mut self.hub, &mut self.last, self.entries);
+        let gone = find_all(&mut self.hub, self.counted, &mut handles, &mut founds);
+        // Each subscription of this publisher has its place, and one that is reclaimed is given up by its owner.
+        if gone | !all {
+            return Err(self.nothing(alloc));
+        }
+        let made = self.entries;
+        let together = self.put_together(submitters);
+        let is_closed = together.knows | self.hub.ending().is_some();
+        let missing = self.audit(together);
+        Ok(Books {
+            founds,
+            room,
+            made,
+            published: self.hub.next_serial(),
+            drained: self.last.is_some(),
+            is_closed,
+            missing,
+        })
+    }
+
+    /// Makes an outcome without lanes and without a handler.
+    fn nothing<F: FailHandler>(&self, alloc: Global) -> Outcome<B, F>
+        ensures { IsNothing result }
+    {
+        let published = self.hub.next_serial();
+        let drained = self.last.is_some();
+        Outcome {
+            lanes: Vec::new(alloc),
+            held: Vec::new(alloc),
+            reclaimed: Vec::new(alloc),
+            made: self.entries,
+            published,
+            drained,
+            handler: None,
+        }
+    }
+}
+
+/// Makes the refusal of a subscription of this name that has not ended: 9, or 5 if the memory for the list of its name
+/// is refused.
+fn unsettled(alloc: Global, name: Name) -> Refusal
+    ensures { NamesOne name result }
+{
+    match Vec::with_capacity(alloc, 1) {
+        Ok(mut names) => {
+            names.push_reserved(name);
+            Refusal::Unsettled(names)
+        }
+        Err(_) => Refusal::NoMemory,
+    }
+}

@@ -1,0 +1,10 @@
+//! Tests of the public calls, one subject a file: what no clause can say.
+mod batches;
+mod callbacks;
+mod closing;
+mod coming;
+mod failing;
+mod reclaiming;
+mod standing;
+mod submitters;
+mod waits;
