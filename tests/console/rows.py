@@ -23,7 +23,7 @@ REFUSED, UNKNOWN, UNSETTLED, HELD = b"= refused 12 command", b"= refused 10 unkn
 LONG = b"x" * 4097
 
 # The commands that a wrong one is told of.
-LISTED = b"no such command (sub, request, cancel, leave, offer, retry, submit, close, fail, lag, subscribers, closed, help, quit)"
+LISTED = b"no such command (sub, request, cancel, leave, offer, retry, submit, publish, close, fail, lag, subscribers, closed, help, quit)"
 
 DIGITS, NAME, SPACE = b"a number has digits alone", b"a name has 1 to 32 letters, digits, - and _", b"a space too many"
 SHOWN = b"x" * 60 + b" .."
@@ -48,6 +48,11 @@ MISTAKES = (
     (b"sub a 9999999999999999999", b"9999999999999999999: more than 9223372036854775807"),
     (b"sub a b 1", b"sub NAME N: too many words, 1"),
     (b"sub a 1 2 3", b"sub NAME N: too many words, 2 3"),
+    (b"sub a 1 dropped", b"sub NAME N: too many words, dropped"),
+    (b"sub a 1 2 drop", b"sub NAME N: too many words, 2 drop"),
+    (b"sub a drop", b"drop: " + DIGITS),
+    (b"publish", b"publish SOURCE TEXT: the source is missing"),
+    (b"publish 1", b"publish SOURCE TEXT: the text is missing"),
     (b"sub a 1 ", SPACE),
     (b"sub  a 1", SPACE),
     (b"sub a  1", SPACE),
@@ -114,7 +119,7 @@ def commands(program):
         it.say(b"sub b 3", b"= sub b", b"b subscribed", b"b complete")
         it.say(b"fail 7", b"= ok")
         it.say(b"closed", b"= closed 1")
-        it.end(b"= a cancelled 3", b"= b complete 0", b"= drained 1")
+        it.end(b"= a cancelled 3, 2 dropped", b"= b complete 0", b"= drained 1")
 
 
 def refusals(program):
@@ -166,7 +171,7 @@ def demands(program):
         it.say(b"offer 6", b"= offer -1", b"fast next 6")
         it.say(b"request slow 2", b"= ok", b"slow next 2", b"slow next 3")
         it.say(b"fail 3", b"= ok", b"fast error published 3", b"slow error published 3")
-        it.end(b"= fast error 6", b"= slow error 3", b"= drained 1")
+        it.end(b"= fast error 6", b"= slow error 3, 1 dropped", b"= drained 1")
 
 
 def late_errors(program):
@@ -195,7 +200,34 @@ def waiting(program):
         it.quiet()
         it.say(b"request a 1", b"= ok", b"a next y", b"= submit 7 1")
         it.say(b"request a 1", b"= ok", b"a next z")
-        it.end(b"a complete", b"= a complete 3", b"= drained 1")
+        it.end(b"a complete", b"= a complete 3, 1 dropped", b"= drained 1")
+
+
+def losing(program):
+    """A publish waits for room at those that lose nothing; the others lose what finds their buffers full. A submit waits for all."""
+    with Console(program, ["--cap", "1", "--workers", "1"]) as it:
+        it.say(b"publish 7 nobody", b"= publish 7 0")
+        it.say(b"sub a 1", b"= sub a", b"a subscribed")
+        it.say(b"sub b 0 drop", b"= sub b", b"b subscribed")
+        it.say(b"publish 7 u", b"= publish 7 1", b"a next u")
+        it.say(b"publish 7 v", b"= publish 7 1, 1 dropped")
+        it.say(b"publish 7 w", b"= publish 7 waits for a (1 of 1)")
+        it.quiet()
+        it.say(b"request a 1", b"= ok", b"a next v", b"= publish 7 1, 1 dropped")
+        it.say(b"request b 1", b"= ok", b"b next u")
+        it.say(b"publish 7 x", b"= publish 7 waits for a (1 of 1)")
+        it.quiet()
+        it.say(b"request a 1", b"= ok", b"a next w", b"= publish 7 1")
+        it.say(b"submit 7 y", b"= submit 7 waits for a (1 of 1)")
+        it.say(b"request a 1", b"= ok", b"a next x")
+        it.quiet()
+        it.say(b"request b 1", b"= ok", b"b next x", b"= submit 7 1")
+        it.end(b"= a open 4", b"= b open 2, 2 dropped", b"= drained 0")
+    # At the end of the input a source goes on past the one that may lose texts, and is refused at the other.
+    with Console(program, ["--cap", "1", "--workers", "1"]) as it:
+        it.say(b"sub b 0 drop", b"= sub b", b"b subscribed")
+        it.type(b"\n".join([b"publish 7 x"] * 70))
+        it.end(b"= publish 7 1", *[b"= publish 7 0, 1 dropped"] * 69, b"= b open 0, 69 dropped", b"= drained 0")
 
 
 def peak(it):
@@ -445,9 +477,9 @@ def words(program):
         it.type(b"# a comment")
         it.type(b"#")
         it.type(b"?")
-        asked = [it.line() for _ in range(16)]
+        asked = [it.line() for _ in range(18)]
         it.type(b"help")
-        if not asked[0].startswith(b"= sub NAME N ") or asked != [it.line() for _ in range(16)]:
+        if not asked[0].startswith(b"= sub NAME N ") or asked != [it.line() for _ in range(18)]:
             raise Stopped(f"help is {asked}")
         it.say(b"lag", b"= lag 0")
         it.say(b"exit", b"= drained 1")
@@ -523,7 +555,7 @@ def command_lines(program):
         raise Stopped(f"--help: {ran}")
 
 
-PARTS = (commands, refusals, sources, demands, late_errors, waiting, full_source, cancelling, leaving, ends, many, stamps, closed_output, words, terminal, signals, command_lines)
+PARTS = (commands, refusals, sources, demands, late_errors, waiting, losing, full_source, cancelling, leaving, ends, many, stamps, closed_output, words, terminal, signals, command_lines)
 
 
 def main(program):

@@ -22,14 +22,13 @@ echo 'foreign may_wait=9: flow_rules publisher' >>"$work/crates.txt"
 ends() {
     cat <<END
 
-fn $1<L: Ledger + Send, D: Ledger + Send, M: Ledger + Send, R: Wait>(
+fn $1<L: SharedLedgers, M: SharedLedgers, R: Wait>(
     rt: &R,
     alloc: Global,
-    publisher: Publisher<L, D, Tally>,
-    submitters: Vec<Submitter<$2, D, Tally>>,
-    subscriptions: Vec<Subscription<$3, D, Tally>>,
+    publisher: Publisher<L, Tally>,
+    submitters: Vec<Submitter<$2, Tally>>,
+    subscriptions: Vec<Subscription<$3, Tally>>,
 ) -> bool
-    requires { (L.parts ≡ PARTS) × (D.parts ≡ PARTS) }
 {
     finish(rt, alloc, publisher, submitters, subscriptions).is_ok()
 }
@@ -40,14 +39,10 @@ cat >"$crate/src/main.rt" <<'END'
 //! Ends publishers.
 #![tactic(auto)]
 
-ghost use Rattle.std.specs.Prelude.{◌≡◌};
-ghost use Rattle.publisher.specs.declared.state.TheConstants.{PARTS};
-
 use flow_rules::Tally;
-use publisher::{Publisher, Submitter, Subscription, finish};
+use publisher::{Publisher, SharedLedgers, Submitter, Subscription, finish};
 use std::alloc::Global;
 use std::sync::Wait;
-use std::sync::ledger::Ledger;
 
 fn main(_rt: HostRuntime) {}
 END
@@ -62,8 +57,8 @@ status=0
 (cd "$crate" && rt try </dev/null >"$work/said" 2>&1) || status=$?
 grep '^src/main.rt:' "$work/said" | sed 's/^[^ ]* //' >"$work/errors" || true
 cat >"$work/want" <<'END'
-error[mismatched-types]: expected `Vec<Subscription<L, D, Tally>>`, found `Vec<Subscription<M, D, Tally>>`
-error[mismatched-types]: expected `Vec<Submitter<L, D, Tally>>`, found `Vec<Submitter<M, D, Tally>>`
+error[mismatched-types]: expected `Vec<Subscription<L, Tally>>`, found `Vec<Subscription<M, Tally>>`
+error[mismatched-types]: expected `Vec<Submitter<L, Tally>>`, found `Vec<Submitter<M, Tally>>`
 END
 if [ "$status" -ne 1 ] || ! cmp "$work/want" "$work/errors"; then
     cat "$work/said"

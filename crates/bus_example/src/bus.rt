@@ -1,11 +1,13 @@
 //! The bus: what is done with its publisher, from the first subscription to the close.
 ghost use Rattle.std.specs.Prelude.{◌≡◌, []};
-ghost use Rattle.publisher.specs.Blanks.{IsBlankOf};
+ghost use Rattle.publisher.specs.Blanks.{AreBlanksOf};
 
 use flow_rules::{DropHandler, Item, Listener, Name, Refusal};
-use publisher::{HandedIn, Outcome, Publisher, PublisherOptions, Submitter, Subscription, finish};
+use publisher::{
+    BlankPair, HandedIn, Ledgers, OnFull, Outcome, Publisher, PublisherOptions, SharedLedgers,
+    Submitter, Subscription,
+};
 use std::alloc::Global;
-use std::sync::ledger::{Blank, Ledger};
 use std::sync::{Mutex, Wait};
 use std::thread;
 use std::thread::Threads;
@@ -29,59 +31,37 @@ pub struct Bus<B> {
 
 /// Makes a publisher, runs the bus on it, and ends the publisher in any case. The two ledgers name the publisher.
 pub fn run_bus<
-    L: Ledger + Send + Sync + 'static,
-    D: Ledger + Send + Sync + 'static,
+    L: Ledgers + Send + Sync + 'static,
     B: Listener + Send + 'static,
     R: Threads + Wait + Copy + Send + Sync + 'static,
 >(
     rt: R,
     alloc: Global,
-    publications: Blank,
-    drops: Blank,
+    blanks: BlankPair,
     options: PublisherOptions,
     bus: Bus<B>,
-) -> Result<Outcome<B>, (Refusal, Option<Outcome<B>>)>
-    requires publications { IsBlankOf publications L.name L.parts }
-    requires drops { IsBlankOf drops D.name D.parts }
+) -> anyhow::Result<Outcome<B>>
+    requires blanks { AreBlanksOf blanks L.publications L.drops }
     requires untold { (B.told bus.file ≡ [])
         × ((B.told bus.counter ≡ []) × (B.told bus.slow ≡ [])) }
     requires unheard { (B.replied bus.file ≡ [])
         × ((B.replied bus.counter ≡ []) × (B.replied bus.slow ≡ [])) }
 {
-    let made = Publisher::with_options(rt, alloc, publications, drops, options);
-    let publisher: Publisher<L, D, B> = match made {
-        Ok(publisher) => publisher,
-        Err(refusal) => return Err((refusal, None)),
-    };
+    let publisher: Publisher<L, B> = Publisher::with_options(rt, alloc, blanks, options)?;
     let mut handed_in = HandedIn::none(alloc);
     let published = publish_on(&rt, alloc, &publisher, bus, &mut handed_in);
-    let HandedIn {
-        submitters,
-        subscriptions,
-    } = handed_in;
-    match (
-        published,
-        finish(&rt, alloc, publisher, submitters, subscriptions),
-    ) {
-        (Ok(()), Ok(outcome)) => Ok(outcome),
-        (Ok(()), Err((refusal, outcome))) => Err((refusal, Some(outcome))),
-        (Err(refusal), Ok(outcome)) => Err((refusal, Some(outcome))),
-        (Err(refusal), Err((_, outcome))) => Err((refusal, Some(outcome))),
-    }
+    let finished = handed_in.finish(&rt, alloc, publisher);
+    published?;
+    Ok(finished?)
 }
 
 /// Subscribes all, publishes the lines of three sources, and closes. What has to go back to the publisher is handed in.
-fn publish_on<
-    L: Ledger + Send + Sync + 'static,
-    D: Ledger + Send + Sync + 'static,
-    B: Listener + Send + 'static,
-    R: Threads + Wait + Sync,
->(
+fn publish_on<L: SharedLedgers, B: Listener + Send + 'static, R: Threads + Wait + Sync>(
     rt: &R,
     alloc: Global,
-    publisher: &Publisher<L, D, B>,
+    publisher: &Publisher<L, B>,
     bus: Bus<B>,
-    handed_in: &mut HandedIn<L, D, B>,
+    handed_in: &mut HandedIn<L, B>,
 ) -> Result<(), Refusal>
     requires untold { (B.told bus.file ≡ [])
         × ((B.told bus.counter ≡ []) × (B.told bus.slow ≡ [])) }
@@ -98,7 +78,9 @@ fn publish_on<
     handed_in.subscriptions.push(file)?;
     let counter = publisher.subscribe(rt, alloc, Name::parse("counter")?, counter)?;
     handed_in.subscriptions.push(counter)?;
-    let mut slow = publisher.subscribe(rt, alloc, Name::parse("slow")?, slow)?;
+    // This one may lose lines: the sources don't wait for it.
+    let name = Name::parse("slow")?;
+    let mut slow = publisher.subscribe_with(rt, alloc, name, slow, OnFull::Drop)?;
     // A submitter for each source. A new note knows of no close, and so the submitter doesn't either, until it is told.
     for _ in 0..SOURCES {
         let submitter = publisher.submitter(rt, alloc, &mut publisher.note())?;
@@ -115,16 +97,11 @@ fn publish_on<
 
 /// Publishes all lines, while another thread requests for the slow subscriber. The first refusal that a source meets is
 /// told.
-fn publish_all<
-    L: Ledger + Send + Sync + 'static,
-    D: Ledger + Send + Sync + 'static,
-    B: Listener + Send + 'static,
-    R: Threads + Wait + Sync,
->(
+fn publish_all<L: SharedLedgers, B: Listener + Send + 'static, R: Threads + Wait + Sync>(
     rt: &R,
     alloc: Global,
-    submitters: &mut [Submitter<L, D, B>],
-    slow: &mut Subscription<L, D, B>,
+    submitters: &mut [Submitter<L, B>],
+    slow: &mut Subscription<L, B>,
 ) -> Result<(), Refusal> {
     let (published, ()) = thread::join(
         rt,
@@ -135,14 +112,13 @@ fn publish_all<
 }
 
 /// Publishes the lines of each source from a thread of its own.
-fn publish_each<
-    L: Ledger + Send + Sync + 'static,
-    D: Ledger + Send + Sync + 'static,
-    B: Listener + Send + 'static,
-    R: Threads + Wait + Sync,
->(rt: &R, alloc: Global, submitters: &mut [Submitter<L, D, B>]) -> Result<(), Refusal> {
+fn publish_each<L: SharedLedgers, B: Listener + Send + 'static, R: Threads + Wait + Sync>(
+    rt: &R,
+    alloc: Global,
+    submitters: &mut [Submitter<L, B>],
+) -> Result<(), Refusal> {
     let refused = Mutex::new(None);
-    let publish = |source: usize, submitter: &mut Submitter<L, D, B>| {
+    let publish = |source: usize, submitter: &mut Submitter<L, B>| {
         if let Err(refusal) = publish_lines(rt, alloc, source, submitter) {
             refused.lock(rt).get_or_insert(refusal);
         }
@@ -155,9 +131,9 @@ fn publish_each<
 }
 
 /// Requests all lines for a slow subscriber, a portion at a time.
-fn request_all<L: Ledger + Send, D: Ledger + Send, B: Listener + Send, R: Wait>(
+fn request_all<L: SharedLedgers, B: Listener + Send, R: Wait>(
     rt: &R,
-    slow: &mut Subscription<L, D, B>,
+    slow: &mut Subscription<L, B>,
 ) {
     for _ in 0..LINES {
         // Refused only if memory is: nothing has changed then, and the next portion is requested all the same.
@@ -167,12 +143,13 @@ fn request_all<L: Ledger + Send, D: Ledger + Send, B: Listener + Send, R: Wait>(
 }
 
 /// Publishes the lines of a source: the first by offers, which drop a line if there is no room, and the others by
-/// `submit`, which waits. Refused 5 if memory is, and 2 after a close, which comes later here.
-fn publish_lines<L: Ledger + Send, D: Ledger + Send, B: Listener + Send, R: Wait>(
+/// `publish`, which waits for the file and the counter. Refused 5 if memory is, and 2 after a close, which comes later
+/// here.
+fn publish_lines<L: SharedLedgers, B: Listener + Send, R: Wait>(
     rt: &R,
     alloc: Global,
     source: usize,
-    submitter: &mut Submitter<L, D, B>,
+    submitter: &mut Submitter<L, B>,
 ) -> Result<(), Refusal> {
     let mut drops = Drops(0);
     for number in 0..LINES {
@@ -184,7 +161,7 @@ fn publish_lines<L: Ledger + Send, D: Ledger + Send, B: Listener + Send, R: Wait
         if source == 0 {
             submitter.offer_with(rt, alloc, line, &mut drops)?;
         } else {
-            submitter.submit(rt, alloc, line)?;
+            submitter.publish(rt, alloc, line)?;
         }
     }
     Ok(())

@@ -2,19 +2,18 @@
 use flow_rules::{
     Answer, Collector, DropHandler, Fault, Item, Listener, Name, NoMemory, Refusal, Signal, Watch,
 };
-use publisher::{Publisher, Subscription};
+use publisher::{Outcome, Publisher, Refused, SharedLedgers, Subscription};
 use std::alloc::Global;
 use std::sync::atomic::AtomicU64;
 use std::sync::atomic::Ordering::SeqCst;
-use std::sync::ledger::Ledger;
 use std::sync::{Arc, Wait};
 use std::thread;
 use std::thread::Threads;
 
 /// Ends one subscription after the close: with all that is left for it, or at once.
-pub fn end_one<L: Ledger + Send, D: Ledger + Send, B: Listener + Send, R: Wait>(
+pub fn end_one<L: SharedLedgers, B: Listener + Send, R: Wait>(
     rt: &R,
-    subscription: &mut Subscription<L, D, B>,
+    subscription: &mut Subscription<L, B>,
     is_to_be_told_all: bool,
 ) -> Result<(), NoMemory> {
     if is_to_be_told_all {
@@ -27,19 +26,31 @@ pub fn end_one<L: Ledger + Send, D: Ledger + Send, B: Listener + Send, R: Wait>(
 }
 
 /// Subscribes a subscriber that keeps every signal.
-pub fn subscribe_collector<
-    L: Ledger + Send + Sync + 'static,
-    D: Ledger + Send + Sync + 'static,
-    R: Wait,
->(
+pub fn subscribe_collector<L: SharedLedgers, R: Wait>(
     rt: &R,
     alloc: Global,
-    publisher: &Publisher<L, D, Collector>,
+    publisher: &Publisher<L, Collector>,
     name: &str,
-) -> Result<Subscription<L, D, Collector>, Refusal> {
+) -> Result<Subscription<L, Collector>, Refusal> {
     let name = Name::parse(name)?;
     let collector = Collector::asking(alloc, 100);
     Ok(publisher.subscribe(rt, alloc, name, collector)?)
+}
+
+/// What a finished publisher leaves, also if some subscription waits for demand that is not to come.
+pub fn left_of<B: Drop>(
+    finished: Result<Outcome<B>, Refused<Outcome<B>>>,
+) -> anyhow::Result<Outcome<B>> {
+    let refused = match finished {
+        Ok(outcome) => return Ok(outcome),
+        Err(refused) => refused,
+    };
+    if matches!(refused.refusal(), Refusal::Unsettled(_)) {
+        // 9: the named subscriptions have not ended, and each lane is there.
+        return Ok(refused.into_inner());
+    }
+    // 5: memory was refused. 8: the named subscription or submitter was not handed in.
+    Err(refused.into())
 }
 
 /// How many of these signals are items.
@@ -91,11 +102,10 @@ pub fn wait_for<R: Wait>(rt: &R, told: &AtomicU64, wanted: u64) {
 
 /// Asks a publisher from two threads at once: how many subscribe, and the longest backlog.
 pub fn ask_from_two_threads<
-    L: Ledger + Send + Sync + 'static,
-    D: Ledger + Send + Sync + 'static,
+    L: SharedLedgers,
     B: Listener + Send + 'static,
     R: Threads + Wait + Sync,
->(rt: &R, publisher: &Publisher<L, D, B>) -> (usize, u64) {
+>(rt: &R, publisher: &Publisher<L, B>) -> (usize, u64) {
     thread::join(
         rt,
         || publisher.number_of_subscribers(rt),

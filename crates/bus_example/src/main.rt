@@ -1,4 +1,5 @@
-//! An event bus: three threads publish log lines to a file, to a count by severity, and to a subscriber that is slow.
+//! An event bus: three threads publish log lines to a file, to a count by severity, and to a subscriber that is slow and
+//! may lose lines.
 //!
 //! A publisher's life is: it is made; each subscriber subscribes, and what it shall be told is requested; each source
 //! of lines gets a submitter; threads publish, and are joined; the publisher is closed; and it is finished, which gives
@@ -13,14 +14,13 @@ mod watches;
 use anyhow::{bail, ensure};
 use bus::{Bus, run_bus};
 use flow_rules::{ErrorOrder, Listener, Watching};
-use publisher::{PARTS, PublisherOptions};
+use publisher::{BlankPair, PublisherOptions};
 use std::fs;
 use std::io::BufWriter;
 use std::marker::Brand;
 use std::sync::Arc;
 use std::sync::atomic::Ordering::SeqCst;
 use std::sync::atomic::{AtomicBool, AtomicU64};
-use std::sync::ledger::Blank;
 use watches::{BySeverity, Severities, Slow, ToFile};
 
 /// Listeners of different types stand on one bus as boxes.
@@ -55,26 +55,15 @@ fn main(rt: HostRuntime) -> anyhow::Result<()> {
         capacity: 64,
         order: ErrorOrder::Overtake,
     };
-    let (publications, drops) = (Blank::new(PARTS), Blank::new(PARTS));
-    let finished = run_bus::<Brand, Brand, Subscriber, _>(
-        rt,
-        alloc,
-        publications,
-        drops,
-        options,
-        bus,
-    );
-    let outcome = match finished {
-        Ok(outcome) => outcome,
-        // 5: memory was refused. 8: the named subscription or submitter was not handed in. 9: the named subscriptions
-        // wait for demand, so request more for them, or cancel them, before the end.
-        Err((refusal, _)) => bail!("{}", refusal.explain()),
-    };
+    let outcome = run_bus::<Brand, Subscriber, _>(rt, alloc, BlankPair::new(), options, bus)?;
     for lane in outcome.lanes.iter() {
         let lines = lane.lane.accepted.saturating_add(lane.dropped);
         println!(rt; "{}: {lines} lines told or dropped", lane.name)?;
     }
     println!(rt; "{} lines published", outcome.published)?;
+    for lane in outcome.lanes.iter() {
+        eprintln!(rt; "{} lost {} lines", lane.name, lane.dropped)?;
+    }
     let errors = severities.errors.load(SeqCst);
     let counted = severities.others.load(SeqCst).saturating_add(errors);
     eprintln!(rt; "{counted} lines counted, {errors} of them errors")?;

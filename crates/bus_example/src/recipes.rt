@@ -1,12 +1,10 @@
 //! Recipes of docs/GUIDE.md: pieces to copy into programs, which the example itself doesn't need.
 use anyhow::bail;
-use feed_core::Lane;
 use flow_rules::{Listener, Name, Refusal, Text};
-use publisher::{NamedLane, Submitter};
+use publisher::{NamedLane, SharedLedgers, Submitter};
 use std::alloc::Global;
 use std::io::{BufRead, BufReader, Read};
 use std::sync::Wait;
-use std::sync::ledger::Ledger;
 
 /// How many bytes of a long text stand in one piece, beside its mark.
 const PIECE: usize = Text::LONGEST - 1;
@@ -16,21 +14,16 @@ const AT_ONCE: usize = 64;
 
 /// Takes what is left of a subscription apart: its name, its subscriber, and how many items that was given.
 pub fn take_apart<B: Drop>(left: NamedLane<B>) -> (Name, Option<B>, u64) {
-    let NamedLane { name, lane, .. } = left;
-    let Lane {
-        subscriber,
-        given,
-        ..
-    } = lane;
-    (name, subscriber, given)
+    let (name, given) = (left.name, left.lane.given);
+    (name, left.into_subscriber(), given)
 }
 
 /// Publishes a text of any length in pieces. Each begins with a mark: `+` if another one follows, and `.` if it is the
 /// last.
-pub fn submit_long<L: Ledger + Send, D: Ledger + Send, B: Listener + Send, R: Wait>(
+pub fn submit_long<L: SharedLedgers, B: Listener + Send, R: Wait>(
     rt: &R,
     alloc: Global,
-    submitter: &mut Submitter<L, D, B>,
+    submitter: &mut Submitter<L, B>,
     text: &[u8],
 ) -> Result<(), Refusal> {
     let mut piece = Vec::with_capacity(alloc, Text::LONGEST)?;
@@ -47,10 +40,10 @@ pub fn submit_long<L: Ledger + Send, D: Ledger + Send, B: Listener + Send, R: Wa
 }
 
 /// Publishes the lines of a reader: many by one call while they come fast, and what is there as soon as they pause.
-pub fn publish_lines<L: Ledger + Send, D: Ledger + Send, B: Listener + Send, R: Wait, I: Read>(
+pub fn publish_lines<L: SharedLedgers, B: Listener + Send, R: Wait, I: Read>(
     rt: &R,
     alloc: Global,
-    submitter: &mut Submitter<L, D, B>,
+    submitter: &mut Submitter<L, B>,
     reader: &mut BufReader<I>,
 ) -> anyhow::Result<()> {
     let mut texts = Vec::with_capacity(alloc, AT_ONCE)?;

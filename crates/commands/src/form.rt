@@ -1,7 +1,7 @@
 //! The forms of commands: which words follow the first word of a line. They say what is missing or wrong in a line that
 //! was refused, and decide nothing: what a line spells, [`Command::parse`](crate::Command::parse) says.
-ghost use Rattle.std.specs.Prelude.{◌≡◌};
-ghost use Rattle.commands.specs.Mistake.{fits};
+ghost use Rattle.std.specs.Prelude.{◌≡◌, Some, None, option_map};
+ghost use Rattle.commands.specs.Mistake.{fits, named_parts_of, parts_of};
 
 use crate::number::{parse_code, parse_number, parse_signed};
 use flow_rules::Name;
@@ -62,7 +62,10 @@ pub struct Form {
 
 impl Form {
     /// A command of one word.
-    pub fn word(text: &'static str) -> Form {
+    pub fn word(text: &'static str) -> Form
+        ensures parts { (result.first ≡ None) × (result.last ≡ None) }
+        ensures text { result.text.now ≡ text.now }
+    {
         Form {
             text,
             first: None,
@@ -71,7 +74,10 @@ impl Form {
     }
 
     /// A command of a word and one part.
-    pub fn with(text: &'static str, last: Part) -> Form {
+    pub fn with(text: &'static str, last: Part) -> Form
+        ensures parts { (result.first ≡ None) × (result.last ≡ Some last) }
+        ensures text { result.text.now ≡ text.now }
+    {
         Form {
             text,
             first: None,
@@ -80,7 +86,10 @@ impl Form {
     }
 
     /// A command of a word and two parts.
-    pub fn with_two(text: &'static str, first: Part, last: Part) -> Form {
+    pub fn with_two(text: &'static str, first: Part, last: Part) -> Form
+        ensures parts { (result.first ≡ Some first) × (result.last ≡ Some last) }
+        ensures text { result.text.now ≡ text.now }
+    {
         Form {
             text,
             first: Some(first),
@@ -89,7 +98,10 @@ impl Form {
     }
 
     /// The form of the command of scripts that begins with this word.
-    pub fn of_script(word: &[u8]) -> Option<Form> {
+    #[tactic(auto, unfolding(crate::specs::Mistake::parts_of))]
+    pub fn of_script(word: &[u8]) -> Option<Form>
+        ensures parts { option_map (λ form. (form.first, form.last)) result ≡ parts_of word.now }
+    {
         if word == b"cap".as_slice() {
             Some(Form::with("cap N", Part::Number))
         } else if word == b"late".as_slice() {
@@ -112,7 +124,10 @@ impl Form {
     }
 
     /// The form of the command of scripts that begins with this word, if a name follows.
-    fn of_named(word: &[u8]) -> Option<Form> {
+    #[tactic(auto, unfolding(crate::specs::Mistake::named_parts_of))]
+    fn of_named(word: &[u8]) -> Option<Form>
+        ensures parts { option_map (λ form. (form.first, form.last)) result ≡ named_parts_of word.now }
+    {
         if word == b"sub".as_slice() {
             Some(Form::with_two("sub NAME N", Part::Name, Part::Number))
         } else if word == b"request".as_slice() {

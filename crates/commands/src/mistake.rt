@@ -1,8 +1,10 @@
 //! Mistakes: what is wrong with a line that spells no command, in words for whoever typed it. They stand beside the
-//! refusal, and no answer of a script depends on them.
-ghost use Rattle.std.specs.Prelude.{◌≡◌, IfSome, is_some, not};
+//! refusal, and no answer of a script depends on them. Each is true of its line; which of several true ones is said,
+//! the tests of the programs see.
+ghost use Rattle.std.specs.Prelude.{◌≡◌, ◌≢◌, IfSome, Some, None, is_some, not};
 ghost use Rattle.commands.specs.Command.{command_of};
-ghost use Rattle.commands.specs.Mistake.{IsTrue};
+ghost use Rattle.commands.specs.Word.{first_word};
+ghost use Rattle.commands.specs.Mistake.{IsTrueOf, IsTrueOfLine, IsTrueOfNone, IsTrueOfOne, IsTrueOfStart, IsTrueOfTwo, NamesForm, parts_of};
 
 use crate::command::Command;
 use crate::excerpt::Excerpt;
@@ -18,6 +20,8 @@ const COMMANDS: &str = "sub, request, cancel, offer, retry, submit, close, fail,
 /// What is wrong with a line. It prints as a sentence without its point.
 #[derive(Clone, Copy, Debug, PartialEq, Eq)]
 pub enum Mistake<'a> {
+    /// The line is empty.
+    Empty,
     /// The line begins with this word, which is none of these commands.
     NoCommand(&'a [u8], &'static str),
     /// The line ends before this part of this form.
@@ -28,7 +32,7 @@ pub enum Mistake<'a> {
     Space,
     /// This follows, and nothing of this form.
     Surplus(&'static str, &'a [u8]),
-    /// The line doesn't have this form.
+    /// The line has this form, and is refused for another reason.
     Form(&'static str),
 }
 
@@ -36,7 +40,8 @@ impl<'a> Mistake<'a> {
     /// Finds what is wrong with a line of a script; `None` if it spells a command.
     pub fn find(line: &'a [u8]) -> Option<Mistake<'a>>
         ensures exact { is_some result ≡ not (is_some (command_of line.entry.now)) }
-        ensures holds { IfSome result IsTrue }
+        ensures holds { IfSome result
+            (IsTrueOfLine (parts_of (first_word line.entry.now)) line.entry.now) }
     {
         if Command::parse(line).is_some() {
             return None;
@@ -44,30 +49,31 @@ impl<'a> Mistake<'a> {
         let (word, rest) = split_word(line);
         Some(match Form::of_script(word) {
             Some(form) => Mistake::of(form, rest),
-            None => Mistake::of_word(word, COMMANDS),
+            None => Mistake::of_start(line, COMMANDS),
         })
     }
 
-    /// Says what is wrong with what follows the first word of a line, if it isn't to have this form.
-    pub fn of(form: Form, rest: &'a [u8]) -> Mistake<'a>
-        ensures { IsTrue result }
+    /// Says what is wrong with what follows the first word of a line and the space after it, which is to have this
+    /// form.
+    pub fn of(form: Form, words: &'a [u8]) -> Mistake<'a>
+        ensures holds { IsTrueOf form.first form.last words.entry.now result }
+        ensures form { NamesForm form.text.now result }
     {
-        let found = match (form.first, form.last) {
-            (Some(first), Some(last)) => in_two(form.text, first, last, rest),
-            (None, Some(last)) => in_last(form.text, last, rest),
-            _ => in_none(form.text, rest),
-        };
-        match found {
-            Some(mistake) => mistake,
-            None => Mistake::Form(form.text),
+        match (form.first, form.last) {
+            (Some(first), Some(last)) => in_two(form.text, first, last, words),
+            (None, Some(part)) | (Some(part), None) => in_one(form.text, part, words),
+            (None, None) => in_none(form.text, words),
         }
     }
 
-    /// Says what is wrong with a line that begins with this word, which is none of these commands.
-    pub fn of_word(word: &'a [u8], commands: &'static str) -> Mistake<'a>
-        ensures { IsTrue result }
+    /// Says what is wrong with a line whose first word is none of these commands.
+    pub fn of_start(line: &'a [u8], commands: &'static str) -> Mistake<'a>
+        ensures { IsTrueOfStart line.entry.now result }
     {
-        if word.is_empty() {
+        let (word, _) = split_word(line);
+        if line.is_empty() {
+            Mistake::Empty
+        } else if word.is_empty() {
             Mistake::Space
         } else {
             Mistake::NoCommand(word, commands)
@@ -75,58 +81,62 @@ impl<'a> Mistake<'a> {
     }
 }
 
-/// What is wrong with two parts.
-fn in_two<'a>(text: &'static str, first: Part, last: Part, rest: &'a [u8]) -> Option<Mistake<'a>>
-    ensures { IfSome result IsTrue }
+/// What is wrong with words that are to be two parts.
+fn in_two<'a>(text: &'static str, first: Part, last: Part, words: &'a [u8]) -> Mistake<'a>
+    ensures holds { IsTrueOfTwo first last words.entry.now result }
+    ensures form { NamesForm text.now result }
 {
-    if rest.is_empty() {
-        return Some(Mistake::Missing(text, first));
+    if words.is_empty() {
+        return Mistake::Missing(text, first);
     }
-    let (word, others) = split_word(rest);
+    let (word, others) = split_word(words);
     if word.is_empty() {
-        return Some(Mistake::Space);
+        return Mistake::Space;
     }
     if !first.fits(word) {
-        return Some(Mistake::Wrong(word, first));
+        return Mistake::Wrong(word, first);
     }
-    in_last(text, last, others)
+    in_one(text, last, others)
 }
 
-/// What is wrong with the last part.
-fn in_last<'a>(text: &'static str, part: Part, rest: &'a [u8]) -> Option<Mistake<'a>>
-    ensures { IfSome result IsTrue }
+/// What is wrong with words that are to be this part.
+fn in_one<'a>(text: &'static str, part: Part, words: &'a [u8]) -> Mistake<'a>
+    ensures holds { IsTrueOfOne part words.entry.now result }
+    ensures form { NamesForm text.now result }
 {
-    if rest.is_empty() {
-        return Some(Mistake::Missing(text, part));
+    if words.is_empty() {
+        return Mistake::Missing(text, part);
     }
-    if part.fits(rest) {
-        return None;
+    if part.fits(words) {
+        return Mistake::Form(text);
     }
-    let (word, others) = split_word(rest);
-    if word.len() == rest.len() {
-        return Some(Mistake::Wrong(rest, part));
+    let (word, others) = split_word(words);
+    if word.len() == words.len() {
+        return Mistake::Wrong(words, part);
     }
     if word.is_empty() {
-        return Some(Mistake::Space);
+        return Mistake::Space;
     }
     in_none(text, others)
 }
 
-/// What is wrong if anything follows.
-fn in_none<'a>(text: &'static str, rest: &'a [u8]) -> Option<Mistake<'a>>
-    ensures { IfSome result IsTrue }
+/// What is wrong with words after a space, if there are to be none.
+fn in_none<'a>(text: &'static str, words: &'a [u8]) -> Mistake<'a>
+    ensures holds { IsTrueOfNone words.entry.now result }
+    ensures form { NamesForm text.now result }
 {
-    let (word, _) = split_word(rest);
+    let (word, _) = split_word(words);
     if word.is_empty() {
-        Some(Mistake::Space)
+        Mistake::Space
     } else {
-        Some(Mistake::Surplus(text, rest))
+        Mistake::Surplus(text, words)
     }
 }
 
 impl fmt::Display for Mistake<'_> {
     fn fmt<W: fmt::Write>(&self, f: &mut fmt::Formatter<W>) -> fmt::Result {
         match self {
+            Mistake::Empty => f.write_str("the line is empty"),
             Mistake::NoCommand(word, commands) => {
                 write!(f, "{}: no such command ({commands})", Excerpt::new(word))
             }

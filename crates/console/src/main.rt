@@ -22,7 +22,7 @@ use flow_rules::Refusal;
 use inbox::Queue;
 use input::{MOST_LINES, start_reading};
 use options::{Options, Terminals, command_line};
-use publisher::PARTS;
+use publisher::BlankPair;
 use screen::Screen;
 use session::run_session;
 use std::fmt::Display;
@@ -30,7 +30,6 @@ use std::io::{IsTerminal, Read};
 use std::marker::Brand;
 use std::process::ExitCode;
 use std::rt::Env;
-use std::sync::ledger::Blank;
 use std::sync::{Arc, Wait};
 use std::thread::Threads;
 use std::time::{Clock, Instant};
@@ -134,11 +133,10 @@ fn open<
     if options.terminals.input && options.terminals.output {
         screen.say(GREETING)?;
     }
-    run_session::<Brand, Brand, R>(
+    run_session::<Brand, R>(
         rt,
         alloc,
-        Blank::new(PARTS),
-        Blank::new(PARTS),
+        BlankPair::new(),
         options.publisher,
         screen,
         &input,

@@ -4,15 +4,46 @@ use flow_rules::Name;
 
 /// The commands, as they are listed.
 const COMMANDS: &str =
-    "sub, request, cancel, leave, offer, retry, submit, close, fail, lag, subscribers, closed, help, quit";
+    "sub, request, cancel, leave, offer, retry, submit, publish, close, fail, lag, subscribers, closed, help, quit";
+
+/// How a source publishes a text.
+#[derive(Clone, Copy, Debug, PartialEq, Eq)]
+pub enum Call {
+    /// By `submit`, which waits for room at every subscription.
+    Submit,
+    /// By `publish`, which waits for room at those that lose nothing.
+    Publish,
+}
+
+impl Call {
+    /// The word of the terminal for it.
+    pub fn word(self) -> &'static str {
+        match self {
+            Call::Submit => "submit",
+            Call::Publish => "publish",
+        }
+    }
+
+    /// The form of its line.
+    fn form(self) -> Form {
+        let form = match self {
+            Call::Submit => "submit SOURCE TEXT",
+            Call::Publish => "publish SOURCE TEXT",
+        };
+        Form::with_two(form, Part::Source, Part::Text)
+    }
+}
 
 /// What a line asks for.
 #[derive(Debug, Drop)]
 pub enum Order<'a> {
     /// A command that scripts have, too, and that is done at once.
     Script(Command<'a>),
-    /// `submit SOURCE TEXT`: the thread of this source submits the text, after those that it was handed before.
-    Submit(u32, TextBytes<'a>),
+    /// `sub NAME N drop`: this command, for a subscription that loses a text if `publish` finds its buffer full.
+    Lossy(Command<'a>),
+    /// `submit SOURCE TEXT` or `publish SOURCE TEXT`: the thread of this source publishes the text, after those that it
+    /// was handed before.
+    Publish(Call, u32, TextBytes<'a>),
     /// `leave NAME`: the latest subscription of the name that this word is, which has ended, is freed.
     Leave(&'a [u8]),
     /// `lag`: the longest backlog of any subscriber.
@@ -35,33 +66,41 @@ impl<'a> Order<'a> {
     pub fn parse(line: &'a [u8]) -> Result<Order<'a>, Mistake<'a>> {
         let (word, rest) = split_word(line);
         if word == b"submit".as_slice() {
-            return parse_submit(rest);
+            return parse_publication(Call::Submit, rest);
+        }
+        if word == b"publish".as_slice() {
+            return parse_publication(Call::Publish, rest);
         }
         if word == b"leave".as_slice() {
             return parse_leave(rest);
         }
-        if let Some(order) = parse_word(line) {
+        if let Some(order) = parse_word(line).or(parse_lossy(line)) {
             return Ok(order);
         }
         match Command::parse(line) {
             Some(Command::Cap(_) | Command::Late | Command::Run | Command::Submit(_)) => {
-                Err(Mistake::of_word(word, COMMANDS))
+                Err(Mistake::of_start(line, COMMANDS))
             }
             Some(command) => Ok(Order::Script(command)),
-            None => Err(mistake_after(word, rest)),
+            None => Err(mistake_of(line)),
         }
     }
 }
 
-/// What stands after `submit`.
-fn parse_submit(words: &[u8]) -> Result<Order<'_>, Mistake<'_>> {
+/// What stands after `submit` or `publish`.
+fn parse_publication(call: Call, words: &[u8]) -> Result<Order<'_>, Mistake<'_>> {
     let (source, text) = split_word(words);
     match (parse_code(source), parse_text(text)) {
-        (Some(source), Some(text)) => Ok(Order::Submit(source, text)),
-        _ => {
-            let form = Form::with_two("submit SOURCE TEXT", Part::Source, Part::Text);
-            Err(Mistake::of(form, words))
-        }
+        (Some(source), Some(text)) => Ok(Order::Publish(call, source, text)),
+        _ => Err(Mistake::of(call.form(), words)),
+    }
+}
+
+/// The order of a line that subscribes one that may lose texts.
+fn parse_lossy(line: &[u8]) -> Option<Order<'_>> {
+    match Command::parse(line.strip_suffix(b" drop")?)? {
+        command @ Command::Sub(_, _) => Some(Order::Lossy(command)),
+        _ => None,
     }
 }
 
@@ -92,14 +131,15 @@ fn parse_word<'a>(line: &[u8]) -> Option<Order<'a>> {
     }
 }
 
-/// What is wrong with a line of this first word and this rest.
-fn mistake_after<'a>(word: &'a [u8], rest: &'a [u8]) -> Mistake<'a> {
+/// What is wrong with a line that spells nothing.
+fn mistake_of(line: &[u8]) -> Mistake<'_> {
+    let (word, rest) = split_word(line);
     if let Some(form) = form_of_look(word) {
         return Mistake::of(form, rest);
     }
     match Form::of_script(word) {
         Some(form) if !is_of_scripts_alone(word) => Mistake::of(form, rest),
-        _ => Mistake::of_word(word, COMMANDS),
+        _ => Mistake::of_start(line, COMMANDS),
     }
 }
 

@@ -6,7 +6,8 @@ use publisher::{NamedLane, Outcome};
 use std::sync::Wait;
 use std::time::Clock;
 
-/// Says of each subscription, in order, how it ended and how many items it was told, and then whether all have ended.
+/// Says of each subscription, in order, how it ended, how many items it was told and how many it lost, and then whether
+/// all have ended.
 pub fn report<B, R: Print + Clock + Wait>(
     screen: &Screen<R>,
     outcome: &Outcome<B>,
@@ -18,13 +19,16 @@ pub fn report<B, R: Print + Clock + Wait>(
     screen.say(format_args!("= drained {drained}"))
 }
 
-/// Says how a subscription ended, and how many items it was told.
+/// Says how a subscription ended, how many items it was told, and how many it lost, if any.
 pub fn say_left<B, R: Print + Clock + Wait>(
     screen: &Screen<R>,
     left: &NamedLane<B>,
 ) -> Result<(), OutputFault> {
-    let word = word_of(left.lane.ending);
-    screen.say(format_args!("= {} {word} {}", left.name, left.lane.given))
+    let (name, word, told) = (left.name, word_of(left.lane.ending), left.lane.given);
+    match left.dropped {
+        0 => screen.say(format_args!("= {name} {word} {told}")),
+        dropped => screen.say(format_args!("= {name} {word} {told}, {dropped} dropped")),
+    }
 }
 
 /// How a subscription ended, in a word.

@@ -1,6 +1,6 @@
 //! A session: a publisher from its beginning to its end, and the terminal that drives it.
 ghost use Rattle.std.specs.Prelude.{◌≡◌};
-ghost use Rattle.publisher.specs.Blanks.{IsBlankOf};
+ghost use Rattle.publisher.specs.Blanks.{AreBlanksOf};
 
 use crate::echo::Echoes;
 use crate::fault::ConsoleFault;
@@ -13,10 +13,11 @@ use crate::terminal::Terminal;
 use crate::verdict::Verdict;
 use flow_rules::Refusal;
 use inbox::Queue;
-use publisher::{HandedIn, Outcome, Publisher, PublisherOptions, finish};
+use publisher::{
+    BlankPair, HandedIn, Ledgers, Outcome, Publisher, PublisherOptions, Refused, finish,
+};
 use std::alloc::Global;
 use std::sync::atomic::AtomicU64;
-use std::sync::ledger::{Blank, Ledger};
 use std::sync::{Arc, Mutex, Wait};
 use std::thread;
 use std::thread::Threads;
@@ -25,29 +26,27 @@ use std::time::Clock;
 /// Makes a publisher, has the lines of the input obeyed, ends the publisher in any case, and says what is left of it.
 /// The two ledgers name the publisher.
 pub fn run_session<
-    L: Ledger + Send + Sync + 'static,
-    D: Ledger + Send + Sync + 'static,
+    L: Ledgers + Send + Sync + 'static,
     R: Print + Clock + Threads + Wait + Copy + Send + Sync + 'static,
 >(
     rt: R,
     alloc: Global,
-    publications: Blank,
-    drops: Blank,
+    blanks: BlankPair,
     options: PublisherOptions,
     screen: Arc<Screen<R>>,
     input: &Queue<Heard>,
     verdict: Arc<Verdict>,
 ) -> Result<(), ConsoleFault>
-    requires publications { IsBlankOf publications L.name L.parts }
-    requires drops { IsBlankOf drops D.name D.parts }
+    requires blanks { AreBlanksOf blanks L.publications L.drops }
 {
     let submitters = Vec::with_capacity(alloc, MOST_SOURCES)?;
-    let site: Site<L, D, R> = Site {
+    let site: Site<L, R> = Site {
         rt,
         alloc,
-        publisher: Publisher::with_options(rt, alloc, publications, drops, options)?,
+        publisher: Publisher::with_options(rt, alloc, blanks, options)?,
         screen,
         unanswered: AtomicU64::new(0),
+        submits: AtomicU64::new(0),
         submitters: Mutex::new(submitters),
         verdict,
     };
@@ -69,13 +68,12 @@ pub fn run_session<
 
 /// Has the lines of the input obeyed, up to their end. What goes back to the publisher is handed in.
 fn drive<
-    L: Ledger + Send + Sync + 'static,
-    D: Ledger + Send + Sync + 'static,
+    L: Ledgers + Send + Sync + 'static,
     R: Print + Clock + Threads + Wait + Copy + Send + Sync + 'static,
 >(
-    site: &Site<L, D, R>,
+    site: &Site<L, R>,
     input: &Queue<Heard>,
-    handed_in: &mut HandedIn<L, D, Echoes<R>>,
+    handed_in: &mut HandedIn<L, Echoes<R>>,
 ) -> Result<(), ConsoleFault> {
     // There is room for all sources from the beginning, and for the terminal's own.
     handed_in.submitters.reserve(MOST_SOURCES + 1)?;
@@ -100,11 +98,14 @@ fn drive<
 /// Says what the publisher leaves, also if some subscription has not ended, or is missing: then it says why afterwards.
 fn conclude<B: Drop, R: Print + Clock + Wait>(
     screen: &Screen<R>,
-    finished: Result<Outcome<B>, (Refusal, Outcome<B>)>,
+    finished: Result<Outcome<B>, Refused<Outcome<B>>>,
 ) -> Result<(), ConsoleFault> {
     match finished {
         Ok(outcome) => Ok(report(screen, &outcome)?),
-        Err((refusal, outcome)) => conclude_refused(screen, refusal, &outcome),
+        Err(refused) => {
+            let (refusal, outcome) = refused.into_parts();
+            conclude_refused(screen, refusal, &outcome)
+        }
     }
 }
 

@@ -14,9 +14,8 @@ use crate::source::Texts;
 use commands::{Command, OutputFault, Reply};
 use flow_rules::{Ending, Name, Refusal};
 use inbox::Queue;
-use publisher::{Submitter, Subscription};
+use publisher::{Ledgers, OnFull, Submitter, Subscription};
 use std::sync::atomic::AtomicU64;
-use std::sync::ledger::Ledger;
 use std::sync::{Arc, Wait};
 use std::thread::{Scope, Threads};
 use std::time::Clock;
@@ -25,14 +24,16 @@ use std::time::Clock;
 const PAUSE: u64 = 1;
 
 /// What `help` prints.
-const HELP: [&str; 16] = [
+const HELP: [&str; 18] = [
     "sub NAME N          subscribes with this name, and requests N items",
+    "sub NAME N drop     the same, of one that loses a text if publish finds its buffer full",
     "request NAME N      the latest of this name requests N items more; an N below 1 is a bad request",
     "cancel NAME         cancels the latest of this name",
     "leave NAME          frees the latest of this name once it has ended, and says how it did",
     "offer TEXT          publishes, and drops the text where there is no room",
     "retry TEXT          publishes, tries once more where there is no room, and then drops it there",
     "submit SOURCE TEXT  a thread of this source publishes, after its texts before, and waits for room",
+    "publish SOURCE TEXT the same, and waits only for room at those without drop; the others lose the text",
     "close               each subscriber completes after its items",
     "fail C              closes with the error C, before the items that wait",
     "lag                 the longest backlog of any subscriber",
@@ -46,15 +47,13 @@ const HELP: [&str; 16] = [
 
 /// A subscription of the terminal.
 #[derive(Drop)]
-pub struct Named<
-    L: Ledger + Send,
-    D: Ledger + Send,
-    R: Print + Clock + Wait + Copy + Send + Sync + 'static,
-> {
+pub struct Named<L: Ledgers + Send, R: Print + Clock + Wait + Copy + Send + Sync + 'static> {
     name: Name,
-    subscription: Subscription<L, D, Echoes<R>>,
+    subscription: Subscription<L, Echoes<R>>,
     /// How many items its subscriber was told.
     told: Arc<AtomicU64>,
+    /// What it said of a published text that finds its buffer full.
+    on_full: OnFull,
     /// Whether it ends at its next turn: it was cancelled, or a request was bad, or its name was subscribed a second
     /// time.
     is_ending: bool,
@@ -70,26 +69,20 @@ struct Source {
 
 /// What the terminal has for itself: its own source, its subscriptions, and the sources that it has started.
 #[derive(Drop)]
-pub struct Terminal<
-    'e,
-    L: Ledger + Send,
-    D: Ledger + Send,
-    R: Print + Clock + Wait + Copy + Send + Sync + 'static,
-> {
-    site: &'e Site<L, D, R>,
-    submitter: Submitter<L, D, Echoes<R>>,
-    named: Vec<Named<L, D, R>>,
+pub struct Terminal<'e, L: Ledgers + Send, R: Print + Clock + Wait + Copy + Send + Sync + 'static> {
+    site: &'e Site<L, R>,
+    submitter: Submitter<L, Echoes<R>>,
+    named: Vec<Named<L, R>>,
     sources: Vec<Source>,
 }
 
 impl<
     'e,
-    L: Ledger + Send + Sync + 'static,
-    D: Ledger + Send + Sync + 'static,
+    L: Ledgers + Send + Sync + 'static,
     R: Print + Clock + Threads + Wait + Copy + Send + Sync + 'static,
-> Terminal<'e, L, D, R> {
+> Terminal<'e, L, R> {
     /// A terminal without subscriptions. Refused as [`Publisher::submitter`](publisher::Publisher::submitter) is.
-    pub fn new(site: &'e Site<L, D, R>) -> Result<Terminal<'e, L, D, R>, Refusal> {
+    pub fn new(site: &'e Site<L, R>) -> Result<Terminal<'e, L, R>, Refusal> {
         Ok(Terminal {
             site,
             submitter: site.submitter()?,
@@ -149,13 +142,11 @@ impl<
     {
         match Order::parse(line) {
             Ok(Order::Quit) => return Ok(false),
-            Ok(Order::Script(command)) => match self.call(command) {
-                Ok(reply) => self.site.screen.say(format_args!("= {reply}"))?,
-                Err(refusal) => self.refuse(refusal)?,
-            },
-            Ok(Order::Submit(number, text)) => {
-                if let Err(refusal) = self.submit(scope, number, text.as_bytes()) {
-                    let answer = format_args!("= submit {number} {refusal}");
+            Ok(Order::Script(command)) => self.answer(command, OnFull::Wait)?,
+            Ok(Order::Lossy(command)) => self.answer(command, OnFull::Drop)?,
+            Ok(Order::Publish(call, number, text)) => {
+                if let Err(refusal) = self.publish(scope, call, number, text.as_bytes()) {
+                    let answer = format_args!("= {} {number} {refusal}", call.word());
                     self.site.screen.say(answer)?;
                 }
             }
@@ -173,10 +164,18 @@ impl<
         Ok(true)
     }
 
-    /// Does what a command asks for that scripts have, too.
-    fn call(&mut self, command: Command<'_>) -> Result<Reply, Refusal> {
+    /// Does what a command asks for that scripts have, too, and says what came of it. A new subscription says this of
+    /// its full buffer.
+    fn answer(&mut self, command: Command<'_>, on_full: OnFull) -> Result<(), OutputFault> {
+        match self.call(command, on_full) {
+            Ok(reply) => self.site.screen.say(format_args!("= {reply}")),
+            Err(refusal) => self.refuse(refusal),
+        }
+    }
+
+    fn call(&mut self, command: Command<'_>, on_full: OnFull) -> Result<Reply, Refusal> {
         match command {
-            Command::Sub(name, number) => self.subscribe(name, number),
+            Command::Sub(name, number) => self.subscribe(name, number, on_full),
             Command::Offer(text) => self.offer(text.as_bytes()),
             Command::Retry(text) => self.retry(text.as_bytes()),
             Command::Request(name, number) => self.request(name, number),

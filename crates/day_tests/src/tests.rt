@@ -1,5 +1,6 @@
 //! Days at a publisher: what happens behind the lock, and what is left at the end. A day that goes another way than it
 //! should says its name, the first step or line that differs, what was wanted and what was found.
+mod batches;
 mod closing;
 mod day;
 mod dropping;
@@ -10,6 +11,7 @@ mod left;
 mod limits;
 mod missing;
 mod player;
+mod policy;
 mod races;
 mod reclaiming;
 mod refused;
@@ -21,12 +23,11 @@ mod waking;
 use day::Day;
 use flow_rules::ErrorOrder;
 use player::play;
-use publisher::{PARTS, PublisherOptions};
+use publisher::{BlankPair, PublisherOptions};
 use std::alloc::Global;
 use std::marker::Brand;
 use std::process::Abort;
 use std::sync::Wait;
-use std::sync::ledger::Blank;
 use std::test::Fail;
 use std::thread::Threads;
 use std::time::{Clock, Instant};
@@ -46,8 +47,8 @@ fn played<R: Clock + Threads + Wait + Copy + Send + 'static>(
         capacity: day.capacity,
         order,
     };
-    let (publications, drops) = (Blank::new(PARTS), Blank::new(PARTS));
-    play::<Brand, Brand, R>(rt, alloc, publications, drops, options, round, day)
+    let blanks = BlankPair::new();
+    play::<Brand, R>(rt, alloc, blanks, options, round, day)
 }
 
 // Plays a day, and compares how it went with what it says.
@@ -102,6 +103,16 @@ fn each_drop_is_counted_and_its_handler_asked(rt: HostRuntime) -> Result<(), Fai
 #[test]
 fn those_at_rest_are_woken(rt: HostRuntime) -> Result<(), Fail> {
     compare_all(rt, rt.alloc(), ErrorOrder::Overtake, &waking::DAYS)
+}
+
+#[test]
+fn those_that_say_so_are_waited_for(rt: HostRuntime) -> Result<(), Fail> {
+    compare_all(rt, rt.alloc(), ErrorOrder::Overtake, &policy::DAYS)
+}
+
+#[test]
+fn a_batch_is_published_by_policy(rt: HostRuntime) -> Result<(), Fail> {
+    compare_all(rt, rt.alloc(), ErrorOrder::Overtake, &batches::DAYS)
 }
 
 #[test]

@@ -1,16 +1,14 @@
 //! A run of one item at a time to one subscriber at rest. It takes from the call of `submit` until the subscriber was told.
 ghost use Rattle.std.specs.Prelude.{◌≡◌};
-ghost use Rattle.publisher.specs.Blanks.{IsBlankOf};
-ghost use Rattle.publisher.specs.declared.state.TheConstants.{PARTS};
+ghost use Rattle.publisher.specs.Blanks.{AreBlanksOf};
 
 use super::bell::Bell;
 use super::ends::{NAMES, end_all, make_submitters};
 use flow_rules::Name;
-use publisher::{Publisher, Submitter};
+use publisher::{BlankPair, Ledgers, Publisher, Submitter};
 use std::alloc::Global;
 use std::sync::atomic::AtomicU64;
 use std::sync::atomic::Ordering::SeqCst;
-use std::sync::ledger::{Blank, Ledger};
 use std::sync::{Arc, Wait};
 use std::thread::Threads;
 use std::time::{Clock, Duration, Instant};
@@ -24,29 +22,12 @@ const MOST_LOOKS: u64 = 1_000_000_000;
 
 /// Measures the nanoseconds that all items of a run take together, with this pause before each, in microseconds.
 pub fn measure_alone<
-    L: Ledger + Send + Sync + 'static,
-    D: Ledger + Send + Sync + 'static,
+    L: Ledgers + Send + Sync + 'static,
     R: Threads + Wait + Clock + Copy + Send + Sync + 'static,
->(
-    rt: R,
-    alloc: Global,
-    workers: usize,
-    items: usize,
-    pause: u64,
-    publications: Blank,
-    drops: Blank,
-) -> Option<u128>
-    requires publications { IsBlankOf publications L.name L.parts }
-    requires drops { IsBlankOf drops D.name D.parts }
+>(rt: R, alloc: Global, workers: usize, items: usize, pause: u64, blanks: BlankPair) -> Option<u128>
+    requires blanks { AreBlanksOf blanks L.publications L.drops }
 {
-    let publisher: Publisher<L, D, Bell> = Publisher::new(
-        rt,
-        alloc,
-        publications,
-        drops,
-        workers,
-        256,
-    ).ok()?;
+    let publisher: Publisher<L, Bell> = Publisher::new(rt, alloc, blanks, workers, 256).ok()?;
     let rung = Arc::new(alloc, AtomicU64::new(0)).ok()?;
     let bell = Bell::new(Arc::try_clone(&rung).ok()?);
     let name = Name::new(NAMES[0].as_bytes())?;
@@ -68,10 +49,10 @@ pub fn measure_alone<
 }
 
 /// Publishes this many items, each after a pause and once the one before was told.
-fn ring_all<L: Ledger + Send, D: Ledger + Send, R: Wait + Clock>(
+fn ring_all<L: Ledgers + Send, R: Wait + Clock>(
     rt: &R,
     alloc: Global,
-    submitter: &mut Submitter<L, D, Bell>,
+    submitter: &mut Submitter<L, Bell>,
     rung: &AtomicU64,
     items: usize,
     pause: u64,

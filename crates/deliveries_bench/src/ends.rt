@@ -1,29 +1,22 @@
 //! What the runs share: the submitters, what each publishes, and the end of the publisher. A run counts only if every subscriber was told
 //! every item.
 ghost use Rattle.std.specs.Prelude.{◌≡◌};
-ghost use Rattle.publisher.specs.declared.state.TheConstants.{PARTS};
 
 use flow_rules::{How, Listener};
-use publisher::{Outcome, Publisher, Submitter, Subscription, finish};
+use publisher::{Ledgers, Outcome, Publisher, Submitter, Subscription, finish};
 use std::alloc::Global;
 use std::sync::Wait;
-use std::sync::ledger::Ledger;
 
 /// The names of subscribers, as many as there may be.
 pub const NAMES: [&str; 8] = ["a", "b", "c", "d", "e", "f", "g", "h"];
 
 /// Makes this many submitters.
-pub fn make_submitters<
-    L: Ledger + Send + Sync + 'static,
-    D: Ledger + Send + Sync + 'static,
-    B: Listener + Send + 'static,
-    R: Wait,
->(
+pub fn make_submitters<L: Ledgers + Send + Sync + 'static, B: Listener + Send + 'static, R: Wait>(
     rt: &R,
     alloc: Global,
-    publisher: &Publisher<L, D, B>,
+    publisher: &Publisher<L, B>,
     count: usize,
-) -> Option<Vec<Submitter<L, D, B>>> {
+) -> Option<Vec<Submitter<L, B>>> {
     let mut submitters = Vec::new(alloc);
     for _ in 0..count {
         let submitter = publisher.submitter(rt, alloc, &mut publisher.note()).ok()?;
@@ -33,10 +26,10 @@ pub fn make_submitters<
 }
 
 /// Publishes this many items, up to one that is refused.
-pub fn send_all<L: Ledger + Send, D: Ledger + Send, B: Listener + Send, R: Wait>(
+pub fn send_all<L: Ledgers + Send, B: Listener + Send, R: Wait>(
     rt: &R,
     alloc: Global,
-    submitter: &mut Submitter<L, D, B>,
+    submitter: &mut Submitter<L, B>,
     text: &[u8],
     items: usize,
 ) {
@@ -48,21 +41,14 @@ pub fn send_all<L: Ledger + Send, D: Ledger + Send, B: Listener + Send, R: Wait>
 }
 
 /// Closes and ends the publisher. Tells whether each subscriber was told this many items, which were all.
-pub fn end_all<
-    L: Ledger + Send + Sync + 'static,
-    D: Ledger + Send + Sync + 'static,
-    B: Listener + Send + 'static,
-    R: Wait,
->(
+pub fn end_all<L: Ledgers + Send + Sync + 'static, B: Listener + Send + 'static, R: Wait>(
     rt: &R,
     alloc: Global,
-    publisher: Publisher<L, D, B>,
-    submitters: Vec<Submitter<L, D, B>>,
-    subscriptions: Vec<Subscription<L, D, B>>,
+    publisher: Publisher<L, B>,
+    submitters: Vec<Submitter<L, B>>,
+    subscriptions: Vec<Subscription<L, B>>,
     items: u64,
-) -> bool
-    requires { (L.parts ≡ PARTS) × (D.parts ≡ PARTS) }
-{
+) -> bool {
     let subscribers = subscriptions.len();
     let is_closed = publisher.close(rt, alloc, &mut publisher.note()).is_ok();
     match finish(rt, alloc, publisher, submitters, subscriptions) {

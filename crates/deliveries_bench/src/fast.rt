@@ -1,14 +1,12 @@
 //! A run to subscribers that count. It takes from the start of the submitters' threads to the end of `finish`.
 ghost use Rattle.std.specs.Prelude.{◌≡◌};
-ghost use Rattle.publisher.specs.Blanks.{IsBlankOf};
-ghost use Rattle.publisher.specs.declared.state.TheConstants.{PARTS};
+ghost use Rattle.publisher.specs.Blanks.{AreBlanksOf};
 
 use super::ends::{NAMES, end_all, make_submitters, send_all};
 use flow_rules::{Listener, Name, Tally};
-use publisher::{Publisher, Submitter, Subscription};
+use publisher::{BlankPair, Ledgers, Publisher, Submitter, Subscription};
 use std::alloc::Global;
 use std::sync::Wait;
-use std::sync::ledger::{Blank, Ledger};
 use std::thread;
 use std::thread::Threads;
 use std::time::{Clock, Instant};
@@ -30,20 +28,17 @@ pub struct Plan {
 
 /// Measures the nanoseconds of a run.
 pub fn measure_fast<
-    L: Ledger + Send + Sync + 'static,
-    D: Ledger + Send + Sync + 'static,
+    L: Ledgers + Send + Sync + 'static,
     R: Threads + Wait + Clock + Copy + Send + Sync + 'static,
->(rt: R, alloc: Global, plan: &Plan, publications: Blank, drops: Blank) -> Option<u128>
-    requires publications { IsBlankOf publications L.name L.parts }
-    requires drops { IsBlankOf drops D.name D.parts }
+>(rt: R, alloc: Global, plan: &Plan, blanks: BlankPair) -> Option<u128>
+    requires blanks { AreBlanksOf blanks L.publications L.drops }
 {
     let text = vec![in alloc; b'x'; plan.bytes].ok()?;
     let each = plan.items.checked_div(plan.submitters)?;
-    let publisher: Publisher<L, D, Tally> = Publisher::new(
+    let publisher: Publisher<L, Tally> = Publisher::new(
         rt,
         alloc,
-        publications,
-        drops,
+        blanks,
         plan.workers,
         plan.capacity,
     ).ok()?;
@@ -62,16 +57,12 @@ pub fn measure_fast<
 }
 
 /// Subscribes this many subscribers that count, and requests all items for each.
-pub fn subscribe_tallies<
-    L: Ledger + Send + Sync + 'static,
-    D: Ledger + Send + Sync + 'static,
-    R: Wait,
->(
+pub fn subscribe_tallies<L: Ledgers + Send + Sync + 'static, R: Wait>(
     rt: &R,
     alloc: Global,
-    publisher: &Publisher<L, D, Tally>,
+    publisher: &Publisher<L, Tally>,
     subscribers: usize,
-) -> Option<Vec<Subscription<L, D, Tally>>> {
+) -> Option<Vec<Subscription<L, Tally>>> {
     let mut subscriptions = Vec::new(alloc);
     for name in NAMES.iter().take(subscribers) {
         let name = Name::new(name.as_bytes())?;
@@ -84,8 +75,7 @@ pub fn subscribe_tallies<
 
 /// Measures the nanoseconds in which the submitters publish `each` items, and all subscribers are told them.
 fn time_fast<
-    L: Ledger + Send + Sync + 'static,
-    D: Ledger + Send + Sync + 'static,
+    L: Ledgers + Send + Sync + 'static,
     R: Threads + Wait + Clock + Copy + Send + Sync + 'static,
 >(
     rt: &R,
@@ -93,12 +83,10 @@ fn time_fast<
     text: &[u8],
     items: usize,
     each: usize,
-    publisher: Publisher<L, D, Tally>,
-    mut submitters: Vec<Submitter<L, D, Tally>>,
-    subscriptions: Vec<Subscription<L, D, Tally>>,
-) -> Option<u128>
-    requires { (L.parts ≡ PARTS) × (D.parts ≡ PARTS) }
-{
+    publisher: Publisher<L, Tally>,
+    mut submitters: Vec<Submitter<L, Tally>>,
+    subscriptions: Vec<Subscription<L, Tally>>,
+) -> Option<u128> {
     let start = Instant::now(rt).ok()?;
     send_each(rt, alloc, text, each, &mut submitters);
     let all = end_all(
@@ -115,12 +103,11 @@ fn time_fast<
 
 /// Publishes this many items with each submitter, from a thread of its own.
 pub fn send_each<
-    L: Ledger + Send + Sync + 'static,
-    D: Ledger + Send + Sync + 'static,
+    L: Ledgers + Send + Sync + 'static,
     B: Listener + Send + 'static,
     R: Threads + Wait + Sync,
->(rt: &R, alloc: Global, text: &[u8], each: usize, submitters: &mut [Submitter<L, D, B>]) {
-    let send = |_: usize, submitter: &mut Submitter<L, D, B>| {
+>(rt: &R, alloc: Global, text: &[u8], each: usize, submitters: &mut [Submitter<L, B>]) {
+    let send = |_: usize, submitter: &mut Submitter<L, B>| {
         send_all(rt, alloc, submitter, text, each)
     };
     let threads = submitters.len().max(1);

@@ -1,16 +1,14 @@
 //! A run as a fast one, on a publisher that has only the entries left of subscriptions that were reclaimed before.
 ghost use Rattle.std.specs.Prelude.{◌≡◌};
-ghost use Rattle.publisher.specs.Blanks.{IsBlankOf};
-ghost use Rattle.publisher.specs.declared.state.TheConstants.{PARTS};
+ghost use Rattle.publisher.specs.Blanks.{AreBlanksOf};
 
 use super::ends::{is_whole, make_submitters};
 use super::fast::{Plan, send_each, subscribe_tallies};
 use super::reclaiming::reclaim_many;
 use flow_rules::Tally;
-use publisher::{Publisher, Submitter, Subscription, finish};
+use publisher::{BlankPair, Ledgers, Publisher, Submitter, Subscription, finish};
 use std::alloc::Global;
 use std::sync::Wait;
-use std::sync::ledger::{Blank, Ledger};
 use std::thread::Threads;
 use std::time::{Clock, Instant};
 
@@ -27,18 +25,15 @@ pub struct Spent {
 
 /// Measures the nanoseconds of a run.
 pub fn measure_left<
-    L: Ledger + Send + Sync + 'static,
-    D: Ledger + Send + Sync + 'static,
+    L: Ledgers + Send + Sync + 'static,
     R: Threads + Wait + Clock + Copy + Send + Sync + 'static,
->(rt: R, alloc: Global, plan: &Plan, publications: Blank, drops: Blank) -> Option<Spent>
-    requires publications { IsBlankOf publications L.name L.parts }
-    requires drops { IsBlankOf drops D.name D.parts }
+>(rt: R, alloc: Global, plan: &Plan, blanks: BlankPair) -> Option<Spent>
+    requires blanks { AreBlanksOf blanks L.publications L.drops }
 {
-    let publisher: Publisher<L, D, Tally> = Publisher::new(
+    let publisher: Publisher<L, Tally> = Publisher::new(
         rt,
         alloc,
-        publications,
-        drops,
+        blanks,
         plan.workers,
         plan.capacity,
     ).ok()?;
@@ -57,16 +52,12 @@ pub fn measure_left<
 }
 
 /// Measures the nanoseconds in which the submitters publish all items, and all subscribers are told them and the close.
-fn time_told<
-    L: Ledger + Send + Sync + 'static,
-    D: Ledger + Send + Sync + 'static,
-    R: Threads + Wait + Clock + Sync,
->(
+fn time_told<L: Ledgers + Send + Sync + 'static, R: Threads + Wait + Clock + Sync>(
     rt: &R,
     alloc: Global,
     plan: &Plan,
-    publisher: &Publisher<L, D, Tally>,
-    submitters: &mut [Submitter<L, D, Tally>],
+    publisher: &Publisher<L, Tally>,
+    submitters: &mut [Submitter<L, Tally>],
 ) -> Option<u128> {
     let text = vec![in alloc; b'x'; plan.bytes].ok()?;
     let each = plan.items.checked_div(plan.submitters)?;
@@ -78,16 +69,14 @@ fn time_told<
 }
 
 /// Ends the publisher. Tells whether each subscriber was told all items, and the others were reclaimed.
-fn finish_left<L: Ledger + Send + Sync + 'static, D: Ledger + Send + Sync + 'static, R: Wait>(
+fn finish_left<L: Ledgers + Send + Sync + 'static, R: Wait>(
     rt: &R,
     alloc: Global,
     plan: &Plan,
-    publisher: Publisher<L, D, Tally>,
-    submitters: Vec<Submitter<L, D, Tally>>,
-    subscriptions: Vec<Subscription<L, D, Tally>>,
-) -> bool
-    requires { (L.parts ≡ PARTS) × (D.parts ≡ PARTS) }
-{
+    publisher: Publisher<L, Tally>,
+    submitters: Vec<Submitter<L, Tally>>,
+    subscriptions: Vec<Subscription<L, Tally>>,
+) -> bool {
     match finish(rt, alloc, publisher, submitters, subscriptions) {
         Ok(outcome) => {
             is_whole(&outcome, plan.subscribers, plan.items as u64)

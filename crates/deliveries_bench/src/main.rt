@@ -18,12 +18,11 @@ mod slow;
 use alone::measure_alone;
 use fast::{Plan, measure_fast};
 use left::{Spent, measure_left};
-use publisher::PARTS;
+use publisher::BlankPair;
 use slow::measure_slow;
 use std::alloc::Global;
 use std::marker::Brand;
 use std::sync::Wait;
-use std::sync::ledger::Blank;
 use std::thread::Threads;
 use std::time::Clock;
 use std::{env, io};
@@ -34,7 +33,7 @@ fn fast_run<R: Threads + Wait + Clock + Copy + Send + Sync + 'static>(
     alloc: Global,
     plan: &Plan,
 ) -> Option<u128> {
-    measure_fast::<Brand, Brand, R>(rt, alloc, plan, Blank::new(PARTS), Blank::new(PARTS))
+    measure_fast::<Brand, R>(rt, alloc, plan, BlankPair::new())
 }
 
 /// Measures subscribers that count after others were reclaimed, on a publisher with two new ledgers.
@@ -43,7 +42,7 @@ fn left_run<R: Threads + Wait + Clock + Copy + Send + Sync + 'static>(
     alloc: Global,
     plan: &Plan,
 ) -> Option<Spent> {
-    measure_left::<Brand, Brand, R>(rt, alloc, plan, Blank::new(PARTS), Blank::new(PARTS))
+    measure_left::<Brand, R>(rt, alloc, plan, BlankPair::new())
 }
 
 /// Measures subscribers that sleep, on a publisher with two new ledgers.
@@ -52,7 +51,7 @@ fn slow_run<R: Threads + Wait + Clock + Copy + Send + Sync + 'static>(
     alloc: Global,
     workers: usize,
 ) -> Option<(u128, u128)> {
-    measure_slow::<Brand, Brand, R>(rt, alloc, workers, Blank::new(PARTS), Blank::new(PARTS))
+    measure_slow::<Brand, R>(rt, alloc, workers, BlankPair::new())
 }
 
 /// Measures one subscriber at rest, on a publisher with two new ledgers.
@@ -63,8 +62,8 @@ fn alone_run<R: Threads + Wait + Clock + Copy + Send + Sync + 'static>(
     items: usize,
     pause: usize,
 ) -> Option<u128> {
-    let (publications, drops) = (Blank::new(PARTS), Blank::new(PARTS));
-    measure_alone::<Brand, Brand, R>(rt, alloc, workers, items, pause as u64, publications, drops)
+    let blanks = BlankPair::new();
+    measure_alone::<Brand, R>(rt, alloc, workers, items, pause as u64, blanks)
 }
 
 /// What is measured.

@@ -1,9 +1,8 @@
 //! Subscriptions that come, end and are reclaimed before a run, some at a time.
 use flow_rules::{How, Name, Refusal, Tally};
-use publisher::{MOST_LIVE, Publisher, Subscription};
+use publisher::{Ledgers, MOST_LIVE, Publisher, Subscription};
 use std::alloc::Global;
 use std::sync::Wait;
-use std::sync::ledger::Ledger;
 use std::thread;
 use std::time::{Clock, Instant};
 
@@ -12,11 +11,12 @@ const MOST_TRIES: u64 = 1_000_000;
 
 /// Has this many subscriptions come, end and be reclaimed, as many at a time as may be live. Measures the nanoseconds of a `reclaim`, on an
 /// average of the last ones.
-pub fn reclaim_many<
-    L: Ledger + Send + Sync + 'static,
-    D: Ledger + Send + Sync + 'static,
-    R: Wait + Clock,
->(rt: &R, alloc: Global, publisher: &Publisher<L, D, Tally>, many: usize) -> Option<u128> {
+pub fn reclaim_many<L: Ledgers + Send + Sync + 'static, R: Wait + Clock>(
+    rt: &R,
+    alloc: Global,
+    publisher: &Publisher<L, Tally>,
+    many: usize,
+) -> Option<u128> {
     let mut spent = come_and_go(rt, alloc, publisher, many % MOST_LIVE)?;
     for _ in 0..many / MOST_LIVE {
         spent = come_and_go(rt, alloc, publisher, MOST_LIVE)?;
@@ -25,11 +25,12 @@ pub fn reclaim_many<
 }
 
 /// Has this many subscriptions come and end, and reclaims them. Measures the nanoseconds of a `reclaim` on average.
-fn come_and_go<
-    L: Ledger + Send + Sync + 'static,
-    D: Ledger + Send + Sync + 'static,
-    R: Wait + Clock,
->(rt: &R, alloc: Global, publisher: &Publisher<L, D, Tally>, many: usize) -> Option<u128> {
+fn come_and_go<L: Ledgers + Send + Sync + 'static, R: Wait + Clock>(
+    rt: &R,
+    alloc: Global,
+    publisher: &Publisher<L, Tally>,
+    many: usize,
+) -> Option<u128> {
     let mut subscriptions = subscribe_many(rt, alloc, publisher, many)?;
     cancel_all(rt, &mut subscriptions)?;
     for subscription in subscriptions.iter() {
@@ -42,12 +43,12 @@ fn come_and_go<
 }
 
 /// Subscribes this many subscribers.
-fn subscribe_many<L: Ledger + Send + Sync + 'static, D: Ledger + Send + Sync + 'static, R: Wait>(
+fn subscribe_many<L: Ledgers + Send + Sync + 'static, R: Wait>(
     rt: &R,
     alloc: Global,
-    publisher: &Publisher<L, D, Tally>,
+    publisher: &Publisher<L, Tally>,
     many: usize,
-) -> Option<Vec<Subscription<L, D, Tally>>> {
+) -> Option<Vec<Subscription<L, Tally>>> {
     let mut subscriptions = Vec::new(alloc);
     for place in 0..many {
         let name = format!(in alloc; "gone{place}").ok()?;
@@ -59,9 +60,9 @@ fn subscribe_many<L: Ledger + Send + Sync + 'static, D: Ledger + Send + Sync + '
 }
 
 /// Cancels each of these.
-fn cancel_all<L: Ledger + Send, D: Ledger + Send, R: Wait>(
+fn cancel_all<L: Ledgers + Send, R: Wait>(
     rt: &R,
-    subscriptions: &mut [Subscription<L, D, Tally>],
+    subscriptions: &mut [Subscription<L, Tally>],
 ) -> Option<()> {
     for subscription in subscriptions.iter_mut() {
         subscription.cancel(rt).ok()?;
@@ -70,11 +71,11 @@ fn cancel_all<L: Ledger + Send, D: Ledger + Send, R: Wait>(
 }
 
 /// Reclaims all of these, which have ended. Tells whether each was reclaimed.
-fn reclaim_all<L: Ledger + Send + Sync + 'static, D: Ledger + Send + Sync + 'static, R: Wait>(
+fn reclaim_all<L: Ledgers + Send + Sync + 'static, R: Wait>(
     rt: &R,
     alloc: Global,
-    publisher: &Publisher<L, D, Tally>,
-    subscriptions: Vec<Subscription<L, D, Tally>>,
+    publisher: &Publisher<L, Tally>,
+    subscriptions: Vec<Subscription<L, Tally>>,
 ) -> bool {
     let mut all = true;
     for subscription in subscriptions {
@@ -84,18 +85,20 @@ fn reclaim_all<L: Ledger + Send + Sync + 'static, D: Ledger + Send + Sync + 'sta
 }
 
 /// Reclaims one that has ended, once the thread that ended it has let go of its task. Tells whether it was, and was cancelled.
-fn reclaim<L: Ledger + Send + Sync + 'static, D: Ledger + Send + Sync + 'static, R: Wait>(
+fn reclaim<L: Ledgers + Send + Sync + 'static, R: Wait>(
     rt: &R,
     alloc: Global,
-    publisher: &Publisher<L, D, Tally>,
-    subscription: Subscription<L, D, Tally>,
+    publisher: &Publisher<L, Tally>,
+    subscription: Subscription<L, Tally>,
 ) -> bool {
     let mut subscription = subscription;
     for _ in 0..MOST_TRIES {
         match publisher.reclaim(rt, alloc, subscription) {
             Ok(left) => return matches!(left.lane.ending, Some(How::Cancelled)),
-            Err((Refusal::StillHeld(_), back)) => subscription = back,
-            Err(_) => return false,
+            Err(refused) => match refused.into_parts() {
+                (Refusal::StillHeld(_), back) => subscription = back,
+                _ => return false,
+            },
         }
         thread::yield_now();
     }

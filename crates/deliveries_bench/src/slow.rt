@@ -1,15 +1,14 @@
 //! A run to two subscribers that sleep, for which all items wait when they are requested. Meanwhile a call of the publisher is made again
 //! and again.
-ghost use Rattle.publisher.specs.Blanks.{IsBlankOf};
+ghost use Rattle.publisher.specs.Blanks.{AreBlanksOf};
 
 use super::ends::{NAMES, end_all, make_submitters, send_all};
 use super::sleeper::Sleeper;
 use flow_rules::{Listener, Name};
-use publisher::{Publisher, Submitter, Subscription};
+use publisher::{BlankPair, Ledgers, Publisher, Submitter, Subscription};
 use std::alloc::Global;
 use std::sync::atomic::AtomicU64;
 use std::sync::atomic::Ordering::SeqCst;
-use std::sync::ledger::{Blank, Ledger};
 use std::sync::{Arc, Wait};
 use std::thread;
 use std::thread::Threads;
@@ -26,23 +25,19 @@ const ALL_SLEPT: u64 = 128;
 
 /// Measures the nanoseconds of a run, and of the longest call meanwhile.
 pub fn measure_slow<
-    L: Ledger + Send + Sync + 'static,
-    D: Ledger + Send + Sync + 'static,
+    L: Ledgers + Send + Sync + 'static,
     R: Threads + Wait + Clock + Copy + Send + Sync + 'static,
->(rt: R, alloc: Global, workers: usize, publications: Blank, drops: Blank) -> Option<(u128, u128)>
-    requires publications { IsBlankOf publications L.name L.parts }
-    requires drops { IsBlankOf drops D.name D.parts }
+>(rt: R, alloc: Global, workers: usize, blanks: BlankPair) -> Option<(u128, u128)>
+    requires blanks { AreBlanksOf blanks L.publications L.drops }
 {
     let slept = Arc::new(alloc, AtomicU64::new(0)).ok()?;
-    let publisher: Publisher<L, D, Sleeper<R>> = Publisher::new(
+    let publisher: Publisher<L, Sleeper<R>> = Publisher::new(
         rt,
         alloc,
-        publications,
-        drops,
+        blanks,
         workers,
         SLEPT_ITEMS as usize,
-    )
-    .ok()?;
+    ).ok()?;
     let mut subscriptions = subscribe_sleepers(rt, alloc, &publisher, &slept)?;
     let mut submitters = make_submitters(&rt, alloc, &publisher, 1)?;
     publish_slept(&rt, alloc, &mut submitters);
@@ -60,15 +55,14 @@ pub fn measure_slow<
 
 /// Subscribes the subscribers that sleep.
 fn subscribe_sleepers<
-    L: Ledger + Send + Sync + 'static,
-    D: Ledger + Send + Sync + 'static,
+    L: Ledgers + Send + Sync + 'static,
     R: Wait + Clock + Copy + Send + Sync + 'static,
 >(
     rt: R,
     alloc: Global,
-    publisher: &Publisher<L, D, Sleeper<R>>,
+    publisher: &Publisher<L, Sleeper<R>>,
     slept: &Arc<AtomicU64, Global>,
-) -> Option<Vec<Subscription<L, D, Sleeper<R>>>> {
+) -> Option<Vec<Subscription<L, Sleeper<R>>>> {
     let mut subscriptions = Vec::new(alloc);
     for name in NAMES.iter().take(SLEEPERS) {
         let name = Name::new(name.as_bytes())?;
@@ -80,10 +74,10 @@ fn subscribe_sleepers<
 }
 
 /// Publishes the items of a run, which wait for demand.
-fn publish_slept<L: Ledger + Send, D: Ledger + Send, B: Listener + Send, R: Wait>(
+fn publish_slept<L: Ledgers + Send, B: Listener + Send, R: Wait>(
     rt: &R,
     alloc: Global,
-    submitters: &mut [Submitter<L, D, B>],
+    submitters: &mut [Submitter<L, B>],
 ) {
     for submitter in submitters.iter_mut() {
         send_all(rt, alloc, submitter, b"x", SLEPT_ITEMS as usize);
@@ -92,14 +86,13 @@ fn publish_slept<L: Ledger + Send, D: Ledger + Send, B: Listener + Send, R: Wait
 
 /// Measures the nanoseconds until all items that wait are slept over, and those of the longest call meanwhile.
 fn time_slow<
-    L: Ledger + Send + Sync + 'static,
-    D: Ledger + Send + Sync + 'static,
+    L: Ledgers + Send + Sync + 'static,
     B: Listener + Send + 'static,
     R: Threads + Wait + Clock + Sync,
 >(
     rt: &R,
-    publisher: &Publisher<L, D, B>,
-    subscriptions: &mut [Subscription<L, D, B>],
+    publisher: &Publisher<L, B>,
+    subscriptions: &mut [Subscription<L, B>],
     slept: &AtomicU64,
 ) -> Option<(u128, u128)> {
     let start = Instant::now(rt).ok()?;
@@ -113,9 +106,9 @@ fn time_slow<
 }
 
 /// Requests all items with each subscription.
-fn request_all<L: Ledger + Send, D: Ledger + Send, B: Listener + Send, R: Wait>(
+fn request_all<L: Ledgers + Send, B: Listener + Send, R: Wait>(
     rt: &R,
-    subscriptions: &mut [Subscription<L, D, B>],
+    subscriptions: &mut [Subscription<L, B>],
 ) {
     for subscription in subscriptions.iter_mut() {
         let _ = subscription.request(rt, i64::MAX);
@@ -123,12 +116,11 @@ fn request_all<L: Ledger + Send, D: Ledger + Send, B: Listener + Send, R: Wait>(
 }
 
 /// Measures the nanoseconds of the longest call of `number_of_subscribers` until all items were slept over.
-fn watch<
-    L: Ledger + Send + Sync + 'static,
-    D: Ledger + Send + Sync + 'static,
-    B: Listener + Send + 'static,
-    R: Wait + Clock,
->(rt: &R, publisher: &Publisher<L, D, B>, slept: &AtomicU64) -> Option<u128> {
+fn watch<L: Ledgers + Send + Sync + 'static, B: Listener + Send + 'static, R: Wait + Clock>(
+    rt: &R,
+    publisher: &Publisher<L, B>,
+    slept: &AtomicU64,
+) -> Option<u128> {
     let mut longest = 0;
     for _ in rt.forever() {
         if slept.load(SeqCst) >= ALL_SLEPT {

@@ -3,7 +3,9 @@ pub mod Answered
 pub mod Calls
 pub mod End
 pub mod EndedBy
+pub mod Grab
 pub mod Item
+pub mod Known
 pub mod Look
 pub mod Looks
 pub mod Move

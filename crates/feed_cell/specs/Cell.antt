@@ -11,6 +11,7 @@ use Rattle.feed_cell.specs.declared.cell.Held.{Held}
 use Rattle.feed_cell.specs.declared.cell.Lodger.{Lodger}
 use Rattle.feed_cell.specs.declared.cell.View.{View}
 use Rattle.feed_cell.specs.Views.{has_put, has_ask, has_run}
+pub use Rattle.feed_cell.specs.WordPlaces.{words_by}
 use Rattle.feed_cell.specs.Control.{Flags, Reads, causes_of, marked}
 use Rattle.feed_cell.specs.Outlooks.{IsReachedBy}
 
@@ -43,6 +44,7 @@ has_seat _ = true
 
 -- whether it may have an item out
 abbrev pub may_hold : Runner → Bool
+may_hold (Looked _) = true
 may_hold (Saw _ _) = true
 may_hold (Measured _ _ _) = true
 may_hold _ = false
@@ -93,12 +95,9 @@ pub record ShowsParts (capacity : ℕ) (w : Parts) (log taken item : List Item) 
   pub home : has_seat w.runner ≡ false → away ≡ false
   pub settled : left ≡ true → w.handle ≡ Idle
 
--- the words, in the order in which they lie
-abbrev pub words_by : ℕ → ℕ → ℕ → ℕ → List ℕ
-words_by head tail asked control = head ∷ tail ∷ asked ∷ control ∷ []
-
-abbrev pub words_of : Parts → Bool → ℕ → List ℕ
-words_of w left control = words_by (marked (is_over w.runner) w.given) w.accepted (marked left w.asked) control
+-- the words, by what there is
+abbrev pub words_of : ℕ → Parts → Bool → ℕ → List ℕ
+words_of capacity w left control = words_by capacity (marked (is_over w.runner) w.given) w.accepted (marked left w.asked) control
 
 -- the subscriber is at home, with what is kept beside it
 pub record Lodges {B : Type 0} (told : B → List Signal) (capacity : ℕ) (runner : Runner) (taken : List Item) (own : ℕ) (answers : Causes)
@@ -148,7 +147,7 @@ pub record KnowsAway (taken : List Item) (own : ℕ) (answers : Causes) (d : Vie
 
 -- what the task knows
 pub record AsRunner (capacity : ℕ) (runner : Runner) (active : Bool) (control : ℕ) (away : Bool) (taken item : List Item) (own : ℕ)
-    (answers : Causes) (d : View) : Type 0 where
+    (answers : Causes) (known_put known_asked : ℕ) (d : View) : Type 0 where
   pub sized : d.capacity ≡ capacity
   pub ordered : d.order ≡ answers.order
   pub seated : has_seat runner ≡ true
@@ -158,6 +157,9 @@ pub record AsRunner (capacity : ℕ) (runner : Runner) (active : Bool) (control 
   pub fresh : runner ≡ Fresh → KnowsAway taken own answers d
   pub item_is : d.item ≡ item
   pub latest : has_looked runner ≡ true → active ≡ false → control ≡ d.look
+  -- a task that was handed over knows nothing yet
+  pub saw_put : d.known_put ≤ known_put
+  pub saw_asked : d.requested ≤ known_asked
 
 -- what there is of a subscription
 pub record CellData : Type 0 where
@@ -194,7 +196,7 @@ KnownByHandle capacity cell = AsHandle capacity cell.answers.order cell.world.as
 
 abbrev pub KnownByRunner : ℕ → CellData → View → Type 0
 KnownByRunner capacity cell = AsRunner capacity cell.world.runner cell.world.active cell.control cell.away cell.taken cell.item
-    cell.world.own cell.answers
+    cell.world.own cell.answers cell.world.known_put cell.world.known_asked
 
 module _ {B : Type 0} (told : B → List Signal) where
   -- the rule of a subscription of this capacity: what there is, and what of it the words, the slots and the seats show
@@ -205,7 +207,7 @@ module _ {B : Type 0} (told : B → List Signal) where
     pub lists : Lists capacity cell.log cell.taken cell.item cell.free
     pub shows : ShowsParts capacity cell.world cell.log cell.taken cell.item cell.flags cell.answers cell.away cell.left
     pub reads : Reads cell.control cell.flags
-    pub words : s.words ≡ words_of cell.world cell.left cell.control
+    pub words : s.words ≡ words_of capacity cell.world cell.left cell.control
     pub lies : Lies capacity cell.log (length cell.taken) (length cell.taken + length cell.item) cell.free s.homes
     pub lodges : cell.away ≡ false → LodgesAt told capacity cell.world.runner cell.taken cell.world.own cell.answers s.homes
     pub producers : Only has_put cell.producer (KnownByProducer capacity cell) s.views

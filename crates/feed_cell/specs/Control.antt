@@ -2,7 +2,7 @@
 use Rattle.std.specs.Prelude.{◌≡◌, ℕ, ◌+◌, ◌/◌, ◌^◌, ◌==◌, if◌then◌else◌, Bool, true, false, ◌||◌, Option, None, Some}
 use Rattle.std.specs.Int.{bit_at}
 use Rattle.feed_core.specs.Prelude.{Ending}
-pub use Rattle.feed_cell.specs.declared.cell.TheConstants.{CONTROL, MARK, QUIET, RESTING, ITEM, RUNNING, NEW, CANCELLED, BAD_REQUEST, DOUBLED, FAILED, COMPLETED, CODE}
+pub use Rattle.feed_cell.specs.declared.cell.TheConstants.{MARK, QUIET, RESTING, ITEM, RUNNING, NEW, CANCELLED, BAD_REQUEST, DOUBLED, FAILED, COMPLETED, CODE}
 use Rattle.feed_cell.specs.Types.{Causes, Cause, Cancel, Argument, State, Closing}
 
 -- run: the task was started and is not at rest since · active: something is new since the task's last look

@@ -102,7 +102,8 @@ pub record IsLeftOf {B : Type 0} (told : B → List Signal) (replied : B → Lis
   -- it was cancelled by its owner or by a reply
   pub cancelled : IfSome left.subscriber (λ b. lane.causes.cancel ≡ left.cancelled || (causes_by lane.causes.order (replied b)).cancel)
   -- a callback has failed with this code, or was refused memory, if the subscriber replied so
-  pub failed : IfSome left.subscriber (λ b. (lane.causes.failed ≡ (causes_by lane.causes.order (replied b)).failed) × (lane.causes.memory ≡ (causes_by lane.causes.order (replied b)).memory))
+  pub failed : IfSome left.subscriber (λ b. (lane.causes.failed ≡ (causes_by lane.causes.order (replied b)).failed)
+      × (lane.causes.memory ≡ (causes_by lane.causes.order (replied b)).memory))
   -- each of its answers goes on but for the last, if that is the end
   pub ends : IfSome left.subscriber (λ b. EndsSo left.ending (replied b))
   -- a cancel, a failed callback and refused memory were asked for

@@ -16,3 +16,4 @@ pub mod TaskSteps
 pub mod TaskTurns
 pub mod Types
 pub mod Views
+pub mod WordPlaces

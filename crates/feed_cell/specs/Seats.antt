@@ -6,7 +6,6 @@ use Rattle.feed_core.specs.Cause.{no_causes}
 use Rattle.feed_cell.specs.Types.{Causes}
 use Rattle.feed_cell.specs.declared.cell.Held.{Held}
 use Rattle.feed_cell.specs.declared.cell.View.{View}
-use Rattle.atomic_table.specs.Seated.{TableId}
 use Rattle.atomic_table.specs.declared.shared.Seat.{Seat}
 
 -- what a party knows, and the slots that it has out
@@ -52,10 +51,6 @@ module _ {B : Type 0} where
 -- a party's seat at the table
 abbrev pub CellSeat : Type 0 → Type 0
 CellSeat B = Seat (Held B) View
-
--- a subscription's table has four words
-abbrev pub HasFourWords : TableId → Type 0
-HasFourWords table = table.words ≡ 4
 
 -- the same seat of the same table
 abbrev pub IsSameSeat : {B : Type 0} → CellSeat B → CellSeat B → Type 0

@@ -25,11 +25,21 @@ use Rattle.feed_cell.specs.Views.{IsRunner}
 abbrev pub IsLastGrant : {B : Type 0} → ℕ → SeatOf B → SeatOf B → List Item → List Reply → Type 0
 IsLastGrant own before after took replies =
     ((took ≡ []) × (replies ≡ []) × (after.0.grants ≡ before.0.grants))
-    ⊎ ((length took ≡ 1) × ((granted : IsGranted own before) × (after.0.grants ≡ before.0.grants ++ grant_of before granted ∷ [])) × ((reply : Reply) × (replies ≡ reply ∷ [])))
+    ⊎ ((length took ≡ 1)
+    × ((granted : IsGranted own before) × (after.0.grants ≡ before.0.grants ++ grant_of before granted ∷ []))
+    × ((reply : Reply) × (replies ≡ reply ∷ [])))
 
 -- the last look, which left this word, found this end, by the word's marks and by what the replies had brought about
 abbrev pub IsFoundBy : ErrorOrder → List Reply → How → ℕ → Runner → Type 0
 IsFoundBy order replies how word runner = IsFound how runner × AreShownAt word (causes_by order replies) runner
+
+-- if the turn goes on, this holds
+abbrev pub OnGoing : Option Served → Type 0 → Type 0
+OnGoing None P = P
+OnGoing (Some Served.Gave) P = P
+OnGoing (Some Served.Rested) P = Unit {0}
+OnGoing (Some Served.Missed) P = Unit {0}
+OnGoing (Some (Served.Ended how)) P = Unit {0}
 
 module _ {B : Type 0} (replied : B → List Reply) where
   -- what the answers have requested by now

@@ -14,6 +14,7 @@ use Rattle.feed_cell.specs.declared.cell.Grant.{Grant}
 use Rattle.feed_cell.specs.declared.cell.Held.{Held}
 use Rattle.feed_cell.specs.declared.cell.Lodger.{Lodger}
 use Rattle.feed_cell.specs.declared.cell.View.{View}
+use Rattle.feed_cell.specs.declared.cell.task.known.Known.{Known}
 use Rattle.feed_cell.specs.Cell.{greeted, IsToldAtEnd}
 use Rattle.feed_cell.specs.Control.{Flags, Reads, causes_of}
 use Rattle.feed_cell.specs.TaskPauses.{told_out, replied_out}
@@ -42,19 +43,42 @@ IsQuietEnd How.OutOfMemory = ⊥
 
 -- the item that was out is taken, and its slot given back
 abbrev pub MovesOut : {B : Type 0} → Item → SeatOf B → SeatOf B → Type 0
-MovesOut item before after = after ≡ (record before.0 { taken = before.0.taken ++ item ∷ []; item = []; grants = before.0.grants ++ grants_by before.0.requested before.0.runner; runner = Taken }, rest before.1)
+MovesOut item before after = after ≡ (
+  record before.0 {
+    taken = before.0.taken ++ item ∷ [];
+    item = [];
+    grants = before.0.grants ++ grants_by before.0.requested before.0.own before.0.runner;
+    runner = Taken;
+  },
+  rest before.1,
+)
 
 -- the task is at rest, and its subscriber at home
 abbrev pub ComesToRest : {B : Type 0} → (B → List Reply) → SeatOf B → SeatOf B → Type 0
-ComesToRest replied before after = after ≡ (record before.0 { runner = Nobody; runs = false; away = false; outlook = Resting; replied = replied_out replied before.1 }, [])
+ComesToRest replied before after = after ≡ (
+  record before.0 {
+    runner = Nobody;
+    runs = false;
+    away = false;
+    outlook = Resting;
+    replied = replied_out replied before.1;
+  },
+  [],
+)
 
 -- it could not rest, since something was new
 abbrev pub HasMissed : {B : Type 0} → SeatOf B → SeatOf B → Type 0
 HasMissed before after = after ≡ (record before.0 { runner = Ready; misses = before.0.misses + 1 }, before.1)
 
--- it tried no rest, and took nothing; the order of errors is the same
+-- it tried no rest, and took nothing; the order of errors is the same, and so is what it knows
 abbrev pub KeepsCounts : View → View → Type 0
 KeepsCounts before after = (after.misses ≡ before.misses) × (after.grants ≡ before.grants) × (after.order ≡ before.order)
+    × (after.known_put ≡ before.known_put)
+    × (after.requested ≡ before.requested)
+
+-- these numbers of items put, and requested by the handle, were found by loads of this task
+abbrev pub IsKnown : Known → View → Type 0
+IsKnown known v = (known.put ≤ v.known_put) × (known.asked ≤ v.requested)
 
 -- by what a task looked last, if it stands after a look: a closing error is told in this order
 abbrev pub IsInOrder : ErrorOrder → Runner → Type 0
@@ -93,7 +117,15 @@ MayFinish due v = MayEnd due (length v.taken) v.runner × (HasTerminal due → M
 
 -- it has ended the subscription, and its subscriber is at home
 abbrev pub HasLeft : {B : Type 0} → (B → List Reply) → SeatOf B → SeatOf B → Type 0
-HasLeft replied ending after = after ≡ (record ending.0 { runs = false; away = false; outlook = outlook_by (how_out ending.1); replied = replied_out replied ending.1 }, [])
+HasLeft replied ending after = after ≡ (
+  record ending.0 {
+    runs = false;
+    away = false;
+    outlook = outlook_by (how_out ending.1);
+    replied = replied_out replied ending.1;
+  },
+  [],
+)
 
 -- the task has an item out, and the subscriber's slot behind it
 pub record HasItem {B : Type 0} (me : SeatOf B) : Type 0 where
@@ -235,9 +267,17 @@ module _ {B : Type 0} where
     pub why : (tail ≡ length before.0.taken) ⊎ (asked ≡ length before.0.taken)
     pub put : length before.0.taken ≤ tail
     pub requested : ℕ
-    pub found : after ≡ (record before.0 { runner = Measured causes tail asked; requested = requested; item = [] }, before.1)
+    pub found : after ≡ (
+      record before.0 {
+        runner = Measured causes tail asked;
+        requested = requested;
+        item = [];
+        known_put = tail;
+      },
+      before.1,
+    )
 
-  -- one more item was requested than were taken, by a measure after a look or a peek that found no end at once; this
+  -- one more item was requested than were taken, by a measure, and by a look or a peek that found no end at once; this
   -- many of them by answers
   pub record IsGranted (own : ℕ) (before : SeatOf B) : Type 0 where
     pub causes : Causes
@@ -255,7 +295,18 @@ module _ {B : Type 0} where
   pub record TakesNext (item : Item) (before after : SeatOf B) : Type 0 where
     pub granted : IsGranted before.0.own before
     pub few : length before.0.taken < UNBOUNDED
-    pub took : after ≡ (record before.0 { runner = Taken; taken = before.0.taken ++ item ∷ []; item = []; grants = before.0.grants ++ grant_of before granted ∷ []; requested = granted.requested }, before.1)
+    pub known_put : ℕ
+    pub took : after ≡ (
+      record before.0 {
+        runner = Taken;
+        taken = before.0.taken ++ item ∷ [];
+        item = [];
+        grants = before.0.grants ++ grant_of before granted ∷ [];
+        requested = granted.requested;
+        known_put = known_put;
+      },
+      before.1,
+    )
 
   -- the task has measured, and has no item to give; this end waits for the items, if one does
   pub record HasNoneToGive (tail : ℕ) (due : Option How) (me : SeatOf B) : Type 0 where

@@ -178,11 +178,15 @@ module _ {B : Type 0} (told : B → List Signal) (replied : B → List Reply) wh
   -- a turn that ran on a seat, by its outlook
   abbrev pub RunsAs : Outlook → SeatOf B → SeatOf B → List Signal → Type 0
   RunsAs Again before after seen = IsGoing told after
-      × GoesOnAs (known_by_task before.0) (known_by_task after.0) (told_out told before.1) (told_out told after.1) seen (replied_out replied before.1) (replied_out replied after.1) × MayGoOn (known_by_task before.0) (known_by_task after.0) seen
+      × GoesOnAs (known_by_task before.0) (known_by_task after.0) (told_out told before.1) (told_out told after.1)
+      seen (replied_out replied before.1) (replied_out replied after.1)
+      × MayGoOn (known_by_task before.0) (known_by_task after.0) seen
   RunsAs Resting before after seen = StopsAs (known_by_task before.0) (known_by_task after.0) (told_out told before.1) seen
       (replied_out replied before.1) after.0.replied Resting × (after.0.runner ≡ Nobody)
   RunsAs (Ended how) before after seen = StopsAs (known_by_task before.0) (known_by_task after.0) (told_out told before.1) seen
-      (replied_out replied before.1) after.0.replied (Ended how) × MayEndIn before.0.order how (length after.0.taken) after.0.runner × IsFoundIn before.0.order after.0.replied how after.0.look after.0.runner
+      (replied_out replied before.1) after.0.replied (Ended how)
+      × MayEndIn before.0.order how (length after.0.taken) after.0.runner
+      × IsFoundIn before.0.order after.0.replied how after.0.look after.0.runner
 
 module _ {B : Type 0} (told : B → List Signal) where
   -- a task may look, once its subscriber was greeted
@@ -222,4 +226,5 @@ TurnsInto task seen (Turn.Resting spent) = (spent.table ≡ task.table) × (spen
     × StopsAs task.knows spent.knows task.told seen task.replied spent.replied Resting × (spent.knows.runner ≡ Nobody)
 TurnsInto task seen (Turn.Ended how spent) = (spent.table ≡ task.table) × (spent.seat ≡ task.seat)
     × StopsAs task.knows spent.knows task.told seen task.replied spent.replied (Ended how)
-    × MayEndIn task.knows.order how (length spent.knows.taken) spent.knows.runner × IsFoundIn task.knows.order spent.replied how spent.knows.look spent.knows.runner
+    × MayEndIn task.knows.order how (length spent.knows.taken) spent.knows.runner
+    × IsFoundIn task.knows.order spent.replied how spent.knows.look spent.knows.runner

@@ -34,6 +34,7 @@ first_view capacity order = record {
   taken = [];
   item = [];
   grants = [];
+  known_put = 0;
   requested = 0;
   own = 0;
   answers = no_causes_in order;

@@ -6,6 +6,7 @@ pub mod producer;
 mod seated;
 mod signal;
 pub mod task;
+pub mod words;
 
 ghost use Rattle.std.specs.Prelude.{◌≡◌};
 ghost use Rattle.feed_cell.specs.TaskAnswers.{IsNoted};
@@ -19,18 +20,6 @@ use std::alloc::Global;
 use std::collections::LinkedList;
 use std::marker::{Model, PhantomData};
 use std::sync::Arc;
-
-/// The word of the number of items taken. Bit 63 says that the subscription has ended.
-pub(crate) const HEAD: usize = 0;
-
-/// The word of the number of items put.
-pub(crate) const TAIL: usize = 1;
-
-/// The word of the number of items that the handle requested. Bit 63 says that the handle makes no step any more.
-pub(crate) const ASKED: usize = 2;
-
-/// The word of the marks and causes.
-pub(crate) const CONTROL: usize = 3;
 
 /// The mark of head and of asked, which is their bit 63.
 pub(crate) const MARK: u64 = 1 << 63;
@@ -85,9 +74,6 @@ pub(crate) const ERROR: u64 = ITEM | 1 << FAILED;
 
 /// What the signal of a close without an error sets in control.
 pub(crate) const COMPLETE: u64 = ITEM | 1 << COMPLETED;
-
-/// What the words are at first: nothing was taken, put or asked for, and the task is started.
-pub(crate) const FIRST_WORDS: [u64; 4] = [0, 0, 0, RUN];
 
 /// Who is told, and what lies beside it while nobody runs the task.
 #[derive(Drop)]
@@ -144,12 +130,11 @@ pub enum Held<B: Listener> {
     Guest(BoxedLodger<B>),
 }
 
-/// By what the task took an item: its own look or peek before it, and its own measure after that. No value of it is
-/// made.
+/// By what the task took an item: its own look or peek before it, and its own last measure. No value of it is made.
 pub struct Grant {
     /// The causes that the look or peek showed.
     pub causes: Causes,
-    /// How many items were requested in all, as the measure showed.
+    /// How many items were requested in all, by the handle, as the measure showed, and by the answers until then.
     pub asked: u64,
     /// How many of them the handle requested.
     pub requested: u64,
@@ -207,6 +192,8 @@ pub struct View {
     pub item: LinkedList<Item>,
     /// By what it took each of the items that it took, in order.
     pub grants: LinkedList<Grant>,
+    /// How many items were put, by its last load of tail.
+    pub known_put: u64,
     /// How many items the handle requested, by its last measure.
     pub requested: u64,
     /// How many items the answers requested, by what it brought to its last look or peek.
@@ -230,7 +217,7 @@ pub struct Terms {
     pub order: ErrorOrder,
 }
 
-/// The table of a subscription: the four words, a slot for each place, and a slot for the subscriber.
+/// The table of a subscription: its words, a slot for each place, and a slot for the subscriber.
 pub type CellTable<B: Listener> = Table<Held<B>, View, Terms, InCell<B>, Global>;
 
 /// The table, as its parties share it. How many share it changes with each task, so that number stands in a cache line

@@ -29,6 +29,9 @@
 //! Each of the first three words has one writer, which keeps the number beside its seat and never reads its own word.
 //! None of the numbers ever falls, so what a load shows is at most what there is.
 //!
+//! In a buffer of fewer than 32 places the words lie side by side. In a larger one head, tail and the other two lie in
+//! cache lines of their own (`words.rt`).
+//!
 //! # The slots
 //!
 //! There is one slot for each place of the buffer, and one for the subscriber, which lies there in a box. Item number
@@ -39,7 +42,8 @@
 //!   it out. The producer places the item in it, and the store of tail + 1 gives it back, with the item.
 //! - The task loads tail. If more items were put than taken, slot head has one, and that load takes it out. A load of
 //!   asked follows: if no more are requested, it gives the slot back as it was. Otherwise the task moves the item out,
-//!   and the store of head + 1 gives the slot back, free.
+//!   and the store of head + 1 gives the slot back, free. Of an item that it has seen in this turn already, a load of
+//!   head, which only the task stores, takes the slot out.
 //! - The subscriber's slot is out with the task from its first peek until it rests or ends the subscription. What the
 //!   answers of callbacks have requested, the causes that they brought about, and whether a closing error waits for the
 //!   items lie beside the subscriber there.
@@ -52,13 +56,14 @@
 //! asked is. These two have no cause, so if both marks are set already the signal is a load that finds them so.
 //!
 //! A look clears the mark of something new and tells the causes. A peek tells the causes and leaves the mark, so it is
-//! a load. The task peeks before each item, and loads tail and asked after that, never before. If it finds nothing to
-//! do after a peek that found something new, it waits a moment and does the same again, a few times, in case the next
-//! item is about to come. Then it looks, and loads the two once more. If it finds nothing to do then, it rests by one
-//! compare-and-exchange: from the word after its look to the same without the mark of the task. That fails exactly if
-//! there was a signal since the look, and then the task goes on. Thus nothing is forgotten: a subscription at rest was
-//! told all that its demand and its ending allow, or somebody is between a store and its signal, and that signal will
-//! start the task.
+//! a load. The task peeks before each item. It takes an item after that peek if it knows from this turn's last loads of
+//! tail and asked that the item was put and requested, and else loads the two again, after the peek and never before.
+//! If it finds nothing to do after a peek that found something new, it waits a moment and does the same again, a few
+//! times, in case the next item is about to come. Then it looks, and loads the two once more. If it finds nothing to do
+//! then, it rests by one compare-and-exchange: from the word after its look to the same without the mark of the task.
+//! That fails exactly if there was a signal since the look, and then the task goes on. Thus nothing is forgotten: a
+//! subscription at rest was told all that its demand and its ending allow, or somebody is between a store and its
+//! signal, and that signal will start the task.
 //!
 //! Until the task would rest, the mark stays set: then neither it nor the other two change control.
 //!
@@ -89,11 +94,12 @@
 //!  Fresh, Taken, Looked, Measured -- end: head, with its mark --> Over
 //! ```
 //!
-//! For a look a peek may stand, which is a load of control. From `Measured` a peek or a look may lead back to `Looked`,
-//! which it does after a peek with nothing to do. An end comes from `Looked` if the look showed a cause that ends the
-//! subscription at once, from `Measured` if every item was given and a close waited for that, and from `Fresh` or
-//! `Taken` if a callback answered an end or was refused memory. A task that was handed over is `Ready`; the first task
-//! of a subscription is `Fresh`.
+//! From `Looked` an item that the task knows of leads to `Taken` at once, by a store of head. For a look a peek may
+//! stand, which is a load of control. From `Measured` a peek or a look may lead back to `Looked`, which it does after a
+//! peek with nothing to do. An end comes from `Looked` if the look showed a cause that ends the subscription at once,
+//! from `Measured` if every item was given and a close waited for that, and from `Fresh` or `Taken` if a callback
+//! answered an end or was refused memory. A task that was handed over is `Ready`; the first task of a subscription is
+//! `Fresh`.
 //!
 //! The rule of the table (`cell.rt`) says all of this between any two steps, whatever the parties do at the same time:
 //! what the words, the slots and the parties show is a subscription that some list of possible events leads to

@@ -1,4 +1,7 @@
 //! A Hub as tests call it: its calls as rows, with what each has to answer.
+mod by_policy;
+mod why;
+
 ghost use Rattle.std.specs.Prelude.{◌≡◌, ◌≤◌, IfOk};
 ghost use Rattle.hub_tests.specs.Counting.{end_of_counting};
 ghost use Rattle.feed_core.specs.Feed.{end_of};
@@ -8,12 +11,14 @@ ghost use Rattle.publisher_hub.specs.Hub.{hub_of};
 ghost use Rattle.publisher_hub.specs.Sound.{IsSound};
 
 use crate::counting::Counting;
+pub use by_policy::Row;
 use close_count::Count;
 use feed_core::Desk;
 use flow_rules::{Collector, DropHandler, Ending, Feed, Name, NoMemory, Refusal, Text, capacity};
 use publisher_hub::{Hub, Unpublished, Work};
 use std::alloc::Global;
 use test_kit::Notes;
+pub use why::Why;
 
 /// A Hub, with the tasks that its calls start.
 #[derive(Drop)]
@@ -22,17 +27,6 @@ pub struct Trial<F: Feed> {
     /// The Hub.
     pub hub: Hub<F>,
     due: Vec<Work<F::Task>>,
-}
-
-/// Why an item is given to nobody.
-#[derive(Clone, Copy, PartialEq, Eq)]
-pub enum Why {
-    /// A buffer is full.
-    Full,
-    /// The Hub was closed in this way.
-    Closed(Ending),
-    /// It is refused with this number.
-    Number(u32),
 }
 
 /// A call of a Hub, and what it has to answer.
@@ -282,19 +276,4 @@ fn name_of(letter: u8) -> Result<Name, Refusal> {
 /// A text that takes memory of its own.
 fn text_of(alloc: Global) -> Result<Text, NoMemory> {
     Text::new(alloc, b"a text of more than thirty bytes")
-}
-
-impl From<Refusal> for Why {
-    fn from(refusal: Refusal) -> Why {
-        match refusal {
-            Refusal::Closed(ending) => Why::Closed(ending),
-            other => Why::Number(other.number()),
-        }
-    }
-}
-
-impl From<NoMemory> for Why {
-    fn from(_: NoMemory) -> Why {
-        Why::Number(5)
-    }
 }

@@ -1,6 +1,6 @@
 //! The end that subscribes: it hands over what it is told. It requests nothing by itself.
 use crate::queue::Queue;
-use flow_rules::{Answer, Fault, Item, Watch};
+use flow_rules::{Answer, Fault, How, Item, Watch};
 use std::sync::{Arc, Wait};
 
 /// What waits in an inbox.
@@ -8,12 +8,13 @@ use std::sync::{Arc, Wait};
 pub(crate) enum Arrival {
     /// An item.
     Item(Item),
-    /// The end, with what `onError` told. Nothing comes after it.
-    End(Option<Fault>),
+    /// The end, and which it is. Nothing comes after it.
+    End(How),
 }
 
-/// The subscriber of an inbox. It ends its subscription with [`NO_ROOM`](Inlet::NO_ROOM) if more items were requested than
-/// its inbox did, and with [`NO_MEMORY`](Inlet::NO_MEMORY) if it is refused memory for a text of more than 30 bytes.
+/// The subscriber of an inbox. It ends its subscription with [`NO_ROOM`](Inlet::NO_ROOM) if more items were requested
+/// than its inbox did, and with [`NO_MEMORY`](Inlet::NO_MEMORY) if it is refused memory for a text of more than 30
+/// bytes.
 #[derive(Drop)]
 pub struct Inlet<R> {
     rt: R,
@@ -46,12 +47,16 @@ impl<R: Wait + Copy> Watch for Inlet<R> {
             },
             Err(_) => Inlet::<R>::NO_MEMORY,
         };
-        self.arrivals.close(&self.rt);
+        self.arrivals
+            .close_with(&self.rt, Arrival::End(How::Failed(code)));
         Answer::Fail(code)
     }
 
     fn on_end(&mut self, fault: Option<Fault>) {
-        let _ = self.arrivals.try_push(&self.rt, Arrival::End(fault));
-        self.arrivals.close(&self.rt);
+        let how = match fault {
+            Some(fault) => How::Errored(fault),
+            None => How::Completed,
+        };
+        self.arrivals.close_with(&self.rt, Arrival::End(how));
     }
 }

@@ -1,6 +1,8 @@
-//! A queue of bounded length that some threads fill and another one empties. All of its room is made with it.
-ghost use Rattle.std.specs.Prelude.{◌≡◌, ◌≤◌, ◌∷◌, ◌++◌, [], IfErr, OnErr, OnOk};
+//! A queue of bounded length that threads fill and other threads empty. All of its room is made with it, also that for
+//! the value with which it is closed.
+ghost use Rattle.std.specs.Prelude.{◌≡◌, ◌≤◌, ◌∷◌, ◌++◌, [], true, false, None, Some, IfErr, OnErr, OnOk};
 ghost use Rattle.std.specs.VecDeque.{deque_capacity, deque_len};
+ghost use Rattle.inbox.specs.Queue.{takes};
 
 use flow_rules::NoMemory;
 use std::alloc::Global;
@@ -18,6 +20,8 @@ pub struct Queue<T: Drop> {
 struct State<T: Drop> {
     /// No more than it has room for, so that it never grows.
     waiting: VecDeque<T>,
+    /// What comes after all that waits.
+    last: Option<T>,
     is_closed: bool,
 }
 
@@ -37,6 +41,31 @@ impl<T: Drop> State<T> {
             Err(_) => unreachable!(),
         }
     }
+
+    /// Takes the first value that waits; the last one if no other does.
+    fn take(&mut self) -> Option<T>
+        ensures first { takes self.old.waiting.items self.old.last ≡
+            (result, (self.new.waiting.items, self.new.last)) }
+        ensures same { self.new.is_closed ≡ self.old.is_closed }
+    {
+        match self.waiting.pop_front() {
+            Some(first) => Some(first),
+            None => self.last.take(),
+        }
+    }
+
+    /// Closes with a last value, if it was open.
+    fn end(&mut self, last: T)
+        ensures closed { self.new.is_closed ≡ true }
+        ensures last { self.old.is_closed ≡ false → self.new.last ≡ Some last }
+        ensures same { self.old.is_closed ≡ true → self.new.last ≡ self.old.last }
+        ensures waiting { self.new.waiting ≡ self.old.waiting }
+    {
+        if !self.is_closed {
+            self.is_closed = true;
+            self.last = Some(last);
+        }
+    }
 }
 
 impl<T: Drop> Queue<T> {
@@ -45,14 +74,15 @@ impl<T: Drop> Queue<T> {
         Ok(Queue {
             state: Mutex::new(State {
                 waiting: VecDeque::with_capacity(alloc, most)?,
+                last: None,
                 is_closed: false,
             }),
             changed: Condvar::new(),
         })
     }
 
-    /// Puts a value behind all others, and waits until there is room for it. The answer is whether the queue is open: after a close the
-    /// value is dropped.
+    /// Puts a value behind all others, and waits until there is room for it. The answer is whether the queue is open:
+    /// after a close the value is dropped.
     pub fn push<R: Wait>(&self, rt: &R, value: T) -> bool {
         let mut state = self.state.lock(rt);
         let mut left = value;
@@ -90,7 +120,7 @@ impl<T: Drop> Queue<T> {
     pub fn pop<R: Wait>(&self, rt: &R) -> Option<T> {
         let mut state = self.state.lock(rt);
         for _ in rt.forever() {
-            let first = state.waiting.pop_front();
+            let first = state.take();
             if first.is_some() || state.is_closed {
                 drop(state);
                 self.changed.notify_all();
@@ -99,6 +129,22 @@ impl<T: Drop> Queue<T> {
             state = self.changed.wait(rt, state);
         }
         unreachable!()
+    }
+
+    /// Takes the first value if there is one now. `None` doesn't tell whether one will come.
+    pub fn try_pop<R: Wait>(&self, rt: &R) -> Option<T> {
+        let first = self.state.lock(rt).take();
+        if first.is_some() {
+            self.changed.notify_all();
+        }
+        first
+    }
+
+    /// Closes the queue with a last value, for which there is always room. What waits in it still comes out before.
+    /// After a close the value is dropped.
+    pub fn close_with<R: Wait>(&self, rt: &R, last: T) {
+        self.state.lock(rt).end(last);
+        self.changed.notify_all();
     }
 
     /// Closes the queue. What waits in it still comes out.
@@ -112,6 +158,7 @@ impl<T: Drop> Queue<T> {
         let mut state = self.state.lock(rt);
         state.is_closed = true;
         state.waiting.clear();
+        state.last = None;
         drop(state);
         self.changed.notify_all();
     }

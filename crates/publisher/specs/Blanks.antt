@@ -1,8 +1,14 @@
 -- What a publisher's ledgers are opened with.
 use Rattle.std.specs.Prelude.{◌≡◌, ℕ}
 use Rattle.std.specs.declared.sync.ledger.Blank.{Blank}
+use Rattle.publisher.specs.declared.ledgers.BlankPair.{BlankPair}
 use Rattle.publisher.specs.declared.state.TheConstants.{PARTS}
 
--- the blank of a ledger with this name and this number of parts, which is that of a publisher's
-abbrev pub IsBlankOf : Blank → ℕ → ℕ → Type 0
-IsBlankOf blank name parts = (blank.name ≡ name) × ((blank.parts ≡ parts) × (parts ≡ PARTS))
+-- the blank of a ledger with this name, with as many parts as a publisher's ledger has
+abbrev pub IsBlankOf : Blank → ℕ → Type 0
+IsBlankOf blank name = (blank.name ≡ name) × (blank.parts ≡ PARTS)
+
+-- the blanks of a publisher's two ledgers, which have these names
+abbrev pub AreBlanksOf : BlankPair → ℕ → ℕ → Type 0
+AreBlanksOf pair publications drops =
+    IsBlankOf pair.publications publications × IsBlankOf pair.drops drops

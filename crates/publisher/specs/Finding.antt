@@ -48,6 +48,7 @@ is_reclaimed _ = false
 pub record IsTakenOf {B : Type 0} (counted : Option ℕ) (number : ℕ) (entry : EntryState)
     (taken : Taken B) : Type 0 where
   pub name : taken.name ≡ entry.name
+  pub on_full : taken.on_full ≡ entry.on_full
   pub since : taken.since ≡ entry.since
   pub dropped : taken.dropped ≡ entry.dropped
   pub late : (taken.late ≡ true → IsLate counted number)

@@ -18,6 +18,7 @@ module _ {B : Type 0} (told : B → List Signal) (replied : B → List Reply) wh
   pub record IsLaneOfTaken (number : ℕ) (taken : Taken B) (left : NamedLane B) : Type 0 where
     pub number_is : left.entry ≡ number
     pub name : left.name ≡ taken.name
+    pub on_full : left.on_full ≡ taken.on_full
     pub since : left.since ≡ taken.since
     pub dropped : left.dropped ≡ taken.dropped
     pub late : left.late ≡ taken.late

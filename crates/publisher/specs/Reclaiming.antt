@@ -52,6 +52,7 @@ pub record Knows (state : PublisherState) (number : ℕ) (known : Known) : Type 
   pub entry : Entry ProducerState
   pub stands : slice_get state.hub.entries.items number ≡ Some entry
   pub name : known.name ≡ entry.name
+  pub on_full : known.on_full ≡ entry.on_full
   pub since : known.since ≡ entry.since
   pub dropped : known.dropped ≡ entry.dropped
   pub late : (known.late ≡ true → IsLate state.counted number)
@@ -59,8 +60,9 @@ pub record Knows (state : PublisherState) (number : ℕ) (known : Known) : Type 
 
 -- with both ends of a subscription stands what is known of it
 abbrev pub IsKnown : {B : Type 0} → Known → Taken B → Type 0
-IsKnown known taken = (taken.name ≡ known.name) × ((taken.since ≡ known.since)
-    × ((taken.dropped ≡ known.dropped) × (taken.late ≡ known.late)))
+IsKnown known taken = (taken.name ≡ known.name) × ((taken.on_full ≡ known.on_full)
+    × ((taken.since ≡ known.since)
+    × ((taken.dropped ≡ known.dropped) × (taken.late ≡ known.late))))
 
 -- both ends of the subscription of this number, which has ended, were taken out, with what is known of it
 pub record Reclaims {B : Type 0} (number : ℕ) (handle : HandleState) (taken : Taken B)

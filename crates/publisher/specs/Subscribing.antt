@@ -8,21 +8,23 @@ use Rattle.publisher_hub.specs.Entry.{EntryState}
 use Rattle.flow_rules.specs.declared.refusal.Refusal.{Refusal}
 use Rattle.publisher_hub.specs.Hub.{HubState, hub_of}
 use Rattle.publisher_hub.specs.Names.{IsSubscribed}
-use Rattle.publisher_hub.specs.Subscribing.{Admits, Refuses}
+use Rattle.publisher_hub.specs.Subscribing.{AdmitsWith, Refuses}
 use Rattle.publisher_hub.specs.declared.entry.Entry.{Entry}
 use Rattle.publisher_hub.specs.declared.hub.Hub.{Hub}
+use Rattle.publisher_hub.specs.declared.policy.OnFull.{OnFull}
 use Rattle.publisher_hub.specs.declared.work.Work.{Work}
 use Rattle.publisher.specs.State.{PublisherState, producer_end}
 use Rattle.publisher.specs.declared.state.subscribe.Subscribed.{Subscribed}
 
--- a new subscription: it stands in the Hub, under its name; its handle did nothing yet, and its task was never run,
--- both with this order of errors; and all three are of one subscription
-pub record IsSubscription {B : Type 0} (name : List ℕ) (order : ErrorOrder) (subscribed : Subscribed B)
-    (new : PublisherState) : Type 0 where
+-- a new subscription: it stands in the Hub, under its name, and says this of its full buffer; its handle did nothing
+-- yet, and its task was never run, both with this order of errors; and all three are of one subscription
+pub record IsSubscription {B : Type 0} (name : List ℕ) (on_full : OnFull) (order : ErrorOrder)
+    (subscribed : Subscribed B) (new : PublisherState) : Type 0 where
   pub entry : Entry ProducerState
   pub producer : ProducerState
   pub stands : slice_get new.hub.entries.items subscribed.entry ≡ Some entry
   pub named : entry.name ≡ name
+  pub says : entry.on_full ≡ on_full
   pub there : entry.feed ≡ Some producer
   pub handle_is : subscribed.handle ≡ new_handle_in order new.hub.capacity producer.table
   pub task_is : IsNewTaskIn order producer.table new.hub.capacity subscribed.task
@@ -49,9 +51,9 @@ IsDueAfter name _ before after old new = after ≡ before
 
 -- a subscription was added to a Hub in which its name was free, under this number; if the publisher is closed, the
 -- task that tells it so is due
-abbrev pub AdmitsNew : List ℕ → ℕ → List (Work TaskState) → List (Work TaskState)
+abbrev pub AdmitsNew : List ℕ → OnFull → ℕ → List (Work TaskState) → List (Work TaskState)
     → Hub ProducerState → Hub ProducerState → Type 0
-AdmitsNew name number before after old new =
+AdmitsNew name on_full number before after old new =
     (middle : Hub ProducerState) × (AddsNone (hub_of producer_end old) (hub_of producer_end middle)
     × ((feed : ProducerState) × ((ticket : Option Ticket)
-    × Admits producer_end DoesCall name feed ticket number before after middle new)))
+    × AdmitsWith producer_end DoesCall name on_full feed ticket number before after middle new)))

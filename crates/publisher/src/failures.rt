@@ -3,12 +3,12 @@
 //! It stands behind a lock of its own. Which end of a turn is a failure that it hears of is found in `job`.
 ghost use Rattle.std.specs.Prelude.{◌≡◌, IfSome, Some};
 
+use crate::ledgers::Ledgers;
 use crate::shared::Shared;
 use flow_rules::{FailHandler, Listener, Name};
 use std::sync::Wait;
-use std::sync::ledger::Ledger;
 
-impl<L: Ledger, D: Ledger, B: Listener, F: FailHandler> Shared<L, D, B, F> {
+impl<L: Ledgers, B: Listener, F: FailHandler> Shared<L, B, F> {
     /// Lets this handler hear of failures from now on.
     pub fn set_handler<R: Wait>(&self, rt: &R, handler: F) {
         *self.handler.lock(rt) = Some(handler);

@@ -14,41 +14,31 @@ pub(crate) mod room;
 
 ghost use Rattle.std.specs.Prelude.{◌≡◌, [], IfErr, IfOk};
 ghost use Rattle.flow_rules.specs.declared.refusal.Refusal.TheVariants as Refusal;
-ghost use Rattle.publisher.specs.declared.state.TheConstants.{PARTS};
 ghost use Rattle.publisher.specs.Outcome.{AreHandedIn, AreReclaimed, HasNoLane, IfRefused, IsOutcome, IsRefusalOfFinish, LacksOne, LeavesAllDone, LeavesUndone, outcome_of};
 
+use crate::ledgers::Ledgers;
 use crate::outcome::Outcome;
 use crate::publisher::Publisher;
+use crate::refused::Refused;
 use crate::submitter::Submitter;
 use crate::subscription::Subscription;
 use flow_rules::{FailHandler, LastFailure, Listener, Refusal};
 use std::alloc::Global;
 use std::sync::Wait;
-use std::sync::ledger::Ledger;
 
 /// What belongs to a publisher and goes back to it at its end. A function that subscribes and publishes fills it, also
 /// if it returns early, and [`finish`](crate::finish) takes what is in it.
 #[derive(Debug, Drop)]
-pub struct HandedIn<
-    L: Ledger + Send,
-    D: Ledger + Send,
-    B: Listener + Send,
-    F: FailHandler + Send = LastFailure,
-> {
+pub struct HandedIn<L: Ledgers + Send, B: Listener + Send, F: FailHandler + Send = LastFailure> {
     /// Submitters, in any order.
-    pub submitters: Vec<Submitter<L, D, B, F>>,
+    pub submitters: Vec<Submitter<L, B, F>>,
     /// Subscriptions, in any order.
-    pub subscriptions: Vec<Subscription<L, D, B, F>>,
+    pub subscriptions: Vec<Subscription<L, B, F>>,
 }
 
-impl<L: Ledger + Send, D: Ledger + Send, B: Listener + Send, F: FailHandler + Send> HandedIn<
-    L,
-    D,
-    B,
-    F,
-> {
+impl<L: Ledgers + Send, B: Listener + Send, F: FailHandler + Send> HandedIn<L, B, F> {
     /// Makes one with nothing in it. It takes no memory.
-    pub fn none(alloc: Global) -> HandedIn<L, D, B, F>
+    pub fn none(alloc: Global) -> HandedIn<L, B, F>
         ensures submitters { result.submitters.items ≡ [] }
         ensures subscriptions { result.subscriptions.items ≡ [] }
     {
@@ -56,6 +46,31 @@ impl<L: Ledger + Send, D: Ledger + Send, B: Listener + Send, F: FailHandler + Se
             submitters: Vec::new(alloc),
             subscriptions: Vec::new(alloc),
         }
+    }
+
+    /// Ends the publisher to which all this belongs, as [`finish`](crate::finish) does.
+    pub fn finish<R: Wait>(
+        self,
+        rt: &R,
+        alloc: Global,
+        publisher: Publisher<L, B, F>,
+    ) -> Result<Outcome<B, F>, Refused<Outcome<B, F>>>
+        ensures outcome { IsOutcome B.told B.replied (outcome_of result) }
+        ensures handed { AreHandedIn self.subscriptions.items (outcome_of result).lanes.items }
+        ensures reclaimed { AreReclaimed self.subscriptions.items (outcome_of result) }
+        ensures ok { IfOk result (LeavesAllDone self.submitters.items self.subscriptions.items) }
+        ensures no_memory { IfRefused Refusal.NoMemory result HasNoLane }
+        ensures held { (name : _) → IfRefused (Refusal.StillHeld name) result
+            (LacksOne self.submitters.items self.subscriptions.items name) }
+        ensures unsettled { (names : _) → IfRefused (Refusal.Unsettled names) result
+            (LeavesUndone self.submitters.items self.subscriptions.items names.items) }
+        ensures refusals { IfErr result (λ refused. IsRefusalOfFinish refused.0) }
+    {
+        let HandedIn {
+            submitters,
+            subscriptions,
+        } = self;
+        finish(rt, alloc, publisher, submitters, subscriptions)
     }
 }
 
@@ -70,20 +85,13 @@ impl<L: Ledger + Send, D: Ledger + Send, B: Listener + Send, F: FailHandler + Se
 /// Refused 5 if a growth is refused, and no lane is left then; 8 if a subscription or a submitter is missing, by the
 /// name of the first, or if a thread is still in the middle of a turn of a subscription, which is `held` then; and 9
 /// if a subscription runs, or is closed and has not ended, by the names of these. The rest is given nevertheless.
-pub fn finish<
-    L: Ledger + Send,
-    D: Ledger + Send,
-    B: Listener + Send,
-    F: FailHandler + Send,
-    R: Wait,
->(
+pub fn finish<L: Ledgers + Send, B: Listener + Send, F: FailHandler + Send, R: Wait>(
     rt: &R,
     alloc: Global,
-    publisher: Publisher<L, D, B, F>,
-    submitters: Vec<Submitter<L, D, B, F>>,
-    subscriptions: Vec<Subscription<L, D, B, F>>,
-) -> Result<Outcome<B, F>, (Refusal, Outcome<B, F>)>
-    requires { (L.parts ≡ PARTS) × (D.parts ≡ PARTS) }
+    publisher: Publisher<L, B, F>,
+    submitters: Vec<Submitter<L, B, F>>,
+    subscriptions: Vec<Subscription<L, B, F>>,
+) -> Result<Outcome<B, F>, Refused<Outcome<B, F>>>
 
     // What each subscriber was told, whatever the threads did and whatever the answer.
     ensures outcome { IsOutcome B.told B.replied (outcome_of result) }
@@ -109,6 +117,9 @@ pub fn finish<
         .take_out(alloc, submitters, subscriptions);
     match books {
         Ok(books) => books.conclude(handler),
-        Err(outcome) => Err((Refusal::NoMemory, Outcome { handler, ..outcome })),
+        Err(outcome) => Err(Refused {
+            refusal: Refusal::NoMemory,
+            back: Outcome { handler, ..outcome },
+        }),
     }
 }

@@ -3,6 +3,7 @@
 //! A turn is run outside every lock. How a task comes to the pool stands in `dispatcher`, and what the threads share
 //! in `shared`.
 use crate::awaiting::Done;
+use crate::ledgers::Ledgers;
 use crate::shared::Shared;
 use async_pool::Job;
 use feed_cell::Task;
@@ -10,24 +11,20 @@ use feed_core::{Seen, failed_item};
 use flow_rules::{FailHandler, Listener, NoMemory};
 use std::alloc::Global;
 use std::marker::PhantomData;
-use std::sync::ledger::Ledger;
 use std::sync::{Arc, Wait};
 
 /// What the thread of one worker runs turns with.
 #[derive(Drop)]
-pub struct Worker<L: Ledger, D: Ledger, B: Listener, F: FailHandler> {
+pub struct Worker<L: Ledgers, B: Listener, F: FailHandler> {
     /// What it shares with the other threads.
-    pub shared: Arc<Shared<L, D, B, F>>,
+    pub shared: Arc<Shared<L, B, F>>,
     /// What its last turn saw.
     seen: Seen,
 }
 
-impl<L: Ledger, D: Ledger, B: Listener, F: FailHandler> Worker<L, D, B, F> {
+impl<L: Ledgers, B: Listener, F: FailHandler> Worker<L, B, F> {
     /// Makes one for one more thread.
-    pub fn new(
-        alloc: Global,
-        shared: &Arc<Shared<L, D, B, F>>,
-    ) -> Result<Worker<L, D, B, F>, NoMemory> {
+    pub fn new(alloc: Global, shared: &Arc<Shared<L, B, F>>) -> Result<Worker<L, B, F>, NoMemory> {
         Ok(Worker {
             shared: Arc::try_clone(shared)?,
             seen: Seen::new(alloc)?,
@@ -37,15 +34,15 @@ impl<L: Ledger, D: Ledger, B: Listener, F: FailHandler> Worker<L, D, B, F> {
 
 /// The task of the subscription of this number, as the pool runs it.
 #[must_use]
-pub struct ConsumerTask<L: Ledger, D: Ledger, B: Listener, F: FailHandler> {
+pub struct ConsumerTask<L: Ledgers, B: Listener, F: FailHandler> {
     entry: u32,
     task: Task<B>,
-    of: PhantomData<(L, D, F)>,
+    of: PhantomData<(L, F)>,
 }
 
-impl<L: Ledger, D: Ledger, B: Listener, F: FailHandler> ConsumerTask<L, D, B, F> {
+impl<L: Ledgers, B: Listener, F: FailHandler> ConsumerTask<L, B, F> {
     /// Makes that of this subscription.
-    pub fn new(entry: u32, task: Task<B>) -> ConsumerTask<L, D, B, F> {
+    pub fn new(entry: u32, task: Task<B>) -> ConsumerTask<L, B, F> {
         ConsumerTask {
             entry,
             task,
@@ -58,9 +55,9 @@ impl<L: Ledger, D: Ledger, B: Listener, F: FailHandler> ConsumerTask<L, D, B, F>
     pub fn turn<R: Wait>(
         self,
         rt: &R,
-        shared: &Shared<L, D, B, F>,
+        shared: &Shared<L, B, F>,
         seen: &mut Seen,
-    ) -> Option<ConsumerTask<L, D, B, F>> {
+    ) -> Option<ConsumerTask<L, B, F>> {
         let ConsumerTask { entry, task, of: _ } = self;
         let (done, task, how) = Done::of(task.turn(seen));
         if let Some(how) = how {
@@ -76,7 +73,7 @@ impl<L: Ledger, D: Ledger, B: Listener, F: FailHandler> ConsumerTask<L, D, B, F>
     }
 }
 
-impl<L: Ledger, D: Ledger, B: Listener, F: FailHandler> Drop for ConsumerTask<L, D, B, F> {
+impl<L: Ledgers, B: Listener, F: FailHandler> Drop for ConsumerTask<L, B, F> {
     fn drop(self) {
         let ConsumerTask {
             entry: _,
@@ -86,22 +83,17 @@ impl<L: Ledger, D: Ledger, B: Listener, F: FailHandler> Drop for ConsumerTask<L,
     }
 }
 
-impl<L: Ledger + Send, D: Ledger + Send, B: Listener + Send, F: FailHandler + Send> Job
-    for ConsumerTask<L, D, B, F> {
-    type Context = Worker<L, D, B, F>;
+impl<L: Ledgers + Send, B: Listener + Send, F: FailHandler + Send> Job for ConsumerTask<L, B, F> {
+    type Context = Worker<L, B, F>;
 
     /// Runs one turn. It is run again if another one is owed.
-    fn run<R: Wait>(
-        self,
-        rt: &R,
-        worker: &mut Worker<L, D, B, F>,
-    ) -> Option<ConsumerTask<L, D, B, F>> {
+    fn run<R: Wait>(self, rt: &R, worker: &mut Worker<L, B, F>) -> Option<ConsumerTask<L, B, F>> {
         let Worker { shared, seen } = worker;
         self.turn(rt, &**shared, seen)
     }
 }
 
-impl<L: Ledger, D: Ledger, B: Listener, F: FailHandler> Shared<L, D, B, F> {
+impl<L: Ledgers, B: Listener, F: FailHandler> Shared<L, B, F> {
     /// Spends the ticket of the subscription of this number if that has ended in the turn, and wakes those who wait
     /// for room, since the turn may have made some. If neither is to be done the lock is left alone.
     fn after_turn<R: Wait>(&self, rt: &R, entry: u32, done: Done) {

@@ -10,7 +10,7 @@
 //!
 //! | What | Who | Waits |
 //! |---|---|---|
-//! | a publication, a subscribing, a close | whoever calls it | for the publisher's lock, behind which stand the list of subscriptions and the numbers of the publications; and `submit` and `submit_all`, as long as a buffer is full |
+//! | a publication, a subscribing, a close | whoever calls it | for the publisher's lock, behind which stand the list of subscriptions and the numbers of the publications; `submit` and `submit_all`, as long as a buffer is full; and `publish` and `publish_all`, as long as one is full whose subscription says [`OnFull::Wait`] |
 //! | a request, a cancel | whoever has the subscription | only if that starts a task, which is handed to the pool |
 //! | a look: [`is_closed`](Publisher::is_closed), [`closed_with`](Publisher::closed_with), [`requested`](Subscription::requested) | whoever has it | never |
 //! | a look: [`lag`](Subscription::lag), [`has_ended`](Subscription::has_ended), the numbers of subscribers | whoever has it | for the publisher's lock |
@@ -25,7 +25,7 @@
 //! publisher unless others make room; and a drop handler runs while the lock is held, so it may not call its
 //! publisher.
 //!
-//! A caller works in a function over two ledgers, which name the publisher: a submitter or a subscription of another
+//! A caller works in a function over any [`Ledgers`], which name the publisher: a submitter or a subscription of another
 //! one does not fit.
 //!
 //! ```
@@ -44,13 +44,16 @@ mod dispatcher;
 mod failures;
 mod finishing;
 mod job;
+mod ledgers;
 mod note;
 mod outcome;
 mod publisher;
+mod refused;
 mod shared;
 mod state;
 mod submitter;
 mod subscription;
+mod watch_each;
 
 pub use async_pool::MOST_WORKERS;
 pub use feed_core::Lane;
@@ -59,10 +62,13 @@ pub use flow_rules::{
     DropHandler, Ending, ErrorOrder, FailHandler, Fault, How, LARGEST_CAPACITY, LastFailure,
     Listener, MOST_PUBLICATIONS, Name, NoMemory, Refusal, Text,
 };
+pub use ledgers::{BlankPair, Ledgers, SharedLedgers};
 pub use note::Note;
 pub use outcome::{NamedLane, Outcome};
 pub use publisher::{Publisher, PublisherOptions};
-pub use publisher_hub::{MOST_ENTRIES, MOST_LIVE, MOST_SOURCES};
-pub use state::PARTS;
-pub use submitter::{Submitter, Unsent};
+pub use publisher_hub::{MOST_ENTRIES, MOST_LIVE, MOST_SOURCES, OnFull, Published};
+pub use refused::Refused;
+pub use state::PublishedAll;
+pub use submitter::{PublishedPart, Submitter, Unsent};
 pub use subscription::Subscription;
+pub use watch_each::{Look, WatchEach};

@@ -6,6 +6,7 @@ ghost use Rattle.publisher.specs.Failing.{IsFirstFailure, NoneFails, failure_of}
 
 use feed_core::Lane;
 use flow_rules::{FailHandler, How, LastFailure, Name};
+use publisher_hub::OnFull;
 
 /// What is left of a publisher that was finished.
 #[derive(Drop)]
@@ -39,6 +40,8 @@ pub struct NamedLane<B> {
     pub name: Name,
     /// Its number, from 0 in order of subscription.
     pub entry: u32,
+    /// What becomes of a text that [`publish`](crate::Submitter::publish) publishes, and that finds its buffer full.
+    pub on_full: OnFull,
     /// The serial number of the next publication when it was subscribed.
     pub since: u64,
     /// How many items it was not given, since its buffer was full, also at a second try if there was one.
@@ -69,6 +72,16 @@ impl<B, F: FailHandler> Outcome<B, F> {
 }
 
 impl<B> NamedLane<B> {
+    /// Gives its subscriber, with what that was told; `None` only if a turn is running. The numbers beside it are read
+    /// before.
+    pub fn into_subscriber(self) -> Option<B>
+        ensures { result ≡ self.lane.subscriber }
+    {
+        let NamedLane { lane, .. } = self;
+        let Lane { subscriber, .. } = lane;
+        subscriber
+    }
+
     /// Tells how it ended, if it neither completed nor was cancelled.
     fn failure(&self) -> Option<How>
         ensures { result ≡ failure_of self.now.lane.ending }

@@ -12,7 +12,9 @@ ghost use Rattle.publisher.specs.Handles.{IsUnused, RefusesSubscribing};
 
 use crate::dispatcher::Dispatcher;
 use crate::job::ConsumerTask;
+use crate::ledgers::Ledgers;
 use crate::note::Note;
+use crate::refused::Refused;
 use crate::shared::Shared;
 use crate::state::Subscribed;
 use crate::submitter::Submitter;
@@ -20,33 +22,27 @@ use crate::subscription::Subscription;
 use async_pool::Pool;
 use flow_rules::{Ending, FailHandler, LastFailure, Listener, Name, Refusal};
 pub use making::PublisherOptions;
+use publisher_hub::OnFull;
 use std::alloc::Global;
 use std::fmt;
 use std::marker::Model;
-use std::sync::ledger::Ledger;
 use std::sync::{Arc, Wait};
 
 /// A publisher that threads share (`java.util.concurrent.SubmissionPublisher`).
 #[derive(Drop)]
-pub struct Publisher<
-    L: Ledger + Send,
-    D: Ledger + Send,
-    B: Listener + Send,
-    F: FailHandler + Send = LastFailure,
-> {
-    pub(crate) shared: Arc<Shared<L, D, B, F>>,
-    pool: Arc<Pool<ConsumerTask<L, D, B, F>>>,
+pub struct Publisher<L: Ledgers + Send, B: Listener + Send, F: FailHandler + Send = LastFailure> {
+    pub(crate) shared: Arc<Shared<L, B, F>>,
+    pool: Arc<Pool<ConsumerTask<L, B, F>>>,
 }
 
-impl<L: Ledger + Send, D: Ledger + Send, B: Listener + Send, F: FailHandler + Send> fmt::Debug
-    for Publisher<L, D, B, F> {
+impl<L: Ledgers + Send, B: Listener + Send, F: FailHandler + Send> fmt::Debug
+    for Publisher<L, B, F> {
     fn fmt<W: fmt::Write>(&self, f: &mut fmt::Formatter<W>) -> fmt::Result {
         write!(f, "Publisher {{ capacity: {} }}", self.shared.capacity)
     }
 }
 
-impl<L: Ledger + Send, D: Ledger + Send, B: Listener + Send, F: FailHandler + Send> Model
-    for Publisher<L, D, B, F> {
+impl<L: Ledgers + Send, B: Listener + Send, F: FailHandler + Send> Model for Publisher<L, B, F> {
     ghost use Rattle.std.specs.Arc.{arc_value};
     ghost use Rattle.async_pool.specs.Pool.{pool_workers};
     ghost use Rattle.once_cell.specs.Once.{cell_name};
@@ -62,12 +58,7 @@ impl<L: Ledger + Send, D: Ledger + Send, B: Listener + Send, F: FailHandler + Se
     } };
 }
 
-impl<L: Ledger + Send, D: Ledger + Send, B: Listener + Send, F: FailHandler + Send> Publisher<
-    L,
-    D,
-    B,
-    F,
-> {
+impl<L: Ledgers + Send, B: Listener + Send, F: FailHandler + Send> Publisher<L, B, F> {
     /// Gives a note of this publisher that knows nothing of its close.
     pub fn note(&self) -> Note
         ensures { result ≡ record { cell = self.now.closing; known = None } }
@@ -131,7 +122,31 @@ impl<L: Ledger + Send, D: Ledger + Send, B: Listener + Send, F: FailHandler + Se
         alloc: Global,
         name: Name,
         subscriber: B,
-    ) -> Result<Subscription<L, D, B, F>, (Refusal, B)>
+    ) -> Result<Subscription<L, B, F>, Refused<B>>
+        requires untold { B.told subscriber ≡ [] }
+        requires unheard { B.replied subscriber ≡ [] }
+        ensures order { IfOk result
+            (λ subscription. subscription.handle.order ≡ self.now.order) }
+        ensures unused { IfOk result (λ subscription. IsUnused subscription.handle) }
+        ensures refusals { IfErr result (λ refused. RefusesSubscribing refused.0) }
+        ensures back { IfErr result (λ refused. refused.1 ≡ subscriber) }
+    {
+        self.subscribe_with(rt, alloc, name, subscriber, OnFull::Wait)
+    }
+
+    /// Subscribes a subscriber, as [`subscribe`](Publisher::subscribe) does, and says what becomes of a text that finds
+    /// its buffer full, if [`Submitter::publish`] publishes it: that waits for room, or the subscriber loses the text.
+    /// The other calls that publish treat all subscriptions alike. (Java's class has no such method.)
+    ///
+    /// It is refused as `subscribe` is.
+    pub fn subscribe_with<R: Wait>(
+        &self,
+        rt: &R,
+        alloc: Global,
+        name: Name,
+        subscriber: B,
+        on_full: OnFull,
+    ) -> Result<Subscription<L, B, F>, Refused<B>>
         requires untold { B.told subscriber ≡ [] }
         requires unheard { B.replied subscriber ≡ [] }
         ensures order { IfOk result
@@ -141,13 +156,20 @@ impl<L: Ledger + Send, D: Ledger + Send, B: Listener + Send, F: FailHandler + Se
         ensures back { IfErr result (λ refused. refused.1 ≡ subscriber) }
     {
         let Ok(mut dispatcher) = Dispatcher::new(alloc, &self.shared, &self.pool) else {
-            return Err((Refusal::NoMemory, subscriber));
+            return Err(Refused {
+                refusal: Refusal::NoMemory,
+                back: subscriber,
+            });
         };
         let mut due = Vec::new(alloc);
-        let subscribed = self
-            .shared
-            .lock(rt)
-            .subscribe(alloc, name, self.shared.order, subscriber, &mut due);
+        let subscribed = self.shared.lock(rt).subscribe(
+            alloc,
+            name,
+            on_full,
+            self.shared.order,
+            subscriber,
+            &mut due,
+        );
         dispatcher.start_all(rt, &mut due);
         let Subscribed {
             entry,
@@ -166,7 +188,7 @@ impl<L: Ledger + Send, D: Ledger + Send, B: Listener + Send, F: FailHandler + Se
         rt: &R,
         alloc: Global,
         note: &mut Note,
-    ) -> Result<Submitter<L, D, B, F>, Refusal>
+    ) -> Result<Submitter<L, B, F>, Refusal>
         requires { note.old.cell ≡ self.now.closing }
         ensures closing { IfOk result (λ submitter. submitter.closing ≡ self.now.closing) }
         ensures known { IfOk result (λ submitter. submitter.known ≡ note.old.known) }

@@ -3,21 +3,25 @@
 //! Whatever may be read without the lock stands beside it. How a thread sleeps in the hold of the lock in which it
 //! looked stands in `state`.
 use crate::awaiting::Awaiting;
-use crate::state::{Drained, Ended, LoopsEnded, State, StateLock};
+use crate::ledgers::Ledgers;
+use crate::state::{Drained, Ended, LoopsEnded, Need, State, StateLock};
 use flow_rules::{Ending, ErrorOrder, FailHandler, Listener};
 use once_cell::race::OnceBox;
-use std::sync::ledger::Ledger;
 use std::sync::{Arc, Mutex, MutexGuard, Wait};
+
+/// From this capacity on a submitter waits for the lock as for the publications of others. Small buffers are full most
+/// of the time: then it is a turn that submitters wait for, and they should look for its room often.
+const WAITS_LONG_FROM: usize = 8;
 
 /// What a publisher's threads share.
 #[derive(Drop)]
-pub struct Shared<L: Ledger, D: Ledger, B: Listener, F: FailHandler> {
+pub struct Shared<L: Ledgers, B: Listener, F: FailHandler> {
     /// The capacity of each buffer.
     pub capacity: usize,
     /// In which order a closing error and the items are told.
     pub order: ErrorOrder,
     /// What stands behind the lock.
-    pub state: StateLock<L, D, B>,
+    pub state: StateLock<L, B>,
     /// Who looks for room before they sleep.
     pub awaiting: Awaiting,
     /// How the publisher is closed, once it is. It is set while the lock is held, and read without it.
@@ -26,16 +30,25 @@ pub struct Shared<L: Ledger, D: Ledger, B: Listener, F: FailHandler> {
     pub handler: Mutex<Option<F>>,
 }
 
-impl<L: Ledger, D: Ledger, B: Listener, F: FailHandler> Shared<L, D, B, F> {
+impl<L: Ledgers, B: Listener, F: FailHandler> Shared<L, B, F> {
     /// Takes the lock.
-    pub fn lock<R: Wait>(&self, rt: &R) -> MutexGuard<'_, State<L, D, B>> {
+    pub fn lock<R: Wait>(&self, rt: &R) -> MutexGuard<'_, State<L, B>> {
         self.state.lock(rt)
     }
 
+    /// Takes the lock, to publish.
+    pub fn lock_to_publish<R: Wait>(&self, rt: &R) -> MutexGuard<'_, State<L, B>> {
+        if self.capacity < WAITS_LONG_FROM {
+            self.state.lock(rt)
+        } else {
+            self.state.lock_patiently(rt)
+        }
+    }
+
     /// Sleeps until another thread tells, if a publication would still have to wait.
-    pub fn wait_for_room<R: Wait>(&self, rt: &R) {
+    pub fn wait_for_room<R: Wait>(&self, rt: &R, need: Need) {
         let counted = self.awaiting.count();
-        let held = match self.state.hold(rt).look_for_room(&counted) {
+        let held = match self.state.hold(rt).look_for_room(&counted, need) {
             Ok(held) => held,
             Err(blocked) => blocked.sleep(rt),
         };

@@ -14,19 +14,21 @@ mod waiters;
 ghost use Rattle.std.specs.Prelude.{◌≡◌, ◌⊎◌, ◌<◌, ◌↔◌, zero, Err, IfErr, IfOk};
 ghost use Rattle.flow_rules.specs.declared.refusal.Refusal.TheVariants as Refusal;
 ghost use Rattle.flow_rules.specs.Capacity.{capacity_of};
-ghost use Rattle.publisher.specs.Blanks.{IsBlankOf};
+ghost use Rattle.publisher.specs.Blanks.{AreBlanksOf};
 
+use crate::ledgers::{BlankPair, Drops, Ledgers, Publications};
 use close_count::{Count, Spent};
 use feed_cell::Producer;
 use flow_rules::{Listener, Refusal, capacity};
 pub(crate) use lock::StateLock;
-pub(crate) use look::{Drained, Ended};
+pub(crate) use look::{Drained, Ended, Need};
+pub use publish::PublishedAll;
 pub(crate) use publish::{Refused, Stopped};
 use publisher_hub::Hub;
 pub use sources::Own;
 use std::alloc::Global;
 use std::marker::Model;
-use std::sync::ledger::{Blank, Book, Ledger, Share};
+use std::sync::ledger::{Book, Share};
 pub(crate) use subscribe::Subscribed;
 pub(crate) use waiters::{LoopsEnded, Reason, Waiters};
 
@@ -35,14 +37,14 @@ pub const PARTS: u64 = 257;
 
 /// What stands behind a publisher's lock.
 #[derive(Drop)]
-pub struct State<L: Ledger, D: Ledger, B: Listener> {
+pub struct State<L: Ledgers, B: Listener> {
     hub: Hub<Producer<B>>,
     /// How many items were published, and how many offers found a buffer full: the sums of all shares.
-    published: Book<L>,
-    dropping: Book<D>,
+    published: Book<Publications<L>>,
+    dropping: Book<Drops<L>>,
     /// The shares that no submitter has.
-    rest: Share<L>,
-    rest_of_drops: Share<D>,
+    rest: Share<Publications<L>>,
+    rest_of_drops: Share<Drops<L>>,
     /// How many submitters and subscriptions were made.
     sources: u32,
     entries: u32,
@@ -56,7 +58,7 @@ pub struct State<L: Ledger, D: Ledger, B: Listener> {
     waiters: Waiters,
 }
 
-impl<L: Ledger, D: Ledger, B: Listener> Model for State<L, D, B> {
+impl<L: Ledgers, B: Listener> Model for State<L, B> {
     ghost use Rattle.publisher_hub.specs.Hub.{hub_of};
     ghost use Rattle.publisher.specs.State.{PublisherState, IsState, producer_end};
 
@@ -83,19 +85,13 @@ impl<L: Ledger, D: Ledger, B: Listener> Model for State<L, D, B> {
     }) };
 }
 
-impl<L: Ledger, D: Ledger, B: Listener> State<L, D, B> {
+impl<L: Ledgers, B: Listener> State<L, B> {
     /// Makes what stands behind the lock of a new publisher, whose buffers have the capacity that is enforced if this
     /// one is asked for.
     ///
     /// Refused 1 if that is 0, and 5 if a growth is refused.
-    pub fn new(
-        alloc: Global,
-        asked: usize,
-        publications: Blank,
-        drops: Blank,
-    ) -> Result<State<L, D, B>, Refusal>
-        requires publications { IsBlankOf publications L.name L.parts }
-        requires drops { IsBlankOf drops D.name D.parts }
+    pub fn new(alloc: Global, asked: usize, blanks: BlankPair) -> Result<State<L, B>, Refusal>
+        requires blanks { AreBlanksOf blanks L.publications L.drops }
         ensures bad_capacity { (result ≡ Err Refusal.BadCapacity) ↔ (asked ≡ 0) }
         ensures capacity { IfOk result (λ state. state.hub.capacity ≡ capacity_of asked) }
         ensures refusals { IfErr result
@@ -104,8 +100,12 @@ impl<L: Ledger, D: Ledger, B: Listener> State<L, D, B> {
         let _ = capacity(asked)?;
         let mut hub = Hub::new(alloc, asked)?;
         hub.set_opening(Count::new(alloc)?);
-        let (published, rest) = publications.open::<L>();
-        let (dropping, rest_of_drops) = drops.open::<D>();
+        let BlankPair {
+            publications,
+            drops,
+        } = blanks;
+        let (published, rest) = publications.open::<Publications<L>>();
+        let (dropping, rest_of_drops) = drops.open::<Drops<L>>();
         Ok(State {
             hub,
             published,

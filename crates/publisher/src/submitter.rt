@@ -1,6 +1,7 @@
 //! A submitter: a source of publications, and what it learns of the close.
 //!
 //! It waits here, outside the lock, as long as there is no room. What is published behind the lock stands in `state`.
+mod by_policy;
 mod several;
 
 ghost use Rattle.std.specs.Arc.{arc_value};
@@ -12,8 +13,9 @@ ghost use Rattle.publisher.specs.Handles.{IsHubRefusal, RefusesPublication, afte
 ghost use Rattle.publisher.specs.Submitting.{CountsOffer, RefusesKnown, RefusesLong};
 
 use crate::dispatcher::Dispatcher;
+use crate::ledgers::Ledgers;
 use crate::note::Note;
-use crate::state::{Own, Refused};
+use crate::state::{Need, Own, Refused};
 use crossbeam_utils::Backoff;
 use feed_cell::Task;
 use flow_rules::{
@@ -21,40 +23,33 @@ use flow_rules::{
 };
 use once_cell::race::OnceBox;
 use publisher_hub::Work;
-pub use several::Unsent;
+pub use several::{PublishedPart, Unsent};
 use std::alloc::Global;
 use std::fmt;
 use std::marker::Model;
-use std::sync::ledger::Ledger;
 use std::sync::{Arc, Wait};
 
 /// A source of a publisher's items, with what it was told of the close. [`finish`](crate::finish) takes it back.
 #[derive(Drop)]
-pub struct Submitter<
-    L: Ledger + Send,
-    D: Ledger + Send,
-    B: Listener + Send,
-    F: FailHandler + Send = LastFailure,
-> {
-    dispatcher: Dispatcher<L, D, B, F>,
+pub struct Submitter<L: Ledgers + Send, B: Listener + Send, F: FailHandler + Send = LastFailure> {
+    dispatcher: Dispatcher<L, B, F>,
     /// Where its note looks.
     closing: Arc<OnceBox<Ending>>,
     /// Its number, and its shares of the ledgers.
-    own: Own<L, D>,
+    own: Own<L>,
     note: Note,
     /// The tasks that a publication has started. Between two calls there are none.
     due: Vec<Work<Task<B>>>,
 }
 
-impl<L: Ledger + Send, D: Ledger + Send, B: Listener + Send, F: FailHandler + Send> fmt::Debug
-    for Submitter<L, D, B, F> {
+impl<L: Ledgers + Send, B: Listener + Send, F: FailHandler + Send> fmt::Debug
+    for Submitter<L, B, F> {
     fn fmt<W: fmt::Write>(&self, f: &mut fmt::Formatter<W>) -> fmt::Result {
         write!(f, "Submitter {{ source: {} }}", self.own.source)
     }
 }
 
-impl<L: Ledger + Send, D: Ledger + Send, B: Listener + Send, F: FailHandler + Send> Model
-    for Submitter<L, D, B, F> {
+impl<L: Ledgers + Send, B: Listener + Send, F: FailHandler + Send> Model for Submitter<L, B, F> {
     ghost use Rattle.std.specs.Prelude.{◌≡◌};
     ghost use Rattle.std.specs.Arc.{arc_value};
     ghost use Rattle.once_cell.specs.Once.{cell_name};
@@ -73,20 +68,15 @@ impl<L: Ledger + Send, D: Ledger + Send, B: Listener + Send, F: FailHandler + Se
     } };
 }
 
-impl<L: Ledger + Send, D: Ledger + Send, B: Listener + Send, F: FailHandler + Send> Submitter<
-    L,
-    D,
-    B,
-    F,
-> {
+impl<L: Ledgers + Send, B: Listener + Send, F: FailHandler + Send> Submitter<L, B, F> {
     /// Makes that of a source, with this note.
     pub(crate) fn new(
         alloc: Global,
-        dispatcher: Dispatcher<L, D, B, F>,
+        dispatcher: Dispatcher<L, B, F>,
         closing: Arc<OnceBox<Ending>>,
-        own: Own<L, D>,
+        own: Own<L>,
         note: Note,
-    ) -> Submitter<L, D, B, F>
+    ) -> Submitter<L, B, F>
         requires { note.cell ≡ cell_name (arc_value closing) }
         ensures { result ≡ record {
           source = own.source;
@@ -119,7 +109,7 @@ impl<L: Ledger + Send, D: Ledger + Send, B: Listener + Send, F: FailHandler + Se
         ensures refusals { IfErr result (λ refusal. RefusesPublication refusal self.new.known) }
     {
         let text = self.admit(alloc, text)?;
-        match self.publish(rt, text) {
+        match self.submit_text(rt, text) {
             Ok(lag) => Ok(lag),
             Err(refused) => Err(self.hear(alloc, refused)),
         }
@@ -222,7 +212,7 @@ impl<L: Ledger + Send, D: Ledger + Send, B: Listener + Send, F: FailHandler + Se
     }
 
     /// Publishes a text, and waits as long as there is no room.
-    fn publish<R: Wait>(&mut self, rt: &R, text: Text) -> Result<u64, Refused>
+    fn submit_text<R: Wait>(&mut self, rt: &R, text: Text) -> Result<u64, Refused>
         ensures ok { OnOk result (self.new ≡ record self.old
             { published = self.old.published + 1 }) }
         ensures unchanged { OnErr result (self.new ≡ self.old) }
@@ -237,13 +227,16 @@ impl<L: Ledger + Send, D: Ledger + Send, B: Listener + Send, F: FailHandler + Se
         let mut looks = 0;
         let backoff = Backoff::new();
         for _ in rt.forever() {
-            let published = dispatcher.shared.lock(rt).publish(own, text, due);
+            let published = dispatcher
+                .shared
+                .lock_to_publish(rt)
+                .publish(own, text, due);
             dispatcher.start_all(rt, due);
             match published {
                 Ok(lag) => return Ok(lag),
                 Err(why) => text = why.text()?,
             }
-            looks = dispatcher.pause(rt, looks, &backoff);
+            looks = dispatcher.pause(rt, looks, &backoff, Need::All);
         }
         unreachable!()
     }
@@ -274,7 +267,7 @@ impl<L: Ledger + Send, D: Ledger + Send, B: Listener + Send, F: FailHandler + Se
     }
 
     /// Gives up what it owns, with whether it knows that the publisher is closed.
-    pub(crate) fn give_up(self) -> (Own<L, D>, bool)
+    pub(crate) fn give_up(self) -> (Own<L>, bool)
         ensures source { result.0.source ≡ self.source }
         ensures published { result.0.publications.amount ≡ self.published }
         ensures dropping { result.0.drops.amount ≡ self.dropping }

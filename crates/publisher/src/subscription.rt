@@ -2,36 +2,34 @@
 //!
 //! Its subscriber is told by turns, which run elsewhere (`job`).
 use crate::dispatcher::Dispatcher;
+use crate::ledgers::Ledgers;
 use feed_cell::Handle;
 use flow_rules::{FailHandler, LastFailure, Listener, NoMemory};
 use std::fmt;
 use std::marker::Model;
 use std::sync::Wait;
-use std::sync::ledger::Ledger;
 
 /// What the owner of a subscription requests and cancels with (`Flow.Subscription`, Java SE 17).
 /// [`finish`](crate::finish) takes it back.
 #[derive(Drop)]
 pub struct Subscription<
-    L: Ledger + Send,
-    D: Ledger + Send,
+    L: Ledgers + Send,
     B: Listener + Send,
     F: FailHandler + Send = LastFailure,
 > {
-    dispatcher: Dispatcher<L, D, B, F>,
+    dispatcher: Dispatcher<L, B, F>,
     entry: u32,
     handle: Handle<B>,
 }
 
-impl<L: Ledger + Send, D: Ledger + Send, B: Listener + Send, F: FailHandler + Send> fmt::Debug
-    for Subscription<L, D, B, F> {
+impl<L: Ledgers + Send, B: Listener + Send, F: FailHandler + Send> fmt::Debug
+    for Subscription<L, B, F> {
     fn fmt<W: fmt::Write>(&self, f: &mut fmt::Formatter<W>) -> fmt::Result {
         write!(f, "Subscription {{ entry: {} }}", self.entry)
     }
 }
 
-impl<L: Ledger + Send, D: Ledger + Send, B: Listener + Send, F: FailHandler + Send> Model
-    for Subscription<L, D, B, F> {
+impl<L: Ledgers + Send, B: Listener + Send, F: FailHandler + Send> Model for Subscription<L, B, F> {
     ghost use Rattle.publisher.specs.Handles.{SubscriptionState};
 
     ghost Value = { SubscriptionState };
@@ -39,21 +37,16 @@ impl<L: Ledger + Send, D: Ledger + Send, B: Listener + Send, F: FailHandler + Se
     ghost view = { λ s. record { entry = s.entry; handle = s.handle } };
 }
 
-impl<L: Ledger + Send, D: Ledger + Send, B: Listener + Send, F: FailHandler + Send> Subscription<
-    L,
-    D,
-    B,
-    F,
-> {
+impl<L: Ledgers + Send, B: Listener + Send, F: FailHandler + Send> Subscription<L, B, F> {
     ghost use Rattle.std.specs.Prelude.{◌≡◌, OnErr, OnOk};
     ghost use Rattle.publisher.specs.Handles.{Cancels, Requests};
 
     /// Makes that of the subscription of this number.
     pub(crate) fn new(
-        dispatcher: Dispatcher<L, D, B, F>,
+        dispatcher: Dispatcher<L, B, F>,
         entry: u32,
         handle: Handle<B>,
-    ) -> Subscription<L, D, B, F>
+    ) -> Subscription<L, B, F>
         ensures { result ≡ record { entry = entry; handle = handle } }
     {
         Subscription {
@@ -137,7 +130,7 @@ impl<L: Ledger + Send, D: Ledger + Send, B: Listener + Send, F: FailHandler + Se
     }
 
     /// Gives up its number and its handle, and what its owner hands tasks to the pool with.
-    pub(crate) fn into_all(self) -> (Dispatcher<L, D, B, F>, u32, Handle<B>)
+    pub(crate) fn into_all(self) -> (Dispatcher<L, B, F>, u32, Handle<B>)
         ensures entry { result.1 ≡ self.entry }
         ensures handle { result.2 ≡ self.handle }
     {

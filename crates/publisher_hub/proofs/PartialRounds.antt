@@ -7,4 +7,5 @@ pub mod Preparing
 pub mod Progress
 pub mod Putting
 pub mod Retrying
+pub mod Rooms
 pub mod Shares

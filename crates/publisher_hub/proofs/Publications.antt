@@ -5,5 +5,6 @@ pub mod Backlogs
 pub mod FullBuffers
 pub mod OneSubscription
 pub mod SecondTries
+pub mod WholeByPolicy
 pub mod WholeOffer
 pub mod WholePublication

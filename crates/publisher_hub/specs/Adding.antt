@@ -5,6 +5,7 @@ use Rattle.flow_rules.specs.Feed.{End}
 use Rattle.publisher_hub.specs.Entry.{EntryState}
 use Rattle.publisher_hub.specs.Hub.{HubState, Progress}
 use Rattle.publisher_hub.specs.Sound.{AreLive}
+use Rattle.publisher_hub.specs.declared.policy.OnFull.{OnFull}
 
 -- whether the subscription of this number is there, and isn't retired
 abbrev pub goes_on : List EntryState → ℕ → Bool
@@ -34,9 +35,10 @@ pub record IsFresh (capacity : ℕ) (e : End) : Type 0 where
   pub is_ready : e.ready ≡ true
 
 -- a new subscription of a Hub whose publications have come this far
-abbrev pub new_entry : Progress → List ℕ → End → Option Ticket → EntryState
-new_entry progress name e ticket = record {
+abbrev pub new_entry : Progress → List ℕ → OnFull → End → Option Ticket → EntryState
+new_entry progress name on_full e ticket = record {
   name = name;
+  on_full = on_full;
   since = progress.next;
   until = progress.next;
   dropped = 0;

@@ -3,11 +3,14 @@ use Rattle.std.specs.Prelude.{ℕ, Bool, Option, option_map, if◌then◌else◌
 use Rattle.close_count.specs.declared.ticket.Ticket.{Ticket}
 use Rattle.flow_rules.specs.Feed.{End}
 use Rattle.publisher_hub.specs.declared.entry.Entry.{Entry}
+use Rattle.publisher_hub.specs.declared.policy.OnFull.{OnFull}
 
--- a subscription: its name; the next serial number when it was subscribed, and when it was retired; how many
--- publications it dropped; whether it was retired; what the publisher knows of its producer's end; and its ticket
+-- a subscription: its name; whether publications wait for it; the next serial number when it was subscribed, and when
+-- it was retired; how many publications it dropped; whether it was retired; what the publisher knows of its producer's
+-- end; and its ticket
 pub record EntryState : Type 0 where
   pub name : List ℕ
+  pub on_full : OnFull
   pub since : ℕ
   pub until : ℕ
   pub dropped : ℕ
@@ -19,6 +22,7 @@ pub record EntryState : Type 0 where
 abbrev pub entry_of : {F : Type 0} → (F → End) → Entry F → EntryState
 entry_of meaning entry = record {
   name = entry.name;
+  on_full = entry.on_full;
   since = entry.since;
   until = entry.until;
   dropped = entry.dropped;

@@ -11,6 +11,7 @@ pub mod Names
 pub mod Offering
 pub mod OpeningTicket
 pub mod Overview
+pub mod Policy
 pub mod Publishing
 pub mod Readiness
 pub mod Reclaiming

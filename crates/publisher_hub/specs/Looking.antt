@@ -1,5 +1,5 @@
 -- What looks do to the subscriptions of a Hub.
-use Rattle.std.specs.Prelude.{◌≡◌, ◌⊎◌, ℕ, ◌<◌, ◌≤◌, Bool, true, false, ◌||◌, nat_lt, if◌then◌else◌, Option, None, Some, Result, List, [], ◌∷◌, length, OnOk, OnErr, IsOk, IsErr}
+use Rattle.std.specs.Prelude.{◌≡◌, ◌⊎◌, ℕ, ◌<◌, ◌≤◌, Bool, true, false, ◌||◌, nat_lt, if◌then◌else◌, Option, None, Some, Result, List, [], ◌∷◌, filter, length, OnOk, OnErr, IsOk, IsErr}
 use Rattle.flow_rules.specs.Call.{Call}
 use Rattle.flow_rules.specs.Feed.{End, Looked, held_count, is_gone}
 use Rattle.flow_rules.specs.declared.feed.standing.Standing.{Standing}
@@ -8,8 +8,10 @@ use Rattle.publisher_hub.specs.Becoming.{Becomes, ChangesAt}
 use Rattle.publisher_hub.specs.Entry.{EntryState}
 use Rattle.publisher_hub.specs.Hub.{HubState, OnlyEntriesChange, hub_of}
 use Rattle.publisher_hub.specs.Lists.{Each, EachBy, gather}
+use Rattle.publisher_hub.specs.Policy.{is_waited_for}
 use Rattle.publisher_hub.specs.declared.entry.Entry.{Entry}
 use Rattle.publisher_hub.specs.declared.hub.Hub.{Hub}
+use Rattle.publisher_hub.specs.declared.hub.room.Room.{Room}
 
 -- an end that was looked at any number of times, and may have been made ready
 pub record Follows (e f : End) : Type 0 where
@@ -60,6 +62,22 @@ full capacity glances = gather (full_by capacity) 0 glances
 pub record IsRoom (room : Bool) (capacity : ℕ) (glances : List (Option Standing)) : Type 0 where
   pub there : room ≡ true → full capacity glances ≡ []
   pub missing : room ≡ false → 0 < length (full capacity glances)
+
+-- of the subscriptions that looks showed to be full, the numbers of those that publications wait for
+abbrev pub full_waiters : {F : Type 0} → ℕ → List (Entry F) → List (Option Standing) → List ℕ
+full_waiters capacity entries glances = filter (is_waited_for entries) (full capacity glances)
+
+-- this says whether looks showed no full buffer of those that publications wait for
+pub record IsRoomForWaiters {F : Type 0} (room : Bool) (capacity : ℕ) (entries : List (Entry F))
+    (glances : List (Option Standing)) : Type 0 where
+  pub there : room ≡ true → full_waiters capacity entries glances ≡ []
+  pub missing : room ≡ false → 0 < length (full_waiters capacity entries glances)
+
+-- this is what looks showed of the room of these subscriptions
+pub record ShowsRoom {F : Type 0} (room : Room) (capacity : ℕ) (entries : List (Entry F))
+    (glances : List (Option Standing)) : Type 0 where
+  pub all : IsRoom room.everywhere capacity glances
+  pub waiters : IsRoomForWaiters room.for_waiters capacity entries glances
 
 module _ {F T : Type 0} (meaning : F → End) (does : F → Call T → F → Type 0) where
   -- an end was looked at, with this standing
@@ -133,11 +151,11 @@ module _ {F T : Type 0} (meaning : F → End) (does : F → Call T → F → Typ
   PreparesAll glances old new =
       EachBy (Prepares old.next) glances old.entries.items new.entries.items
 
-  -- each live subscription was looked at and made ready, and this says whether none that goes on was full
-  abbrev pub FindsRoom : Hub F → Hub F → Bool → Type 0
+  -- each live subscription was looked at and made ready, and this is what that showed of their room
+  abbrev pub FindsRoom : Hub F → Hub F → Room → Type 0
   FindsRoom old new room =
       (glances : List (Option Standing))
-      × (PreparesAll glances old new × IsRoom room old.capacity glances)
+      × (PreparesAll glances old new × ShowsRoom room old.capacity old.entries.items glances)
 
   -- some live subscriptions of a Hub were looked at and made ready, before memory was refused
   abbrev pub PreparesInPart : Hub F → Hub F → Type 0

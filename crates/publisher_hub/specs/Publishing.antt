@@ -10,14 +10,16 @@ use Rattle.flow_rules.specs.declared.item.TheConstants.{MOST_PUBLICATIONS}
 use Rattle.flow_rules.specs.declared.refusal.Refusal.{Refusal}
 use Rattle.publisher_hub.specs.Gathering.{AreRevisited, AreShares, GathersAgain, CanGather, Second, dropped, lags, lags_again, missed, stands, started, started_again}
 use Rattle.publisher_hub.specs.Hub.{Progress, hub_of}
-use Rattle.publisher_hub.specs.Lists.{EachBy, greatest}
-use Rattle.publisher_hub.specs.Looking.{IsLookedAt, Prepares, PreparesAll, PreparesInPart, full}
+use Rattle.publisher_hub.specs.Lists.{Each, EachBy, greatest}
+use Rattle.publisher_hub.specs.Looking.{IsLookedAt, Prepares, PreparesAll, PreparesInPart, full, full_waiters}
 use Rattle.publisher_hub.specs.Offering.{PutsTo, PutsAgain, ReachesAll}
+use Rattle.publisher_hub.specs.Policy.{LosesNothing}
 use Rattle.publisher_hub.specs.declared.entry.Entry.{Entry}
 use Rattle.publisher_hub.specs.declared.hub.gathering.Gathering.{Gathering}
 use Rattle.publisher_hub.specs.declared.hub.Hub.{Hub}
 use Rattle.publisher_hub.specs.declared.hub.publish.Unpublished.{Unpublished}
 use Rattle.publisher_hub.specs.declared.hub.publish.Unpublished.TheVariants.{NoRoom, Refused}
+use Rattle.publisher_hub.specs.declared.policy.Published.{Published}
 use Rattle.publisher_hub.specs.declared.work.Work.{Work}
 
 -- why no item is taken any more: the Hub was closed, or the last possible publication was made
@@ -65,6 +67,27 @@ module _ {F T : Type 0} (meaning : F → End) (does : F → Call T → F → Typ
     pub no_dropping : new.dropping ≡ old.dropping
     pub due : due_new ≡ due_old ++ started puts
     pub greatest_lag : lag ≡ greatest (lags puts)
+
+  -- an item of this source and text was published, with this answer: each subscription was looked at and made ready,
+  -- each that goes on and is waited for had room, and then each was offered the item; those that are not waited for
+  -- and had no room lost it
+  pub record PublishesByPolicy (source : ℕ) (text : List ℕ) (old new : Hub F)
+      (due_old due_new : List (Work T)) (published : Published) : Type 0 where
+    pub item : Item
+    pub from : item.source ≡ source
+    pub words : item.text ≡ text
+    pub glances : List (Option Standing)
+    pub puts : List (Option (Put T))
+    pub middle : List (Entry F)
+    pub looked : EachBy (Prepares meaning does old.next) glances old.entries.items middle
+    pub room : full_waiters old.capacity old.entries.items glances ≡ []
+    pub each_put : EachBy (PutsTo meaning does item) puts middle new.entries.items
+    pub reaches : ReachesAll item (hub_of meaning old) (hub_of meaning new)
+    pub waiters : Each LosesNothing (hub_of meaning old).entries (hub_of meaning new).entries
+    pub counted : new.dropping ≡ dropping_after (length (missed puts)) old.dropping
+    pub due : due_new ≡ due_old ++ started puts
+    pub greatest_lag : published.lag ≡ greatest (lags puts)
+    pub lost : published.dropped ≡ length (missed puts)
 
   -- the second pass: the handler is asked about those that missed the item; without a handler their drops stand
   pub record PassesAgain (item : Item) (declines : Bool)
@@ -127,3 +150,17 @@ module _ {F T : Type 0} (meaning : F → End) (does : F → Call T → F → Typ
       : Type 0 where
     pub unchanged : IsLookedAt (hub_of meaning old) (hub_of meaning new)
     pub why : WhyRefused text old new unpublished
+
+  -- why an item was not published by policy: as above, but only a full buffer that is waited for counts
+  abbrev pub WhyNotByPolicy : List ℕ → Hub F → Hub F → Unpublished → Type 0
+  WhyNotByPolicy text old new (Refused refusal) = WhyNotOffered old new refusal
+  WhyNotByPolicy text old new (NoRoom back) = (back ≡ text)
+      × (IsRefused (hub_of meaning old).progress None
+      × ((glances : List (Option Standing)) × (PreparesAll meaning does glances old new
+      × (0 < length (full_waiters old.capacity old.entries.items glances)))))
+
+  -- an item was not published by policy: nothing has changed but by looks
+  pub record RefusesByPolicy (text : List ℕ) (old new : Hub F) (unpublished : Unpublished)
+      : Type 0 where
+    pub unchanged : IsLookedAt (hub_of meaning old) (hub_of meaning new)
+    pub why : WhyNotByPolicy text old new unpublished

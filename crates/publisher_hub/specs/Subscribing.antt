@@ -20,6 +20,8 @@ use Rattle.publisher_hub.specs.Readiness.{AreReady}
 use Rattle.publisher_hub.specs.Sound.{MOST_ENTRIES, MOST_LIVE}
 use Rattle.publisher_hub.specs.declared.entry.Entry.{Entry}
 use Rattle.publisher_hub.specs.declared.hub.Hub.{Hub}
+use Rattle.publisher_hub.specs.declared.policy.OnFull.{OnFull}
+use Rattle.publisher_hub.specs.declared.policy.OnFull.TheVariants.{Wait}
 use Rattle.publisher_hub.specs.declared.work.Work.{Work}
 
 -- a live subscription was doubled: its producer's end heard of a second subscribing
@@ -70,9 +72,10 @@ pub record CanAdmit {F T : Type 0} (meaning : F → End) (name : List ℕ) (hub 
   pub unnamed : IsUnnamed name (hub_of meaning hub).entries
 
 -- what is stored of a new subscription
-abbrev pub first_entry : {F : Type 0} → List ℕ → ℕ → F → Option Ticket → Entry F
-first_entry name next feed ticket = record {
+abbrev pub first_entry_with : {F : Type 0} → List ℕ → OnFull → ℕ → F → Option Ticket → Entry F
+first_entry_with name on_full next feed ticket = record {
   name = name;
+  on_full = on_full;
   since = next;
   until = next;
   dropped = 0;
@@ -81,10 +84,14 @@ first_entry name next feed ticket = record {
   ticket = ticket;
 }
 
+-- the same of one that publications wait for
+abbrev pub first_entry : {F : Type 0} → List ℕ → ℕ → F → Option Ticket → Entry F
+first_entry name next feed ticket = first_entry_with name Wait next feed ticket
+
 module _ {F T : Type 0} (meaning : F → End) (does : F → Call T → F → Type 0) where
   -- all live subscriptions of a Hub were looked at, the ended ones retired, the others made ready, and the numbers of
   -- the retired ones left out; nothing else changed
-  pub record IsSeen (old new : Hub F) : Type 0 where
+  pub record IsPrepared (old new : Hub F) : Type 0 where
     pub glances : List (Option Standing)
     pub prepared : PreparesAll meaning does glances old new
     pub left : new.live.items ≡ live_of (hub_of meaning new).entries old.live.items
@@ -94,7 +101,7 @@ module _ {F T : Type 0} (meaning : F → End) (does : F → Call T → F → Typ
 
   -- some live subscriptions of a Hub were looked at, the ended ones of these retired, and the others made ready;
   -- nothing else changed
-  pub record IsSeenInPart (old new : Hub F) : Type 0 where
+  pub record IsPreparedInPart (old new : Hub F) : Type 0 where
     pub prepared : PreparesInPart meaning does old new
     pub kept : Each (IsKept old.next) (hub_of meaning old).entries (hub_of meaning new).entries
     pub rest : OnlyEntriesChange (hub_of meaning old) (hub_of meaning new)
@@ -126,7 +133,7 @@ module _ {F T : Type 0} (meaning : F → End) (does : F → Call T → F → Typ
 
   -- no live subscription of a Hub that was looked at has the name, and there is no place for another
   pub record FindsNoPlace (name : List ℕ) (refusal : Refusal) (old new : Hub F) : Type 0 where
-    pub seen : IsSeen old new
+    pub seen : IsPrepared old new
     pub unnamed : IsUnnamed name (hub_of meaning new).entries
     pub why : HasNoPlace refusal new
 
@@ -134,9 +141,9 @@ module _ {F T : Type 0} (meaning : F → End) (does : F → Call T → F → Typ
   -- is no place; or memory was refused before all were looked at
   abbrev pub Refuses : List ℕ → Refusal → List (Work T) → List (Work T) → Hub F → Hub F → Type 0
   Refuses name Refusal.Duplicate due_before due_after old new =
-      (middle : Hub F) × (IsSeen old middle × DoublesOne name due_before due_after middle new)
+      (middle : Hub F) × (IsPrepared old middle × DoublesOne name due_before due_after middle new)
   Refuses name Refusal.NoMemory due_before due_after old new =
-      (IsSeenInPart old new ⊎ FindsNoPlace name Refusal.NoMemory old new) × (due_after ≡ due_before)
+      (IsPreparedInPart old new ⊎ FindsNoPlace name Refusal.NoMemory old new) × (due_after ≡ due_before)
   Refuses name refusal due_before due_after old new =
       FindsNoPlace name refusal old new × (due_after ≡ due_before)
 
@@ -148,10 +155,10 @@ module _ {F T : Type 0} (meaning : F → End) (does : F → Call T → F → Typ
       × does feed (Call.Ends ending start) after
 
   -- a subscription was added to a Hub that had been looked at, and nothing else changed
-  pub record Admits (name : List ℕ) (feed : F) (ticket : Option Ticket) (number : ℕ)
-      (due_before due_after : List (Work T)) (old new : Hub F) : Type 0 where
+  pub record AdmitsWith (name : List ℕ) (on_full : OnFull) (feed : F) (ticket : Option Ticket)
+      (number : ℕ) (due_before due_after : List (Work T)) (old new : Hub F) : Type 0 where
     pub middle : Hub F
-    pub seen : IsSeen old middle
+    pub seen : IsPrepared old middle
     pub unnamed : IsUnnamed name (hub_of meaning middle).entries
     pub few_live : length middle.live.items < MOST_LIVE
     pub is_next : number ≡ length old.entries.items
@@ -161,6 +168,12 @@ module _ {F T : Type 0} (meaning : F → End) (does : F → Call T → F → Typ
     pub closes : ClosesNew old.ending feed start after
     pub due : due_after ≡ due_before ++ work_of number start
     pub entries : new.entries.items
-        ≡ middle.entries.items ++ first_entry name old.next after ticket ∷ []
+        ≡ middle.entries.items ++ first_entry_with name on_full old.next after ticket ∷ []
     pub live : new.live.items ≡ middle.live.items ++ number ∷ []
     pub rest : OnlySubscriptionsChange (hub_of meaning old) (hub_of meaning new)
+
+  -- the same of a subscription that publications wait for
+  abbrev pub Admits : List ℕ → F → Option Ticket → ℕ → List (Work T) → List (Work T)
+      → Hub F → Hub F → Type 0
+  Admits name feed ticket number due_before due_after old new =
+      AdmitsWith name Wait feed ticket number due_before due_after old new

@@ -1,4 +1,4 @@
--- What becomes of a subscription that is asked for its ticket, or whose ticket is taken out.
+-- What becomes of a subscription that is retired if a look shows its end, and of its ticket.
 use Rattle.std.specs.Prelude.{◌≡◌, ℕ, true, false, if◌then◌else◌, Option, None, Some, slice_get, slice_set}
 use Rattle.std.specs.Option.{option_and_then}
 use Rattle.std.specs.Vec.{with_item}
@@ -30,19 +30,20 @@ module _ {F T : Type 0} (meaning : F → End) (does : F → Call T → F → Typ
     pub kept : standing.ended ≡ false → ticket ≡ None
     pub stays : standing.ended ≡ false → new ≡ record old { feed = Some after }
 
-  -- a subscription was asked for its ticket; a subscription whose producer's end was taken out is left alone
-  abbrev pub AsksForTicket : ℕ → Option Standing → Option Ticket → Entry F → Entry F → Type 0
-  AsksForTicket next None ticket old new = (old.feed ≡ None) × ((ticket ≡ None) × (new ≡ old))
-  AsksForTicket next (Some standing) ticket old new = HandsOut next standing ticket old new
+  -- a subscription was looked at, and retired if that showed its end; one whose producer's end was taken out is left
+  -- alone
+  abbrev pub RetiresIfEnded : ℕ → Option Standing → Option Ticket → Entry F → Entry F → Type 0
+  RetiresIfEnded next None ticket old new = (old.feed ≡ None) × ((ticket ≡ None) × (new ≡ old))
+  RetiresIfEnded next (Some standing) ticket old new = HandsOut next standing ticket old new
 
-  -- the subscription of this number in a Hub was asked for its ticket, and nothing else changed
-  pub record AsksForTicketAt (number : ℕ) (ticket : Option Ticket) (old new : Hub F) : Type 0 where
+  -- that happened to the subscription of this number in a Hub, and nothing else changed
+  pub record RetiresIfEndedAt (number : ℕ) (ticket : Option Ticket) (old new : Hub F) : Type 0 where
     pub rest : OnlyEntriesChange (hub_of meaning old) (hub_of meaning new)
     pub none : slice_get old.entries.items number ≡ None
         → (ticket ≡ None) × (new.entries.items ≡ old.entries.items)
     pub there : (before : Entry F) → slice_get old.entries.items number ≡ Some before
         → (glance : Option Standing) × (after : Entry F)
-        × (AsksForTicket old.next glance ticket before after
+        × (RetiresIfEnded old.next glance ticket before after
         × (new.entries.items ≡ slice_set old.entries.items number after))
 
 -- the ticket of the subscription of this number, if it is there

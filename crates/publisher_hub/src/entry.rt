@@ -13,8 +13,9 @@ ghost use Rattle.publisher_hub.specs.Steps.{CanTake, HasAcceptedFew, IsHere};
 ghost use Rattle.publisher_hub.specs.Subscribing.{Doubled};
 ghost use Rattle.publisher_hub.specs.Reclaiming.{TakesEnded};
 ghost use Rattle.publisher_hub.specs.Taking.{TakesOut};
-ghost use Rattle.publisher_hub.specs.Tickets.{AsksForTicket};
+ghost use Rattle.publisher_hub.specs.Tickets.{RetiresIfEnded};
 
+use crate::policy::OnFull;
 use close_count::Ticket;
 use flow_rules::{Ending, Feed, Item, Name, NoMemory, Put, Standing};
 
@@ -23,6 +24,8 @@ use flow_rules::{Ending, Feed, Item, Name, NoMemory, Put, Standing};
 pub(crate) struct Entry<F> {
     /// The name that its subscriber subscribed with.
     pub name: Name,
+    /// Whether publications wait for it, if they heed that.
+    pub on_full: OnFull,
     /// The next serial number when it was subscribed.
     pub since: u64,
     /// The next serial number when it was retired.
@@ -171,7 +174,7 @@ impl<F: Feed> Entry<F> {
     /// ticket taken out.
     pub fn ended(&mut self, next: u64) -> Option<Ticket>
         ensures { (glance : Option Standing)
-            × AsksForTicket F.meaning F.does next glance result self.old self.new }
+            × RetiresIfEnded F.meaning F.does next glance result self.old self.new }
     {
         let Some(feed) = &mut self.feed else {
             return None;

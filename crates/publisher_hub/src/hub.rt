@@ -2,6 +2,7 @@
 //! producer's end, and the numbers of its publications. It runs no subscriber, waits for nobody and takes no lock:
 //! whoever calls it sees to it that the calls come one after the other, and that the tasks they start are run.
 
+mod by_policy;
 mod close;
 mod gathering;
 mod look;
@@ -9,6 +10,7 @@ mod offer;
 mod prepare;
 mod publish;
 mod retire;
+mod room;
 mod subscribe;
 
 ghost use Rattle.std.specs.Borrow.{sem};
@@ -21,6 +23,7 @@ ghost use Rattle.publisher_hub.specs.Sound.{IsSound};
 
 use crate::entry::Entry;
 use crate::hub::gathering::Gathering;
+use crate::policy::OnFull;
 use close_count::Opening;
 use flow_rules::{Ending, Feed, MOST_PUBLICATIONS, Name, NoMemory, Refusal, capacity};
 pub use publish::Unpublished;
@@ -188,6 +191,18 @@ impl<F: Feed> Hub<F> {
     {
         match self.entries.get(entry as usize) {
             Some(it) => Some(it.name),
+            None => None,
+        }
+    }
+
+    /// Tells what the subscription of this number said of its full buffer, and `None` if no subscription has this
+    /// number.
+    pub fn on_full(&self, entry: u32) -> Option<OnFull>
+        ensures { result ≡ option_map (λ (entry : EntryState). entry.on_full)
+            (slice_get (hub_of F.meaning self.now).entries entry) }
+    {
+        match self.entries.get(entry as usize) {
+            Some(it) => Some(it.on_full),
             None => None,
         }
     }

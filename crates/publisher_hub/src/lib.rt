@@ -16,9 +16,11 @@
 mod entry;
 mod hub;
 mod laws;
+mod policy;
 mod work;
 
 pub use entry::AtClose;
 pub use hub::{Hub, MOST_ENTRIES, MOST_LIVE, MOST_SOURCES, Unpublished};
 pub use laws::lent_feeds_keep_hubs_sound;
+pub use policy::{OnFull, Published};
 pub use work::Work;

@@ -4,6 +4,7 @@ mod callbacks;
 mod closing;
 mod coming;
 mod failing;
+mod policy;
 mod reclaiming;
 mod standing;
 mod submitters;

@@ -1,51 +1,45 @@
 //! A publisher with its owners: the submitters and the subscriptions that go back to it at the end.
 ghost use Rattle.std.specs.Prelude.{◌≡◌, []};
-ghost use Rattle.publisher.specs.Blanks.{IsBlankOf};
-ghost use Rattle.publisher.specs.declared.state.TheConstants.{PARTS};
+ghost use Rattle.publisher.specs.Blanks.{AreBlanksOf};
 
 use flow_rules::{ErrorOrder, FailHandler, LastFailure, Listener, Name, Refusal};
-use publisher::{Outcome, Publisher, PublisherOptions, Submitter, Subscription, finish};
+use publisher::{
+    BlankPair, Ledgers, Outcome, Publisher, PublisherOptions, Refused, Submitter, Subscription,
+    finish,
+};
 use std::alloc::Global;
 use std::sync::Wait;
-use std::sync::ledger::{Blank, Ledger};
 use std::test::Fail;
 use std::thread::Threads;
 
 /// A publisher, and in order its submitters and its subscriptions.
 #[derive(Drop)]
 pub struct Stand<
-    L: Ledger + Send + Sync + 'static,
-    D: Ledger + Send + Sync + 'static,
+    L: Ledgers + Send + Sync + 'static,
     B: Listener + Send + 'static,
     F: FailHandler + Send + 'static = LastFailure,
 > {
     /// What gives all its memory.
     pub alloc: Global,
-    pub publisher: Publisher<L, D, B, F>,
+    pub publisher: Publisher<L, B, F>,
     /// Those that go back at the end.
-    pub submitters: Vec<Submitter<L, D, B, F>>,
+    pub submitters: Vec<Submitter<L, B, F>>,
     /// Those that go back at the end.
-    pub subscriptions: Vec<Subscription<L, D, B, F>>,
+    pub subscriptions: Vec<Subscription<L, B, F>>,
 }
 
-impl<
-    L: Ledger + Send + Sync + 'static,
-    D: Ledger + Send + Sync + 'static,
-    B: Listener + Send + 'static,
-> Stand<L, D, B> {
+impl<L: Ledgers + Send + Sync + 'static, B: Listener + Send + 'static> Stand<L, B> {
     /// A publisher with this many workers, for whose buffers this capacity is asked, and with one submitter.
     pub fn new<R: Threads + Wait + Copy + Send + 'static>(
         rt: R,
         alloc: Global,
-        publications: Blank,
-        drops: Blank,
+        blanks: BlankPair,
         workers: usize,
         capacity: usize,
-    ) -> Result<Stand<L, D, B>, Fail>
-        requires publications { IsBlankOf publications L.name L.parts }
-        requires drops { IsBlankOf drops D.name D.parts }
+    ) -> Result<Stand<L, B>, Fail>
+        requires blanks { AreBlanksOf blanks L.publications L.drops }
     {
-        let publisher = Publisher::new(rt, alloc, publications, drops, workers, capacity)?;
+        let publisher = Publisher::new(rt, alloc, blanks, workers, capacity)?;
         let mut stand = Stand::of(alloc, publisher);
         stand.add_submitter(&rt)?;
         Ok(stand)
@@ -53,39 +47,36 @@ impl<
 }
 
 impl<
-    L: Ledger + Send + Sync + 'static,
-    D: Ledger + Send + Sync + 'static,
+    L: Ledgers + Send + Sync + 'static,
     B: Listener + Send + 'static,
     F: FailHandler + Send + 'static,
-> Stand<L, D, B, F> {
+> Stand<L, B, F> {
     /// A publisher with this handler of failures and this many workers, whose buffers hold 8 items, and with one submitter.
     pub fn with_handler<R: Threads + Wait + Copy + Send + 'static>(
         rt: R,
         alloc: Global,
-        publications: Blank,
-        drops: Blank,
+        blanks: BlankPair,
         workers: usize,
         handler: F,
-    ) -> Result<Stand<L, D, B, F>, Fail>
-        requires publications { IsBlankOf publications L.name L.parts }
-        requires drops { IsBlankOf drops D.name D.parts }
+    ) -> Result<Stand<L, B, F>, Fail>
+        requires blanks { AreBlanksOf blanks L.publications L.drops }
     {
         let options = PublisherOptions {
             workers,
             capacity: 8,
             order: ErrorOrder::Overtake,
         };
-        let made = Publisher::with_handler(rt, alloc, publications, drops, options, handler);
+        let made = Publisher::with_handler(rt, alloc, blanks, options, handler);
         let mut stand = match made {
             Ok(publisher) => Stand::of(alloc, publisher),
-            Err((refusal, _)) => return Err(refusal.into()),
+            Err(refused) => return Err(refused.into()),
         };
         stand.add_submitter(&rt)?;
         Ok(stand)
     }
 
     /// A publisher without owners.
-    pub fn of(alloc: Global, publisher: Publisher<L, D, B, F>) -> Stand<L, D, B, F> {
+    pub fn of(alloc: Global, publisher: Publisher<L, B, F>) -> Stand<L, B, F> {
         Stand {
             alloc,
             publisher,
@@ -113,7 +104,7 @@ impl<
                 self.subscriptions.push(subscription)?;
                 Ok(())
             }
-            Err((refusal, _)) => Err(refusal.into()),
+            Err(refused) => Err(refused.into()),
         }
     }
 
@@ -133,11 +124,10 @@ impl<
         Ok(())
     }
 
-    /// Takes the last subscription, which goes back by `subscriptions`.
-    pub fn last_subscription(&mut self) -> Result<Subscription<L, D, B, F>, Fail> {
-        match self.subscriptions.pop() {
-            Some(subscription) => Ok(subscription),
-            None => Err(Fail::new("there is no subscription")),
+    /// Waits for the end of the subscription of this place.
+    pub fn wait_end<R: Wait>(&self, rt: &R, place: usize) {
+        if let Some(subscription) = self.subscriptions.get(place) {
+            subscription.wait_end(rt);
         }
     }
 
@@ -165,19 +155,15 @@ impl<
     }
 
     /// Ends the workers, once they have run each turn that was started. Gives what is left, whatever the answer.
-    pub fn end<R: Wait>(self, rt: &R) -> Outcome<B, F>
-        requires { (L.parts ≡ PARTS) × (D.parts ≡ PARTS) }
-    {
+    pub fn end<R: Wait>(self, rt: &R) -> Outcome<B, F> {
         match self.finish(rt) {
             Ok(outcome) => outcome,
-            Err((_, outcome)) => outcome,
+            Err(refused) => refused.into_inner(),
         }
     }
 
     /// Ends the workers, and gives what is left with the answer.
-    pub fn finish<R: Wait>(self, rt: &R) -> Result<Outcome<B, F>, (Refusal, Outcome<B, F>)>
-        requires { (L.parts ≡ PARTS) × (D.parts ≡ PARTS) }
-    {
+    pub fn finish<R: Wait>(self, rt: &R) -> Result<Outcome<B, F>, Refused<Outcome<B, F>>> {
         let Stand {
             alloc,
             publisher,

@@ -11,9 +11,9 @@ use crossbeam_utils::Backoff;
 use std::sync::{MutexGuard, Wait};
 use std::thread;
 
-/// How often a worker looks for a job before it sleeps. It spins in between, some 20 microseconds in all, and doesn't
-/// yield: on a kernel that takes a time slice from a thread that yields, it would get its processor late once it is
-/// called.
+/// How often a worker looks for a job before it sleeps. It spins in between, for 447 pauses in all: some 2 microseconds
+/// on a processor whose pause takes 4.5 nanoseconds. It doesn't yield: on a kernel that takes a time slice from a
+/// thread that yields, it would get its processor late once it is called.
 const LOOKS: u32 = 12;
 
 /// What became of a worker that was to sleep.

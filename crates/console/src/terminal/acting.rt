@@ -4,20 +4,24 @@ use super::{Named, Terminal};
 use crate::echo::Echo;
 use commands::Reply;
 use flow_rules::{Name, Refusal, Watching};
+use publisher::{Ledgers, OnFull};
 use std::sync::atomic::AtomicU64;
-use std::sync::ledger::Ledger;
 use std::sync::{Arc, Wait};
 use std::thread::Threads;
 use std::time::Clock;
 
 impl<
     'e,
-    L: Ledger + Send + Sync + 'static,
-    D: Ledger + Send + Sync + 'static,
+    L: Ledgers + Send + Sync + 'static,
     R: Print + Clock + Threads + Wait + Copy + Send + Sync + 'static,
-> Terminal<'e, L, D, R> {
-    /// Subscribes an echo of this name, and requests this many items for it.
-    pub(super) fn subscribe(&mut self, name: Name, number: u64) -> Result<Reply, Refusal> {
+> Terminal<'e, L, R> {
+    /// Subscribes an echo of this name, which says this of its full buffer, and requests this many items for it.
+    pub(super) fn subscribe(
+        &mut self,
+        name: Name,
+        number: u64,
+        on_full: OnFull,
+    ) -> Result<Reply, Refusal> {
         let site = self.site;
         self.named.reserve(1)?;
         let told = Arc::new(site.alloc, AtomicU64::new(0))?;
@@ -28,20 +32,21 @@ impl<
         };
         let subscribed = site
             .publisher
-            .subscribe(&site.rt, site.alloc, name, Watching::new(echo));
+            .subscribe_with(&site.rt, site.alloc, name, Watching::new(echo), on_full);
         let subscription = match subscribed {
             Ok(subscription) => subscription,
-            Err((refusal, _)) => {
-                if refusal == Refusal::Duplicate {
+            Err(refused) => {
+                if *refused.refusal() == Refusal::Duplicate {
                     self.latest(name)?.is_ending = true;
                 }
-                return Err(refusal);
+                return Err(refused.into());
             }
         };
         self.named.push(Named {
             name,
             subscription,
             told,
+            on_full,
             is_ending: false,
         })?;
         if let Ok(number @ 1..) = i64::try_from(number) {
@@ -69,7 +74,7 @@ impl<
     }
 
     /// The latest subscription of this name, ended or not. Refused 10 if there is none.
-    fn latest(&mut self, name: Name) -> Result<&mut Named<L, D, R>, Refusal> {
+    fn latest(&mut self, name: Name) -> Result<&mut Named<L, R>, Refusal> {
         match latest_of(self.named.as_slice(), name) {
             Some(place) => Ok(&mut self.named[place]),
             None => Err(Refusal::Unknown),

@@ -4,10 +4,9 @@ use crate::echo::Echoes;
 use crate::fault::ConsoleFault;
 use crate::site::Site;
 use flow_rules::{Ending, NoMemory};
-use publisher::HandedIn;
+use publisher::{HandedIn, Ledgers};
 use std::sync::Wait;
 use std::sync::atomic::Ordering::SeqCst;
-use std::sync::ledger::Ledger;
 use std::thread;
 use std::thread::Threads;
 use std::time::{Clock, Duration};
@@ -17,10 +16,9 @@ const MOST_TRIES: u64 = 1000;
 
 impl<
     'e,
-    L: Ledger + Send + Sync + 'static,
-    D: Ledger + Send + Sync + 'static,
+    L: Ledgers + Send + Sync + 'static,
     R: Print + Clock + Threads + Wait + Copy + Send + Sync + 'static,
-> Terminal<'e, L, D, R> {
+> Terminal<'e, L, R> {
     /// Has the sources publish what they can, and end. Nobody requests any more, so a source that waits for room at a
     /// subscriber without demand would wait for ever: then the publisher is closed, which ends the waiting, and all
     /// that is left is refused. If memory for the close is refused again and again, the program ends without them.
@@ -67,17 +65,19 @@ impl<
         self.site.screen.fault().is_some() || self.stuck().is_some()
     }
 
-    /// The first subscription that stands still: it was told all that was requested, its buffer is full, and nobody ends it.
-    pub(super) fn stuck(&self) -> Option<&Named<L, D, R>> {
+    /// The first subscription that a source waits for and that stands still: it was told all that was requested, its
+    /// buffer is full, and nobody ends it. One that may lose texts is waited for only while a source submits.
+    pub(super) fn stuck(&self) -> Option<&Named<L, R>> {
+        let for_each = self.site.submits.load(SeqCst) > 0;
         for named in &self.named {
-            if self.is_stuck(named) {
+            if (for_each || named.on_full.waits()) && self.is_stuck(named) {
                 return Some(named);
             }
         }
         None
     }
 
-    fn is_stuck(&self, named: &Named<L, D, R>) -> bool {
+    fn is_stuck(&self, named: &Named<L, R>) -> bool {
         let site = self.site;
         !named.is_ending
             && named.told.load(SeqCst) == named.subscription.requested()
@@ -85,7 +85,7 @@ impl<
     }
 
     /// Closes the publisher, if nobody has, and hands in what goes back to it.
-    pub fn hand_in(self, handed_in: &mut HandedIn<L, D, Echoes<R>>) -> Result<(), NoMemory> {
+    pub fn hand_in(self, handed_in: &mut HandedIn<L, Echoes<R>>) -> Result<(), NoMemory> {
         let closed = self.close(Ending::Normal);
         let Terminal {
             named,

@@ -6,18 +6,16 @@ use super::{Named, Terminal};
 use crate::echo::Echoes;
 use crate::site::Site;
 use flow_rules::{Name, Refusal};
-use publisher::NamedLane;
+use publisher::{Ledgers, NamedLane};
 use std::sync::Wait;
-use std::sync::ledger::Ledger;
 use std::thread::Threads;
 use std::time::Clock;
 
 impl<
     'e,
-    L: Ledger + Send + Sync + 'static,
-    D: Ledger + Send + Sync + 'static,
+    L: Ledgers + Send + Sync + 'static,
     R: Print + Clock + Threads + Wait + Copy + Send + Sync + 'static,
-> Terminal<'e, L, D, R> {
+> Terminal<'e, L, R> {
     /// Frees the latest subscription of the name that this word is, which has ended, and gives what is left of it.
     /// Refused 12 if the word is no name, 10 if no subscription has it, and as
     /// [`Publisher::reclaim`](publisher::Publisher::reclaim) is; it stays then, and works on.
@@ -31,13 +29,9 @@ impl<
 
 /// Frees the latest of these subscriptions that has this name, and gives what is left of it. The others keep their
 /// order. If it is refused, all stay.
-fn leave_of<
-    L: Ledger + Send,
-    D: Ledger + Send,
-    R: Print + Clock + Wait + Copy + Send + Sync + 'static,
->(
-    site: &Site<L, D, R>,
-    named: &mut Vec<Named<L, D, R>>,
+fn leave_of<L: Ledgers + Send, R: Print + Clock + Wait + Copy + Send + Sync + 'static>(
+    site: &Site<L, R>,
+    named: &mut Vec<Named<L, R>>,
     name: Name,
 ) -> Result<NamedLane<Echoes<R>>, Refusal>
     ensures leaves { IfOk result (Leaves name named.old.items named.new.items) }
@@ -50,11 +44,10 @@ fn leave_of<
 }
 
 /// The place of the latest of these subscriptions that has this name, ended or not.
-pub(super) fn latest_of<
-    L: Ledger + Send,
-    D: Ledger + Send,
-    R: Print + Clock + Wait + Copy + Send + Sync + 'static,
->(named: &[Named<L, D, R>], name: Name) -> Option<usize>
+pub(super) fn latest_of<L: Ledgers + Send, R: Print + Clock + Wait + Copy + Send + Sync + 'static>(
+    named: &[Named<L, R>],
+    name: Name,
+) -> Option<usize>
     ensures latest { IfSome result (IsLatestOf name named.now) }
     ensures none { IfNone result (NoneIsNamed name named.now 0) }
 {
@@ -67,13 +60,9 @@ pub(super) fn latest_of<
 }
 
 /// Frees the subscription at this place.
-fn leave_at<
-    L: Ledger + Send,
-    D: Ledger + Send,
-    R: Print + Clock + Wait + Copy + Send + Sync + 'static,
->(
-    site: &Site<L, D, R>,
-    named: &mut Vec<Named<L, D, R>>,
+fn leave_at<L: Ledgers + Send, R: Print + Clock + Wait + Copy + Send + Sync + 'static>(
+    site: &Site<L, R>,
+    named: &mut Vec<Named<L, R>>,
     place: usize,
 ) -> Result<NamedLane<Echoes<R>>, Refusal>
     requires { place < length named.old.items }
@@ -84,15 +73,18 @@ fn leave_at<
         name,
         subscription,
         told,
+        on_full,
         is_ending,
     } = named.remove(place);
     match site.publisher.reclaim(&site.rt, site.alloc, subscription) {
         Ok(left) => Ok(left),
-        Err((refusal, subscription)) => {
+        Err(refused) => {
+            let (refusal, subscription) = refused.into_parts();
             let back = Named {
                 name,
                 subscription,
                 told,
+                on_full,
                 is_ending,
             };
             match named.insert(place, back) {

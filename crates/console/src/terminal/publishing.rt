@@ -1,13 +1,13 @@
-//! What concerns all subscriptions: `offer`, `retry`, `submit`, `close` and `fail`.
+//! What concerns all subscriptions: `offer`, `retry`, `submit`, `publish`, `close` and `fail`.
 use super::{PAUSE, Source, Terminal};
+use crate::order::Call;
 use crate::site::Site;
-use crate::source::{MOST_SOURCES, MOST_TEXTS, Texts, start_source};
+use crate::source::{Handed, MOST_SOURCES, MOST_TEXTS, Texts, start_source};
 use commands::Reply;
 use flow_rules::{DropHandler, Ending, Item, Name, NoMemory, Refusal};
 use inbox::Queue;
+use publisher::Ledgers;
 use std::alloc::{AllocError, Global};
-use std::sync::atomic::Ordering::SeqCst;
-use std::sync::ledger::Ledger;
 use std::sync::{Arc, Wait};
 use std::thread;
 use std::thread::{Scope, Threads};
@@ -15,10 +15,9 @@ use std::time::{Clock, Duration};
 
 impl<
     'e,
-    L: Ledger + Send + Sync + 'static,
-    D: Ledger + Send + Sync + 'static,
+    L: Ledgers + Send + Sync + 'static,
     R: Print + Clock + Threads + Wait + Copy + Send + Sync + 'static,
-> Terminal<'e, L, D, R> {
+> Terminal<'e, L, R> {
     /// Offers a text.
     pub(super) fn offer(&mut self, text: &[u8]) -> Result<Reply, Refusal> {
         let site = self.site;
@@ -40,9 +39,10 @@ impl<
     /// subscription until a later line requests, it is said, unless another text waits already. It waits while
     /// [`MOST_TEXTS`] wait for the source. Refused 11 if they wait for demand: only a line that comes later can
     /// request.
-    pub(super) fn submit<'s, 'v: 's>(
+    pub(super) fn publish<'s, 'v: 's>(
         &mut self,
         scope: &'s Scope<'s, &'v ()>,
+        call: Call,
         number: u32,
         text: &[u8],
     ) -> Result<(), Refusal>
@@ -51,19 +51,19 @@ impl<
     {
         let texts = self.texts_of(scope, number)?;
         let site = self.site;
-        let copy = copy_of(site.alloc, text)?;
-        if site.unanswered.fetch_add(1, SeqCst) == 0 {
-            self.say_waiting(number);
+        let text = copy_of(site.alloc, text)?;
+        if site.count(call) {
+            self.say_waiting(call, number);
         }
-        let handed = self.hand_to(&texts, copy);
+        let handed = self.hand_to(&texts, Handed { call, text });
         if handed.is_err() {
-            site.unanswered.fetch_sub(1, SeqCst);
+            site.discount(call);
         }
         handed
     }
 
     /// Says for whom a source is about to wait, if it is.
-    fn say_waiting(&self, number: u32) {
+    fn say_waiting(&self, call: Call, number: u32) {
         let Some(named) = self.stuck() else {
             return;
         };
@@ -75,19 +75,20 @@ impl<
         let room = publisher.max_buffer_capacity();
         // The screen keeps what has failed, and the terminal looks there.
         let _ = screen.say(format_args!(
-            "= submit {number} waits for {} ({room} of {room})",
+            "= {} {number} waits for {} ({room} of {room})",
+            call.word(),
             named.name
         ));
     }
 
     /// Hands a text to the thread of a source, once there is room for it.
-    fn hand_to(&self, texts: &Texts, text: Vec<u8>) -> Result<(), Refusal> {
+    fn hand_to(&self, texts: &Texts, handed: Handed) -> Result<(), Refusal> {
         let rt = &self.site.rt;
-        let mut left = text;
+        let mut left = handed;
         for _ in rt.forever() {
             match texts.try_push(rt, left) {
                 Ok(()) => return Ok(()),
-                Err(text) => left = text,
+                Err(handed) => left = handed,
             }
             if self.is_over() {
                 return Err(Refusal::WouldWait);

@@ -4,8 +4,10 @@ ghost use Rattle.std.specs.Prelude.{◌≡◌, []};
 mod board;
 mod closes;
 mod in_order;
+mod known;
 mod late;
 mod parties;
+mod pausing;
 mod putting;
 mod relay;
 

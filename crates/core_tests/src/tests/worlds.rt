@@ -1,6 +1,7 @@
 //! One subscription over all interleavings, event by event.
 mod chance;
 mod errors;
+mod known;
 mod peeks;
 mod table;
 
@@ -45,6 +46,8 @@ const MADE: Parts = Parts {
     producer: Producing::Free,
     handle: Requesting::Idle,
     runner: Runner::Fresh,
+    known_put: 0,
+    known_asked: 0,
 };
 
 const SIGNAL_PUT: Event = Event::Signal(Side::Producer, None);
@@ -123,6 +126,7 @@ const REST_AND_WAKE: [Row<'static>; 5] = [
             given: 1,
             own: 1,
             runner: Runner::Taken,
+            known_put: 1,
             ..MADE
         }),
     ),
@@ -232,6 +236,7 @@ const RACES: [Row<'static>; 6] = [
             active: true,
             producer: Producing::HasPut,
             runner: Runner::Taken,
+            known_put: 2,
             ..MADE
         }),
     ),

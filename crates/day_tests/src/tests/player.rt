@@ -1,6 +1,6 @@
 //! Plays the steps of a day on a stand.
 ghost use Rattle.std.specs.Prelude.{◌≡◌};
-ghost use Rattle.publisher.specs.Blanks.{IsBlankOf};
+ghost use Rattle.publisher.specs.Blanks.{AreBlanksOf};
 
 mod ending;
 mod publishing;
@@ -14,12 +14,13 @@ use super::step::Step;
 use super::told::Told;
 use ending::request_of;
 use flow_rules::Refusal;
-use publisher::{Note, Publisher, PublisherOptions, Submitter, Subscription};
-use senders::{Senders, Sent};
+use publisher::{
+    BlankPair, Ledgers, Note, OnFull, Publisher, PublisherOptions, Submitter, Subscription,
+};
+use senders::{Call, Senders, Sent};
 use std::alloc::Global;
 use std::fmt::Debug;
 use std::sync::atomic::AtomicU64;
-use std::sync::ledger::{Blank, Ledger};
 use std::sync::{Arc, Wait};
 use std::test::Fail;
 use std::thread::Threads;
@@ -28,14 +29,14 @@ use test_stand::{Stand, name_of};
 
 // A stand, and what the steps of a day have done to it.
 #[derive(Drop)]
-struct Player<L: Ledger + Send + Sync + 'static, D: Ledger + Send + Sync + 'static> {
-    stand: Stand<L, D, Heard>,
+struct Player<L: Ledgers + Send + Sync + 'static> {
+    stand: Stand<L, Heard>,
     // Those that are not handed in.
-    kept_submitters: Vec<Submitter<L, D, Heard>>,
-    kept_subscriptions: Vec<Subscription<L, D, Heard>>,
+    kept_submitters: Vec<Submitter<L, Heard>>,
+    kept_subscriptions: Vec<Subscription<L, Heard>>,
     // How many signals were told.
     told: Count,
-    senders: Senders<L, D>,
+    senders: Senders<L>,
     round: u64,
     // Whether a wait did not end.
     is_stuck: bool,
@@ -47,29 +48,17 @@ struct Player<L: Ledger + Send + Sync + 'static, D: Ledger + Send + Sync + 'stat
 }
 
 // Plays a round of a day at a publisher with these options.
-pub fn play<
-    L: Ledger + Send + Sync + 'static,
-    D: Ledger + Send + Sync + 'static,
-    R: Clock + Threads + Wait + Copy + Send + 'static,
->(
+pub fn play<L: Ledgers + Send + Sync + 'static, R: Clock + Threads + Wait + Copy + Send + 'static>(
     rt: R,
     alloc: Global,
-    publications: Blank,
-    drops: Blank,
+    blanks: BlankPair,
     options: PublisherOptions,
     round: u64,
     day: &Day,
 ) -> Result<Told, Fail>
-    requires publications { IsBlankOf publications L.name L.parts }
-    requires drops { IsBlankOf drops D.name D.parts }
+    requires blanks { AreBlanksOf blanks L.publications L.drops }
 {
-    let publisher: Publisher<L, D, Heard> = Publisher::with_options(
-        rt,
-        alloc,
-        publications,
-        drops,
-        options,
-    )?;
+    let publisher: Publisher<L, Heard> = Publisher::with_options(rt, alloc, blanks, options)?;
     let mut player = new_player(alloc, publisher, round)?;
     let mut answers = Vec::new(alloc);
     for (step, _) in day.steps {
@@ -83,11 +72,11 @@ pub fn play<
     Ok(Told { answers, left })
 }
 
-fn new_player<L: Ledger + Send + Sync + 'static, D: Ledger + Send + Sync + 'static>(
+fn new_player<L: Ledgers + Send + Sync + 'static>(
     alloc: Global,
-    publisher: Publisher<L, D, Heard>,
+    publisher: Publisher<L, Heard>,
     round: u64,
-) -> Result<Player<L, D>, Fail> {
+) -> Result<Player<L>, Fail> {
     Ok(Player {
         stand: Stand::of(alloc, publisher),
         kept_submitters: Vec::new(alloc),
@@ -102,7 +91,7 @@ fn new_player<L: Ledger + Send + Sync + 'static, D: Ledger + Send + Sync + 'stat
     })
 }
 
-impl<L: Ledger + Send + Sync + 'static, D: Ledger + Send + Sync + 'static> Player<L, D> {
+impl<L: Ledgers + Send + Sync + 'static> Player<L> {
     // What a step answers.
     fn play<R: Clock + Threads + Wait + Copy + Send + 'static>(
         &mut self,
@@ -110,7 +99,8 @@ impl<L: Ledger + Send + Sync + 'static, D: Ledger + Send + Sync + 'static> Playe
         step: Step,
     ) -> Result<String, Fail> {
         match step {
-            Step::Subscribe(name, demand) => self.subscribe(&rt, name, demand),
+            Step::Subscribe(name, demand) => self.subscribe(&rt, name, OnFull::Wait, demand),
+            Step::Lossy(name, demand) => self.subscribe(&rt, name, OnFull::Drop, demand),
             Step::Refuse(_) | Step::MayRefuse => Ok(self.refuse(step)),
             Step::Request(place, n) => self.request(&rt, place, n),
             Step::Cancel(place) => self.cancel(&rt, place),
@@ -118,7 +108,11 @@ impl<L: Ledger + Send + Sync + 'static, D: Ledger + Send + Sync + 'static> Playe
             Step::Submit(place, bytes) => self.submit(&rt, place, bytes),
             Step::Offer(place, bytes) => self.offer(&rt, place, bytes),
             Step::Ask(place, answer, names) => self.ask(&rt, place, answer, names),
-            Step::Send(texts) => self.send(rt, texts),
+            Step::Publish(place, bytes) => self.publish(&rt, place, bytes),
+            Step::PublishAll(place, lengths) => self.publish_all(&rt, place, lengths),
+            Step::Send(texts) => self.send(rt, texts, Call::Submit),
+            Step::Spread(texts) => self.send(rt, texts, Call::Publish),
+            Step::SpreadAll(texts) => self.send(rt, texts, Call::PublishAll),
             Step::Close | Step::Fail(_) => self.close(&rt, step),
             Step::Closing => self.closing(),
             Step::Looks => self.looks(&rt),
@@ -130,16 +124,25 @@ impl<L: Ledger + Send + Sync + 'static, D: Ledger + Send + Sync + 'static> Playe
     }
 
     // Subscribes, a second time if memory was refused.
-    fn subscribe<R: Wait>(&mut self, rt: &R, name: &str, demand: i64) -> Result<String, Fail> {
+    fn subscribe<R: Wait>(
+        &mut self,
+        rt: &R,
+        name: &str,
+        on_full: OnFull,
+        demand: i64,
+    ) -> Result<String, Fail> {
         let alloc = self.stand.alloc;
         let named = name_of(name)?;
         let subscriber = Heard::new(alloc, &self.told, self.callbacks)?;
         self.callbacks = u32::MAX;
-        let subscribed = match self.stand.publisher.subscribe(rt, alloc, named, subscriber) {
-            Err((Refusal::NoMemory, back)) => self
-                .stand
-                .publisher
-                .subscribe(rt, alloc, named, back),
+        let publisher = &self.stand.publisher;
+        let subscribed = match publisher.subscribe_with(rt, alloc, named, subscriber, on_full) {
+            Err(refused) => match refused.into_parts() {
+                (Refusal::NoMemory, back) => {
+                    publisher.subscribe_with(rt, alloc, named, back, on_full)
+                }
+                parts => Err(parts.into()),
+            },
             other => other,
         };
         match subscribed {
@@ -150,7 +153,7 @@ impl<L: Ledger + Send + Sync + 'static, D: Ledger + Send + Sync + 'static> Playe
                 self.stand.subscriptions.push(subscription)?;
                 Ok(format!(in alloc; "sub {name}")?)
             }
-            Err((refusal, _)) => refused_line(alloc, &refusal),
+            Err(refused) => refused_line(alloc, refused.refusal()),
         }
     }
 

@@ -2,11 +2,11 @@
 //! as if it had not been refused before.
 use super::day::{Day, Other, RefusedDay};
 use super::step::Step::{
-    Cancel, Close, End, Fail, KeepSubscription, MayRefuse, Nap, Offer, Reclaim, Request, Source,
-    Submit, Subscribe,
+    Cancel, Close, End, Fail, KeepSubscription, Lossy, MayRefuse, Nap, Offer, Publish, PublishAll,
+    Reclaim, Request, Source, Submit, Subscribe,
 };
 
-pub const DAYS: [RefusedDay; 7] = [
+pub const DAYS: [RefusedDay; 8] = [
     RefusedDay {
         day: Day {
             name: "it ends in completions, and its text takes memory of its own",
@@ -79,6 +79,63 @@ pub const DAYS: [RefusedDay; 7] = [
                 left: &[
                     "done, published 2, drained",
                     "a Some(Cancelled) 2 + 0 of 0: s",
+                    "b refused",
+                ],
+            },
+        ],
+    },
+    RefusedDay {
+        day: Day {
+            name: "one is waited for and the other loses, and two texts take memory of their own",
+            capacity: 1,
+            steps: &[
+                (MayRefuse, ""),
+                (Subscribe("a", 9), "sub a"),
+                (Lossy("b", 0), "sub b"),
+                (Source, ""),
+                (Nap, ""),
+                (Publish(0, 40), "lag 1 dropped 0"),
+                (Nap, ""),
+                (PublishAll(0, &[1, 40]), "lag 1 lost 2"),
+                (Close, "ok"),
+                (Request(1, 1), ""),
+            ],
+            left: &[
+                "done, published 3, drained",
+                "a Some(Completed) 3 + 0 of 9: s 0.0.40 0.1.1 0.2.40 c",
+                "b Some(Completed) 1 + 2 of 1: s 0.0.40 c",
+            ],
+        },
+        others: &[
+            Other {
+                answers: &[],
+                left: &[
+                    "done, published 3, drained",
+                    "a refused",
+                    "b Some(Completed) 1 + 2 of 1: s 0.0.40 c",
+                ],
+            },
+            Other {
+                answers: &[(8, "lag 0 lost 2")],
+                left: &[
+                    "done, published 3, drained",
+                    "a refused",
+                    "b Some(Completed) 1 + 2 of 1: s 0.0.40 c",
+                ],
+            },
+            Other {
+                answers: &[],
+                left: &[
+                    "done, published 3, drained",
+                    "a Some(Completed) 3 + 0 of 9: s 0.0.40 0.1.1 0.2.40 c",
+                    "b refused",
+                ],
+            },
+            Other {
+                answers: &[(8, "lag 1 lost 0")],
+                left: &[
+                    "done, published 3, drained",
+                    "a Some(Completed) 3 + 0 of 9: s 0.0.40 0.1.1 0.2.40 c",
                     "b refused",
                 ],
             },

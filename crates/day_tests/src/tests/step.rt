@@ -5,6 +5,8 @@
 pub enum Step {
     // One more subscription of this name, which requests this many items, if any.
     Subscribe(&'static str, i64),
+    // The same of a subscription that loses what finds its buffer full, if that is published for such.
+    Lossy(&'static str, i64),
     // The next subscriber is refused memory after this many callbacks.
     Refuse(u32),
     // Any callback may be refused memory.
@@ -19,11 +21,19 @@ pub enum Step {
     // The submitter of this place submits, or offers, a text of this many bytes.
     Submit(usize, usize),
     Offer(usize, usize),
+    // It publishes a text of this many bytes, as the subscriptions ask for it.
+    Publish(usize, usize),
+    // It publishes texts of these many bytes by one call, in the same way.
+    PublishAll(usize, &'static [usize]),
     // It offers a text of one byte with a handler of drops that always answers so, and is asked about the subscribers
     // of these names, each of one letter.
     Ask(usize, bool, &'static str),
     // The last submitter goes to a thread of its own, and submits this many texts of one byte there.
     Send(u64),
+    // The same, but it publishes them as the subscriptions ask for it.
+    Spread(u64),
+    // The same by one call, but the second text has two bytes, the third three, and so on.
+    SpreadAll(u64),
     // The threads had time enough to find no room, and to sleep.
     Nap,
     // Some turns of this thread, another number in each round.

@@ -1,7 +1,4 @@
 use Rattle.deliveries_bench.proofs.alone_run.Given as goal
 
-abbrev pub ghosts-measure_alone-L-Ledger : goal.ghosts-measure_alone-L-Ledger
-ghosts-measure_alone-L-Ledger g a = record { name = a.publications.name; parts = a.publications.parts }
-
-abbrev pub ghosts-measure_alone-D-Ledger : goal.ghosts-measure_alone-D-Ledger
-ghosts-measure_alone-D-Ledger g a = record { name = a.drops.name; parts = a.drops.parts }
+abbrev pub ghosts-measure_alone : goal.ghosts-measure_alone
+ghosts-measure_alone g a = record { publications = a.blanks.publications.name; drops = a.blanks.drops.name }

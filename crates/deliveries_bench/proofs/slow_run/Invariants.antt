@@ -1,7 +1,4 @@
 use Rattle.deliveries_bench.proofs.slow_run.Given as goal
 
-abbrev pub ghosts-measure_slow-L-Ledger : goal.ghosts-measure_slow-L-Ledger
-ghosts-measure_slow-L-Ledger g a = record { name = a.publications.name; parts = a.publications.parts }
-
-abbrev pub ghosts-measure_slow-D-Ledger : goal.ghosts-measure_slow-D-Ledger
-ghosts-measure_slow-D-Ledger g a = record { name = a.drops.name; parts = a.drops.parts }
+abbrev pub ghosts-measure_slow : goal.ghosts-measure_slow
+ghosts-measure_slow g a = record { publications = a.blanks.publications.name; drops = a.blanks.drops.name }

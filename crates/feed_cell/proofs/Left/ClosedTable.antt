@@ -12,7 +12,7 @@ use Rattle.feed_core.specs.World.Table.{is_started, is_over, total_of, MayBegin}
 use Rattle.feed_core.proofs.Interleavings.Signalling.{starts_nobody}
 use Rattle.feed_cell.proofs.Table.Outlooks.{reached_kept}
 use Rattle.feed_cell.specs.Cell.{CellRule, words_by}
-use Rattle.feed_cell.specs.Control.{MARK, CANCELLED, number, marked, CONTROL}
+use Rattle.feed_cell.specs.Control.{MARK, CANCELLED, number, marked}
 use Rattle.feed_cell.specs.Left.{OnGuest, lane_with, lane_without, IsLeftOf}
 use Rattle.flow_rules.specs.Feed.{End}
 use Rattle.feed_cell.specs.TaskAnswers.{IsNoted}
@@ -22,6 +22,9 @@ use Rattle.feed_cell.specs.declared.cell.Lodger.{Lodger}
 use Rattle.feed_cell.specs.declared.cell.View.{View}
 use Rattle.feed_cell.proofs.Left.Lane.{IsSafe, lodges_safe, left_there, left_away}
 use Rattle.feed_cell.proofs.Words.Marks.{unmark, marked_by, unmarked_by, large_by}
+use Rattle.feed_cell.specs.WordPlaces.{place}
+use Rattle.feed_cell.specs.declared.cell.words.Word.{Word}
+use Rattle.feed_cell.proofs.Words.FourWords.{head_in, tail_in, asked_in, control_in}
 
 -- a fact of who is in a slot, if that is known
 of_guest : {B : Type 0} (P : Lodger B → Type 0) (held : Held B) (g : Lodger B) → held ≡ Held.Guest g → OnGuest held P → P g
@@ -29,7 +32,7 @@ of_guest P held g is on = subst (λ h. OnGuest h P) is on
 
 module _ {B : Type 0} (told : B → List Signal) (answered : B → List Reply) (cap id : ℕ) (v : View) (words : List ℕ) (slots : List (Held B)) (last : Final (Seen (CellRule told cap) id v) words slots) (puts : v.puts ≡ true) (begins : MayBegin v.producing)
     (head tail asked control : ℕ) (held : Held B) (left : Lane B)
-    (heads : get_elem? words 0 ≡ some head) (tails : get_elem? words 1 ≡ some tail) (asks : get_elem? words 2 ≡ some asked) (controls : get_elem? words CONTROL ≡ some control)
+    (heads : get_elem? words (place v.capacity Word.Head) ≡ some head) (tails : get_elem? words (place v.capacity Word.Tail) ≡ some tail) (asks : get_elem? words (place v.capacity Word.Asked) ≡ some asked) (controls : get_elem? words (place v.capacity Word.Control) ≡ some control)
     (holds : get_elem? slots (length slots - 1) ≡ some held)
     (there : (MARK ≤ head) ⊎ (bit_at control 0 ≡ 0) → OnGuest held (λ guest. (running : Bool) × (running ≡ false → (MARK ≤ head) ⊎ (MARK ≤ asked)) × (running ≡ true → (head < MARK) × (asked < MARK)) × (left ≡ lane_with guest (head % MARK) tail (asked % MARK) (bit_at control CANCELLED == 1) running)))
     (notes : (MARK ≤ head) ⊎ (bit_at control 0 ≡ 0) → OnGuest held (IsNoted answered))
@@ -41,20 +44,23 @@ module _ {B : Type 0} (told : B → List Signal) (answered : B → List Reply) (
   abbrev c : CellRule told cap s
   c = last.1.0
 
-  words_are : words ≡ words_by (marked (is_over c.cell.world.runner) c.cell.world.given) c.cell.world.accepted (marked c.cell.left c.cell.world.asked) c.cell.control
+  words_are : words ≡ words_by cap (marked (is_over c.cell.world.runner) c.cell.world.given) c.cell.world.accepted (marked c.cell.left c.cell.world.asked) c.cell.control
   words_are = sym last.2 ∙ c.words
 
+  there_by : (word : Word) → get_elem? words (place v.capacity word) ≡ get_elem? words (place cap word)
+  there_by word = ap (λ (m : ℕ). get_elem? words (place m word)) (c.producers id v last.1.1 puts).1.sized
+
   head_is : head ≡ marked (is_over c.cell.world.runner) c.cell.world.given
-  head_is = slot.some-injective head (marked (is_over c.cell.world.runner) c.cell.world.given) (sym heads ∙ ap (λ ws. get_elem? ws 0) words_are)
+  head_is = slot.some-injective head (marked (is_over c.cell.world.runner) c.cell.world.given) (sym heads ∙ there_by Word.Head ∙ head_in _ _ _ _ _ _ words_are)
 
   tail_is : tail ≡ c.cell.world.accepted
-  tail_is = slot.some-injective tail c.cell.world.accepted (sym tails ∙ ap (λ ws. get_elem? ws 1) words_are)
+  tail_is = slot.some-injective tail c.cell.world.accepted (sym tails ∙ there_by Word.Tail ∙ tail_in _ _ _ _ _ _ words_are)
 
   asked_is : asked ≡ marked c.cell.left c.cell.world.asked
-  asked_is = slot.some-injective asked (marked c.cell.left c.cell.world.asked) (sym asks ∙ ap (λ ws. get_elem? ws 2) words_are)
+  asked_is = slot.some-injective asked (marked c.cell.left c.cell.world.asked) (sym asks ∙ there_by Word.Asked ∙ asked_in _ _ _ _ _ _ words_are)
 
   control_is : control ≡ c.cell.control
-  control_is = slot.some-injective control c.cell.control (sym controls ∙ ap (λ ws. get_elem? ws CONTROL) words_are)
+  control_is = slot.some-injective control c.cell.control (sym controls ∙ there_by Word.Control ∙ control_in _ _ _ _ _ _ words_are)
 
   -- the mark of a cancel in the word control
   abbrev cancel_word : Bool

@@ -19,12 +19,15 @@ use Rattle.feed_cell.specs.ProducerSteps.{HasFreeSlot}
 use Rattle.feed_cell.specs.Views.{IsProducer, has_put, has_ask, has_run}
 use Rattle.feed_cell.specs.declared.cell.Held.{Held}
 use Rattle.feed_cell.specs.declared.cell.View.{View}
+use Rattle.feed_cell.specs.WordPlaces.{place}
+use Rattle.feed_cell.specs.declared.cell.words.Word.{Word}
+use Rattle.feed_cell.proofs.Words.FourWords.{tail_stored}
 
 module _ {B : Type 0} (told : B → List Signal) where
   -- a store of tail gives the slot back, with the next item
   pub puts_item : (cap n id : ℕ) (v : View) (i new : ℕ) (x : Item) (more : List (ℕ × Held B)) → IsProducer v → v.producing ≡ HasRoom
       → v.places ≡ 1 → v.closing ≡ None → i ≡ length v.put % v.capacity → new ≡ length v.put + 1
-      → Allows (CellRule told cap) n id (v, (i, Held.Item x) ∷ more) 1 (λ _. new) (λ _. IsPut (v, (i, Held.Item x) ∷ more))
+      → Allows (CellRule told cap) n id (v, (i, Held.Item x) ∷ more) (place cap Word.Tail) (λ _. new) (λ _. IsPut (v, (i, Held.Item x) ∷ more))
   puts_item cap n id v i new x more is stage one closed slot_at new_is s c wide at small =
       let k = (c.producers id v at is.0).1 in
       let p = c.cell.world in
@@ -48,7 +51,7 @@ module _ {B : Type 0} (told : B → List Signal) where
           lists = record { sized = c.lists.sized; begins = c.lists.begins ∙ sym (take-append-le (length c.cell.taken + length c.cell.item) c.cell.log (x ∷ []) within); one_out = c.lists.one_out; within = omega arith; above = omega arith; below = omega arith };
           shows = record { sized = c.shows.sized; accepted = omega arith; given = c.shows.given; none_out = c.shows.none_out; started = c.shows.started; new = c.shows.new; causes = c.shows.causes; home = c.shows.home; settled = c.shows.settled };
           reads = c.reads;
-          words = ap (λ (ws : List ℕ). set ws 1 new) c.words ∙ ap (λ (m : ℕ). words_by (marked (is_over p.runner) p.given) m (marked c.cell.left p.asked) c.cell.control) (omega arith);
+          words = tail_stored _ _ _ _ _ _ c.words new ∙ ap (λ (m : ℕ). words_by cap (marked (is_over p.runner) p.given) m (marked c.cell.left p.asked) c.cell.control) (omega arith);
           lies = lies_put cap c.cell.log s.homes (length c.cell.taken) (length c.cell.taken + length c.cell.item) i x c.lists.sized (omega arith) (omega arith) (omega arith) slot_is
               (subst (λ (m : ℕ). Lies cap c.cell.log (length c.cell.taken) (length c.cell.taken + length c.cell.item) m s.homes) free_is c.lies);
           lodges = λ e. lodges_else told cap p.runner c.cell.taken p.own c.cell.answers s.homes (set s.homes i (some (Held.Item x))) (λ y at. stays_home cap c.cell.log s.homes i (length c.cell.log) (some (Held.Item x)) y c.lists.sized slot_is at) (c.lodges e);
@@ -63,8 +66,8 @@ module _ {B : Type 0} (told : B → List Signal) where
   -- the same, of a seat that placed its item
   pub puts_placed : (cap n id : ℕ) (capacity tail : ℕ) (before me : SeatOf B) (i new : ℕ) (x : Item) → HasFreeSlot tail before
       → before.0.capacity ≡ capacity → me ≡ (before.0, (i, Held.Item x) ∷ rest before.1) → i ≡ tail % capacity → new ≡ tail + 1
-      → Allows (CellRule told cap) n id me 1 (λ _. new) (λ _. IsPut me)
+      → Allows (CellRule told cap) n id me (place cap Word.Tail) (λ _. new) (λ _. IsPut me)
   puts_placed cap n id capacity tail before me i new x h sized placed slot_at new_is =
       let at : i ≡ length before.0.put % before.0.capacity = slot_at ∙ ap₂ (λ (a b : ℕ). a % b) (sym h.counted) (sym sized) in
       let next : new ≡ length before.0.put + 1 = new_is ∙ ap (λ (m : ℕ). m + 1) (sym h.counted) in
-      subst (λ (m : SeatOf B). Allows (CellRule told cap) n id m 1 (λ _. new) (λ _. IsPut m)) (sym placed) (puts_item cap n id before.0 i new x (rest before.1) h.is h.stage h.one_out h.closing at next)
+      subst (λ (m : SeatOf B). Allows (CellRule told cap) n id m (place cap Word.Tail) (λ _. new) (λ _. IsPut m)) (sym placed) (puts_item cap n id before.0 i new x (rest before.1) h.is h.stage h.one_out h.closing at next)

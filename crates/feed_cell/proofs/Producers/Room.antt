@@ -22,6 +22,9 @@ use Rattle.feed_cell.specs.Seats.{SeatOf}
 use Rattle.feed_cell.specs.Views.{IsProducer, has_put, has_ask, has_run}
 use Rattle.feed_cell.specs.declared.cell.Held.{Held}
 use Rattle.feed_cell.specs.declared.cell.View.{View}
+use Rattle.feed_cell.specs.WordPlaces.{place}
+use Rattle.feed_cell.specs.declared.cell.words.Word.{Word}
+use Rattle.feed_cell.proofs.Words.FourWords.{head_at, head_loaded}
 
 module _ {B : Type 0} (told : B → List Signal) (cap : ℕ) where
   -- the rule after a look, whatever slot it takes
@@ -30,14 +33,14 @@ module _ {B : Type 0} (told : B → List Signal) (cap : ℕ) where
       → has_ask w ≡ false → has_run w ≡ false → ShowsSame v w → Lists cap c.cell.log c.cell.taken c.cell.item free → Lies cap c.cell.log (length c.cell.taken) (length c.cell.taken + length c.cell.item) free homes
       → (c.cell.away ≡ false → LodgesAt told cap c.cell.world.runner c.cell.taken c.cell.world.own c.cell.answers homes)
       → AsProducer cap c.cell.answers.order c.cell.log c.cell.world.given free (is_over c.cell.world.runner) c.cell.flags.closing c.cell.flags.state (shown_room (has_room c.cell.world)) w
-      → CellRule told cap (record { words = set s.words 0 (slice_index s.words 0); homes = homes; views = set s.views id w })
+      → CellRule told cap (record { words = set s.words (place cap Word.Head) (slice_index s.words (place cap Word.Head)); homes = homes; views = set s.views id w })
   room_kept s c id v w free homes at is may asks runs same lists lies lodges knows = record {
     cell = record c.cell { world = after Room c.cell.world; free = free };
     reached = reached_more Room id v w c.reached may at (inl is.0) same (stays_same c.cell.world.runner);
     lists = lists;
     shows = record { sized = c.shows.sized; accepted = c.shows.accepted; given = c.shows.given; none_out = c.shows.none_out; started = c.shows.started; new = c.shows.new; causes = c.shows.causes; home = c.shows.home; settled = c.shows.settled };
     reads = c.reads;
-    words = ap (λ (ws : List ℕ). set ws 0 (slice_index ws 0)) c.words;
+    words = head_loaded _ _ _ _ _ _ c.words;
     lies = lies;
     lodges = lodges;
     producers = mine has_put c.cell.producer _ _ s.views id v w c.producers at is.0 knows;
@@ -55,7 +58,7 @@ module _ {B : Type 0} (told : B → List Signal) (cap : ℕ) where
     pub stays : v.over ≡ true → ended ≡ true
 
   finds : (s : State (Held B) View) (c : CellRule told cap s) (id : ℕ) (v : View) → get_elem? s.views id ≡ some v → v.puts ≡ true
-      → Found v (slice_index s.words 0) c.cell.world.given (is_over c.cell.world.runner)
+      → Found v (slice_index s.words (place cap Word.Head)) c.cell.world.given (is_over c.cell.world.runner)
   finds s c id v at puts =
       let k = (c.producers id v at puts).1 in
       let kept = reached_kept c.reached in
@@ -67,7 +70,7 @@ module _ {B : Type 0} (told : B → List Signal) (cap : ℕ) where
       let sized : c.cell.world.capacity ≡ cap = c.shows.sized in
       let own : v.capacity ≡ cap = k.sized in
       let seen : v.seen ≤ c.cell.world.given = k.seen in
-      record { found_is = ap (λ (ws : List ℕ). slice_index ws 0) c.words; small = omega arith; grows = seen; put = omega arith; fits = omega arith; stays = k.over }
+      record { found_is = head_at _ _ _ _ _ _ c.words; small = omega arith; grows = seen; put = omega arith; fits = omega arith; stays = k.over }
 
   -- if there is room, by the numbers
   room_there : (w : Parts) → is_over w.runner ≡ false → w.accepted < w.given + w.capacity → w.given ≤ w.accepted
@@ -105,12 +108,12 @@ module _ {B : Type 0} (told : B → List Signal) (cap : ℕ) (s : State (Held B)
 
   -- no slot is taken
   stays : (p : Producing) → shown_room (has_room c.cell.world) ≡ p
-      → CellRule told cap (record { words = set s.words 0 (slice_index s.words 0); homes = s.homes; views = set s.views id (looked p 0) })
+      → CellRule told cap (record { words = set s.words (place cap Word.Head) (slice_index s.words (place cap Word.Head)); homes = s.homes; views = set s.views id (looked p 0) })
   stays p shown = room_kept told cap s c id v (looked p 0) c.cell.free s.homes at is may is.1 is.2 (refl, refl, refl) c.lists c.lies c.lodges (knows p 0 c.cell.free shown (free_is ∙ omega arith))
 
   -- the next slot is
   takes_place : length c.cell.log < length c.cell.taken + cap → shown_room (has_room c.cell.world) ≡ HasRoom
-      → CellRule told cap (record { words = set s.words 0 (slice_index s.words 0); homes = set s.homes (length v.put % v.capacity) slot.none; views = set s.views id (looked HasRoom 1) })
+      → CellRule told cap (record { words = set s.words (place cap Word.Head) (slice_index s.words (place cap Word.Head)); homes = set s.homes (length v.put % v.capacity) slot.none; views = set s.views id (looked HasRoom 1) })
   takes_place room shown =
       let within : length c.cell.taken + length c.cell.item ≤ length c.cell.log = c.lists.within in
       let l = c.lists in
@@ -122,7 +125,7 @@ module _ {B : Type 0} (told : B → List Signal) (cap : ℕ) (s : State (Held B)
       (knows HasRoom 1 (length c.cell.log + 1) shown refl)
 
   abbrev Outcome : Type 0
-  Outcome = (w : View) × (a : Act (Held B)) × Valid s.homes more a × CellRule told cap (stepped s 0 (slice_index s.words 0) id more w a) × FindsRoom (v, more) (slice_index s.words 0) (w, carried_after more a)
+  Outcome = (w : View) × (a : Act (Held B)) × Valid s.homes more a × CellRule told cap (stepped s (place cap Word.Head) (slice_index s.words (place cap Word.Head)) id more w a) × FindsRoom (v, more) (slice_index s.words (place cap Word.Head)) (w, carried_after more a)
 
   decides : (over : Bool) → is_over c.cell.world.runner ≡ over → Outcome
   decides true e =
@@ -164,7 +167,7 @@ module _ {B : Type 0} (told : B → List Signal) (cap : ℕ) (s : State (Held B)
   begun false = inl refl
 
   abbrev Standing : Type 0
-  Standing = (w : View) × (a : Act (Held B)) × Valid s.homes more a × CellRule told cap (stepped s 0 (slice_index s.words 0) id more w a) × FindsHead (v, more) (slice_index s.words 0) (w, carried_after more a)
+  Standing = (w : View) × (a : Act (Held B)) × Valid s.homes more a × CellRule told cap (stepped s (place cap Word.Head) (slice_index s.words (place cap Word.Head)) id more w a) × FindsHead (v, more) (slice_index s.words (place cap Word.Head)) (w, carried_after more a)
 
   stand_here : Standing
   stand_here =
@@ -179,10 +182,10 @@ module _ {B : Type 0} (told : B → List Signal) (cap : ℕ) (s : State (Held B)
 module _ {B : Type 0} (told : B → List Signal) where
   -- a load of head takes the next slot out if it is free
   pub rooms : (cap n id : ℕ) (me : SeatOf B) → IsProducer me.0 → me.0.places ≡ 0 → MayBegin me.0.producing
-      → Allows (CellRule told cap) n id me 0 (λ n. n) (FindsRoom me)
+      → Allows (CellRule told cap) n id me (place cap Word.Head) (λ n. n) (FindsRoom me)
   rooms cap n id me is none_out begins s c wide at small = decides told cap s c id me.0 me.1 at is none_out begins (is_over c.cell.world.runner) refl
 
   -- a load of head
   pub stands : (cap n id : ℕ) (me : SeatOf B) → IsProducer me.0 → me.0.places ≡ 0 → MayBegin me.0.producing
-      → Allows (CellRule told cap) n id me 0 (λ n. n) (FindsHead me)
+      → Allows (CellRule told cap) n id me (place cap Word.Head) (λ n. n) (FindsHead me)
   stands cap n id me is none_out begins s c wide at small = stand_here told cap s c id me.0 me.1 at is none_out begins

@@ -35,13 +35,13 @@ module _ {B : Type 0} (told : B → List Signal) (cap : ℕ) where
         lists = c.lists;
         shows = record { sized = c.shows.sized; accepted = c.shows.accepted; given = c.shows.given; none_out = λ _. none_out; started = c.shows.started ∙ ap is_started coming; new = c.shows.new; causes = c.shows.causes; home = λ _. inside; settled = settled };
         reads = c.reads;
-        words = c.words ∙ ap (λ (r : Runner). words_by (marked (is_over r) p.given) p.accepted (marked c.cell.left p.asked) c.cell.control) coming;
+        words = c.words ∙ ap (λ (r : Runner). words_by cap (marked (is_over r) p.given) p.accepted (marked c.cell.left p.asked) c.cell.control) coming;
         lies = c.lies;
         lodges = λ e. (let g : LodgesAt told cap Coming c.cell.taken p.own c.cell.answers s.homes = subst (λ (r : Runner). LodgesAt told cap r c.cell.taken p.own c.cell.answers s.homes) coming (c.lodges e) in record { guest = g.guest; at = g.at; given_is = g.given_is; own_is = g.own_is; answers_are = g.answers_are; how_is = g.how_is; told_is = g.told_is });
         producers = added has_put c.cell.producer _ (set s.views id left) (running_handed v) producers refl;
         handles = added has_ask c.cell.handle _ (set s.views id left) (running_handed v) handles refl;
         runners = comes has_run _ s.views id left (running_handed v) (λ j d at has. (let seat = (c.runners j d at has).1.seated in let not : false ≡ true = sym (ap has_seat coming) ∙ seat in cc)) runs
-            (record { sized = sized; ordered = ordered; seated = refl; stands = refl; out = sym inside; knows = λ e. (let not : false ≡ true = sym inside ∙ e in cc); fresh = λ e. cc; item_is = sym none_out; latest = λ e. cc });
+            (record { sized = sized; ordered = ordered; seated = refl; stands = refl; out = sym inside; knows = λ e. (let not : false ≡ true = sym inside ∙ e in cc); fresh = λ e. cc; item_is = sym none_out; latest = λ e. cc; saw_put = omega arith; saw_asked = omega arith });
       }
 
   -- by the producer

@@ -10,6 +10,12 @@ use Rattle.feed_cell.specs.Signals.{IsHanded, IsSent, MaySignal, MustHandOver}
 use Rattle.feed_cell.specs.Views.{handed}
 use Rattle.feed_cell.specs.declared.cell.View.{View}
 use Rattle.feed_cell.proofs.Signals.Step.{sent_stays}
+use Rattle.feed_cell.proofs.Words.FourWords.{HasPart}
+
+-- a party that may signal has a part
+pub signals_part : (cause : Option Cause) (v : View) → MaySignal cause v → HasPart v
+signals_part cause v (inl may) = inl may.0.0
+signals_part cause v (inr may) = inr (inl may.0.1)
 
 -- whether the task was started, by the bit that was found
 pub started_by : (b : Bool) (word : ℕ) → bit_at word 0 ≡ number b → bit_at word 0 ≡ 1 → b ≡ true

@@ -11,7 +11,7 @@ use Rattle.feed_cell.proofs.Table.Seats.{mine, other}
 use Rattle.feed_cell.proofs.Tasks.Stages.{starts, lodges_started}
 use Rattle.feed_cell.proofs.Table.Tallies.{stays_started}
 use Rattle.feed_cell.specs.Cell.{Only, CellRule, AsProducer, AsHandle, words_by}
-use Rattle.feed_cell.specs.Control.{Flags, number, Reads, signal_of, both, marked, CONTROL}
+use Rattle.feed_cell.specs.Control.{Flags, number, Reads, signal_of, both, marked}
 use Rattle.feed_cell.specs.Outlooks.{IsReachedBy}
 use Rattle.feed_cell.specs.Seats.{SeatOf}
 use Rattle.feed_cell.specs.Signals.{sent, Signals}
@@ -19,6 +19,9 @@ use Rattle.feed_cell.specs.Signals.{MaySignal}
 use Rattle.feed_cell.specs.Views.{IsProducer, IsHandle, has_put, has_ask, has_run}
 use Rattle.feed_cell.specs.declared.cell.Held.{Held}
 use Rattle.feed_cell.specs.declared.cell.View.{View}
+use Rattle.feed_cell.specs.WordPlaces.{place}
+use Rattle.feed_cell.specs.declared.cell.words.Word.{Word}
+use Rattle.feed_cell.proofs.Words.FourWords.{control_at, control_stored}
 
 -- at most one of two closings
 one_closing : (cause : Option Cause) (p : Producing) (closing : Option Ending) → ProducerMay cause p closing
@@ -43,7 +46,7 @@ module _ {B : Type 0} (told : B → List Signal) (cap : ℕ) where
       → (c.cell.left ≡ true → handle ≡ Idle) → has_run w ≡ false
       → Only has_put c.cell.producer (AsProducer cap c.cell.answers.order c.cell.log c.cell.world.given c.cell.free (is_over (started c.cell.world.runner)) (both (signal_of cause) c.cell.flags).closing (both (signal_of cause) c.cell.flags).state producer) (set s.views id w)
       → Only has_ask c.cell.handle (AsHandle cap c.cell.answers.order c.cell.world.asked (both (signal_of cause) c.cell.flags).cancel (both (signal_of cause) c.cell.flags).argument c.cell.left handle) (set s.views id w)
-      → CellRule told cap (record { words = set s.words CONTROL (bit_or (slice_index s.words CONTROL) mask); homes = s.homes; views = set s.views id w })
+      → CellRule told cap (record { words = set s.words (place cap Word.Control) (bit_or (slice_index s.words (place cap Word.Control)) mask); homes = s.homes; views = set s.views id w })
   signal_kept s c cause mask producer handle id w sets one reached settled runs producers handles =
       let p = c.cell.world in
       let a = adds cause c.cell.flags c.cell.answers in
@@ -58,14 +61,14 @@ module _ {B : Type 0} (told : B → List Signal) (cap : ℕ) where
         lists = c.lists;
         shows = record { sized = c.shows.sized; accepted = c.shows.accepted; given = c.shows.given; none_out = λ e. c.shows.none_out (sym st.holds ∙ e); started = a.run ∙ sym st.runs; new = a.active; causes = ap (joined cause) c.shows.causes ∙ a.causes; home = λ e. c.shows.home (sym st.seat ∙ e); settled = settled };
         reads = reads_or c.reads sets one;
-        words = ap (λ (ws : List ℕ). set ws CONTROL (bit_or (slice_index ws CONTROL) mask)) c.words ∙ ap (λ b. words_by (marked b p.given) p.accepted (marked c.cell.left p.asked) (bit_or c.cell.control mask)) (sym st.over);
+        words = control_stored _ _ _ _ _ _ c.words (bit_or (slice_index s.words (place cap Word.Control)) mask) ∙ ap (λ (m : ℕ). words_by cap (marked (is_over p.runner) p.given) p.accepted (marked c.cell.left p.asked) (bit_or m mask)) (control_at _ _ _ _ _ _ c.words) ∙ ap (λ b. words_by cap (marked b p.given) p.accepted (marked c.cell.left p.asked) (bit_or c.cell.control mask)) (sym st.over);
         lies = c.lies;
         lodges = λ e. lodges_started told cap p.runner c.cell.taken p.own c.cell.answers s.homes (c.lodges e);
         producers = producers;
         handles = handles;
         runners = other has_run c.cell.runner _ _ s.views id w c.runners runs (λ d k. (
             let same = st.same k.seated in
-            record { sized = k.sized; ordered = k.ordered; seated = st.seat ∙ k.seated; stands = k.stands ∙ sym same; out = k.out; knows = k.knows; fresh = λ e. k.fresh (sym same ∙ e); item_is = k.item_is; latest = λ _ e. cc }));
+            record { sized = k.sized; ordered = k.ordered; seated = st.seat ∙ k.seated; stands = k.stands ∙ sym same; out = k.out; knows = k.knows; fresh = λ e. k.fresh (sym same ∙ e); item_is = k.item_is; latest = λ _ e. cc; saw_put = k.saw_put; saw_asked = k.saw_asked }));
       }
 
 -- a signal changes no part of a party, and nothing of what its seat shows of tasks
@@ -115,13 +118,13 @@ producer_knows cap order log given free over f p h (Some (Closing ending)) d may
 module _ {B : Type 0} (told : B → List Signal) where
   -- the mark of the task, in the word that is found
   mark_found : {cap : ℕ} {s : State (Held B) View} (c : CellRule told cap s)
-      → bit_at (slice_index s.words CONTROL) 0 ≡ number (is_started c.cell.world.runner)
-  mark_found c = ap (λ ws. bit_at (slice_index ws CONTROL) 0) c.words ∙ c.reads.run ∙ ap number c.shows.started
+      → bit_at (slice_index s.words (place cap Word.Control)) 0 ≡ number (is_started c.cell.world.runner)
+  mark_found c = ap (λ (m : ℕ). bit_at m 0) (control_at _ _ _ _ _ _ c.words) ∙ c.reads.run ∙ ap number c.shows.started
 
   -- a fetch-or of control, with the producer's cause
   producer_signals : (cap n id : ℕ) (me : SeatOf B) (mask : ℕ) (cause : Option Cause) → IsProducer me.0
       → ProducerMay cause me.0.producing me.0.closing → Reads mask (signal_of cause)
-      → Allows (CellRule told cap) n id me CONTROL (λ n. bit_or n mask) (Signals cause me)
+      → Allows (CellRule told cap) n id me (place cap Word.Control) (λ n. bit_or n mask) (Signals cause me)
   producer_signals cap n id me mask cause is may sets s c wide at small =
       let v : View = me.0 in
       let k = (c.producers id v at is.0).1 in
@@ -147,7 +150,7 @@ module _ {B : Type 0} (told : B → List Signal) where
   -- and with the handle's
   handle_signals : (cap n id : ℕ) (me : SeatOf B) (mask : ℕ) (cause : Option Cause) → IsHandle me.0 → HandleMay cause me.0.requesting
       → me.0.left ≡ false → Reads mask (signal_of cause)
-      → Allows (CellRule told cap) n id me CONTROL (λ n. bit_or n mask) (Signals cause me)
+      → Allows (CellRule told cap) n id me (place cap Word.Control) (λ n. bit_or n mask) (Signals cause me)
   handle_signals cap n id me mask cause is may stays_on sets s c wide at small =
       let v : View = me.0 in
       let k = (c.handles id v at is.1).1 in
@@ -170,6 +173,6 @@ module _ {B : Type 0} (told : B → List Signal) where
 
   -- of either
   pub signals : (cap n id : ℕ) (me : SeatOf B) (mask : ℕ) (cause : Option Cause) → MaySignal cause me.0 → Reads mask (signal_of cause)
-      → Allows (CellRule told cap) n id me CONTROL (λ n. bit_or n mask) (Signals cause me)
+      → Allows (CellRule told cap) n id me (place cap Word.Control) (λ n. bit_or n mask) (Signals cause me)
   signals cap n id me mask cause (inl may) sets = producer_signals cap n id me mask cause may.0 may.1 sets
   signals cap n id me mask cause (inr may) sets = handle_signals cap n id me mask cause may.0 may.1 may.2 sets

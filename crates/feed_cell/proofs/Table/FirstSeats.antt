@@ -1,6 +1,6 @@
 -- How a subscription's table starts, how its maker's seat becomes three, and how the first task takes its subscriber
 -- with it.
-use Rattle.std.proofs.Common.{◌≡◌, ℕ, ◌+◌, ◌%◌, ◌<◌, ◌≤◌, true, false, List, [], ◌∷◌, length, map, replicate, slice_index, set, None, sym, refl, ap, ◌∙◌, subst, mod-lt, min, arith, inl, inr}
+use Rattle.std.proofs.Common.{◌≡◌, ℕ, ◌+◌, ◌%◌, ◌<◌, ◌≤◌, true, false, List, [], ◌∷◌, length, map, replicate, set, None, sym, refl, ap, ◌∙◌, subst, mod-lt, min, arith, inl, inr}
 use Rattle.std.proofs.lemmas.List.{length-map, length-replicate}
 use mathlib.Core.Option.{some, none, some-ne-none}
 use lib.ListN.{get_elem?}
@@ -24,7 +24,9 @@ use Rattle.feed_cell.specs.ProducerSteps.{IsProducerOf}
 use Rattle.feed_cell.specs.Views.{IsRunner, RunsFree, first_view, has_put, has_ask, has_run, without_asking, asking_alone, without_running, running_alone}
 use Rattle.feed_cell.specs.declared.cell.Held.{Held}
 use Rattle.feed_cell.specs.declared.cell.View.{View}
-use Rattle.feed_cell.specs.Control.{CONTROL}
+use Rattle.feed_cell.specs.WordPlaces.{place}
+use Rattle.feed_cell.specs.declared.cell.words.Word.{Word}
+use Rattle.feed_cell.proofs.Words.FourWords.{control_loaded}
 
 -- a capacity is positive
 pub holds_one : (cap : ℕ) → IsCapacity cap → 0 < cap
@@ -36,7 +38,7 @@ holds_one cap capacity =
 module _ {B : Type 0} (told : B → List Signal) where
   -- the table at the start
   pub opens : (cap : ℕ) (order : ErrorOrder) → IsCapacity cap
-      → CellRule told cap (opening (words_by 0 0 0 1) (replicate (cap + 1) Held.Empty) (first_view cap order))
+      → CellRule told cap (opening (words_by cap 0 0 0 1) (replicate (cap + 1) Held.Empty) (first_view cap order))
   opens cap order capacity =
       let sized : 0 < cap = holds_one cap capacity in
       let slots : List (Held B) = replicate (cap + 1) Held.Empty in
@@ -70,8 +72,8 @@ module _ {B : Type 0} (told : B → List Signal) where
         lodges = λ _. home cap (omega arith);
         producers = alone has_put (AsProducer cap order [] 0 0 false None false Free) (first_view cap order) (record { sized = refl; ordered = refl; put = refl; seen = omega arith; places = refl; over = λ e. cc; closed = refl; doubled = refl; stands = refl });
         handles = alone has_ask (AsHandle cap order 0 false false false Idle) (first_view cap order) (record { sized = refl; ordered = refl; total = refl; cancels = refl; bad = refl; leaves = refl; stands = refl });
-        runners = alone has_run (AsRunner cap Fresh false 1 false [] [] 0 (no_causes_in order)) (first_view cap order)
-            (record { sized = refl; ordered = refl; seated = refl; stands = refl; out = refl; knows = λ e. cc; fresh = λ _. record { taken_is = refl; own_is = refl; answers_are = refl }; item_is = refl; latest = λ e. cc });
+        runners = alone has_run (AsRunner cap Fresh false 1 false [] [] 0 (no_causes_in order) 0 0) (first_view cap order)
+            (record { sized = refl; ordered = refl; seated = refl; stands = refl; out = refl; knows = λ e. cc; fresh = λ _. record { taken_is = refl; own_is = refl; answers_are = refl }; item_is = refl; latest = λ e. cc; saw_put = omega arith; saw_asked = omega arith });
       }
 
   -- the first task gets a seat of its own
@@ -95,7 +97,7 @@ module _ {B : Type 0} (told : B → List Signal) where
         handles = added has_ask c.cell.handle _ (set s.views id (without_running v)) (running_alone v)
             (mine has_ask c.cell.handle _ _ s.views id v (without_running v) c.handles at asks (record { sized = h.sized; ordered = h.ordered; total = h.total; cancels = h.cancels; bad = h.bad; leaves = h.leaves; stands = h.stands })) refl;
         runners = moved has_run c.cell.runner _ _ s.views id v (without_running v) (running_alone v) c.runners at runs refl
-            (record { sized = r.sized; ordered = r.ordered; seated = r.seated; stands = r.stands; out = r.out; knows = λ e. (let k = r.knows e in record { taken_is = k.taken_is; own_is = k.own_is; answers_are = k.answers_are }); fresh = λ e. (let k = r.fresh e in record { taken_is = k.taken_is; own_is = k.own_is; answers_are = k.answers_are }); item_is = r.item_is; latest = r.latest });
+            (record { sized = r.sized; ordered = r.ordered; seated = r.seated; stands = r.stands; out = r.out; knows = λ e. (let k = r.knows e in record { taken_is = k.taken_is; own_is = k.own_is; answers_are = k.answers_are }); fresh = λ e. (let k = r.fresh e in record { taken_is = k.taken_is; own_is = k.own_is; answers_are = k.answers_are }); item_is = r.item_is; latest = r.latest; saw_put = r.saw_put; saw_asked = r.saw_asked });
       }
 
   -- the handle gets a seat of its own
@@ -123,7 +125,7 @@ module _ {B : Type 0} (told : B → List Signal) where
 
   -- a load takes the subscriber's slot out
   pub enters : (cap n id : ℕ) (v : View) (more : List (ℕ × Held B)) → IsRunner v → v.runner ≡ Fresh → v.away ≡ false
-      → Allows (CellRule told cap) n id (v, more) CONTROL (λ n. n) (λ _. Enters (v, more))
+      → Allows (CellRule told cap) n id (v, more) (place cap Word.Control) (λ n. n) (λ _. Enters (v, more))
   enters cap n id v more is fresh home s c wide at small =
       let k = (c.runners id v at is.2).1 in
       let stage : c.cell.world.runner ≡ Fresh = sym k.stands ∙ fresh in
@@ -140,14 +142,14 @@ module _ {B : Type 0} (told : B → List Signal) where
           lists = c.lists;
           shows = record { sized = c.shows.sized; accepted = c.shows.accepted; given = c.shows.given; none_out = c.shows.none_out; started = c.shows.started; new = c.shows.new; causes = c.shows.causes; home = λ e. (let h = k.seated in cc); settled = c.shows.settled };
           reads = c.reads;
-          words = ap (λ (ws : List ℕ). set ws CONTROL (slice_index ws CONTROL)) c.words;
+          words = control_loaded _ _ _ _ _ _ c.words;
           lies = subst (λ (j : ℕ). Lies cap c.cell.log (length c.cell.taken) (length c.cell.taken + length c.cell.item) c.cell.free (set s.homes j none)) (sym k.sized)
               (lies_guest cap c.cell.log s.homes (length c.cell.taken) (length c.cell.taken + length c.cell.item) c.cell.free none c.lists.sized c.lies);
           lodges = λ e. cc;
           producers = other has_put c.cell.producer _ _ s.views id w c.producers is.0 (λ d p. p);
           handles = other has_ask c.cell.handle _ _ s.views id w c.handles is.1 (λ d h. h);
           runners = mine has_run c.cell.runner _ _ s.views id v w c.runners at is.2
-              (record { sized = k.sized; ordered = k.ordered; seated = k.seated; stands = k.stands; out = refl; knows = λ _. record { taken_is = knows.taken_is; own_is = knows.own_is; answers_are = knows.answers_are }; fresh = λ _. record { taken_is = knows.taken_is; own_is = knows.own_is; answers_are = knows.answers_are }; item_is = k.item_is; latest = k.latest });
+              (record { sized = k.sized; ordered = k.ordered; seated = k.seated; stands = k.stands; out = refl; knows = λ _. record { taken_is = knows.taken_is; own_is = knows.own_is; answers_are = knows.answers_are }; fresh = λ _. record { taken_is = knows.taken_is; own_is = knows.own_is; answers_are = knows.answers_are }; item_is = k.item_is; latest = k.latest; saw_put = k.saw_put; saw_asked = k.saw_asked });
         },
         refl,
       )

@@ -1,5 +1,5 @@
 -- The handle's stores of asked.
-use Rattle.std.proofs.Common.{◌≡◌, ℕ, ◌+◌, ◌≤◌, true, false, true≢false, List, set, sym, refl, ap, ◌∙◌, inl, inr}
+use Rattle.std.proofs.Common.{◌≡◌, ℕ, ◌+◌, ◌≤◌, true, false, true≢false, List, sym, refl, ap, ◌∙◌, inl, inr}
 use Rattle.atomic_table.specs.Table.{keeps, Allows}
 use Rattle.feed_core.specs.Prelude.{Signal, total_after}
 use Rattle.feed_core.specs.World.Table.{is_over, after}
@@ -13,11 +13,14 @@ use Rattle.feed_cell.specs.HandleSteps.{IsAsk, Leaves}
 use Rattle.feed_cell.specs.Seats.{SeatOf}
 use Rattle.feed_cell.specs.Views.{IsHandle, has_put, has_ask, has_run}
 use Rattle.feed_cell.specs.declared.cell.View.{View}
+use Rattle.feed_cell.specs.WordPlaces.{place}
+use Rattle.feed_cell.specs.declared.cell.words.Word.{Word}
+use Rattle.feed_cell.proofs.Words.FourWords.{asked_stored}
 
 module _ {B : Type 0} (told : B → List Signal) where
   -- a store of asked
   pub asks_more : (cap n id : ℕ) (me : SeatOf B) (new m : ℕ) → IsHandle me.0 → me.0.requesting ≡ Idle → me.0.left ≡ false → 1 ≤ m
-      → new ≡ total_after me.0.asked m → Allows (CellRule told cap) n id me 2 (λ _. new) (λ _. IsAsk me new)
+      → new ≡ total_after me.0.asked m → Allows (CellRule told cap) n id me (place cap Word.Asked) (λ _. new) (λ _. IsAsk me new)
   asks_more cap n id me new m is idle stays some new_is s c wide at small =
       let v : View = me.0 in
       let k = (c.handles id v at is.1).1 in
@@ -34,7 +37,7 @@ module _ {B : Type 0} (told : B → List Signal) where
           lists = c.lists;
           shows = record { sized = c.shows.sized; accepted = c.shows.accepted; given = c.shows.given; none_out = c.shows.none_out; started = c.shows.started; new = c.shows.new; causes = c.shows.causes; home = c.shows.home; settled = λ e. absurd (true≢false (sym e ∙ here)) };
           reads = c.reads;
-          words = ap (λ (ws : List ℕ). set ws 2 new) c.words ∙ ap (λ (a : ℕ). words_by (marked (is_over p.runner) p.given) p.accepted a c.cell.control) (total ∙ ap (λ b. marked b (total_after p.asked m)) (sym here));
+          words = asked_stored _ _ _ _ _ _ c.words new ∙ ap (λ (a : ℕ). words_by cap (marked (is_over p.runner) p.given) p.accepted a c.cell.control) (total ∙ ap (λ b. marked b (total_after p.asked m)) (sym here));
           lies = c.lies;
           lodges = c.lodges;
           producers = other has_put c.cell.producer _ _ s.views id w c.producers is.0 (λ d k. k);
@@ -46,7 +49,7 @@ module _ {B : Type 0} (told : B → List Signal) where
 
   -- a store of asked with its mark
   pub leaves : (cap n id : ℕ) (me : SeatOf B) (new : ℕ) → IsHandle me.0 → me.0.requesting ≡ Idle → new ≡ me.0.asked + MARK
-      → Allows (CellRule told cap) n id me 2 (λ _. new) (λ _. Leaves me)
+      → Allows (CellRule told cap) n id me (place cap Word.Asked) (λ _. new) (λ _. Leaves me)
   leaves cap n id me new is idle new_is s c wide at small =
       let v : View = me.0 in
       let k = (c.handles id v at is.1).1 in
@@ -62,7 +65,7 @@ module _ {B : Type 0} (told : B → List Signal) where
           lists = c.lists;
           shows = record { sized = c.shows.sized; accepted = c.shows.accepted; given = c.shows.given; none_out = c.shows.none_out; started = c.shows.started; new = c.shows.new; causes = c.shows.causes; home = c.shows.home; settled = λ _. sym k.stands ∙ idle };
           reads = c.reads;
-          words = ap (λ (ws : List ℕ). set ws 2 new) c.words ∙ ap (λ (a : ℕ). words_by (marked (is_over p.runner) p.given) p.accepted a c.cell.control) total;
+          words = asked_stored _ _ _ _ _ _ c.words new ∙ ap (λ (a : ℕ). words_by cap (marked (is_over p.runner) p.given) p.accepted a c.cell.control) total;
           lies = c.lies;
           lodges = c.lodges;
           producers = other has_put c.cell.producer _ _ s.views id w c.producers is.0 (λ d k. k);

@@ -5,6 +5,7 @@ use lib.ListN.{get_elem?}
 use Rattle.feed_core.specs.Prelude.{How}
 use Rattle.feed_core.specs.World.Table.{is_started, is_over, started}
 use Rattle.feed_core.specs.World.Runs.{WorldState, Steps, Leads}
+use Rattle.feed_core.proofs.Interleavings.Signalling.{started_by}
 use Rattle.feed_cell.specs.Types.{Event, Runner, Nobody, Coming, Fresh, Ready, Looked, Saw, Measured, Taken, Over}
 use Rattle.feed_cell.specs.Outlooks.{one_rest, rest_between, miss_between, hand_between, count_in, count_along, shown_count, HasPart}
 use Rattle.feed_cell.specs.declared.cell.View.{View}
@@ -89,15 +90,9 @@ pub stays_same : (r : Runner) → Stays r r
 stays_same r = record { none_rested = none_where (is_started r); none_missed = unmissed_same r; none_handed = unhanded_same r; over = λ how e. e }
 
 pub stays_started : (r : Runner) → Stays r (started r)
-stays_started Nobody = record { none_rested = refl; none_missed = refl; none_handed = refl; over = λ how e. (let clash : false ≡ true = ap is_over e in cc) }
-stays_started Coming = stays_same Coming
-stays_started Fresh = stays_same Fresh
-stays_started Ready = stays_same Ready
-stays_started (Looked c) = stays_same (Looked c)
-stays_started (Saw c t) = stays_same (Saw c t)
-stays_started (Measured c t a) = stays_same (Measured c t a)
-stays_started Taken = stays_same Taken
-stays_started (Over how) = stays_same (Over how)
+stays_started r = started_by Stays r
+    (record { none_rested = refl; none_missed = refl; none_handed = refl; over = λ how e. (let clash : false ≡ true = ap is_over e in cc) })
+    (λ _. stays_same r)
 
 -- of a task that goes on, and is not ready then
 pub stays_on : (r later : Runner) → is_over r ≡ false → is_started later ≡ true → (later ≡ Ready → ⊥) → Stays r later

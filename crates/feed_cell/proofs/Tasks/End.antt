@@ -22,6 +22,9 @@ use Rattle.feed_cell.specs.Views.{IsRunner, has_put, has_ask, has_run}
 use Rattle.feed_cell.specs.declared.cell.Held.{Held}
 use Rattle.feed_cell.specs.declared.cell.Lodger.{Lodger}
 use Rattle.feed_cell.specs.declared.cell.View.{View}
+use Rattle.feed_cell.specs.WordPlaces.{place}
+use Rattle.feed_cell.specs.declared.cell.words.Word.{Word}
+use Rattle.feed_cell.proofs.Words.FourWords.{head_stored}
 
 -- the cause of an end joins those of the answers
 ends_causes : (how : How) (f : Flags) (answers : Causes) → with_cause_of how (causes_of f answers) ≡ causes_of f (with_cause_of how answers)
@@ -88,7 +91,7 @@ module _ {B : Type 0} (told : B → List Signal) where
   pub ends : (replied : B → List Reply) (cap n id : ℕ) (v : View) (g : Lodger B) (more : List (ℕ × Held B)) (new : ℕ) (how : How)
       → IsRunner v → v.away ≡ true → MayEnd how (length v.taken) v.runner → v.item ≡ [] → new ≡ length v.taken + MARK
       → g.given ≡ length v.taken → g.own ≡ v.own → AreAfterEnd how v.runner v.answers g.answers → g.how ≡ Some how → IsToldAtEnd how v.taken (told g.subscriber)
-      → Allows (CellRule told cap) n id (v, (v.capacity, Held.Guest g) ∷ more) 0 (λ _. new) (λ _. IsEnd replied (v, (v.capacity, Held.Guest g) ∷ more))
+      → Allows (CellRule told cap) n id (v, (v.capacity, Held.Guest g) ∷ more) (place cap Word.Head) (λ _. new) (λ _. IsEnd replied (v, (v.capacity, Held.Guest g) ∷ more))
   ends replied cap n id v g more new how is out may none_out new_is given_is own_is answers_are how_is told_is s c wide at small =
       let k = (c.runners id v at is.2).1 in
       let p = c.cell.world in
@@ -115,7 +118,7 @@ module _ {B : Type 0} (told : B → List Signal) where
           lists = c.lists;
           shows = record { sized = c.shows.sized; accepted = c.shows.accepted; given = c.shows.given; none_out = λ _. item_is; started = c.shows.started ∙ seat.runs; new = c.shows.new; causes = causes_there; home = λ _. refl; settled = c.shows.settled };
           reads = c.reads;
-          words = ap (λ (ws : List ℕ). set ws 0 new) c.words ∙ ap (λ (m : ℕ). words_by m p.accepted (marked c.cell.left p.asked) c.cell.control) (new_is ∙ ap (λ (m : ℕ). m + MARK) same);
+          words = head_stored _ _ _ _ _ _ c.words new ∙ ap (λ (m : ℕ). words_by cap m p.accepted (marked c.cell.left p.asked) c.cell.control) (new_is ∙ ap (λ (m : ℕ). m + MARK) same);
           lies = subst (λ (j : ℕ). Lies cap c.cell.log (length c.cell.taken) (length c.cell.taken + length c.cell.item) c.cell.free (set s.homes j (some (Held.Guest g)))) (sym k.sized)
               (lies_guest cap c.cell.log s.homes (length c.cell.taken) (length c.cell.taken + length c.cell.item) c.cell.free (some (Held.Guest g)) c.lists.sized c.lies);
           lodges = λ _. record { guest = g; at = changed s.homes v.capacity cap (some (Held.Guest g)) (sym k.sized) (let wide = c.lies.wide in let sized : v.capacity ≡ cap = k.sized in omega arith); given_is = given_is ∙ ap length know.taken_is; own_is = own_is ∙ know.own_is; answers_are = refl; how_is = how_is; told_is = subst (λ (l : List Item). IsToldAtEnd how l (told g.subscriber)) know.taken_is told_is };

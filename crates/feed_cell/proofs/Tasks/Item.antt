@@ -34,7 +34,7 @@ module _ {B : Type 0} where
   pub takes_next : (before there measured after : SeatOf B) (x : Item) (found word : ℕ) → MaySee before.0.runner
       → length before.0.taken < found → length before.0.taken < UNBOUNDED
       → SeesPut before found there → (m : Measures there word measured) → length before.0.taken < total_after m.asked before.0.own
-      → after ≡ (record measured.0 { taken = measured.0.taken ++ x ∷ []; item = []; grants = measured.0.grants ++ grants_by measured.0.requested measured.0.runner; runner = Taken }, rest measured.1)
+      → after ≡ (record measured.0 { taken = measured.0.taken ++ x ∷ []; item = []; grants = measured.0.grants ++ grants_by measured.0.requested measured.0.own measured.0.runner; runner = Taken }, rest measured.1)
       → TakesNext x before after
   takes_next before there measured after x found word may more few s m wanted took =
       let saw = s.waits more in
@@ -44,10 +44,11 @@ module _ {B : Type 0} where
       record {
         granted = record { causes = may.0; asked = total; requested = m.asked; counts = same; ordered = λ stood. subst (IsInOrder before.0.order) may.1 stood; runs_on = may.2; wanted = enough };
         few = few;
+        known_put = found;
         took = took
-            ∙ ap (λ (t : SeatOf B). (record t.0 { taken = t.0.taken ++ x ∷ []; item = []; grants = t.0.grants ++ grants_by t.0.requested t.0.runner; runner = Taken }, rest t.1)) (m.wanted (subst (λ (t : SeatOf B). length t.0.taken < total) (sym saw.1) enough))
-            ∙ ap (λ (t : SeatOf B). (record t.0 { taken = t.0.taken ++ x ∷ []; item = []; grants = t.0.grants ++ grants_by m.asked (measuring total t.0.runner); runner = Taken; requested = m.asked }, rest t.1)) saw.1
-            ∙ ap (λ (r : Runner). (record before.0 { taken = before.0.taken ++ x ∷ []; item = []; grants = before.0.grants ++ grants_by m.asked (measuring total (seeing found r)); runner = Taken; requested = m.asked }, before.1)) may.1;
+            ∙ ap (λ (t : SeatOf B). (record t.0 { taken = t.0.taken ++ x ∷ []; item = []; grants = t.0.grants ++ grants_by t.0.requested t.0.own t.0.runner; runner = Taken }, rest t.1)) (m.wanted (subst (λ (t : SeatOf B). length t.0.taken < total) (sym saw.1) enough))
+            ∙ ap (λ (t : SeatOf B). (record t.0 { taken = t.0.taken ++ x ∷ []; item = []; grants = t.0.grants ++ grants_by m.asked t.0.own (measuring total t.0.runner); runner = Taken; requested = m.asked }, rest t.1)) saw.1
+            ∙ ap (λ (r : Runner). (record before.0 { taken = before.0.taken ++ x ∷ []; item = []; grants = before.0.grants ++ grants_by m.asked before.0.own (measuring total (seeing found r)); runner = Taken; requested = m.asked; known_put = found }, before.1)) may.1;
       }
 
   -- what a measure finds, without its mark, is what was requested
@@ -71,8 +72,8 @@ module _ {B : Type 0} where
         requested = m.asked;
         found = m.measured
             ∙ ap (λ (t : SeatOf B). (record t.0 { runner = measuring total t.0.runner; requested = m.asked }, t.1)) (s.empty all)
-            ∙ ap (λ (r : Runner). (record before.0 { runner = measuring total (seeing found r); requested = m.asked }, before.1)) may.1
-            ∙ ap (λ (l : List Item). (record before.0 { runner = Measured may.0 found total; requested = m.asked; item = l }, before.1)) none_out;
+            ∙ ap (λ (r : Runner). (record before.0 { runner = measuring total (seeing found r); requested = m.asked; known_put = found }, before.1)) may.1
+            ∙ ap (λ (l : List Item). (record before.0 { runner = Measured may.0 found total; requested = m.asked; item = l; known_put = found }, before.1)) none_out;
       }
 
   -- it saw an item, and measured that no more were requested than were taken
@@ -96,5 +97,5 @@ module _ {B : Type 0} where
         requested = m.asked;
         found = m.enough all
             ∙ ap (λ (t : SeatOf B). (record t.0 { runner = measuring total t.0.runner; requested = m.asked; item = [] }, rest t.1)) saw.1
-            ∙ ap (λ (r : Runner). (record before.0 { runner = measuring total (seeing found r); requested = m.asked; item = [] }, before.1)) may.1;
+            ∙ ap (λ (r : Runner). (record before.0 { runner = measuring total (seeing found r); requested = m.asked; item = []; known_put = found }, before.1)) may.1;
       }

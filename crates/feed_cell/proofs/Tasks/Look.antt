@@ -14,7 +14,7 @@ use Rattle.feed_cell.proofs.Table.Seats.{mine, other}
 use Rattle.feed_cell.proofs.Tasks.Stages.{seated}
 use Rattle.feed_cell.proofs.Table.Tallies.{Stays, stays_on}
 use Rattle.feed_cell.specs.Cell.{Lies, CellRule, AsProducer, AsRunner, LodgesAt, may_hold, words_by}
-use Rattle.feed_cell.specs.Control.{Flags, Reads, causes_of, marked, QUIET, CONTROL}
+use Rattle.feed_cell.specs.Control.{Flags, Reads, causes_of, marked, QUIET}
 use Rattle.feed_cell.specs.Outlooks.{IsReachedBy}
 use Rattle.feed_cell.specs.Seats.{SeatOf}
 use Rattle.feed_cell.specs.TaskPlays.{after_causes, cleared, untouched, LooksOut, PeeksFirst}
@@ -24,6 +24,9 @@ use Rattle.feed_cell.specs.Views.{IsRunner, has_put, has_ask, has_run}
 use Rattle.feed_cell.specs.declared.cell.Held.{Held}
 use Rattle.feed_cell.specs.declared.cell.Lodger.{Lodger}
 use Rattle.feed_cell.specs.declared.cell.View.{View}
+use Rattle.feed_cell.specs.WordPlaces.{place}
+use Rattle.feed_cell.specs.declared.cell.words.Word.{Word}
+use Rattle.feed_cell.proofs.Words.FourWords.{control_at, control_stored}
 
 -- what there is after a look or a peek, by what the answers brought about
 abbrev pub looked_with : Bool → ℕ → Causes → Parts → Parts
@@ -68,8 +71,8 @@ module _ {B : Type 0} (told : B → List Signal) (cap : ℕ) where
   -- the rule after a look or a peek that left this word, with its subscriber or for the first time
   look_kept : (s : State (Held B) View) (c : CellRule told cap s) (id : ℕ) (v w : View) (active : Bool) (word own : ℕ) (answers : Causes) (homes : List (slot.Option (Held B))) → c.cell.answers.order ≡ answers.order → get_elem? s.views id ≡ some v → IsRunner v → has_put w ≡ false → has_ask w ≡ false
       → c.cell.item ≡ [] → Reads word (record c.cell.flags { active = active }) → IsReachedBy (set s.views id w) (looked_with active own (causes_of c.cell.flags answers) c.cell.world) → Lies cap c.cell.log (length c.cell.taken) (length c.cell.taken + length c.cell.item) c.cell.free homes
-      → AsRunner cap (Looked (causes_of c.cell.flags answers)) active word true c.cell.taken c.cell.item own answers w
-      → CellRule told cap (record { words = set s.words CONTROL word; homes = homes; views = set s.views id w })
+      → AsRunner cap (Looked (causes_of c.cell.flags answers)) active word true c.cell.taken c.cell.item own answers c.cell.world.known_put c.cell.world.known_asked w
+      → CellRule told cap (record { words = set s.words (place cap Word.Control) word; homes = homes; views = set s.views id w })
   look_kept s c id v w active word own answers homes same_order at is puts asks none_out reads reached lies knows =
       let p = c.cell.world in
       let k = (c.runners id v at is.2).1 in
@@ -86,7 +89,7 @@ module _ {B : Type 0} (told : B → List Signal) (cap : ℕ) where
         lists = c.lists;
         shows = record { sized = c.shows.sized; accepted = c.shows.accepted; given = c.shows.given; none_out = λ _. none_out; started = c.shows.started ∙ seat.runs; new = refl; causes = refl; home = λ e. cc; settled = c.shows.settled };
         reads = reads;
-        words = ap (λ (ws : List ℕ). set ws CONTROL word) c.words ∙ ap (λ b. words_by (marked b p.given) p.accepted (marked c.cell.left p.asked) word) seat.over;
+        words = control_stored _ _ _ _ _ _ c.words word ∙ ap (λ b. words_by cap (marked b p.given) p.accepted (marked c.cell.left p.asked) word) seat.over;
         lies = lies;
         lodges = λ e. cc;
         producers = other has_put c.cell.producer _ _ s.views id w c.producers puts (λ d o. subst (λ (order : ErrorOrder). AsProducer cap order c.cell.log p.given c.cell.free false c.cell.flags.closing c.cell.flags.state p.producer d) same_order (subst (λ b. AsProducer cap c.cell.answers.order c.cell.log p.given c.cell.free b c.cell.flags.closing c.cell.flags.state p.producer d) seat.over o));
@@ -107,22 +110,22 @@ few_taken told cap s c same =
 
 -- what is found in control
 control_found : {B : Type 0} {told : B → List Signal} {cap : ℕ} {s : State (Held B) View} (c : CellRule told cap s)
-    → Reads (slice_index s.words CONTROL) c.cell.flags
-control_found c = subst (λ (m : ℕ). Reads m c.cell.flags) (sym (ap (λ ws. slice_index ws CONTROL) c.words)) c.reads
+    → Reads (slice_index s.words (place cap Word.Control)) c.cell.flags
+control_found c = subst (λ (m : ℕ). Reads m c.cell.flags) (sym (control_at _ _ _ _ _ _ c.words)) c.reads
 
 module _ {B : Type 0} (told : B → List Signal) where
   -- a look or a peek with the subscriber
   looks_by : (cap id : ℕ) (v : View) (i : ℕ) (g : Lodger B) (more : List (ℕ × Held B)) (answer : Answer) (event : Event) (active : Bool) (left_of : ℕ → ℕ) → IsRunner v → v.away ≡ true → v.item ≡ [] → g.own ≡ own_after answer v.own → g.answers ≡ answers_after answer v.answers
       → (s : State (Held B) View) (c : CellRule told cap s) → get_elem? s.views id ≡ some v → IsPossible event c.cell.world → after event c.cell.world ≡ looked_with active (own_after answer c.cell.world.own) (causes_of c.cell.flags (answers_after answer c.cell.answers)) c.cell.world
-      → Reads (left_of (slice_index s.words CONTROL)) (record c.cell.flags { active = active })
-      → (w : View) × (a : Act (Held B)) × Valid s.homes ((i, Held.Guest g) ∷ more) a × CellRule told cap (stepped s CONTROL (left_of (slice_index s.words CONTROL)) id ((i, Held.Guest g) ∷ more) w a) × LooksOut left_of (v, (i, Held.Guest g) ∷ more) (slice_index s.words CONTROL) (w, carried_after ((i, Held.Guest g) ∷ more) a)
+      → Reads (left_of (slice_index s.words (place cap Word.Control))) (record c.cell.flags { active = active })
+      → (w : View) × (a : Act (Held B)) × Valid s.homes ((i, Held.Guest g) ∷ more) a × CellRule told cap (stepped s (place cap Word.Control) (left_of (slice_index s.words (place cap Word.Control))) id ((i, Held.Guest g) ∷ more) w a) × LooksOut left_of (v, (i, Held.Guest g) ∷ more) (slice_index s.words (place cap Word.Control)) (w, carried_after ((i, Held.Guest g) ∷ more) a)
   looks_by cap id v i g more answer event active left_of is out none_out own_is answers_are s c at here effect reads =
       let k = (c.runners id v at is.2).1 in
       let p = c.cell.world in
       let know = k.knows (sym k.out ∙ out) in
       let own_there : own_after answer p.own ≡ g.own = ap (own_after answer) (sym know.own_is) ∙ sym own_is in
       let answers_there : answers_after answer c.cell.answers ≡ g.answers = ap (answers_after answer) (sym know.answers_are) ∙ sym answers_are in
-      let word : ℕ = left_of (slice_index s.words CONTROL) in
+      let word : ℕ = left_of (slice_index s.words (place cap Word.Control)) in
       let same_order : c.cell.answers.order ≡ g.answers.order = sym (answered_order answer c.cell.answers) ∙ ap (λ (z : Causes). z.order) answers_there in
       let w : View = after_causes v word c.cell.flags g.own g.answers v.taken in
       let there : after event p ≡ looked_with active g.own (causes_of c.cell.flags g.answers) p = effect ∙ ap₂ (λ (a : ℕ) (b : Causes). looked_with active a (causes_of c.cell.flags b) p) own_there answers_there in
@@ -133,29 +136,29 @@ module _ {B : Type 0} (told : B → List Signal) where
         keeps,
         tt,
         look_kept told cap s c id v w active word g.own g.answers s.homes same_order at is is.0 is.1 (sym k.item_is ∙ none_out) reads reached c.lies
-            (record { sized = k.sized; ordered = k.ordered ∙ same_order; seated = refl; stands = refl; out = refl; knows = λ _. record { taken_is = know.taken_is; own_is = refl; answers_are = refl }; fresh = λ e. cc; item_is = k.item_is; latest = λ _ _. refl }),
+            (record { sized = k.sized; ordered = k.ordered ∙ same_order; seated = refl; stands = refl; out = refl; knows = λ _. record { taken_is = know.taken_is; own_is = refl; answers_are = refl }; fresh = λ e. cc; item_is = k.item_is; latest = λ _ _. refl; saw_put = k.saw_put; saw_asked = k.saw_asked }),
         record { flags = record c.cell.flags { active = active }; reads = reads; started = c.shows.started ∙ (seated p.runner k.seated).runs; few = few_taken told cap s c know.taken_is; ordered = sym (k.ordered ∙ same_order); looked = refl },
       )
 
   pub looks : (cap n id : ℕ) (v : View) (i : ℕ) (g : Lodger B) (more : List (ℕ × Held B)) (answer : Answer) → IsRunner v → v.away ≡ true
       → v.item ≡ [] → MayLook answer v.runner → g.own ≡ own_after answer v.own → g.answers ≡ answers_after answer v.answers
-      → Allows (CellRule told cap) n id (v, (i, Held.Guest g) ∷ more) CONTROL (λ n. bit_and n QUIET) (LooksOut cleared (v, (i, Held.Guest g) ∷ more))
+      → Allows (CellRule told cap) n id (v, (i, Held.Guest g) ∷ more) (place cap Word.Control) (λ n. bit_and n QUIET) (LooksOut cleared (v, (i, Held.Guest g) ∷ more))
   looks cap n id v i g more answer is out none_out may own_is answers_are s c wide at small =
       let k = (c.runners id v at is.2).1 in
       looks_by cap id v i g more answer (Look answer) false cleared is out none_out own_is answers_are s c at (subst (MayLook answer) k.stands may) (look_effect answer c.cell.world c.cell.flags c.cell.answers c.shows.causes) (reads_look small (control_found c))
 
   pub peeks : (cap n id : ℕ) (v : View) (i : ℕ) (g : Lodger B) (more : List (ℕ × Held B)) (answer : Answer) → IsRunner v → v.away ≡ true
       → v.item ≡ [] → MayLook answer v.runner → g.own ≡ own_after answer v.own → g.answers ≡ answers_after answer v.answers
-      → Allows (CellRule told cap) n id (v, (i, Held.Guest g) ∷ more) CONTROL (λ n. n) (LooksOut untouched (v, (i, Held.Guest g) ∷ more))
+      → Allows (CellRule told cap) n id (v, (i, Held.Guest g) ∷ more) (place cap Word.Control) (λ n. n) (LooksOut untouched (v, (i, Held.Guest g) ∷ more))
   peeks cap n id v i g more answer is out none_out may own_is answers_are s c wide at small =
       let k = (c.runners id v at is.2).1 in
-      let found : ℕ = slice_index s.words CONTROL in
+      let found : ℕ = slice_index s.words (place cap Word.Control) in
       looks_by cap id v i g more answer (Peek answer) c.cell.world.active untouched is out none_out own_is answers_are s c at (subst (MayLook answer) k.stands may) (peek_effect answer c.cell.world c.cell.flags c.cell.answers c.shows.causes)
       (subst (λ (b : Bool). Reads found (record c.cell.flags { active = b })) c.shows.new (control_found c))
 
   -- the first peek of a task that was handed over takes the subscriber's slot out
   pub peeks_first : (cap n id : ℕ) (me : SeatOf B) → IsRunner me.0 → me.0.away ≡ false → me.0.runner ≡ Ready
-      → Allows (CellRule told cap) n id me CONTROL (λ n. n) (PeeksFirst told me)
+      → Allows (CellRule told cap) n id me (place cap Word.Control) (λ n. n) (PeeksFirst told me)
   peeks_first cap n id me is home ready s c wide at small =
       let v : View = me.0 in
       let k = (c.runners id v at is.2).1 in
@@ -166,7 +169,7 @@ module _ {B : Type 0} (told : B → List Signal) where
       let g = lodge.guest in
       let here : MayLook Answer.Go p.runner = inl (inl stage) in
       let none_out : c.cell.item ≡ [] = c.shows.none_out (ap may_hold stage) in
-      let word : ℕ = slice_index s.words CONTROL in
+      let word : ℕ = slice_index s.words (place cap Word.Control) in
       let reads : Reads word (record c.cell.flags { active = p.active }) = subst (λ (b : Bool). Reads word (record c.cell.flags { active = b })) c.shows.new (control_found c) in
       let same_order : c.cell.answers.order ≡ g.answers.order = ap (λ (z : Causes). z.order) (sym lodge.answers_are) in
       let w : View = after_causes v word c.cell.flags g.own g.answers c.cell.taken in
@@ -179,6 +182,6 @@ module _ {B : Type 0} (told : B → List Signal) where
         look_kept told cap s c id v w p.active word g.own g.answers (set s.homes v.capacity none) same_order at is is.0 is.1 none_out reads reached
             (subst (λ (j : ℕ). Lies cap c.cell.log (length c.cell.taken) (length c.cell.taken + length c.cell.item) c.cell.free (set s.homes j none)) (sym k.sized)
             (lies_guest cap c.cell.log s.homes (length c.cell.taken) (length c.cell.taken + length c.cell.item) c.cell.free none c.lists.sized c.lies))
-            (record { sized = k.sized; ordered = k.ordered ∙ same_order; seated = refl; stands = refl; out = refl; knows = λ _. record { taken_is = refl; own_is = refl; answers_are = refl }; fresh = λ e. cc; item_is = k.item_is; latest = λ _ _. refl }),
+            (record { sized = k.sized; ordered = k.ordered ∙ same_order; seated = refl; stands = refl; out = refl; knows = λ _. record { taken_is = refl; own_is = refl; answers_are = refl }; fresh = λ e. cc; item_is = k.item_is; latest = λ _ _. refl; saw_put = k.saw_put; saw_asked = k.saw_asked }),
         record { flags = record c.cell.flags { active = p.active }; reads = reads; started = c.shows.started ∙ (seated p.runner k.seated).runs; guest = g; taken = c.cell.taken; told_is = lodge.told_is; given = lodge.given_is; how = lodge.how_is; few = few_taken told cap s c refl; ordered = sym (k.ordered ∙ same_order); looked = refl },
       )

@@ -134,7 +134,7 @@ module _ {B : Type 0} (told : B → List Signal) (replied : B → List Reply) wh
       → IsNotedOut replied before → TakesNext x before middle → GivesAs told replied x result middle after seen later
       → Serves told replied result before after seen later
   serves_give x Served.Gave before middle after seen later c n t g =
-      let view : after.0 ≡ record before.0 { runner = Taken; taken = before.0.taken ++ x ∷ []; item = []; grants = before.0.grants ++ grant_of before t.granted ∷ []; requested = t.granted.requested } = g.tells.view ∙ ap (λ (m : SeatOf B). m.0) t.took in
+      let view : after.0 ≡ record before.0 { runner = Taken; taken = before.0.taken ++ x ∷ []; item = []; grants = before.0.grants ++ grant_of before t.granted ∷ []; requested = t.granted.requested; known_put = t.known_put } = g.tells.view ∙ ap (λ (m : SeatOf B). m.0) t.took in
       record {
         item = x;
         granted = by_replies before n t.granted;

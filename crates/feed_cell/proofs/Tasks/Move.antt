@@ -23,25 +23,25 @@ knows_too taken own answers v w a b e k = record { taken_is = a ∙ k.taken_is; 
 
 module _ {B : Type 0} (told : B → List Signal) (cap : ℕ) where
   -- the rule after a step that moves the task and an item
-  pub move_kept : (s : State (Held B) View) (c : CellRule told cap s) (id : ℕ) (v w : View) (stage : Runner) (item : List Item) (words : List ℕ) (homes : List (slot.Option (Held B))) → get_elem? s.views id ≡ some v → IsRunner v
-      → has_put w ≡ false → has_ask w ≡ false → has_seat stage ≡ true → IsReachedBy (set s.views id w) (record c.cell.world { runner = stage }) → (may_hold stage ≡ false → item ≡ [])
+  pub move_kept : (s : State (Held B) View) (c : CellRule told cap s) (id : ℕ) (v w : View) (stage : Runner) (known_put known_asked : ℕ) (item : List Item) (words : List ℕ) (homes : List (slot.Option (Held B))) → get_elem? s.views id ≡ some v → IsRunner v
+      → has_put w ≡ false → has_ask w ≡ false → has_seat stage ≡ true → IsReachedBy (set s.views id w) (record c.cell.world { runner = stage; known_put = known_put; known_asked = known_asked }) → (may_hold stage ≡ false → item ≡ [])
       → Lists cap c.cell.log c.cell.taken item c.cell.free → Lies cap c.cell.log (length c.cell.taken) (length c.cell.taken + length item) c.cell.free homes
-      → words ≡ words_by (marked (is_over c.cell.world.runner) c.cell.world.given) c.cell.world.accepted (marked c.cell.left c.cell.world.asked) c.cell.control
-      → AsRunner cap stage c.cell.world.active c.cell.control true c.cell.taken item c.cell.world.own c.cell.answers w
+      → words ≡ words_by cap (marked (is_over c.cell.world.runner) c.cell.world.given) c.cell.world.accepted (marked c.cell.left c.cell.world.asked) c.cell.control
+      → AsRunner cap stage c.cell.world.active c.cell.control true c.cell.taken item c.cell.world.own c.cell.answers known_put known_asked w
       → CellRule told cap (record { words = words; homes = homes; views = set s.views id w })
-  move_kept s c id v w stage item words homes at is puts asks seat reached none_out lists lies words_are knows =
+  move_kept s c id v w stage known_put known_asked item words homes at is puts asks seat reached none_out lists lies words_are knows =
       let p = c.cell.world in
       let k = (c.runners id v at is.2).1 in
       let old = seated p.runner k.seated in
       let new = seated stage seat in
       let over : is_over p.runner ≡ is_over stage = old.over ∙ sym new.over in
       record {
-        cell = record c.cell { world = record p { runner = stage }; item = item; away = true };
+        cell = record c.cell { world = record p { runner = stage; known_put = known_put; known_asked = known_asked }; item = item; away = true };
         reached = reached;
         lists = lists;
         shows = record { sized = c.shows.sized; accepted = c.shows.accepted; given = c.shows.given; none_out = none_out; started = c.shows.started ∙ old.runs ∙ sym new.runs; new = c.shows.new; causes = c.shows.causes; home = λ e. (let not : true ≡ false = sym seat ∙ e in cc); settled = c.shows.settled };
         reads = c.reads;
-        words = words_are ∙ ap (λ b. words_by (marked b p.given) p.accepted (marked c.cell.left p.asked) c.cell.control) over;
+        words = words_are ∙ ap (λ b. words_by cap (marked b p.given) p.accepted (marked c.cell.left p.asked) c.cell.control) over;
         lies = lies;
         lodges = λ e. cc;
         producers = other has_put c.cell.producer _ _ s.views id w c.producers puts (λ d o. subst (λ b. AsProducer cap c.cell.answers.order c.cell.log p.given c.cell.free b c.cell.flags.closing c.cell.flags.state p.producer d) over o);

@@ -19,13 +19,16 @@ use Rattle.feed_cell.proofs.Table.Seats.{other, spent}
 use Rattle.feed_cell.proofs.Tasks.Stages.{seated}
 use Rattle.feed_cell.proofs.Table.Tallies.{has_none}
 use Rattle.feed_cell.specs.Cell.{Lies, CellRule, AsProducer, greeted, has_looked, words_by}
-use Rattle.feed_cell.specs.Control.{Reads, number, marked, RESTING, CONTROL}
+use Rattle.feed_cell.specs.Control.{Reads, number, marked, RESTING}
 use Rattle.feed_cell.specs.Outlooks.{IsReachedBy, miss_between, hand_between}
 use Rattle.feed_cell.specs.TaskPlays.{IsRest}
 use Rattle.feed_cell.specs.Views.{IsRunner, has_put, has_ask, has_run}
 use Rattle.feed_cell.specs.declared.cell.Held.{Held}
 use Rattle.feed_cell.specs.declared.cell.Lodger.{Lodger}
 use Rattle.feed_cell.specs.declared.cell.View.{View}
+use Rattle.feed_cell.specs.WordPlaces.{place}
+use Rattle.feed_cell.specs.declared.cell.words.Word.{Word}
+use Rattle.feed_cell.proofs.Words.FourWords.{control_at, control_loaded, control_stored}
 
 -- whether something is new, by the bit that was found
 quiet_by : (b : Bool) (word : ℕ) → bit_at word 1 ≡ number b → bit_at word 1 ≡ 0 → b ≡ false
@@ -33,7 +36,7 @@ quiet_by false word e none_there = refl
 quiet_by true word e none_there = absurd (omega arith)
 
 module _ {B : Type 0} (told : B → List Signal) (replied : B → List Reply) (cap : ℕ) (s : State (Held B) View) (c : CellRule told cap s) (id : ℕ) (v : View) (g : Lodger B) (more : List (ℕ × Held B)) (look : ℕ) (at : get_elem? s.views id ≡ some v)
-    (is : IsRunner v) (out : v.away ≡ true) (may : MayRest (length v.taken) v.runner) (none_out : v.item ≡ []) (look_is : look ≡ v.look) (small : slice_index s.words CONTROL < 18446744073709551616) where
+    (is : IsRunner v) (out : v.away ≡ true) (may : MayRest (length v.taken) v.runner) (none_out : v.item ≡ []) (look_is : look ≡ v.look) (small : slice_index s.words (place cap Word.Control) < 18446744073709551616) where
   there : MayRest c.cell.world.given c.cell.world.runner
   there =
       let k = (c.runners id v at is.2).1 in
@@ -41,15 +44,15 @@ module _ {B : Type 0} (told : B → List Signal) (replied : B → List Reply) (c
       subst (MayRest c.cell.world.given) k.stands (subst (λ (m : ℕ). MayRest m v.runner) (ap length know.taken_is ∙ sym c.shows.given) may)
 
   abbrev Outcome : ℕ → Type 0
-  Outcome new = (w : View) × (a : Act (Held B)) × Valid s.homes ((v.capacity, Held.Guest g) ∷ more) a × CellRule told cap (stepped s CONTROL new id ((v.capacity, Held.Guest g) ∷ more) w a)
-      × IsRest replied look (v, (v.capacity, Held.Guest g) ∷ more) (slice_index s.words CONTROL) (w, carried_after ((v.capacity, Held.Guest g) ∷ more) a)
+  Outcome new = (w : View) × (a : Act (Held B)) × Valid s.homes ((v.capacity, Held.Guest g) ∷ more) a × CellRule told cap (stepped s (place cap Word.Control) new id ((v.capacity, Held.Guest g) ∷ more) w a)
+      × IsRest replied look (v, (v.capacity, Held.Guest g) ∷ more) (slice_index s.words (place cap Word.Control)) (w, carried_after ((v.capacity, Held.Guest g) ∷ more) a)
 
-  found_is : slice_index s.words CONTROL ≡ c.cell.control
-  found_is = ap (λ ws. slice_index ws CONTROL) c.words
+  found_is : slice_index s.words (place cap Word.Control) ≡ c.cell.control
+  found_is = control_at _ _ _ _ _ _ c.words
 
   -- nothing is new: the task rests
   hit : (new : ℕ) → new ≡ bit_and look RESTING → bit_at look 1 ≡ 0 → g.given ≡ length v.taken → g.own ≡ v.own → g.answers ≡ v.answers
-      → g.how ≡ None → told g.subscriber ≡ greeted v.taken → slice_index s.words CONTROL ≡ look → Outcome new
+      → g.how ≡ None → told g.subscriber ≡ greeted v.taken → slice_index s.words (place cap Word.Control) ≡ look → Outcome new
   hit new new_is quiet given_is own_is answers_are how_is told_is same =
       let k = (c.runners id v at is.2).1 in
       let p = c.cell.world in
@@ -70,7 +73,7 @@ module _ {B : Type 0} (told : B → List Signal) (replied : B → List Reply) (c
           lists = c.lists;
           shows = record { sized = c.shows.sized; accepted = c.shows.accepted; given = c.shows.given; none_out = λ _. item_is; started = refl; new = c.shows.new; causes = c.shows.causes; home = λ _. refl; settled = c.shows.settled };
           reads = subst (λ (m : ℕ). Reads m (record c.cell.flags { run = false })) (ap (λ (m : ℕ). bit_and m RESTING) (sym look_here) ∙ sym new_is) (reads_rest (subst (λ (m : ℕ). m < 18446744073709551616) found_is small) c.reads);
-          words = ap (λ (ws : List ℕ). set ws CONTROL new) c.words ∙ ap (λ b. words_by (marked b p.given) p.accepted (marked c.cell.left p.asked) new) seat.over;
+          words = control_stored _ _ _ _ _ _ c.words new ∙ ap (λ b. words_by cap (marked b p.given) p.accepted (marked c.cell.left p.asked) new) seat.over;
           lies = subst (λ (j : ℕ). Lies cap c.cell.log (length c.cell.taken) (length c.cell.taken + length c.cell.item) c.cell.free (set s.homes j (some (Held.Guest g)))) (sym k.sized)
               (lies_guest cap c.cell.log s.homes (length c.cell.taken) (length c.cell.taken + length c.cell.item) c.cell.free (some (Held.Guest g)) c.lists.sized c.lies);
           lodges = λ _. record { guest = g; at = changed s.homes v.capacity cap (some (Held.Guest g)) (sym k.sized) (let wide = c.lies.wide in let sized : v.capacity ≡ cap = k.sized in omega arith); given_is = given_is ∙ ap length know.taken_is; own_is = own_is ∙ know.own_is; answers_are = answers_are ∙ know.answers_are; how_is = how_is; told_is = told_is ∙ ap greeted know.taken_is };
@@ -82,7 +85,7 @@ module _ {B : Type 0} (told : B → List Signal) (replied : B → List Reply) (c
       )
 
   -- something is new
-  missed : (slice_index s.words CONTROL ≡ look → ⊥) → Outcome (slice_index s.words CONTROL)
+  missed : (slice_index s.words (place cap Word.Control) ≡ look → ⊥) → Outcome (slice_index s.words (place cap Word.Control))
   missed differs =
       let k = (c.runners id v at is.2).1 in
       let p = c.cell.world in
@@ -97,8 +100,8 @@ module _ {B : Type 0} (told : B → List Signal) (replied : B → List Reply) (c
         w,
         keeps,
         tt,
-        move_kept told cap s c id v w Ready c.cell.item _ s.homes at is is.0 is.1 refl reached (λ _. item_is) c.lists c.lies (ap (λ (ws : List ℕ). set ws CONTROL (slice_index ws CONTROL)) c.words)
-            (record { sized = k.sized; ordered = k.ordered; seated = refl; stands = refl; out = out; knows = λ _. knows_too c.cell.taken p.own c.cell.answers v w refl refl refl know; fresh = λ e. cc; item_is = k.item_is; latest = λ e. cc }),
+        move_kept told cap s c id v w Ready p.known_put p.known_asked c.cell.item _ s.homes at is is.0 is.1 refl reached (λ _. item_is) c.lists c.lies (control_loaded _ _ _ _ _ _ c.words)
+            (record { sized = k.sized; ordered = k.ordered; seated = refl; stands = refl; out = out; knows = λ _. knows_too c.cell.taken p.own c.cell.answers v w refl refl refl know; fresh = λ e. cc; item_is = k.item_is; latest = λ e. cc; saw_put = k.saw_put; saw_asked = k.saw_asked }),
         record { rested = λ same. absurd (differs same); missed = λ _. refl; sized = refl },
       )
     where
@@ -111,8 +114,8 @@ module _ {B : Type 0} (told : B → List Signal) where
   pub rests : (replied : B → List Reply) (cap n id : ℕ) (v : View) (g : Lodger B) (more : List (ℕ × Held B)) (look new : ℕ) → IsRunner v
       → v.away ≡ true → MayRest (length v.taken) v.runner → v.item ≡ [] → look ≡ v.look → bit_at look 1 ≡ 0 → new ≡ bit_and look RESTING
       → g.given ≡ length v.taken → g.own ≡ v.own → g.answers ≡ v.answers → g.how ≡ None → told g.subscriber ≡ greeted v.taken
-      → Allows (CellRule told cap) n id (v, (v.capacity, Held.Guest g) ∷ more) CONTROL (λ (m : ℕ). either (m == look) new m) (IsRest replied look (v, (v.capacity, Held.Guest g) ∷ more))
+      → Allows (CellRule told cap) n id (v, (v.capacity, Held.Guest g) ∷ more) (place cap Word.Control) (λ (m : ℕ). either (m == look) new m) (IsRest replied look (v, (v.capacity, Held.Guest g) ∷ more))
   rests replied cap n id v g more look new is out may none_out look_is quiet new_is given_is own_is answers_are how_is told_is s c wide at small =
-      exchanged (slice_index s.words CONTROL) look new (Outcome told replied cap s c id v g more look at is out may none_out look_is small)
+      exchanged (slice_index s.words (place cap Word.Control)) look new (Outcome told replied cap s c id v g more look at is out may none_out look_is small)
       (hit told replied cap s c id v g more look at is out may none_out look_is small new new_is quiet given_is own_is answers_are how_is told_is)
       (missed told replied cap s c id v g more look at is out may none_out look_is small)

@@ -2,6 +2,7 @@
 use Rattle.std.proofs.Common.{◌≡◌, ℕ, true, false, List, None, refl}
 use Rattle.feed_core.specs.Prelude.{Item, Signal}
 use Rattle.feed_core.specs.World.Table.{is_started, is_over, started}
+use Rattle.feed_core.proofs.Interleavings.Signalling.{started_by}
 use Rattle.feed_cell.specs.Types.{Causes, Runner, Nobody, Coming, Fresh, Ready, Looked, Saw, Measured, Taken, Over}
 use mathlib.Core.Option as slot
 use mathlib.Core.Option.{some}
@@ -9,24 +10,18 @@ use lib.ListN.{get_elem?}
 use Rattle.feed_cell.specs.declared.cell.Held.{Held}
 use Rattle.feed_cell.specs.Cell.{has_seat, may_hold, how_of, LodgesAt}
 
--- a task that was started or started again
-pub record Started (r : Runner) : Type 0 where
-  pub runs : is_started (started r) ≡ true
-  pub over : is_over (started r) ≡ is_over r
-  pub seat : has_seat (started r) ≡ has_seat r
-  pub holds : may_hold (started r) ≡ may_hold r
-  pub same : has_seat r ≡ true → started r ≡ r
+-- what a signal that starts a task, or finds it started, leaves as it is
+pub record Started (before later : Runner) : Type 0 where
+  pub runs : is_started later ≡ true
+  pub over : is_over later ≡ is_over before
+  pub seat : has_seat later ≡ has_seat before
+  pub holds : may_hold later ≡ may_hold before
+  pub same : has_seat before ≡ true → later ≡ before
 
-pub starts : (r : Runner) → Started r
-starts Nobody = record { runs = refl; over = refl; seat = refl; holds = refl; same = λ e. cc }
-starts Coming = record { runs = refl; over = refl; seat = refl; holds = refl; same = λ e. refl }
-starts Fresh = record { runs = refl; over = refl; seat = refl; holds = refl; same = λ e. refl }
-starts Ready = record { runs = refl; over = refl; seat = refl; holds = refl; same = λ e. refl }
-starts (Looked c) = record { runs = refl; over = refl; seat = refl; holds = refl; same = λ e. refl }
-starts (Saw c t) = record { runs = refl; over = refl; seat = refl; holds = refl; same = λ e. refl }
-starts (Measured c t a) = record { runs = refl; over = refl; seat = refl; holds = refl; same = λ e. refl }
-starts Taken = record { runs = refl; over = refl; seat = refl; holds = refl; same = λ e. refl }
-starts (Over how) = record { runs = refl; over = refl; seat = refl; holds = refl; same = λ e. refl }
+pub starts : (r : Runner) → Started r (started r)
+starts r = started_by Started r
+    (record { runs = refl; over = refl; seat = refl; holds = refl; same = λ e. cc })
+    (λ on. record { runs = on; over = refl; seat = refl; holds = refl; same = λ e. refl })
 
 -- a task that has a seat
 pub record Seated (r : Runner) : Type 0 where
@@ -61,12 +56,7 @@ lodges_else told cap (Over how) taken own answers homes later stays g = record {
 -- a task is started, and who lodges stays
 pub lodges_started : {B : Type 0} (told : B → List Signal) (cap : ℕ) (r : Runner) (taken : List Item) (own : ℕ) (answers : Causes) (homes : List (slot.Option (Held B)))
     → LodgesAt told cap r taken own answers homes → LodgesAt told cap (started r) taken own answers homes
-lodges_started told cap Nobody taken own answers homes g = record { guest = g.guest; at = g.at; given_is = g.given_is; own_is = g.own_is; answers_are = g.answers_are; how_is = g.how_is; told_is = g.told_is }
-lodges_started told cap Coming taken own answers homes g = g
-lodges_started told cap Fresh taken own answers homes g = g
-lodges_started told cap Ready taken own answers homes g = g
-lodges_started told cap (Looked c) taken own answers homes g = g
-lodges_started told cap (Saw c t) taken own answers homes g = g
-lodges_started told cap (Measured c t a) taken own answers homes g = g
-lodges_started told cap Taken taken own answers homes g = g
-lodges_started told cap (Over how) taken own answers homes g = g
+lodges_started told cap r taken own answers homes =
+    started_by (λ (before later : Runner). LodgesAt told cap before taken own answers homes → LodgesAt told cap later taken own answers homes) r
+    (λ g. record { guest = g.guest; at = g.at; given_is = g.given_is; own_is = g.own_is; answers_are = g.answers_are; how_is = g.how_is; told_is = g.told_is })
+    (λ _ at. at)

@@ -13,7 +13,7 @@ ghost use Rattle.flow_rules.specs.Feed.{End};
 ghost use Rattle.feed_cell.specs.Left.{IsLeftOf, OnGuest, IsHomeBy, IsLaneWith, lane_without};
 ghost use Rattle.feed_cell.specs.Parties.{HandleState, KnowsEnd, KnowsHandle, not_ready};
 ghost use Rattle.feed_cell.specs.ProducerSteps.{MayOffer};
-ghost use Rattle.feed_cell.specs.Seats.{HasFourWords};
+ghost use Rattle.feed_cell.specs.WordPlaces.{HasItsWords, place, word_count};
 ghost use Rattle.feed_cell.specs.TaskAnswers.{IsNoted};
 
 use self::joined::{Gather, join_if_of_one_table};
@@ -21,7 +21,8 @@ use super::handle::Handle;
 use super::handle::steps::leave;
 use super::producer::Producer;
 use super::seated::Seated;
-use super::{ASKED, CANCELLED, CONTROL, CellSeat, CellTable, HEAD, Held, Lodger, MARK, RUN, TAIL};
+use super::words::{Word, place_of};
+use super::{CANCELLED, CellSeat, CellTable, Held, Lodger, MARK, RUN};
 use atomic_table::Closed;
 use feed_core::Lane;
 use flow_rules::{Listener, UNBOUNDED};
@@ -44,9 +45,9 @@ pub fn close<B: Listener>(producer: Producer<B>, handle: Handle<B>) -> Result<La
     ensures back { IfErr result (λ back. back ≡ not_ready producer) }
 {
     let mut asking = step_out(handle);
-    let (table, mut seat) = unshared(producer)?;
+    let (table, mut seat, capacity) = unshared(producer)?;
     join_if_of_one_table::<_, _, _, _, Gather>(&table.shared, &mut seat, &mut asking);
-    Ok(take_apart(table, seat))
+    Ok(take_apart(table, seat, capacity))
 }
 
 /// The handle makes its last step. Its seat, which knows what it requested, comes back.
@@ -65,12 +66,15 @@ fn step_out<B: Listener>(handle: Handle<B>) -> CellSeat<B>
     party.into_seat()
 }
 
-/// Takes the table out with the producer's seat, if nobody else shares it. Otherwise the producer's end comes back, not
-/// ready.
-fn unshared<B: Listener>(producer: Producer<B>) -> Result<(CellTable<B>, CellSeat<B>), Producer<B>>
+/// Takes the table out with the producer's seat and the capacity, if nobody else shares it. Otherwise the producer's
+/// end comes back, not ready.
+fn unshared<B: Listener>(
+    producer: Producer<B>,
+) -> Result<(CellTable<B>, CellSeat<B>, u64), Producer<B>>
     ensures seat { IfOk result (λ parts. parts.1.table_id ≡ parts.0.shared.table_id) }
     ensures table { IfOk result (λ parts. parts.1.table_id ≡ producer.table) }
-    ensures words { IfOk result (λ parts. HasFourWords parts.1.table_id) }
+    ensures words { IfOk result (λ parts. HasItsWords parts.2 parts.1.table_id) }
+    ensures sized { IfOk result (λ parts. parts.1.me.0.capacity ≡ parts.2) }
     ensures may { IfOk result (λ parts. MayOffer parts.1.me) }
     ensures knows { IfOk result (λ parts. KnowsEnd producer.end parts.1.me.0) }
     ensures back { IfErr result (λ back. back ≡ not_ready producer) }
@@ -88,7 +92,7 @@ fn unshared<B: Listener>(producer: Producer<B>) -> Result<(CellTable<B>, CellSea
     } = party;
     drop(spare);
     match Arc::try_unwrap(table) {
-        Ok(table) => Ok((table.into_inner(), seat)),
+        Ok(table) => Ok((table.into_inner(), seat, capacity)),
         Err(table) => Err(Producer {
             party: Seated {
                 table,
@@ -104,20 +108,30 @@ fn unshared<B: Listener>(producer: Producer<B>) -> Result<(CellTable<B>, CellSea
 
 /// Takes a subscription apart that nobody shares any more, with the producer's seat, which may have taken the handle's
 /// in.
-fn take_apart<B: Listener>(table: CellTable<B>, seat: CellSeat<B>) -> Lane<B>
-    requires table { (seat.table_id ≡ table.shared.table_id) × HasFourWords seat.table_id }
+fn take_apart<B: Listener>(table: CellTable<B>, seat: CellSeat<B>, capacity: u64) -> Lane<B>
+    requires table { (seat.table_id ≡ table.shared.table_id) × HasItsWords capacity seat.table_id }
+    requires sized { seat.me.0.capacity ≡ capacity }
     requires may { (seat.me.0.puts ≡ true) × MayBegin seat.me.0.producing }
     ensures left { (end : End) (handle : Option HandleState)
         → KnowsEnd end seat.me.0 → IfSome handle (λ handle. KnowsHandle handle seat.me.0)
         → IsLeftOf B.told B.replied end handle result }
 {
     let closed = table.close_with(seat);
-    let head = closed.word(HEAD);
-    let tail = closed.word(TAIL);
-    let asked = closed.word(ASKED);
-    let control = closed.word(CONTROL);
+    let head = word_of(&closed, capacity, Word::Head);
+    let tail = word_of(&closed, capacity, Word::Tail);
+    let asked = word_of(&closed, capacity, Word::Asked);
+    let control = word_of(&closed, capacity, Word::Control);
     let last = last_slot(closed);
     lane_of(head, tail, asked, control, last)
+}
+
+/// What a word of a table says that nobody shares any more.
+fn word_of<B: Listener>(closed: &Closed<Held<B>, Global>, capacity: u64, word: Word) -> u64
+    requires full { IsFull closed.now.words }
+    requires counted { slots_len closed.now.words ≡ word_count capacity }
+    ensures { get_elem? (slots_items closed.now.words) (place capacity word) ≡ some result }
+{
+    closed.word(place_of(capacity, word))
 }
 
 /// What is left, by the words of a subscription and what its subscriber's slot holds.

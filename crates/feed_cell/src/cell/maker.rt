@@ -5,10 +5,11 @@ ghost use Rattle.std.specs.Arc.{arc_value};
 ghost use Rattle.crossbeam_utils.specs.Padded.{padded_value};
 ghost use Rattle.feed_core.specs.LaneCalls.{IsCapacity};
 ghost use Rattle.feed_cell.specs.Parties.{new_producer, new_producer_in, new_handle, new_handle_in, IsNewTask, IsNewTaskIn};
-ghost use Rattle.feed_cell.specs.Seats.{HasFourWords, StepsTo};
+ghost use Rattle.feed_cell.specs.Seats.{StepsTo};
 ghost use Rattle.feed_cell.specs.TaskPlays.{IsUnlodged, HasLodged};
 ghost use Rattle.feed_cell.specs.TaskAnswers.{new_lodger};
 ghost use Rattle.feed_cell.specs.Views.{first_view};
+ghost use Rattle.feed_cell.specs.WordPlaces.{HasItsWords};
 ghost use Rattle.feed_cell.specs.declared.cell.Held.TheVariants as Held;
 
 use super::handle::Handle;
@@ -16,9 +17,8 @@ use super::producer::Producer;
 use super::seated::Seated;
 use super::task::plays::EnterStep;
 use super::task::{Stage, Task};
-use super::{
-    BoxedLodger, CONTROL, CellSeat, CellTable, FIRST_WORDS, Held, Lodger, SharedTable, Terms, View,
-};
+use super::words::{Word, first_words, place_of};
+use super::{BoxedLodger, CellSeat, CellTable, Held, Lodger, SharedTable, Terms, View};
 use atomic_table::Split;
 use crossbeam_utils::CachePadded;
 use feed_core::Causes;
@@ -121,7 +121,7 @@ fn lay<B: Listener>(
     requires capacity { IsCapacity capacity }
     ensures { IfOk result (λ made.
         (made.1.table_id ≡ made.0.shared.table_id)
-        × HasFourWords made.1.table_id
+        × HasItsWords capacity made.1.table_id
         × (made.1.me ≡ (first_view capacity order, []))) }
 {
     let slots = empty_slots::<B>(alloc, capacity + 1)?;
@@ -129,7 +129,7 @@ fn lay<B: Listener>(
         capacity: capacity as u64,
         order,
     };
-    match CellTable::<B>::new(alloc, &FIRST_WORDS, slots, &terms) {
+    match CellTable::<B>::new(alloc, first_words(capacity as u64), slots, &terms) {
         Ok(made) => Ok(made),
         Err(_) => Err(NoMemory),
     }
@@ -209,7 +209,8 @@ fn lodge<B: Listener>(party: &mut Seated<B>, guest: BoxedLodger<B>)
     ensures lodged { StepsTo party.old.seat (HasLodged guest party.old.seat.me) party.new.seat }
 {
     let table = &party.table.shared;
-    let _ = table.load::<EnterStep>(&mut party.seat, CONTROL);
+    let at = place_of(party.capacity, Word::Control);
+    let _ = table.load::<EnterStep>(&mut party.seat, at);
     let slot = party.capacity as usize;
     let nothing = table.exchange(&mut party.seat, slot, Held::Guest(guest));
     drop(nothing);

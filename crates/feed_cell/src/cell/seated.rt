@@ -2,7 +2,7 @@
 ghost use Rattle.std.specs.Prelude.{◌≡◌, ◌<◌};
 ghost use Rattle.std.specs.Arc.{arc_value};
 ghost use Rattle.crossbeam_utils.specs.Padded.{padded_value};
-ghost use Rattle.feed_cell.specs.Seats.{HasFourWords};
+ghost use Rattle.feed_cell.specs.WordPlaces.{HasItsWords};
 
 use super::{CellSeat, SharedTable};
 use flow_rules::Listener;
@@ -15,7 +15,7 @@ pub(crate) struct Seated<B: Listener> {
     pub(crate) seat: CellSeat<B>,
     pub(crate) capacity: u64,
     ghost its_table: { (padded_value (arc_value table)).shared.table_id ≡ seat.table_id },
-    ghost four_words: { HasFourWords seat.table_id },
+    ghost its_words: { HasItsWords capacity seat.table_id },
     ghost sized: { seat.me.0.capacity ≡ capacity },
     ghost some_room: { 0 < capacity },
 }

@@ -11,7 +11,8 @@ ghost use Rattle.feed_cell.specs.Views.{starts_after};
 
 use super::seated::Seated;
 use super::task::{Stage, Task};
-use super::{CONTROL, CellSeat, Held, ITEM, RUN, SharedTable, View};
+use super::words::{Word, place_of};
+use super::{CellSeat, Held, ITEM, RUN, SharedTable, View};
 use atomic_table::{Play, Split};
 use flow_rules::Listener;
 
@@ -56,7 +57,8 @@ pub(crate) fn signal_more<B: Listener>(party: &mut Seated<B>) -> Option<CellSeat
         (IsReadySeat party.old.seat.table_id party.old.capacity party.old.seat.me.0.order) }
 {
     let table = &party.table.shared;
-    let found = table.load::<MarksStep>(&mut party.seat, CONTROL);
+    let at = place_of(party.capacity, Word::Control);
+    let found = table.load::<MarksStep>(&mut party.seat, at);
     if found & ITEM == ITEM {
         return None;
     }
@@ -73,7 +75,8 @@ pub(crate) fn signal<B: Listener>(party: &mut Seated<B>, mask: u64) -> Option<Ce
         (IsReadySeat party.old.seat.table_id party.old.capacity party.old.seat.me.0.order) }
 {
     let table = &party.table.shared;
-    let found = table.fetch_or::<SignalStep>(&mut party.seat, CONTROL, mask);
+    let at = place_of(party.capacity, Word::Control);
+    let found = table.fetch_or::<SignalStep>(&mut party.seat, at, mask);
     hand_over(party, found)
 }
 

@@ -1,10 +1,12 @@
 //! The task of a subscription, which whoever runs it has.
 mod calls;
 mod causes;
+mod known;
 mod looks;
 pub mod plays;
 mod steps;
 pub mod turns;
+mod waits;
 
 use super::CellSeat;
 use super::seated::Seated;

@@ -9,7 +9,7 @@ use Rattle.feed_core.proofs.Interleavings.Growing.{Grows, stage_at, stage_kept}
 pub ask_kept : (n : ℕ) (w : Parts) → IsKeptParts w → IsPossible (Ask n) w → IsKeptParts (after (Ask n) w)
 ask_kept n w k may =
     let idle : handle_hands w.handle ≡ 0 = ap handle_hands may.0 in let handed = k.handed in
-    let requested = k.requested in let bounded = k.asked_bounded in
+    let requested = k.requested in let bounded = k.asked_bounded in let known = k.known_asked in
     let grows : Grows w (after (Ask n) w) = record {
       given = refl;
       accepted = omega arith;
@@ -32,5 +32,7 @@ ask_kept n w k may =
       handed = omega arith;
       unfailed = k.unfailed;
       remembered = k.remembered;
+      known_put = k.known_put;
+      known_asked = omega arith;
       stage = stage_kept grows w.runner (λ e. (stage_at k e).quiet) k.stage;
     }

@@ -3,12 +3,12 @@ use Rattle.std.proofs.Common.{◌≡◌, ℕ, zero, suc, ℤ, pos, negsuc, ◌+�
 use Rattle.std.specs.Prelude.{IsSome}
 use Rattle.feed_core.specs.Prelude.{Answer, How}
 use Rattle.feed_core.specs.Cause.{stops, no_causes_in}
-use Rattle.feed_core.specs.World.Types.{Producer, Handle, Cause, Event, Make, Room, Put, See, Take, Ask, Signal, Hand, Look, Peek, Measure, Rest, End, Runner, Nobody, Coming, Fresh, Ready, Looked, Saw, Measured, Taken, Over, Parts}
+use Rattle.feed_core.specs.World.Types.{Producer, Handle, Cause, Event, Make, Room, Put, See, Take, TakeKnown, Ask, Signal, Hand, Look, Peek, Measure, Rest, End, Runner, Nobody, Coming, Fresh, Ready, Looked, Saw, Measured, Taken, Over, Parts}
 use Rattle.feed_core.specs.World.Table.{IsPossible, joined, requested, answered, started, seeing, resting_after, after}
 use Rattle.feed_core.specs.World.Runs.{given_before, cut_where, cut_by, cut_after}
 use Rattle.feed_core.specs.World.Kept.{IsCut, IsCutAt, may_follow, one_where}
 use Rattle.feed_core.proofs.Interleavings.Causing.{none_some, within_argument, within_producer, within_handle, stops_within, joined_stops, stops_with_cause}
-use Rattle.feed_core.proofs.Interleavings.Signalling.{may_follow_started}
+use Rattle.feed_core.proofs.Interleavings.Signalling.{started_by, may_follow_started}
 
 one_where_few : (stop : Option How) → one_where stop ≤ 1
 one_where_few None = omega arith
@@ -82,6 +82,9 @@ cut_kept See w cut may c =
 cut_kept Take w cut may c =
     let few = c.few in let before : may_follow w.runner ≡ 0 = ap may_follow may.3 in
     record { stopped = c.stopped; few = omega arith }
+cut_kept TakeKnown w cut may c =
+    let few = c.few in let before : may_follow w.runner ≡ 0 = ap may_follow may.0.1 ∙ ap one_where may.0.2 in
+    record { stopped = c.stopped; few = omega arith }
 cut_kept (Ask n) w cut may c = record { stopped = c.stopped; few = c.few }
 cut_kept (Signal Producer cause) w cut may c = signal_cut w _ cut (stops_within (within_producer cause w.producer w.causes may) c.stopped) refl refl c.few
 cut_kept (Signal Handle cause) w cut may c = signal_cut w _ cut (stops_within (within_handle cause w.handle w.causes may) c.stopped) refl refl c.few
@@ -115,15 +118,7 @@ stopped_cut : (w : Parts) → IsSome (stops w.causes) → IsCut w (given_before 
 stopped_cut w stopped = record { stopped = stopped; few = few_before w.given w.runner }
 
 before_started : (given : ℕ) (r : Runner) → given_before given (started r) ≡ given_before given r
-before_started given Nobody = refl
-before_started given Coming = refl
-before_started given Fresh = refl
-before_started given Ready = refl
-before_started given (Looked c) = refl
-before_started given (Saw c t) = refl
-before_started given (Measured c t a) = refl
-before_started given Taken = refl
-before_started given (Over how) = refl
+before_started given r = started_by (λ (before later : Runner). given_before given later ≡ given_before given before) r refl (λ _. refl)
 
 -- the first such signal sets it
 first_cut : (cause : Option Cause) (w v : Parts) → v.causes ≡ joined cause w.causes → v.given ≡ w.given → v.runner ≡ started w.runner
@@ -144,6 +139,7 @@ new_cut Room w = tt
 new_cut Put w = tt
 new_cut See w = tt
 new_cut Take w = tt
+new_cut TakeKnown w = tt
 new_cut (Ask n) w = tt
 new_cut (Signal Producer cause) w = first_cut cause w _ refl refl refl
 new_cut (Signal Handle cause) w = first_cut cause w _ refl refl refl
@@ -175,6 +171,7 @@ adds_stop event w may none stopped = by event may stopped where
   by Put may some = absurd (never some)
   by See may some = absurd (never some)
   by Take may some = absurd (never some)
+  by TakeKnown may some = absurd (never some)
   by (Ask n) may some = absurd (never some)
   by (Signal Producer cause) may some = signal_cut w _ _ some refl refl few
   by (Signal Handle cause) may some = signal_cut w _ _ some refl refl few

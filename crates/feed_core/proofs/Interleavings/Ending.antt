@@ -75,5 +75,7 @@ end_kept how w k may =
       handed = omega arith;
       unfailed = λ e. cc;
       remembered = λ e. cc;
+      known_put = k.known_put;
+      known_asked = k.known_asked;
       stage = so.0;
     }

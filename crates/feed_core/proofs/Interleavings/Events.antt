@@ -2,7 +2,7 @@
 use Rattle.std.proofs.Common.{ℕ, refl, arith}
 use Rattle.feed_core.specs.Prelude.{ErrorOrder}
 use Rattle.feed_core.specs.LaneCalls.{IsCapacity}
-use Rattle.feed_core.specs.World.Types.{Producer, Handle, Event, Make, Room, Put, See, Take, Ask, Signal, Hand, Look, Peek, Measure, Rest, End, Parts}
+use Rattle.feed_core.specs.World.Types.{Producer, Handle, Event, Make, Room, Put, See, Take, TakeKnown, Ask, Signal, Hand, Look, Peek, Measure, Rest, End, Parts}
 use Rattle.feed_core.specs.World.Table.{IsPossible, after}
 use Rattle.feed_core.specs.World.Runs.{made}
 use Rattle.feed_core.specs.World.Kept.{IsKeptParts}
@@ -11,7 +11,7 @@ use Rattle.feed_core.proofs.Interleavings.Ending.{end_kept}
 use Rattle.feed_core.proofs.Interleavings.Handing.{producer_hand_kept, handle_hand_kept}
 use Rattle.feed_core.proofs.Interleavings.Putting.{room_kept, put_kept}
 use Rattle.feed_core.proofs.Interleavings.Resting.{rest_kept}
-use Rattle.feed_core.proofs.Interleavings.Running.{look_kept, peek_kept, see_kept, measure_kept, take_kept}
+use Rattle.feed_core.proofs.Interleavings.Running.{look_kept, peek_kept, see_kept, measure_kept, take_kept, take_known_kept}
 use Rattle.feed_core.proofs.Interleavings.Signalling.{producer_signal_kept, handle_signal_kept}
 
 -- a new subscription has it
@@ -27,6 +27,8 @@ made_kept n order sized = record {
   handed = refl;
   unfailed = λ e. refl;
   remembered = λ e. refl;
+  known_put = omega arith;
+  known_asked = omega arith;
   stage = refl;
 }
 
@@ -36,6 +38,7 @@ event_kept Room w k may = room_kept w k may
 event_kept Put w k may = put_kept w k may
 event_kept See w k may = see_kept w k may
 event_kept Take w k may = take_kept w k may
+event_kept TakeKnown w k may = take_known_kept w k may
 event_kept (Ask n) w k may = ask_kept n w k may
 event_kept (Signal Producer cause) w k may = producer_signal_kept cause w k may
 event_kept (Signal Handle cause) w k may = handle_signal_kept cause w k may

@@ -44,6 +44,8 @@ hand_kept w producer handle k comes roomy handed =
       handed = handed;
       unfailed = λ e. k.unfailed unended;
       remembered = λ e. k.remembered unended;
+      known_put = k.known_put;
+      known_asked = k.known_asked;
       stage = tt;
     }
 

@@ -66,13 +66,15 @@ room_kept w k may =
       handed = omega arith;
       unfailed = k.unfailed;
       remembered = k.remembered;
+      known_put = k.known_put;
+      known_asked = k.known_asked;
       stage = stage_kept grows w.runner (λ e. (stage_at k e).quiet) k.stage;
     }
 
 pub put_kept : (w : Parts) → IsKeptParts w → IsPossible Put w → IsKeptParts (after Put w)
 put_kept w k may =
     let room = k.roomy may.0 in let idle : producer_hands w.producer ≡ 0 = ap producer_hands may.0 in let handed = k.handed in
-    let taken = k.taken in
+    let taken = k.taken in let known = k.known_put in
     let grows : Grows w (after Put w) = record {
       given = refl;
       accepted = omega arith;
@@ -94,5 +96,7 @@ put_kept w k may =
       handed = omega arith;
       unfailed = k.unfailed;
       remembered = k.remembered;
+      known_put = omega arith;
+      known_asked = k.known_asked;
       stage = stage_kept grows w.runner (λ e. (stage_at k e).quiet) k.stage;
     }

@@ -2,7 +2,7 @@
 use Rattle.std.proofs.Common.{◌≡◌, ℕ, ◌↔◌, Bool, true, false, refl, sym, subst, Option, Some, None, List, [], ◌∷◌, ◌++◌, inl, inr}
 use Rattle.feed_core.specs.Prelude.{ErrorOrder}
 use Rattle.feed_core.specs.LaneCalls.{IsCapacity}
-use Rattle.feed_core.specs.World.Types.{Event, Make, Room, Put, See, Take, Ask, Signal, Hand, Look, Peek, Measure, Rest, End, Parts}
+use Rattle.feed_core.specs.World.Types.{Event, Make, Room, Put, See, Take, TakeKnown, Ask, Signal, Hand, Look, Peek, Measure, Rest, End, Parts}
 use Rattle.feed_core.specs.World.Table.{IsPossible, after}
 use Rattle.feed_core.specs.World.Runs.{WorldState, nothing, world_of, made, IsPossibleIn, cut_after, next_of, Steps, Leads, IsReached}
 use Rattle.feed_core.specs.World.Kept.{IsKeptParts, IsKeptIn}
@@ -19,6 +19,7 @@ next_kept Room None cut k may = absurd may
 next_kept Put None cut k may = absurd may
 next_kept See None cut k may = absurd may
 next_kept Take None cut k may = absurd may
+next_kept TakeKnown None cut k may = absurd may
 next_kept (Ask n) None cut k may = absurd may
 next_kept (Signal side cause) None cut k may = absurd may
 next_kept (Hand side) None cut k may = absurd may

@@ -1,16 +1,17 @@
 -- The runner looks or peeks, sees how many items were put, sees how many were requested, and takes one.
-use Rattle.std.proofs.Common.{◌≡◌, ℕ, zero, suc, ℤ, pos, negsuc, ◌≤◌, Bool, true, false, refl, sym, ap, subst, ◌∙◌, arith, inl, inr}
+use Rattle.std.proofs.Common.{◌≡◌, ◌+◌, ◌<◌, ℕ, zero, suc, ℤ, pos, negsuc, ◌≤◌, Bool, true, false, refl, sym, ap, subst, ◌∙◌, arith, inl, inr}
 use Rattle.feed_core.specs.Prelude.{UNBOUNDED, Answer, total_after}
-use Rattle.feed_core.specs.World.Types.{Causes, Look, Peek, See, Measure, Take, Runner, Looked, Saw, Measured, Parts}
+use Rattle.feed_core.specs.World.Types.{Causes, Look, Peek, See, Measure, Take, TakeKnown, Runner, Looked, Saw, Measured, Taken, Parts}
 use Rattle.feed_core.specs.World.Table.{total_of, is_over, MayLook, IsPossible, requested, answered, seeing, measuring, after}
 use Rattle.feed_core.specs.World.Kept.{IsAt, IsKeptParts, HasSeen, HasMeasured, coming}
 use Rattle.feed_core.proofs.Interleavings.Causing.{within_same}
 use Rattle.feed_core.proofs.Interleavings.Growing.{stage_at}
 
 -- if the task goes on by itself, only what holds at its new stage is to be shown
-pub moved_kept : (w : Parts) (r : Runner) → IsKeptParts w → coming w.runner ≡ 0 → coming r ≡ 0 → is_over w.runner ≡ false
-    → IsAt r (record w { runner = r }) → IsKeptParts (record w { runner = r })
-moved_kept w r k before after unended stage =
+loaded_kept : (w : Parts) (r : Runner) (put asked : ℕ) → IsKeptParts w → put ≤ w.accepted → asked ≤ w.asked → coming w.runner ≡ 0
+    → coming r ≡ 0 → is_over w.runner ≡ false → IsAt r (record w { runner = r; known_put = put; known_asked = asked })
+    → IsKeptParts (record w { runner = r; known_put = put; known_asked = asked })
+loaded_kept w r put asked k few_put few_asked before after unended stage =
     let handed = k.handed in
     record {
       sized = k.sized;
@@ -23,8 +24,14 @@ moved_kept w r k before after unended stage =
       handed = omega arith;
       unfailed = λ e. k.unfailed unended;
       remembered = λ e. k.remembered unended;
+      known_put = few_put;
+      known_asked = few_asked;
       stage = stage;
     }
+
+pub moved_kept : (w : Parts) (r : Runner) → IsKeptParts w → coming w.runner ≡ 0 → coming r ≡ 0 → is_over w.runner ≡ false
+    → IsAt r (record w { runner = r }) → IsKeptParts (record w { runner = r })
+moved_kept w r k before after unended stage = loaded_kept w r w.known_put w.known_asked k k.known_put k.known_asked before after unended stage
 
 -- after a look or a peek, which may bring a request or the cause of a bad one
 looked_kept : (w : Parts) (active : Bool) (own : ℕ) (causes : Causes) → IsKeptParts w → coming w.runner ≡ 0 → is_over w.runner ≡ false
@@ -43,6 +50,8 @@ looked_kept w active own causes k quiet unended bounded grows failed memory =
       handed = omega arith;
       unfailed = λ e. failed ∙ k.unfailed unended;
       remembered = λ e. memory ∙ k.remembered unended;
+      known_put = k.known_put;
+      known_asked = k.known_asked;
       stage = record { within = within_same causes; newest = λ e. refl };
     }
 
@@ -86,20 +95,20 @@ pub see_kept : (w : Parts) → IsKeptParts w → IsPossible See w → IsKeptPart
 see_kept w k may =
     let c = may.0 in let at : w.runner ≡ Looked c = may.1 in let s = stage_at k at in
     let runner : Runner = Saw c w.accepted in
-    let seen : HasSeen c w.accepted (record w { runner = runner }) = record {
+    let seen : HasSeen c w.accepted (record w { runner = runner; known_put = w.accepted }) = record {
       looked = record { within = s.within; newest = s.newest };
       runs_on = may.2;
       put = omega arith;
       last = λ some. refl;
       all_put = λ quiet put. refl;
     } in
-    subst (λ r. IsKeptParts (record w { runner = r })) (sym (ap (seeing w.accepted) at)) (moved_kept w runner k (ap coming at) refl (ap is_over at) seen)
+    subst (λ r. IsKeptParts (record w { runner = r; known_put = w.accepted })) (sym (ap (seeing w.accepted) at)) (loaded_kept w runner w.accepted w.known_asked k (omega arith) k.known_asked (ap coming at) refl (ap is_over at) seen)
 
 pub measure_kept : (w : Parts) → IsKeptParts w → IsPossible Measure w → IsKeptParts (after Measure w)
 measure_kept w k may =
     let c = may.0 in let t = may.1 in let at : w.runner ≡ Saw c t = may.2 in let s = stage_at k at in
     let runner : Runner = Measured c t (total_of w) in
-    let measured : HasMeasured c t (total_of w) (record w { runner = runner }) = record {
+    let measured : HasMeasured c t (total_of w) (record w { runner = runner; known_asked = w.asked }) = record {
       seen = record {
         looked = record { within = s.looked.within; newest = s.looked.newest };
         runs_on = s.runs_on;
@@ -110,16 +119,13 @@ measure_kept w k may =
       asked = omega arith;
       all_asked = λ quiet asked. refl;
     } in
-    subst (λ r. IsKeptParts (record w { runner = r })) (sym (ap (measuring (total_of w)) at)) (moved_kept w runner k (ap coming at) refl (ap is_over at) measured)
+    subst (λ r. IsKeptParts (record w { runner = r; known_asked = w.asked })) (sym (ap (measuring (total_of w)) at)) (loaded_kept w runner w.known_put w.asked k k.known_put (omega arith) (ap coming at) refl (ap is_over at) measured)
 
-pub take_kept : (w : Parts) → IsKeptParts w → IsPossible Take w → IsKeptParts (after Take w)
-take_kept w k may =
-    let at : w.runner ≡ Measured may.0 may.1 may.2 = may.3 in
-    let s = stage_at k at in
-    let waits = may.4 in let wanted = may.5 in
-    let put = s.seen.put in let asked = s.asked in let fits = k.fits in let handed = k.handed in
-    let quiet : coming w.runner ≡ 0 = ap coming at in
-    let unended : is_over w.runner ≡ false = ap is_over at in
+-- an item is taken that was put and requested
+given_more : (w : Parts) → IsKeptParts w → w.given < w.accepted → w.given < total_of w → coming w.runner ≡ 0 → is_over w.runner ≡ false
+    → IsKeptParts (record w { given = w.given + 1; runner = Taken })
+given_more w k put asked quiet unended =
+    let fits = k.fits in let handed = k.handed in
     record {
       sized = k.sized;
       asked_bounded = k.asked_bounded;
@@ -131,5 +137,22 @@ take_kept w k may =
       handed = omega arith;
       unfailed = λ e. k.unfailed unended;
       remembered = λ e. k.remembered unended;
+      known_put = k.known_put;
+      known_asked = k.known_asked;
       stage = omega arith;
     }
+
+pub take_kept : (w : Parts) → IsKeptParts w → IsPossible Take w → IsKeptParts (after Take w)
+take_kept w k may =
+    let at : w.runner ≡ Measured may.0 may.1 may.2 = may.3 in
+    let s = stage_at k at in
+    let waits = may.4 in let wanted = may.5 in
+    let put = s.seen.put in let asked = s.asked in
+    given_more w k (omega arith) (omega arith) (ap coming at) (ap is_over at)
+
+pub take_known_kept : (w : Parts) → IsKeptParts w → IsPossible TakeKnown w → IsKeptParts (after TakeKnown w)
+take_known_kept w k may =
+    let at : w.runner ≡ Looked may.0.0 = may.0.1 in
+    let waits = may.1 in let wanted = may.2 in
+    let put = k.known_put in let asked = k.known_asked in
+    given_more w k (omega arith) (omega arith) (ap coming at) (ap is_over at)

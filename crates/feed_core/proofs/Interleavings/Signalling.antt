@@ -7,73 +7,38 @@ use Rattle.feed_core.proofs.Interleavings.Causing.{within_producer, within_handl
 use Rattle.feed_core.proofs.Interleavings.Growing.{Grows, stage_kept}
 use Rattle.feed_core.proofs.Interleavings.Putting.{begins_idle}
 
+-- a signal starts a task that is at rest, and leaves any other where it stands
+pub started_by : (P : Runner → Runner → Type 0) (r : Runner) → P Nobody Coming → (is_started r ≡ true → P r r) → P r (started r)
+started_by P Nobody starts stays = starts
+started_by P Coming starts stays = stays refl
+started_by P Fresh starts stays = stays refl
+started_by P Ready starts stays = stays refl
+started_by P (Looked c) starts stays = stays refl
+started_by P (Saw c t) starts stays = stays refl
+started_by P (Measured c t a) starts stays = stays refl
+started_by P Taken starts stays = stays refl
+started_by P (Over how) starts stays = stays refl
+
 -- a signal leaves nobody's task at rest
 pub started_never : (r : Runner) → started r ≡ Nobody → ⊥
-started_never Nobody e = cc
-started_never Coming e = cc
-started_never Fresh e = cc
-started_never Ready e = cc
-started_never (Looked c) e = cc
-started_never (Saw c t) e = cc
-started_never (Measured c t a) e = cc
-started_never Taken e = cc
-started_never (Over how) e = cc
+started_never r = started_by (λ (_ later : Runner). later ≡ Nobody → ⊥) r (λ e. cc) (λ on e. (let off = sym (ap is_started e) ∙ on in cc))
 
 pub starts_nobody : (r : Runner) → is_started r ≡ false → r ≡ Nobody
-starts_nobody Nobody e = refl
-starts_nobody Coming e = cc
-starts_nobody Fresh e = cc
-starts_nobody Ready e = cc
-starts_nobody (Looked c) e = cc
-starts_nobody (Saw c t) e = cc
-starts_nobody (Measured c t a) e = cc
-starts_nobody Taken e = cc
-starts_nobody (Over how) e = cc
+starts_nobody r = started_by (λ (before _ : Runner). is_started before ≡ false → before ≡ Nobody) r (λ _. refl) (λ on e. (let both = sym e ∙ on in cc))
 
 pub is_over_started : (r : Runner) → is_over (started r) ≡ is_over r
-is_over_started Nobody = refl
-is_over_started Coming = refl
-is_over_started Fresh = refl
-is_over_started Ready = refl
-is_over_started (Looked c) = refl
-is_over_started (Saw c t) = refl
-is_over_started (Measured c t a) = refl
-is_over_started Taken = refl
-is_over_started (Over how) = refl
+is_over_started r = started_by (λ (before later : Runner). is_over later ≡ is_over before) r refl (λ _. refl)
 
 pub may_follow_started : (r : Runner) → may_follow (started r) ≡ may_follow r
-may_follow_started Nobody = refl
-may_follow_started Coming = refl
-may_follow_started Fresh = refl
-may_follow_started Ready = refl
-may_follow_started (Looked c) = refl
-may_follow_started (Saw c t) = refl
-may_follow_started (Measured c t a) = refl
-may_follow_started Taken = refl
-may_follow_started (Over how) = refl
+may_follow_started r = started_by (λ (before later : Runner). may_follow later ≡ may_follow before) r refl (λ _. refl)
 
 stage_started : (w : Parts) (r : Runner) → IsAt r w → IsAt (started r) w
-stage_started w Nobody s = tt
-stage_started w Coming s = tt
-stage_started w Fresh s = s
-stage_started w Ready s = tt
-stage_started w (Looked c) s = s
-stage_started w (Saw c t) s = s
-stage_started w (Measured c t a) s = s
-stage_started w Taken s = s
-stage_started w (Over how) s = s
+stage_started w r = started_by (λ (before later : Runner). IsAt before w → IsAt later w) r (λ _. tt) (λ _ at. at)
 
 -- a task that was started is with the side that started it
 signal_handed : (r : Runner) (n : ℕ) → n ≡ coming r → producer_hands (producing_after (is_started r)) + n ≡ coming (started r)
-signal_handed Nobody n e = omega arith
-signal_handed Coming n e = omega arith
-signal_handed Fresh n e = omega arith
-signal_handed Ready n e = omega arith
-signal_handed (Looked c) n e = omega arith
-signal_handed (Saw c t) n e = omega arith
-signal_handed (Measured c t a) n e = omega arith
-signal_handed Taken n e = omega arith
-signal_handed (Over how) n e = omega arith
+signal_handed r n = started_by (λ (before later : Runner). n ≡ coming before → producer_hands (producing_after (is_started before)) + n ≡ coming later) r
+    (λ e. omega arith) (λ on e. (let started = ap (λ b. producer_hands (producing_after b)) on in omega arith))
 
 -- the two sides hand over alike
 same_hands : (b : Bool) → handle_hands (requesting_after b) ≡ producer_hands (producing_after b)
@@ -127,6 +92,8 @@ signal_kept w causes producer handle k within failed memory roomy handed =
       handed = handed;
       unfailed = λ e. failed ∙ k.unfailed (sym (is_over_started w.runner) ∙ e);
       remembered = λ e. memory ∙ k.remembered (sym (is_over_started w.runner) ∙ e);
+      known_put = k.known_put;
+      known_asked = k.known_asked;
       stage = stage_kept grows (started w.runner) (λ e. absurd (started_never w.runner e)) (stage_started w w.runner k.stage);
     }
 

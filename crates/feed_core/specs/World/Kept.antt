@@ -94,6 +94,8 @@ pub record IsKeptParts (w : Parts) : Type 0 where
   pub handed : producer_hands w.producer + handle_hands w.handle ≡ coming w.runner
   pub unfailed : is_over w.runner ≡ false → w.causes.failed ≡ None
   pub remembered : is_over w.runner ≡ false → w.causes.memory ≡ false
+  pub known_put : w.known_put ≤ w.accepted
+  pub known_asked : w.known_asked ≤ w.asked
   pub stage : IsAt w.runner w
 
 -- how many items may still be taken before a look finds an end at once that was signalled

@@ -27,7 +27,7 @@ world_of w cut = record { parts = Some w; cut = cut }
 
 -- a new one, which is told a closing error in this order: its task was never run
 abbrev pub made : ℕ → ErrorOrder → Parts
-made capacity order = record { capacity = capacity; accepted = 0; given = 0; asked = 0; own = 0; causes = no_causes_in order; active = false; producer = Free; handle = Idle; runner = Fresh }
+made capacity order = record { capacity = capacity; accepted = 0; given = 0; asked = 0; own = 0; causes = no_causes_in order; active = false; producer = Free; handle = Idle; runner = Fresh; known_put = 0; known_asked = 0 }
 
 -- when an event is possible: before the subscription was made, only that it is made
 abbrev pub IsPossibleIn : Event → Option Parts → Type 0

@@ -2,7 +2,7 @@
 use Rattle.std.specs.Prelude.{◌≡◌, ℕ, zero, suc, ℤ, pos, negsuc, ◌+◌, ◌-◌, ◌<◌, ◌≤◌, ◌⊎◌, nat_lt, Bool, true, false, ◌&&◌, not, Option, None, Some}
 use Rattle.feed_core.specs.Prelude.{Answer, Ending, How, total_after}
 use Rattle.feed_core.specs.Cause.{stops, closes, with_cause_of}
-use Rattle.feed_core.specs.World.Types.{Causes, Producer, Handle, Cause, Cancel, Argument, State, Closing, Event, Make, Room, Put, See, Take, Ask, Signal, Hand, Look, Peek, Measure, Rest, End, Producing, Free, HasRoom, HasPut, Hands, Requesting, Idle, HasAsked, HandsOver, Runner, Nobody, Coming, Fresh, Ready, Looked, Saw, Measured, Taken, Over, Parts}
+use Rattle.feed_core.specs.World.Types.{Causes, Producer, Handle, Cause, Cancel, Argument, State, Closing, Event, Make, Room, Put, See, Take, TakeKnown, Ask, Signal, Hand, Look, Peek, Measure, Rest, End, Producing, Free, HasRoom, HasPut, Hands, Requesting, Idle, HasAsked, HandsOver, Runner, Nobody, Coming, Fresh, Ready, Looked, Saw, Measured, Taken, Over, Parts}
 
 -- all that was requested, by the handle and by the answers of callbacks (`Flow.Subscription.request`, Java SE 17)
 abbrev pub total_of : Parts → ℕ
@@ -62,6 +62,11 @@ MayMeasure runner = (c : Causes) × (t : ℕ) × (runner ≡ Saw c t)
 abbrev pub MayTake : ℕ → Runner → Type 0
 MayTake given runner = (c : Causes) × (t : ℕ) × (a : ℕ) × (runner ≡ Measured c t a) × (given < t) × (given < a)
 
+-- or, after a look that found no end at once, one that it saw before, and that was requested by what it knew of the
+-- handle's requests, and by what the answers requested
+abbrev pub MayTakeKnown : Parts → Type 0
+MayTakeKnown w = MaySee w.runner × (w.given < w.known_put) × (w.given < total_after w.known_asked w.own)
+
 -- it rests if it saw no item that was requested, and no end that waited for the items
 abbrev pub MayRest : ℕ → Runner → Type 0
 MayRest given runner = (c : Causes) × (t : ℕ) × (a : ℕ) × (runner ≡ Measured c t a)
@@ -100,6 +105,7 @@ IsPossible Room w = MayBegin w.producer
 IsPossible Put w = (w.producer ≡ HasRoom) × (w.causes.closing ≡ None)
 IsPossible See w = MaySee w.runner
 IsPossible Take w = MayTake w.given w.runner
+IsPossible TakeKnown w = MayTakeKnown w
 IsPossible (Ask n) w = (w.handle ≡ Idle) × (1 ≤ n)
 IsPossible (Signal Producer cause) w = ProducerMay cause w.producer w.causes.closing
 IsPossible (Signal Handle cause) w = HandleMay cause w.handle
@@ -185,8 +191,9 @@ abbrev pub after : Event → Parts → Parts
 after (Make _ _) w = w
 after Room w = record w { producer = shown_room (has_room w) }
 after Put w = record w { accepted = w.accepted + 1; producer = HasPut }
-after See w = record w { runner = seeing w.accepted w.runner }
+after See w = record w { runner = seeing w.accepted w.runner; known_put = w.accepted }
 after Take w = record w { given = w.given + 1; runner = Taken }
+after TakeKnown w = record w { given = w.given + 1; runner = Taken }
 after (Ask n) w = record w { asked = total_after w.asked n; handle = HasAsked }
 after (Signal Producer cause) w = record w { causes = joined cause w.causes; active = true; producer = producing_after (is_started w.runner); runner = started w.runner }
 after (Signal Handle cause) w = record w { causes = joined cause w.causes; active = true; handle = requesting_after (is_started w.runner); runner = started w.runner }
@@ -194,6 +201,6 @@ after (Hand Producer) w = record w { producer = Free; runner = Ready }
 after (Hand Handle) w = record w { handle = Idle; runner = Ready }
 after (Look answer) w = looking (answered answer w)
 after (Peek answer) w = peeking (answered answer w)
-after Measure w = record w { runner = measuring (total_of w) w.runner }
+after Measure w = record w { runner = measuring (total_of w) w.runner; known_asked = w.asked }
 after Rest w = record w { runner = resting_after w.active }
 after (End how) w = record w { causes = with_cause_of how w.causes; runner = Over how }

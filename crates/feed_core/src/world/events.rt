@@ -36,6 +36,9 @@ pub enum Event {
     See,
     /// The runner stores how many items were taken, one more than before.
     Take,
+    /// The runner stores how many items were taken, one more than before, by what it loaded before: how many items were
+    /// put, and how many the handle requested.
+    TakeKnown,
     /// The handle stores how many items were requested, this many more than before.
     Ask(u64),
     /// A side sets the mark of the task and the mark of something new, and adds a cause if it has one.

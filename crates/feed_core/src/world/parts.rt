@@ -72,4 +72,8 @@ pub struct Parts {
     pub handle: Requesting,
     /// Where its task stands.
     pub runner: Runner,
+    /// How many items were put, as far as the runner's last load of that showed.
+    pub known_put: u64,
+    /// How many items the handle has requested, as far as the runner's last load of that showed.
+    pub known_asked: u64,
 }

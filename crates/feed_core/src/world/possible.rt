@@ -1,11 +1,11 @@
 //! When an event is possible: the first half of the table, in code.
 ghost use Rattle.std.specs.Prelude.{◌≡◌, ◌↔◌, true};
 ghost use Rattle.feed_core.specs.LaneCalls.{IsCapacity};
-ghost use Rattle.feed_core.specs.World.Table.{IsPossible, MayBegin, ProducerMay, HandleMay, MayLook, MaySee, MayMeasure, MayTake, MayRest, MayEnd, IsAnswered, IsStop};
+ghost use Rattle.feed_core.specs.World.Table.{IsPossible, MayBegin, ProducerMay, HandleMay, MayLook, MaySee, MayMeasure, MayTake, MayTakeKnown, MayRest, MayEnd, IsAnswered, IsStop};
 
 use super::events::{Cause, Event, Side};
 use super::parts::{Parts, Producing, Requesting, Runner};
-use flow_rules::{Answer, Ending, How, capacity};
+use flow_rules::{Answer, Ending, How, UNBOUNDED, capacity};
 
 /// Whether a buffer may have this capacity.
 pub(crate) fn is_capacity(n: usize) -> bool
@@ -37,6 +37,7 @@ impl Parts {
             Event::See => may_see(self.runner),
             Event::Measure => may_measure(self.runner),
             Event::Take => may_take(self.given, self.runner),
+            Event::TakeKnown => may_take_known(self),
             Event::Rest => may_rest(self.given, self.runner),
             Event::End(how) => may_end(how, self.given, self.runner),
         }
@@ -112,6 +113,14 @@ fn may_take(given: u64, runner: Runner) -> bool
         Runner::Measured(_, put, asked) => given < put && given < asked,
         _ => false,
     }
+}
+
+/// Whether the runner may take an item by what it knows.
+fn may_take_known(parts: &Parts) -> bool
+    ensures { (result ≡ true) ↔ MayTakeKnown parts.now }
+{
+    let requested = parts.known_asked.saturating_add(parts.own).min(UNBOUNDED);
+    may_see(parts.runner) && parts.given < parts.known_put && parts.given < requested
 }
 
 /// Whether the runner may rest.

@@ -84,6 +84,8 @@ fn new_parts(capacity: usize, order: ErrorOrder) -> Parts
         producer: Producing::Free,
         handle: Requesting::Idle,
         runner: Runner::Fresh,
+        known_put: 0,
+        known_asked: 0,
     }
 }
 

@@ -49,9 +49,15 @@ impl Parts {
             }
             Event::Look(answer) => self.look(answer),
             Event::Peek(answer) => self.peek(answer),
-            Event::See => self.runner = self.runner.seeing(self.accepted),
-            Event::Measure => self.runner = self.runner.measuring(self.total()),
-            Event::Take => {
+            Event::See => {
+                self.runner = self.runner.seeing(self.accepted);
+                self.known_put = self.accepted;
+            }
+            Event::Measure => {
+                self.runner = self.runner.measuring(self.total());
+                self.known_asked = self.asked;
+            }
+            Event::Take | Event::TakeKnown => {
                 self.given += 1;
                 self.runner = Runner::Taken;
             }

@@ -12,7 +12,7 @@ use Rattle.feed_core.specs.LaneCalls.{lane_with_duplicate}
 use Rattle.publisher_hub.specs.Hub.{HubState, Progress, hub_of}
 use Rattle.publisher_hub.specs.Gathering.{work_of}
 use Rattle.publisher_hub.specs.Sound.{IsSound}
-use Rattle.publisher_hub.specs.Subscribing.{Doubled, DoublesOne, IsSeen}
+use Rattle.publisher_hub.specs.Subscribing.{Doubled, DoublesOne, IsPrepared}
 use Rattle.publisher_hub.specs.declared.entry.Entry.{Entry}
 use Rattle.publisher_hub.specs.declared.hub.Hub.{Hub}
 use Rattle.publisher_hub.specs.declared.work.Work.{Work}
@@ -143,7 +143,7 @@ told_starts number start old new told =
 
 -- ---- the publisher
 
-module _ (old middle new : Hub DeskState) (name : List ℕ) (due : List (Work Unit)) (is : IsScriptHub old) (seen : IsSeen end_of DoesCall old middle) (tells : DoublesOne end_of DoesCall name [] due middle new) where
+module _ (old middle new : Hub DeskState) (name : List ℕ) (due : List (Work Unit)) (is : IsScriptHub old) (seen : IsPrepared end_of DoesCall old middle) (tells : DoublesOne end_of DoesCall name [] due middle new) where
   -- the one that is told
   abbrev one : Entry DeskState
   one = tells.doubles.before

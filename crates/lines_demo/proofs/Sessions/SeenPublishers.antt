@@ -11,7 +11,7 @@ use Rattle.publisher_hub.specs.Entry.{entry_of}
 use Rattle.publisher_hub.specs.Hub.{HubState, Progress, hub_of}
 use Rattle.publisher_hub.specs.Looking.{Prepares}
 use Rattle.publisher_hub.specs.Sound.{IsSound}
-use Rattle.publisher_hub.specs.Subscribing.{IsSeen, IsSeenInPart, IsUnnamed}
+use Rattle.publisher_hub.specs.Subscribing.{IsPrepared, IsPreparedInPart, IsUnnamed}
 use Rattle.publisher_hub.specs.declared.entry.Entry.{Entry}
 use Rattle.publisher_hub.specs.declared.hub.Hub.{Hub}
 use Rattle.publisher_hub.proofs.PartialRounds.Next.{get_mapped, get_before_map}
@@ -46,23 +46,23 @@ script_publisher old new is sound far entries = record {
 -- ---- after looks
 
 -- looks publish nothing
-pub seen_as_far : (old new : Hub DeskState) → IsSeen end_of DoesCall old new → CameAsFar old new
+pub seen_as_far : (old new : Hub DeskState) → IsPrepared end_of DoesCall old new → CameAsFar old new
 seen_as_far old new seen = ap (λ (h : HubState). h.progress) seen.rest
 
-pub seen_in_part_as_far : (old new : Hub DeskState) → IsSeenInPart end_of DoesCall old new → CameAsFar old new
+pub seen_in_part_as_far : (old new : Hub DeskState) → IsPreparedInPart end_of DoesCall old new → CameAsFar old new
 seen_in_part_as_far old new seen = ap (λ (h : HubState). h.progress) seen.rest
 
 -- a script sees the same of each subscription
-pub seen_same : (old new : Hub DeskState) → IsScriptHub old → IsSeen end_of DoesCall old new
+pub seen_same : (old new : Hub DeskState) → IsScriptHub old → IsPrepared end_of DoesCall old new
     → ListSeesSame old.entries.items new.entries.items
 seen_same old new is seen = prepared_all_same old.next seen.glances old.entries.items new.entries.items is.entries seen.prepared
 
-pub seen_in_part_same : (old new : Hub DeskState) → IsScriptHub old → IsSeenInPart end_of DoesCall old new
+pub seen_in_part_same : (old new : Hub DeskState) → IsScriptHub old → IsPreparedInPart end_of DoesCall old new
     → ListSeesSame old.entries.items new.entries.items
 seen_in_part_same old new is seen = may_prepare_all_same old.next old.entries.items new.entries.items is.entries seen.prepared
 
 -- then just those are retired that have ended
-pub seen_retired : (old new : Hub DeskState) → IsScriptHub old → IsSeen end_of DoesCall old new → (k : ℕ) (entry : Entry DeskState)
+pub seen_retired : (old new : Hub DeskState) → IsScriptHub old → IsPrepared end_of DoesCall old new → (k : ℕ) (entry : Entry DeskState)
     → slice_get new.entries.items k ≡ Some entry
     → entry.retired ≡ not (is_live (subscription_of entry))
 seen_retired old new is seen k entry at =
@@ -70,7 +70,7 @@ seen_retired old new is seen k entry at =
     prepared_retired old.next stood.answer stood.entry entry (is.entries k stood.entry stood.at) stood.became
 
 -- and the publisher keeps as many numbers as are live
-pub seen_count : (old new : Hub DeskState) → IsScriptHub old → IsSeen end_of DoesCall old new
+pub seen_count : (old new : Hub DeskState) → IsScriptHub old → IsPrepared end_of DoesCall old new
     → length new.live.items ≡ count_by is_live (map subscription_of old.entries.items)
 seen_count old new is seen =
     live_count new (seen_retired old new is seen) seen.all_live ∙ ap (λ subscriptions. count_by is_live subscriptions) (seen_same old new is seen).same
@@ -82,7 +82,7 @@ pub word_itself : (bytes word : List ℕ) → bytes ≡ word → is_word bytes w
 word_itself bytes word e = (slice_eq-Decides Decides-eqb bytes word (is_word bytes word) refl).1 e
 
 -- nobody is subscribed by a name that no live one has
-pub seen_unnamed : (old new : Hub DeskState) (name : List ℕ) → IsScriptHub old → IsSeen end_of DoesCall old new
+pub seen_unnamed : (old new : Hub DeskState) (name : List ℕ) → IsScriptHub old → IsPrepared end_of DoesCall old new
     → IsUnnamed name (hub_of end_of new).entries
     → is_subscribed name (map subscription_of old.entries.items) ≡ false
 seen_unnamed old new name is seen unnamed =

@@ -7,7 +7,7 @@ use Rattle.std.proofs.lemmas.List.Elements.{All-head, All-push, All-tail}
 use Rattle.feed_core.specs.Feed.{DoesCall, end_of}
 use Rattle.publisher_hub.specs.Hub.{hub_of}
 use Rattle.publisher_hub.specs.Sound.{IsSound}
-use Rattle.publisher_hub.specs.Subscribing.{Admits, CanAdmit, IsSeen, Refuses}
+use Rattle.publisher_hub.specs.Subscribing.{Admits, CanAdmit, IsPrepared, Refuses}
 use Rattle.publisher_hub.specs.declared.hub.Hub.{Hub}
 use Rattle.publisher_hub.specs.declared.work.Work.{Work}
 use Rattle.lines_demo.specs.Prelude.{DeskState, Refusal, desk_after_demand}
@@ -81,12 +81,12 @@ module _ (old : Hub DeskState) (stock : ℕ) (woken : List ℕ) (beginning : Beg
       (subst (λ (s : SessionState). Replies (λ refusals. sub_result start refusals name number) (Refused refusal) s) (sym same.state) replies))
 
   -- looks leave the script where it stood
-  seen_session : (new : Hub DeskState) → IsSeen end_of DoesCall old new → IsSound (hub_of end_of new)
+  seen_session : (new : Hub DeskState) → IsPrepared end_of DoesCall old new → IsSound (hub_of end_of new)
       → IsSameSession old new stock woken beginning
   seen_session new seen sound = session_looked old new stock woken beginning is sound (seen_as_far old new seen) (seen_same old new is.publisher seen)
 
   -- as many were made as are stored
-  seen_made : (new : Hub DeskState) → IsSeen end_of DoesCall old new → length new.entries.items ≡ length start.subscriptions
+  seen_made : (new : Hub DeskState) → IsPrepared end_of DoesCall old new → length new.entries.items ≡ length start.subscriptions
   seen_made new seen =
       sym (length-map new.entries.items subscription_of) ∙ ap (λ (s : List SubscriptionState). length s) (seen_same old new is.publisher seen).same
 
@@ -124,7 +124,7 @@ module _ (old : Hub DeskState) (stock : ℕ) (woken : List ℕ) (beginning : Beg
 
   -- ---- the publisher allows it
 
-  module _ (new : Hub DeskState) (due : Vec (Work Unit) Global) (seen : IsSeen end_of DoesCall old new) (can : CanAdmit end_of name new due) (sound : IsSound (hub_of end_of new)) where
+  module _ (new : Hub DeskState) (due : Vec (Work Unit) Global) (seen : IsPrepared end_of DoesCall old new) (can : CanAdmit end_of name new due) (sound : IsSound (hub_of end_of new)) where
     -- nobody live has the name
     free : is_subscribed name start.subscriptions ≡ false
     free = seen_unnamed old new name is.publisher seen can.unnamed

@@ -3,7 +3,7 @@ ghost use Rattle.std.specs.Prelude.{◌≡◌, ◌⊎◌, [], All, IfOk, IfErr, 
 ghost use Rattle.lines_demo.specs.Threads.Input.{input_of};
 ghost use Rattle.lines_demo.specs.Threads.Run.{StopsFor};
 ghost use Rattle.publisher.specs.Outcome.{IsOutcome, outcome_of};
-ghost use Rattle.publisher.specs.Blanks.{IsBlankOf};
+ghost use Rattle.publisher.specs.Blanks.{AreBlanksOf};
 
 use super::fault::LinesFault;
 use super::input::Input;
@@ -12,12 +12,14 @@ use super::report::write_report;
 use super::sending::send_lines;
 use crate::reader::read_whole;
 use flow_rules::{ErrorOrder, FailHandler, Refusal, Shown, Subscriber};
-use publisher::{Outcome, PARTS, Publisher, PublisherOptions, Submitter, Subscription, finish};
+use publisher::{
+    BlankPair, Ledgers, Outcome, Publisher, PublisherOptions, Refused, Submitter, Subscription,
+    finish,
+};
 use std::alloc::Global;
 use std::io::{Read, Write};
 use std::marker::Brand;
 use std::sync::Wait;
-use std::sync::ledger::{Blank, Ledger};
 use std::thread::Threads;
 
 /// The status if every subscriber completed.
@@ -46,7 +48,7 @@ pub fn run_lines<R: Threads + Wait + Copy + Send + Sync + 'static, I: Read, W: W
 {
     let bytes = read_whole(alloc, reader)?;
     let input = Input::read(alloc, plan, bytes.as_slice())?;
-    report_lines::<Brand, Brand, Box<dyn Subscriber>, Box<dyn FailHandler + Send>, R, W>(
+    report_lines::<Brand, Box<dyn Subscriber>, Box<dyn FailHandler + Send>, R, W>(
         rt,
         alloc,
         plan,
@@ -54,15 +56,13 @@ pub fn run_lines<R: Threads + Wait + Copy + Send + Sync + 'static, I: Read, W: W
         writer,
         subscribers,
         handler,
-        Blank::new(PARTS),
-        Blank::new(PARTS),
+        BlankPair::new(),
     )
 }
 
 /// Publishes an input by a plan, and writes the report.
 fn report_lines<
-    L: Ledger + Send + Sync + 'static,
-    D: Ledger + Send + Sync + 'static,
+    L: Ledgers + Send + Sync + 'static,
     S: Subscriber + 'static,
     F: FailHandler + Send + 'static,
     R: Threads + Wait + Copy + Send + Sync + 'static,
@@ -75,23 +75,20 @@ fn report_lines<
     writer: &mut W,
     subscribers: Vec<S>,
     handler: F,
-    publications: Blank,
-    drops: Blank,
+    blanks: BlankPair,
 ) -> Result<u8, LinesFault>
-    requires publications { IsBlankOf publications L.name L.parts }
-    requires drops { IsBlankOf drops D.name D.parts }
+    requires blanks { AreBlanksOf blanks L.publications L.drops }
     requires untold { All (λ s. S.told s ≡ []) subscribers.items }
     ensures { IfOk result (λ status. (status ≡ 0) ⊎ (status ≡ 3)) }
 {
-    let outcome = publish_lines::<L, D, S, F, R>(
+    let outcome = publish_lines::<L, S, F, R>(
         rt,
         alloc,
         plan,
         input,
         subscribers,
         handler,
-        publications,
-        drops,
+        blanks,
     )?;
     if write_report(alloc, writer, input.sources(), &outcome)? {
         Ok(COMPLETE)
@@ -102,8 +99,7 @@ fn report_lines<
 
 /// Publishes an input by a plan, and gives what the publisher leaves.
 fn publish_lines<
-    L: Ledger + Send + Sync + 'static,
-    D: Ledger + Send + Sync + 'static,
+    L: Ledgers + Send + Sync + 'static,
     S: Subscriber + 'static,
     F: FailHandler + Send + 'static,
     R: Threads + Wait + Copy + Send + Sync + 'static,
@@ -114,11 +110,9 @@ fn publish_lines<
     input: &Input<'_>,
     subscribers: Vec<S>,
     handler: F,
-    publications: Blank,
-    drops: Blank,
+    blanks: BlankPair,
 ) -> Result<Outcome<Shown<S>, F>, Refusal>
-    requires publications { IsBlankOf publications L.name L.parts }
-    requires drops { IsBlankOf drops D.name D.parts }
+    requires blanks { AreBlanksOf blanks L.publications L.drops }
     requires untold { All (λ s. S.told s ≡ []) subscribers.items }
     ensures { IfOk result (λ outcome. IsOutcome (λ shown. S.told shown.subscriber) (λ shown. shown.replied) outcome) }
 {
@@ -127,16 +121,11 @@ fn publish_lines<
         capacity: plan.capacity(),
         order: ErrorOrder::Overtake,
     };
-    let publisher: Publisher<L, D, Shown<S>, F> = match Publisher::with_handler(
-        rt,
-        alloc,
-        publications,
-        drops,
-        options,
-        handler,
+    let publisher: Publisher<L, Shown<S>, F> = match Publisher::with_handler(
+        rt, alloc, blanks, options, handler,
     ) {
         Ok(publisher) => publisher,
-        Err((refusal, _)) => return Err(refusal),
+        Err(refused) => return Err(refused.into()),
     };
     let mut subscriptions = Vec::new(alloc);
     let subscribed = subscribe_all(
@@ -165,13 +154,14 @@ fn publish_lines<
 
 /// What a publisher leaves, also if some subscription has not ended.
 fn outcome_of<B: Drop, F: FailHandler>(
-    finished: Result<Outcome<B, F>, (Refusal, Outcome<B, F>)>,
+    finished: Result<Outcome<B, F>, Refused<Outcome<B, F>>>,
 ) -> Result<Outcome<B, F>, Refusal>
     ensures { IfOk result (λ outcome. outcome ≡ outcome_of finished) }
 {
     match finished {
         Ok(outcome) => Ok(outcome),
-        Err((refusal, outcome)) => {
+        Err(refused) => {
+            let (refusal, outcome) = refused.into_parts();
             if matches!(refusal, Refusal::Unsettled(_)) {
                 Ok(outcome)
             } else {
@@ -183,18 +173,17 @@ fn outcome_of<B: Drop, F: FailHandler>(
 
 /// Subscribes all subscribers, in order.
 fn subscribe_all<
-    L: Ledger + Send + Sync + 'static,
-    D: Ledger + Send + Sync + 'static,
+    L: Ledgers + Send + Sync + 'static,
     S: Subscriber + 'static,
     F: FailHandler + Send + 'static,
     R: Wait,
 >(
     rt: &R,
     alloc: Global,
-    publisher: &Publisher<L, D, Shown<S>, F>,
+    publisher: &Publisher<L, Shown<S>, F>,
     named: &[NamedDemand],
     subscribers: Vec<S>,
-    subscriptions: &mut Vec<Subscription<L, D, Shown<S>, F>>,
+    subscriptions: &mut Vec<Subscription<L, Shown<S>, F>>,
 ) -> Result<(), Refusal>
     requires { All (λ s. S.told s ≡ []) subscribers.items }
 {
@@ -207,7 +196,7 @@ fn subscribe_all<
                         return Err(Refusal::NoMemory);
                     }
                 }
-                Err((refusal, _)) => return Err(refusal),
+                Err(refused) => return Err(refused.into()),
             }
         }
     }
@@ -216,17 +205,16 @@ fn subscribe_all<
 
 /// Publishes all lines and closes the publisher. The submitters come back.
 fn publish_and_close<
-    L: Ledger + Send + Sync + 'static,
-    D: Ledger + Send + Sync + 'static,
+    L: Ledgers + Send + Sync + 'static,
     S: Subscriber + 'static,
     F: FailHandler + Send + 'static,
     R: Threads + Wait + Sync,
 >(
     rt: &R,
     alloc: Global,
-    publisher: &Publisher<L, D, Shown<S>, F>,
+    publisher: &Publisher<L, Shown<S>, F>,
     input: &Input<'_>,
-) -> Result<Vec<Submitter<L, D, Shown<S>, F>>, Refusal> {
+) -> Result<Vec<Submitter<L, Shown<S>, F>>, Refusal> {
     let mut submitters = Vec::new(alloc);
     for _ in input.sources() {
         let submitter = publisher.submitter(rt, alloc, &mut publisher.note())?;

@@ -1,10 +1,9 @@
 //! The sources of a run: each publishes its lines in order from a thread of its own, 64 by one call.
 use super::input::{Input, Publication};
 use flow_rules::{FailHandler, Listener, NoMemory, Refusal, Text};
-use publisher::Submitter;
+use publisher::{Ledgers, Submitter};
 use std::alloc::Global;
 use std::sync::Wait;
-use std::sync::ledger::Ledger;
 use std::thread;
 use std::thread::Threads;
 
@@ -13,19 +12,14 @@ const AT_ONCE: usize = 64;
 
 /// A submitter, and the source whose lines it publishes.
 #[derive(Drop)]
-struct Sender<L: Ledger + Send, D: Ledger + Send, B: Listener + Send, F: FailHandler + Send> {
-    submitter: Submitter<L, D, B, F>,
+struct Sender<L: Ledgers + Send, B: Listener + Send, F: FailHandler + Send> {
+    submitter: Submitter<L, B, F>,
     source: u32,
     /// Whether a line was refused. The texts are short enough and the publisher is open, so memory was refused.
     is_refused: bool,
 }
 
-impl<L: Ledger + Send, D: Ledger + Send, B: Listener + Send, F: FailHandler + Send> Sender<
-    L,
-    D,
-    B,
-    F,
-> {
+impl<L: Ledgers + Send, B: Listener + Send, F: FailHandler + Send> Sender<L, B, F> {
     /// Publishes the lines of its source in order, up to one that is refused.
     fn send<R: Wait>(&mut self, rt: &R, alloc: Global, publications: &[Publication<'_>]) {
         self.is_refused = self.send_all(rt, alloc, publications).is_err();
@@ -80,8 +74,7 @@ fn text_of(alloc: Global, publication: &Publication<'_>) -> Result<Text, Refusal
 /// ended then, and the submitters come back, in order. It is refused if a growth is refused or a thread can't be
 /// started.
 pub fn send_lines<
-    L: Ledger + Send + Sync + 'static,
-    D: Ledger + Send + Sync + 'static,
+    L: Ledgers + Send + Sync + 'static,
     B: Listener + Send + 'static,
     F: FailHandler + Send + 'static,
     R: Threads + Wait + Sync,
@@ -89,22 +82,22 @@ pub fn send_lines<
     rt: &R,
     alloc: Global,
     input: &Input<'_>,
-    submitters: Vec<Submitter<L, D, B, F>>,
-) -> Result<Vec<Submitter<L, D, B, F>>, NoMemory> {
+    submitters: Vec<Submitter<L, B, F>>,
+) -> Result<Vec<Submitter<L, B, F>>, NoMemory> {
     let mut senders = make_senders(alloc, input.sources(), submitters)?;
     let publications = input.publications();
-    let send = |_: usize, sender: &mut Sender<L, D, B, F>| sender.send(rt, alloc, publications);
+    let send = |_: usize, sender: &mut Sender<L, B, F>| sender.send(rt, alloc, publications);
     let threads = senders.len().max(1);
     thread::for_each_mut(rt, &mut senders, threads, &send);
     take_back(alloc, senders)
 }
 
 /// The submitters with their sources.
-fn make_senders<L: Ledger + Send, D: Ledger + Send, B: Listener + Send, F: FailHandler + Send>(
+fn make_senders<L: Ledgers + Send, B: Listener + Send, F: FailHandler + Send>(
     alloc: Global,
     sources: &[u32],
-    submitters: Vec<Submitter<L, D, B, F>>,
-) -> Result<Vec<Sender<L, D, B, F>>, NoMemory> {
+    submitters: Vec<Submitter<L, B, F>>,
+) -> Result<Vec<Sender<L, B, F>>, NoMemory> {
     let mut senders = Vec::new(alloc);
     let mut submitters = submitters.into_iter();
     for source in sources {
@@ -120,10 +113,10 @@ fn make_senders<L: Ledger + Send, D: Ledger + Send, B: Listener + Send, F: FailH
 }
 
 /// The submitters without their sources. It is refused if a line of one was.
-fn take_back<L: Ledger + Send, D: Ledger + Send, B: Listener + Send, F: FailHandler + Send>(
+fn take_back<L: Ledgers + Send, B: Listener + Send, F: FailHandler + Send>(
     alloc: Global,
-    senders: Vec<Sender<L, D, B, F>>,
-) -> Result<Vec<Submitter<L, D, B, F>>, NoMemory> {
+    senders: Vec<Sender<L, B, F>>,
+) -> Result<Vec<Submitter<L, B, F>>, NoMemory> {
     let mut submitters = Vec::new(alloc);
     for sender in senders {
         let Sender {

@@ -210,7 +210,7 @@ module _ {B : Type 0} (counted : Option ℕ) (number : ℕ) (handle : Option Han
       → TakesOutAt producer_end number (Some taken.producer) old new → taken.handle ≡ other
       → ((taken.late ≡ true → IsLate counted number) × (IsLate counted number → taken.late ≡ true))
       → ((entry : Entry ProducerState) → slice_get old.entries.items number ≡ Some entry → (taken.name ≡ entry.name)
-      × (taken.since ≡ entry.since) × (taken.dropped ≡ entry.dropped))
+      × (taken.on_full ≡ entry.on_full) × (taken.since ≡ entry.since) × (taken.dropped ≡ entry.dropped))
       → FindsOne counted number handle (Found.Both taken) old new
   finds_both other taken handed takes handle_is late reads =
       let entry = there old.entries.items number within in
@@ -221,8 +221,9 @@ module _ {B : Type 0} (counted : Option ℕ) (number : ℕ) (handle : Option Han
         stands = entry.1;
         is = record {
           name = known.0;
-          since = known.1;
-          dropped = known.2;
+          on_full = known.1;
+          since = known.2;
+          dropped = known.3;
           late = late;
           producer =
               ap (option_map producer_end) after.1.0.0;

@@ -14,7 +14,7 @@ use Rattle.flow_rules.specs.declared.feed.standing.Standing.{Standing}
 use Rattle.publisher_hub.specs.Entry.{entry_of}
 use Rattle.publisher_hub.specs.Hub.{hub_of}
 use Rattle.publisher_hub.specs.Sound.{IsSound}
-use Rattle.publisher_hub.specs.Tickets.{AsksForTicket, AsksForTicketAt}
+use Rattle.publisher_hub.specs.Tickets.{RetiresIfEnded, RetiresIfEndedAt}
 use Rattle.publisher_hub.specs.declared.entry.Entry.{Entry}
 use Rattle.publisher_hub.specs.declared.hub.Hub.{Hub}
 use Rattle.publisher_hub.proofs.PartialRounds.Next.{get_mapped}
@@ -28,7 +28,7 @@ use Rattle.publisher.proofs.Tickets.Ticketed.{AllKeep, KeepsTicket, all_but_one,
 
 -- a subscription that was asked for its ticket has it still, or has ended
 asked_keeps : (next : ℕ) (glance : Option Standing) (ticket : Option Ticket) (before after : Entry ProducerState)
-    → AsksForTicket producer_end DoesCall next glance ticket before after
+    → RetiresIfEnded producer_end DoesCall next glance ticket before after
     → KeepsTicket (entry_of producer_end before) (entry_of producer_end after)
 asked_keeps next None ticket before after left =
     subst (λ (e : Entry ProducerState). KeepsTicket (entry_of producer_end before) (entry_of producer_end e))
@@ -47,7 +47,7 @@ asked_keeps next (Some standing) ticket before after hands = by standing.ended r
       (ap (λ (e : Entry ProducerState). e.since) (hands.stays on)) hands.stands.look.over
 
 module _ (old new : Hub ProducerState) (number : ℕ) (ticket : Option Ticket)
-    (asks : AsksForTicketAt producer_end DoesCall number ticket old new) where
+    (asks : RetiresIfEndedAt producer_end DoesCall number ticket old new) where
   pub stays_asked : Stays (hub_of producer_end old) (hub_of producer_end new)
   stays_asked = stays_by (hub_of producer_end old) (hub_of producer_end new) asks.rest (by (slice_get old.entries.items number) refl) where
     by : (before : Option (Entry ProducerState)) → slice_get old.entries.items number ≡ before
@@ -68,7 +68,7 @@ module _ (old new : Hub ProducerState) (number : ℕ) (ticket : Option Ticket)
   ticket_of_count count counted last came is some = by (slice_get old.entries.items number) refl where
     asked : (before after : Entry ProducerState) (glance : Option Standing)
         → slice_get old.entries.items number ≡ Some before
-        → AsksForTicket producer_end DoesCall old.next glance ticket before after → count_of_ticket came ≡ count
+        → RetiresIfEnded producer_end DoesCall old.next glance ticket before after → count_of_ticket came ≡ count
     asked before after None at left = let no : None ≡ Some came = sym left.1.0 ∙ some in cc
     asked before after (Some standing) at hands = shown standing.ended refl where
       shown : (ended : Bool) → standing.ended ≡ ended → count_of_ticket came ≡ count

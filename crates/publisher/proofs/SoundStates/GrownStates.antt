@@ -21,11 +21,12 @@ use Rattle.publisher_hub.specs.Offering.{ReachesAll}
 use Rattle.publisher_hub.specs.OpeningTicket.{AddsTicket}
 use Rattle.publisher_hub.specs.Publishing.{dropping_after, offer_answer}
 use Rattle.publisher_hub.specs.Sound.{IsSound}
-use Rattle.publisher_hub.specs.Subscribing.{Admits}
+use Rattle.publisher_hub.specs.Subscribing.{AdmitsWith}
 use Rattle.publisher_hub.specs.declared.hub.Hub.{Hub}
+use Rattle.publisher_hub.specs.declared.policy.OnFull.{OnFull}
 use Rattle.publisher_hub.specs.declared.work.Work.{Work}
 use Rattle.publisher_hub.proofs.PartialRounds.Progress.{same_some}
-use Rattle.publisher.specs.Publishing.{drop_of}
+use Rattle.publisher.specs.Publishing.{drop_of, loss_of}
 use Rattle.publisher.specs.Spending.{last_after}
 use Rattle.publisher.specs.State.{IsCountedAtClose, IsState, PARTS, Sums, producer_end}
 use Rattle.publisher.specs.Tickets.{AreOfOneCount, IsOfCount, IsTicketFor}
@@ -73,6 +74,11 @@ state_offered v w x sums published dropping is sound offers one_more drops = rec
 pub drop_is : (n lag dropping : ℕ) → dropping_after n dropping ≡ dropping + drop_of (offer_answer n lag)
 drop_is zero lag dropping = omega arith
 drop_is (suc n) lag dropping = refl
+
+-- the same of a publication that this many lost
+pub loss_is : (n dropping : ℕ) → dropping_after n dropping ≡ dropping + loss_of n
+loss_is zero dropping = omega arith
+loss_is (suc n) dropping = refl
 
 -- the looks before the first close
 looked_before : (v w : HubState) (ending : Ending) (closing : IsClosedLooking ending v w) → Stays v closing.middle
@@ -201,12 +207,12 @@ state_at_start capacity opening w parts drop_parts start sound sized some_parts 
 }
 
 -- one more subscription
-pub state_admitted : (name : List ℕ) (feed : ProducerState) (ticket : Option Ticket) (number : ℕ)
+pub state_admitted : (name : List ℕ) (on_full : OnFull) (feed : ProducerState) (ticket : Option Ticket) (number : ℕ)
     (due_before due_after : List (Work TaskState)) (old new : Hub ProducerState) (sums : Sums)
     → IsState (hub_of producer_end old) sums → IsSound (hub_of producer_end new) → IsTicketFor old ticket
-    → Admits producer_end DoesCall name feed ticket number due_before due_after old new
+    → AdmitsWith producer_end DoesCall name on_full feed ticket number due_before due_after old new
     → IsState (hub_of producer_end new) (record sums { entries = number + 1 })
-state_admitted name feed ticket number due_before due_after old new sums is sound for_it admits = record {
+state_admitted name on_full feed ticket number due_before due_after old new sums is sound for_it admits = record {
   sound = sound;
   sized = subst IsCapacity (sym (ap (λ (h : HubState). h.progress.capacity) admits.rest)) is.sized;
   opened = λ none. subst IsSome (sym (ap (λ (h : HubState). h.opening) admits.rest))
@@ -238,7 +244,7 @@ state_admitted name feed ticket number due_before due_after old new sums is soun
   };
   tickets = (
     is.tickets.0,
-    tickets_admitted name feed ticket number due_before due_after old new is.tickets.0
+    tickets_admitted name on_full feed ticket number due_before due_after old new is.tickets.0
         sums.counted sums.last is.tickets.1 is.counted_is for_it admits,
   );
 }

@@ -15,7 +15,7 @@ use Rattle.publisher_hub.specs.Lists.{Each}
 use Rattle.publisher_hub.specs.Looking.{Glances, IsKept, IsLookedAt, LooksAtAll}
 use Rattle.publisher_hub.specs.Sound.{IsSound}
 use Rattle.publisher_hub.specs.Looking.{LooksAtOne}
-use Rattle.publisher_hub.specs.Subscribing.{IsSeen, IsSeenInPart, Refuses, FindsNoPlace, DoublesAt, DoublesOne}
+use Rattle.publisher_hub.specs.Subscribing.{IsPrepared, IsPreparedInPart, Refuses, FindsNoPlace, DoublesAt, DoublesOne}
 use Rattle.publisher_hub.specs.declared.hub.Hub.{Hub}
 use Rattle.publisher_hub.specs.declared.work.Work.{Work}
 use Rattle.publisher_hub.proofs.Subscribed.AfterLooks.{each_mapped, glance_kept}
@@ -126,15 +126,15 @@ keep_told due_before due_after number old new tells = subst (λ entries. AllKeep
 module _ (name : List ℕ) (due_before due_after : List (Work TaskState)) (old new : Hub ProducerState) where
   abbrev IsDuplicate : Type 0
   IsDuplicate = (middle : Hub ProducerState)
-      × (IsSeen producer_end DoesCall old middle × DoublesOne producer_end DoesCall name due_before due_after middle new)
+      × (IsPrepared producer_end DoesCall old middle × DoublesOne producer_end DoesCall name due_before due_after middle new)
 
   abbrev pub IsLookedThrough : Type 0
-  IsLookedThrough = IsDuplicate ⊎ (IsSeenInPart producer_end DoesCall old new ⊎ IsSeen producer_end DoesCall old new)
+  IsLookedThrough = IsDuplicate ⊎ (IsPreparedInPart producer_end DoesCall old new ⊎ IsPrepared producer_end DoesCall old new)
 
   no_place : (refusal : Refusal) → FindsNoPlace producer_end DoesCall name refusal old new → IsLookedThrough
   no_place refusal finds = inr (inr finds.seen)
 
-  in_part : IsSeenInPart producer_end DoesCall old new ⊎ FindsNoPlace producer_end DoesCall name Refusal.NoMemory old new → IsLookedThrough
+  in_part : IsPreparedInPart producer_end DoesCall old new ⊎ FindsNoPlace producer_end DoesCall name Refusal.NoMemory old new → IsLookedThrough
   in_part (inl seen) = inr (inl seen)
   in_part (inr finds) = no_place Refusal.NoMemory finds
 

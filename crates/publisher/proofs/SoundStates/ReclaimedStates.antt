@@ -111,10 +111,11 @@ module _ (old new : Hub ProducerState) (number : ℕ) (taken : Option (ProducerS
 -- what is known of a subscription, by what its Hub shows of it
 pub knows_of : (state : PublisherState) (number : ℕ) (known : Known)
     → Some known.name ≡ option_map (λ (e : EntryState). e.name) (slice_get (hub_of producer_end state.hub).entries number)
+    → Some known.on_full ≡ option_map (λ (e : EntryState). e.on_full) (slice_get (hub_of producer_end state.hub).entries number)
     → Some known.since ≡ option_map (λ (e : EntryState). e.since) (slice_get (hub_of producer_end state.hub).entries number)
     → Some known.dropped ≡ option_map (λ (e : EntryState). e.dropped) (slice_get (hub_of producer_end state.hub).entries number)
     → ((known.late ≡ true → IsLate state.counted number) × (IsLate state.counted number → known.late ≡ true)) → Knows state number known
-knows_of state number known name since dropped late = by (slice_get (hub_of producer_end state.hub).entries number) refl where
+knows_of state number known name on_full since dropped late = by (slice_get (hub_of producer_end state.hub).entries number) refl where
   by : (at : Option EntryState) → slice_get (hub_of producer_end state.hub).entries number ≡ at → Knows state number known
   by None at = let no : Some known.name ≡ None = name ∙ ap (option_map (λ (e : EntryState). e.name)) at in cc
   by (Some stored) at =
@@ -123,6 +124,7 @@ knows_of state number known name since dropped late = by (slice_get (hub_of prod
         entry = raw.0;
         stands = raw.1.0;
         name = read_of (λ (e : EntryState). e.name) state.hub number raw.0 _ known.name refl name raw.1.0;
+        on_full = read_of (λ (e : EntryState). e.on_full) state.hub number raw.0 _ known.on_full refl on_full raw.1.0;
         since = read_of (λ (e : EntryState). e.since) state.hub number raw.0 _ known.since refl since raw.1.0;
         dropped = read_of (λ (e : EntryState). e.dropped) state.hub number raw.0 _ known.dropped refl dropped raw.1.0;
         late = late;
@@ -160,6 +162,7 @@ module _ {B : Type 0} (number : ℕ) (known : Known) (handle : HandleState) (pro
     (same : sums.counted ≡ middle.counted) (knows : Knows middle number known) (ends : TakesEnd number (Some producer) middle new)
     (taken_is : taken ≡ record {
       name = known.name;
+      on_full = known.on_full;
       since = known.since;
       dropped = known.dropped;
       late =
@@ -195,6 +198,7 @@ module _ {B : Type 0} (number : ℕ) (known : Known) (handle : HandleState) (pro
   of : IsTakenOf middle.counted number (entry_of producer_end knows.entry) earlier
   of = record {
     name = ap (λ (t : Taken B). t.name) taken_is ∙ knows.name;
+    on_full = ap (λ (t : Taken B). t.on_full) taken_is ∙ knows.on_full;
     since = ap (λ (t : Taken B). t.since) taken_is ∙ knows.since;
     dropped = ap (λ (t : Taken B). t.dropped) taken_is ∙ knows.dropped;
     late = (
@@ -225,7 +229,10 @@ module _ {B : Type 0} (number : ℕ) (known : Known) (handle : HandleState) (pro
             knows,
             (
               ap (λ (t : Taken B). t.name) taken_is,
-              (ap (λ (t : Taken B). t.since) taken_is, (ap (λ (t : Taken B). t.dropped) taken_is, ap (λ (t : Taken B). t.late) taken_is)),
+              (
+                ap (λ (t : Taken B). t.on_full) taken_is,
+                (ap (λ (t : Taken B). t.since) taken_is, (ap (λ (t : Taken B). t.dropped) taken_is, ap (λ (t : Taken B). t.late) taken_is)),
+              ),
             ),
           ),
         );

@@ -10,7 +10,7 @@ use Rattle.publisher_hub.specs.Hub.{hub_of}
 use Rattle.publisher_hub.specs.Lists.{Each}
 use Rattle.publisher_hub.specs.Looking.{IsKept}
 use Rattle.publisher_hub.specs.Names.{IsSubscribed}
-use Rattle.publisher_hub.specs.Subscribing.{IsSeen, Refuses, DoublesAt, WasDoubled}
+use Rattle.publisher_hub.specs.Subscribing.{IsPrepared, Refuses, DoublesAt, WasDoubled}
 use Rattle.publisher_hub.specs.declared.hub.Hub.{Hub}
 use Rattle.publisher_hub.specs.declared.work.Work.{Work}
 use Rattle.publisher_hub.proofs.AnswerLists.Places.{stood_at}
@@ -89,7 +89,7 @@ module _ (name : List ℕ) (due_before due_after : List (Work TaskState)) (old n
   }
 
 -- nor do looks alone
-pub seen_adds_none : (old new : Hub ProducerState) → IsSeen producer_end DoesCall old new
+pub seen_adds_none : (old new : Hub ProducerState) → IsPrepared producer_end DoesCall old new
     → AddsNone (hub_of producer_end old) (hub_of producer_end new)
 seen_adds_none old new seen = let stays = stays_seen (hub_of producer_end old) (hub_of producer_end new) seen.rest seen.kept in record {
   as_many = stays.keep.as_long;

@@ -9,7 +9,8 @@ use Rattle.flow_rules.specs.declared.ending.Ending.{Ending}
 use Rattle.flow_rules.specs.declared.error_order.ErrorOrder.{ErrorOrder}
 use Rattle.publisher_hub.specs.Entry.{entry_of}
 use Rattle.publisher_hub.specs.Hub.{HubState}
-use Rattle.publisher_hub.specs.Subscribing.{Admits, ClosesNew, first_entry}
+use Rattle.publisher_hub.specs.Subscribing.{AdmitsWith, ClosesNew, first_entry_with}
+use Rattle.publisher_hub.specs.declared.policy.OnFull.{OnFull}
 use Rattle.publisher_hub.specs.declared.work.Work.{Work}
 use Rattle.publisher.specs.State.{PublisherState, producer_end}
 use Rattle.publisher.specs.Subscribing.{IsSubscription}
@@ -22,14 +23,14 @@ same_subscription : (ending : Option Ending) (feed after : ProducerState) (start
 same_subscription None feed after start closes = ap (λ (p : ProducerState). p.table) closes.1
 same_subscription (Some ending) feed after start closes = closes.1.table
 
-pub subscribed_is : {B : Type 0} (name : List ℕ) (order : ErrorOrder) (producer : ProducerState)
+pub subscribed_is : {B : Type 0} (name : List ℕ) (on_full : OnFull) (order : ErrorOrder) (producer : ProducerState)
     (ticket : Option Ticket) (due_before due_after : List (Work TaskState)) (old new : PublisherState) (subscribed : Subscribed B)
-    → Admits producer_end DoesCall name producer ticket subscribed.entry due_before due_after old.hub new.hub
+    → AdmitsWith producer_end DoesCall name on_full producer ticket subscribed.entry due_before due_after old.hub new.hub
     → subscribed.handle ≡ new_handle_in order old.hub.capacity producer.table
     → IsNewTaskIn order producer.table old.hub.capacity subscribed.task
-    → IsSubscription name order subscribed new
-subscribed_is name order producer ticket due_before due_after old new subscribed admits handle task =
-    let first = first_entry name old.hub.next admits.after ticket in
+    → IsSubscription name on_full order subscribed new
+subscribed_is name on_full order producer ticket due_before due_after old new subscribed admits handle task =
+    let first = first_entry_with name on_full old.hub.next admits.after ticket in
     let long : length admits.middle.entries.items ≡ length old.hub.entries.items =
     sym (length-map admits.middle.entries.items (entry_of producer_end)) ∙ admits.seen.kept.as_long
     ∙ length-map old.hub.entries.items (entry_of producer_end) in
@@ -42,6 +43,7 @@ subscribed_is name order producer ticket due_before due_after old new subscribed
       stands = ap (slice_get new.hub.entries.items) number
           ∙ ap (λ items. slice_get items (length admits.middle.entries.items)) admits.entries ∙ get_last admits.middle.entries.items first;
       named = refl;
+      says = refl;
       there = refl;
       handle_is = handle ∙ ap (λ n. new_handle_in order n producer.table) (sym capacity)
           ∙ ap (λ t. new_handle_in order new.hub.capacity t) (sym table);

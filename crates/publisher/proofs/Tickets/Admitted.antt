@@ -15,9 +15,10 @@ use Rattle.feed_cell.specs.Offering.{DoesCall}
 use Rattle.publisher_hub.specs.Entry.{entry_of}
 use Rattle.publisher_hub.specs.Hub.{HubState, hub_of}
 use Rattle.publisher_hub.specs.OpeningTicket.{AddsTicket}
-use Rattle.publisher_hub.specs.Subscribing.{Admits, first_entry}
+use Rattle.publisher_hub.specs.Subscribing.{AdmitsWith, first_entry_with}
 use Rattle.publisher_hub.specs.declared.entry.Entry.{Entry}
 use Rattle.publisher_hub.specs.declared.hub.Hub.{Hub}
+use Rattle.publisher_hub.specs.declared.policy.OnFull.{OnFull}
 use Rattle.publisher_hub.specs.declared.work.Work.{Work}
 use Rattle.publisher_hub.proofs.AnswerLists.Updates.{get_grown}
 use Rattle.publisher_hub.proofs.PartialRounds.Next.{get_before_map, get_mapped}
@@ -28,27 +29,27 @@ use Rattle.publisher.specs.State.{IsCountedAtClose, producer_end}
 
 -- what a new subscription gets is of the count of the opening; it gets nothing only if the publisher is closed, and
 -- then it is late
-ticketed_first : (name : List ℕ) (feed : ProducerState) (hub : Hub ProducerState) (count : CountId)
+ticketed_first : (name : List ℕ) (on_full : OnFull) (feed : ProducerState) (hub : Hub ProducerState) (count : CountId)
     (counted : Option ℕ) (number : ℕ) (ticket : Option Ticket)
     → ((opening : Opening) → hub.opening ≡ Some opening → count_of_opening opening ≡ count)
     → IsTicketFor hub ticket → IsCountedAtClose (hub_of producer_end hub) counted → number ≡ length (hub_of producer_end hub).entries
-    → IsTicketed count counted hub.next number (entry_of producer_end (first_entry name hub.next feed ticket))
-ticketed_first name feed hub count counted number None of_opening for_it close is_next = record {
+    → IsTicketed count counted hub.next number (entry_of producer_end (first_entry_with name on_full hub.next feed ticket))
+ticketed_first name on_full feed hub count counted number None of_opening for_it close is_next = record {
   of_count = λ t at. cc;
   spent = λ _. let before = close.closed for_it in inr (before.0, (before.1.0, let few = before.1.1 in omega arith));
   late = λ _. refl;
 }
-ticketed_first name feed hub count counted number (Some ticket) of_opening for_it close is_next = record {
+ticketed_first name on_full feed hub count counted number (Some ticket) of_opening for_it close is_next = record {
   of_count = λ t at. ap count_of_ticket (sym (same_some at)) ∙ for_it.1.1 ∙ of_opening for_it.0 for_it.1.0;
   spent = λ none. cc;
   late = λ _. refl;
 }
 
-module _ (name : List ℕ) (feed : ProducerState) (ticket : Option Ticket) (number : ℕ)
+module _ (name : List ℕ) (on_full : OnFull) (feed : ProducerState) (ticket : Option Ticket) (number : ℕ)
     (due_before due_after : List (Work TaskState)) (old new : Hub ProducerState) where
   pub tickets_admitted : (count : CountId) (counted : Option ℕ) (last : Option Spent)
       → IsOfCount count (hub_of producer_end old) counted last → IsCountedAtClose (hub_of producer_end old) counted → IsTicketFor old ticket
-      → Admits producer_end DoesCall name feed ticket number due_before due_after old new
+      → AdmitsWith producer_end DoesCall name on_full feed ticket number due_before due_after old new
       → IsOfCount count (hub_of producer_end new) counted last
   tickets_admitted count counted last is close for_it admits = record {
     opening = λ opening held. is.opening opening (sym (ap (λ (h : HubState). h.opening) admits.rest) ∙ held);
@@ -57,7 +58,7 @@ module _ (name : List ℕ) (feed : ProducerState) (ticket : Option Ticket) (numb
         subst (IsTicketed count counted new.next k) here.1.1
         (subst (λ n. IsTicketed count counted n k (entry_of producer_end here.0))
         (sym (ap (λ (h : HubState). h.progress.next) admits.rest))
-        (by k here.0 (get_grown admits.middle.entries.items (first_entry name old.next admits.after ticket) k here.0
+        (by k here.0 (get_grown admits.middle.entries.items (first_entry_with name on_full old.next admits.after ticket) k here.0
         (sym (ap (λ es. slice_get es k) admits.entries) ∙ here.1.0))));
     last_is = is.last_is;
     closed = λ some. subst IsSome (sym (ap (λ (h : HubState). h.progress.ending) admits.rest)) (is.closed some);
@@ -70,13 +71,13 @@ module _ (name : List ℕ) (feed : ProducerState) (ticket : Option Ticket) (numb
     as_many = sym (length-map admits.middle.entries.items (entry_of producer_end)) ∙ admits.seen.kept.as_long
 
     by : (k : ℕ) (x : Entry ProducerState) → (slice_get admits.middle.entries.items k ≡ Some x) ⊎
-        ((k ≡ length admits.middle.entries.items) × (first_entry name old.next admits.after ticket ≡ x))
+        ((k ≡ length admits.middle.entries.items) × (first_entry_with name on_full old.next admits.after ticket ≡ x))
         → IsTicketed count counted old.next k (entry_of producer_end x)
     by k x (inl stood) = subst (λ n. IsTicketed count counted n k (entry_of producer_end x))
         (ap (λ (h : HubState). h.progress.next) admits.seen.rest)
         (seen.entries k (entry_of producer_end x) (get_mapped (entry_of producer_end) admits.middle.entries.items k x stood))
     by k x (inr first) = subst (λ (e : Entry ProducerState). IsTicketed count counted old.next k (entry_of producer_end e)) first.1
-        (ticketed_first name admits.after old count counted k ticket is.opening for_it close (first.0 ∙ as_many))
+        (ticketed_first name on_full admits.after old count counted k ticket is.opening for_it close (first.0 ∙ as_many))
 
 -- one more ticket of the count
 module _ (result : Result (Option Ticket) Refusal) (old new : Hub ProducerState)

@@ -84,6 +84,7 @@ fn close_one<B: Listener>(number: u32, found: Found<B>) -> Closed<B>
     };
     let Taken {
         name,
+        on_full,
         since,
         dropped,
         late,
@@ -100,6 +101,7 @@ fn close_one<B: Listener>(number: u32, found: Found<B>) -> Closed<B>
     Closed::Lane(NamedLane {
         name,
         entry: number,
+        on_full,
         since,
         dropped,
         late,

@@ -9,17 +9,19 @@ ghost use Rattle.publisher.specs.Finding.{AreNone, ArePlaced, FindsAll, FindsOne
 ghost use Rattle.publisher.specs.State.{producer_end};
 ghost use Rattle.publisher.specs.Tickets.{IsLate};
 
+use crate::ledgers::Ledgers;
 use crate::subscription::Subscription;
 use feed_cell::{Handle, Producer};
 use flow_rules::{FailHandler, Listener, Name};
-use publisher_hub::Hub;
-use std::sync::ledger::Ledger;
+use publisher_hub::{Hub, OnFull};
 
 /// The two ends of a subscription, with what its publisher knows of it.
 #[derive(Drop)]
 pub struct Taken<B: Listener> {
     /// The name that its subscriber subscribed with.
     pub name: Name,
+    /// What it said of its full buffer.
+    pub on_full: OnFull,
     /// The serial number of the next publication when it was subscribed.
     pub since: u64,
     /// How many publications found its buffer full.
@@ -57,9 +59,9 @@ impl<B: Listener> Found<B> {
 }
 
 /// Lays the handle of each subscription at the place of its number. The answer is whether each has a place.
-pub fn place_all<L: Ledger + Send, D: Ledger + Send, B: Listener + Send, F: FailHandler + Send>(
+pub fn place_all<L: Ledgers + Send, B: Listener + Send, F: FailHandler + Send>(
     handles: &mut [Option<Handle<B>>],
-    mut subscriptions: Vec<Subscription<L, D, B, F>>,
+    mut subscriptions: Vec<Subscription<L, B, F>>,
 ) -> bool
     requires empty { AreNone handles.old }
     ensures placed { ArePlaced subscriptions.items handles.new result }
@@ -133,6 +135,7 @@ fn find_one<B: Listener>(
     ensures sound { IsSound (hub_of producer_end hub.new) }
 {
     let name = hub.name_of(number).unwrap();
+    let on_full = hub.on_full(number).unwrap();
     let since = hub.since(number).unwrap();
     let dropped = hub.dropped(number).unwrap();
     let Some(handle) = handle else {
@@ -145,6 +148,7 @@ fn find_one<B: Listener>(
     match hub.take_feed(number) {
         Some(producer) => Found::Both(Taken {
             name,
+            on_full,
             since,
             dropped,
             late: is_late(counted, number),

@@ -10,6 +10,7 @@ use super::close::{Left, close_all};
 use super::find::Found;
 use super::room::Room;
 use crate::outcome::{NamedLane, Outcome};
+use crate::refused::Refused;
 use flow_rules::{FailHandler, Listener, Name, Refusal};
 
 /// What stood behind the lock of a publisher at its end.
@@ -36,7 +37,7 @@ impl<B: Listener> Books<B> {
     pub(crate) fn conclude<F: FailHandler>(
         self,
         handler: Option<F>,
-    ) -> Result<Outcome<B, F>, (Refusal, Outcome<B, F>)>
+    ) -> Result<Outcome<B, F>, Refused<Outcome<B, F>>>
         requires room { HasRoomFor (length self.founds.items) self.room }
         requires few { length self.founds.items < 4294967296 }
         ensures { Concludes B.told B.replied self result }
@@ -72,7 +73,10 @@ impl<B: Listener> Books<B> {
             handler,
         };
         match first.or(missing) {
-            Some(name) => Err((Refusal::StillHeld(name), outcome)),
+            Some(name) => Err(Refused {
+                refusal: Refusal::StillHeld(name),
+                back: outcome,
+            }),
             None => judge(outcome, is_closed, unsettled),
         }
     }
@@ -83,7 +87,7 @@ fn judge<B, F: FailHandler>(
     outcome: Outcome<B, F>,
     is_closed: bool,
     mut unsettled: Vec<Name>,
-) -> Result<Outcome<B, F>, (Refusal, Outcome<B, F>)>
+) -> Result<Outcome<B, F>, Refused<Outcome<B, F>>>
     requires empty { unsettled.items ≡ [] }
     requires room { length outcome.lanes.items ≤ vec_capacity unsettled }
     ensures { Judges outcome is_closed result }
@@ -94,7 +98,10 @@ fn judge<B, F: FailHandler>(
     if unsettled.is_empty() {
         Ok(outcome)
     } else {
-        Err((Refusal::Unsettled(unsettled), outcome))
+        Err(Refused {
+            refusal: Refusal::Unsettled(unsettled),
+            back: outcome,
+        })
     }
 }
 

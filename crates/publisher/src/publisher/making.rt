@@ -6,18 +6,19 @@ ghost use Rattle.flow_rules.specs.declared.refusal.Refusal.TheVariants as Refusa
 ghost use Rattle.async_pool.specs.Crew.{IsWorkerCount};
 ghost use Rattle.feed_core.specs.Prelude.{Overtake};
 ghost use Rattle.flow_rules.specs.Capacity.{capacity_of};
-ghost use Rattle.publisher.specs.Blanks.{IsBlankOf};
+ghost use Rattle.publisher.specs.Blanks.{AreBlanksOf};
 ghost use Rattle.publisher.specs.Making.{RefusesCapacity, RefusesMaking, RefusesWorkers};
 
 use super::Publisher;
 use crate::awaiting::Awaiting;
+use crate::ledgers::{BlankPair, Ledgers};
+use crate::refused::Refused;
 use crate::shared::Shared;
 use crate::state::{State, StateLock};
 use async_pool::{MOST_WORKERS, Pool};
 use flow_rules::{ErrorOrder, FailHandler, Listener, NoMemory, Refusal};
 use once_cell::race::OnceBox;
 use std::alloc::Global;
-use std::sync::ledger::{Blank, Ledger};
 use std::sync::{Arc, Mutex, Wait};
 use std::thread::Threads;
 
@@ -55,27 +56,21 @@ impl Default for PublisherOptions {
     }
 }
 
-impl<
-    L: Ledger + Send + Sync + 'static,
-    D: Ledger + Send + Sync + 'static,
-    B: Listener + Send + 'static,
-> Publisher<L, D, B> {
+impl<L: Ledgers + Send + Sync + 'static, B: Listener + Send + 'static> Publisher<L, B> {
     /// Makes a publisher without subscriptions, whose buffers have the capacity that is enforced if this one is asked
     /// for, and whose turns this many workers run, each a thread of its own. A closing error overtakes the items. The
-    /// two blanks are those of its ledgers.
+    /// blanks are those of its ledgers.
     ///
     /// Refused 7 for any other number of workers than 1 to [`MOST_WORKERS`], then 1 if the capacity is 0, and then 5
     /// if a growth is refused or a thread can't be started; those that were started have ended then.
     pub fn new<R: Threads + Wait + Copy + Send + 'static>(
         rt: R,
         alloc: Global,
-        publications: Blank,
-        drops: Blank,
+        blanks: BlankPair,
         workers: usize,
         capacity: usize,
-    ) -> Result<Publisher<L, D, B>, Refusal>
-        requires publications { IsBlankOf publications L.name L.parts }
-        requires drops { IsBlankOf drops D.name D.parts }
+    ) -> Result<Publisher<L, B>, Refusal>
+        requires blanks { AreBlanksOf blanks L.publications L.drops }
         ensures bad_workers { RefusesWorkers result workers }
         ensures bad_capacity { RefusesCapacity result workers capacity }
         ensures refusals { IfErr result (λ refusal. RefusesMaking refusal) }
@@ -89,7 +84,7 @@ impl<
             capacity,
             order,
         };
-        Publisher::make(rt, alloc, publications, drops, options)
+        Publisher::make(rt, alloc, blanks, options)
     }
 
     /// Does what [`new`](Publisher::new) does, with both numbers by their names, and with the order of a closing error
@@ -97,12 +92,10 @@ impl<
     pub fn with_options<R: Threads + Wait + Copy + Send + 'static>(
         rt: R,
         alloc: Global,
-        publications: Blank,
-        drops: Blank,
+        blanks: BlankPair,
         options: PublisherOptions,
-    ) -> Result<Publisher<L, D, B>, Refusal>
-        requires publications { IsBlankOf publications L.name L.parts }
-        requires drops { IsBlankOf drops D.name D.parts }
+    ) -> Result<Publisher<L, B>, Refusal>
+        requires blanks { AreBlanksOf blanks L.publications L.drops }
         ensures bad_workers { RefusesWorkers result options.workers }
         ensures bad_capacity { RefusesCapacity result options.workers options.capacity }
         ensures refusals { IfErr result (λ refusal. RefusesMaking refusal) }
@@ -110,16 +103,15 @@ impl<
         ensures capacity { IfOk result
             (λ publisher. publisher.capacity ≡ capacity_of options.capacity) }
     {
-        Publisher::make(rt, alloc, publications, drops, options)
+        Publisher::make(rt, alloc, blanks, options)
     }
 }
 
 impl<
-    L: Ledger + Send + Sync + 'static,
-    D: Ledger + Send + Sync + 'static,
+    L: Ledgers + Send + Sync + 'static,
     B: Listener + Send + 'static,
     F: FailHandler + Send + 'static,
-> Publisher<L, D, B, F> {
+> Publisher<L, B, F> {
     /// Does what [`with_options`](Publisher::with_options) does, and has a handler hear of failures (the third
     /// constructor of `SubmissionPublisher`, Java SE 17). If the `onNext` of a subscriber fails, the handler is called
     /// once, with the subscriber's name and the code, after the subscription has ended. No other end calls it. It
@@ -132,13 +124,11 @@ impl<
     pub fn with_handler<R: Threads + Wait + Copy + Send + 'static>(
         rt: R,
         alloc: Global,
-        publications: Blank,
-        drops: Blank,
+        blanks: BlankPair,
         options: PublisherOptions,
         handler: F,
-    ) -> Result<Publisher<L, D, B, F>, (Refusal, F)>
-        requires publications { IsBlankOf publications L.name L.parts }
-        requires drops { IsBlankOf drops D.name D.parts }
+    ) -> Result<Publisher<L, B, F>, Refused<F>>
+        requires blanks { AreBlanksOf blanks L.publications L.drops }
         ensures bad_workers { (result ≡ Err (Refusal.BadWorkers, handler)) ↔
             (¬ IsWorkerCount options.workers) }
         ensures bad_capacity { IsWorkerCount options.workers
@@ -149,12 +139,15 @@ impl<
             (λ publisher. publisher.capacity ≡ capacity_of options.capacity) }
         ensures back { IfErr result (λ refused. refused.1 ≡ handler) }
     {
-        match Publisher::make(rt, alloc, publications, drops, options) {
+        match Publisher::make(rt, alloc, blanks, options) {
             Ok(publisher) => {
                 publisher.shared.set_handler(&rt, handler);
                 Ok(publisher)
             }
-            Err(refusal) => Err((refusal, handler)),
+            Err(refusal) => Err(Refused {
+                refusal,
+                back: handler,
+            }),
         }
     }
 
@@ -162,12 +155,10 @@ impl<
     fn make<R: Threads + Wait + Copy + Send + 'static>(
         rt: R,
         alloc: Global,
-        publications: Blank,
-        drops: Blank,
+        blanks: BlankPair,
         options: PublisherOptions,
-    ) -> Result<Publisher<L, D, B, F>, Refusal>
-        requires publications { IsBlankOf publications L.name L.parts }
-        requires drops { IsBlankOf drops D.name D.parts }
+    ) -> Result<Publisher<L, B, F>, Refusal>
+        requires blanks { AreBlanksOf blanks L.publications L.drops }
         ensures bad_workers { RefusesWorkers result options.workers }
         ensures bad_capacity { RefusesCapacity result options.workers options.capacity }
         ensures refusals { IfErr result (λ refusal. RefusesMaking refusal) }
@@ -183,7 +174,7 @@ impl<
         if !is_worker_count(workers) {
             return Err(Refusal::BadWorkers);
         }
-        let state = State::new(alloc, capacity, publications, drops)?;
+        let state = State::new(alloc, capacity, blanks)?;
         let publisher = Publisher::with(alloc, state, workers, order)?;
         for worker in 0..workers {
             if publisher.start(rt, alloc, worker).is_err() {
@@ -197,10 +188,10 @@ impl<
     /// Makes a publisher whose workers were not started.
     fn with(
         alloc: Global,
-        state: State<L, D, B>,
+        state: State<L, B>,
         workers: usize,
         order: ErrorOrder,
-    ) -> Result<Publisher<L, D, B, F>, NoMemory>
+    ) -> Result<Publisher<L, B, F>, NoMemory>
         requires { IsWorkerCount workers }
         ensures workers { IfOk result (λ publisher. publisher.workers ≡ workers) }
         ensures order { IfOk result (λ publisher. publisher.order ≡ order) }

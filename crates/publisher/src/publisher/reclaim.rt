@@ -10,21 +10,17 @@ ghost use Rattle.publisher.specs.Reclaiming.{IsReclaimed, IsRefusalOfReclaim};
 use super::Publisher;
 use crate::finishing::close::OwnersPart;
 use crate::finishing::find::Taken;
+use crate::ledgers::Ledgers;
 use crate::outcome::NamedLane;
+use crate::refused::Refused;
 use crate::subscription::Subscription;
 use feed_cell::{Handle, Producer, close, close_again};
 use feed_core::Lane;
-use flow_rules::{FailHandler, Listener, Refusal};
+use flow_rules::{FailHandler, Listener};
 use std::alloc::Global;
 use std::sync::Wait;
-use std::sync::ledger::Ledger;
 
-impl<L: Ledger + Send, D: Ledger + Send, B: Listener + Send, F: FailHandler + Send> Publisher<
-    L,
-    D,
-    B,
-    F,
-> {
+impl<L: Ledgers + Send, B: Listener + Send, F: FailHandler + Send> Publisher<L, B, F> {
     /// Gives what is left of a subscription that has ended, with its subscriber, as [`finish`](crate::finish) would,
     /// and frees the rest (Reactive Streams 1.0, rule 3.13). What is kept of it are the numbers of its entry. It takes
     /// constant time, and waits for the publisher's lock.
@@ -36,8 +32,8 @@ impl<L: Ledger + Send, D: Ledger + Send, B: Listener + Send, F: FailHandler + Se
         &self,
         rt: &R,
         alloc: Global,
-        subscription: Subscription<L, D, B, F>,
-    ) -> Result<NamedLane<B>, (Refusal, Subscription<L, D, B, F>)>
+        subscription: Subscription<L, B, F>,
+    ) -> Result<NamedLane<B>, Refused<Subscription<L, B, F>>>
         ensures lane { IfOk result (λ left. IsReclaimed B.told B.replied left) }
         ensures entry { IfOk result (λ left. left.entry ≡ subscription.entry) }
         ensures owner { IfOk result (λ left. HasOwnersPart subscription.handle left.lane) }
@@ -48,7 +44,10 @@ impl<L: Ledger + Send, D: Ledger + Send, B: Listener + Send, F: FailHandler + Se
         let taken = self.shared.lock(rt).reclaim(alloc, entry, handle);
         match taken {
             Ok(taken) => Ok(close_ended(rt, entry, taken)),
-            Err((refusal, handle)) => Err((refusal, Subscription::new(dispatcher, entry, handle))),
+            Err((refusal, handle)) => Err(Refused {
+                refusal,
+                back: Subscription::new(dispatcher, entry, handle),
+            }),
         }
     }
 }
@@ -59,6 +58,7 @@ fn close_ended<B: Listener, R: Wait>(rt: &R, number: u32, taken: Taken<B>) -> Na
 {
     let Taken {
         name,
+        on_full,
         since,
         dropped,
         late,
@@ -68,6 +68,7 @@ fn close_ended<B: Listener, R: Wait>(rt: &R, number: u32, taken: Taken<B>) -> Na
     NamedLane {
         name,
         entry: number,
+        on_full,
         since,
         dropped,
         late,

@@ -7,20 +7,19 @@ ghost use Rattle.async_pool.specs.Pool.{pool_workers};
 
 use super::Publisher;
 use crate::job::Worker;
+use crate::ledgers::Ledgers;
 use async_pool::Wide;
 use flow_rules::{FailHandler, Listener, NoMemory};
 use std::alloc::Global;
-use std::sync::ledger::Ledger;
 use std::sync::{Arc, Wait};
 use std::thread;
 use std::thread::Threads;
 
 impl<
-    L: Ledger + Send + Sync + 'static,
-    D: Ledger + Send + Sync + 'static,
+    L: Ledgers + Send + Sync + 'static,
     B: Listener + Send + 'static,
     F: FailHandler + Send + 'static,
-> Publisher<L, D, B, F> {
+> Publisher<L, B, F> {
     /// Starts the thread of one worker.
     pub(super) fn start<R: Threads + Wait + Copy + Send + 'static>(
         &self,
@@ -47,12 +46,7 @@ impl<
     }
 }
 
-impl<L: Ledger + Send, D: Ledger + Send, B: Listener + Send, F: FailHandler + Send> Publisher<
-    L,
-    D,
-    B,
-    F,
-> {
+impl<L: Ledgers + Send, B: Listener + Send, F: FailHandler + Send> Publisher<L, B, F> {
     /// Ends the workers, and drops the tasks that are left.
     pub(crate) fn stop<R: Wait>(&self, rt: &R) {
         self.pool.shut(rt);

@@ -16,13 +16,13 @@ ghost use Rattle.publisher.specs.State.{producer_end};
 ghost use Rattle.publisher.specs.Tickets.{AreOfOneCountOf, AreSpent, IsBeside};
 
 use super::State;
+use crate::ledgers::Ledgers;
 use close_count::{Spent, none_left};
 use feed_cell::{Producer, Task};
 use flow_rules::{Ending, Listener, Refusal};
 use publisher_hub::{Hub, Work};
-use std::sync::ledger::Ledger;
 
-impl<L: Ledger, D: Ledger, B: Listener> State<L, D, B> {
+impl<L: Ledgers, B: Listener> State<L, B> {
     /// Tells how the publisher is closed, if it is.
     pub fn ending(&self) -> Option<Ending>
         ensures { result ≡ self.now.hub.ending }

@@ -15,8 +15,17 @@ ghost use Rattle.publisher.specs.Standing.{has_ended_by, lag_at};
 ghost use Rattle.publisher.specs.State.{producer_end};
 
 use super::{Reason, State};
+use crate::ledgers::Ledgers;
 use flow_rules::{Listener, Name, Standing};
-use std::sync::ledger::Ledger;
+
+/// Whose room a publication needs.
+#[derive(Clone, Copy)]
+pub enum Need {
+    /// That of all live subscriptions.
+    All,
+    /// That of those that say [`OnFull::Wait`](publisher_hub::OnFull::Wait).
+    Waiters,
+}
 
 /// A subscription has ended: a look showed it.
 #[must_use]
@@ -28,7 +37,7 @@ pub struct Ended(());
 #[derive(Drop)]
 pub struct Drained(());
 
-impl<L: Ledger, D: Ledger, B: Listener> State<L, D, B> {
+impl<L: Ledgers, B: Listener> State<L, B> {
     /// Tells how many items wait for the subscriber of this number; 0 once its subscription has ended.
     pub fn lag(&mut self, entry: u32) -> u64
         ensures { (glance : Option Standing)
@@ -123,25 +132,28 @@ impl<L: Ledger, D: Ledger, B: Listener> State<L, D, B> {
     }
 
     /// Looks whether a publication has to wait, which gives a reason to wait. It need not if each live subscription
-    /// has room, or if the publisher is closed.
-    pub(super) fn look_for_room(&mut self) -> Result<(), Reason>
+    /// whose room it needs has room, or if the publisher is closed.
+    pub(super) fn look_for_room(&mut self, need: Need) -> Result<(), Reason>
         ensures { (room : Bool)
-            × (LooksForRoom room self.old self.new × (IsOk result ↔ (room ≡ true))) }
+            × (LooksForRoom need room self.old self.new × (IsOk result ↔ (room ≡ true))) }
     {
-        if self.has_room() {
+        if self.has_room(need) {
             Ok(())
         } else {
             Err(Reason::of_a_look())
         }
     }
 
-    /// Tells whether each live subscription has room, or the publisher is closed.
-    fn has_room(&mut self) -> bool
-        ensures { LooksForRoom result self.old self.new }
+    /// Tells whether each live subscription whose room is needed has room, or the publisher is closed.
+    fn has_room(&mut self, need: Need) -> bool
+        ensures { LooksForRoom need result self.old self.new }
     {
         if self.hub.ending().is_some() {
             return true;
         }
-        self.hub.has_room()
+        match need {
+            Need::All => self.hub.has_room(),
+            Need::Waiters => self.hub.has_room_for_waiters(),
+        }
     }
 }

@@ -3,18 +3,23 @@
 //! What a submitter owns of them stands in `sources`, and whether there is room in `look`. Nothing here waits. A
 //! refusal of the Hub comes as a value that is made here alone, so whoever learns from it how the publisher is closed
 //! can't have made that up.
-ghost use Rattle.std.specs.Prelude.{◌≡◌, ◌+◌, IfErr, IfOk, OnErr, OnOk, is_none, length};
+mod by_policy;
+
+ghost use Rattle.std.specs.Prelude.{◌≡◌, ◌+◌, ◌≤◌, IfErr, IfOk, OnErr, OnOk, is_none, length};
 ghost use Rattle.feed_cell.specs.Offering.{DoesCall};
 ghost use Rattle.publisher_hub.specs.Publishing.{OffersItem, Publishes, RefusesItem, RefusesOffer};
 ghost use Rattle.publisher_hub.specs.declared.hub.publish.Unpublished.TheVariants as Unpublished;
 ghost use Rattle.publisher.specs.Handles.{IsHubRefusal};
-ghost use Rattle.publisher.specs.Publishing.{PublishesFirst, RefusesShared, StopsAt, drop_of};
+ghost use Rattle.publisher.specs.Publishing.{PublishesFirst, PublishesShared, RefusesShared, StopsAt, drop_of, loss_of};
 ghost use Rattle.publisher.specs.State.{producer_end};
+ghost use Rattle.publisher.specs.declared.state.look.Need.TheVariants as Need;
 
-use super::{Own, State};
+use super::{Need, Own, State};
+use crate::ledgers::Ledgers;
+use by_policy::loss;
 use feed_cell::Task;
 use flow_rules::{DropHandler, Listener, NoMemory, Refusal, Text};
-use publisher_hub::{Unpublished, Work};
+use publisher_hub::{Published, Unpublished, Work};
 use std::marker::Model;
 use std::sync::ledger::{Book, Ledger, Share};
 
@@ -75,21 +80,32 @@ impl NotPublished {
     }
 }
 
+/// What a publication of several texts that heeds each subscription's [`OnFull`](publisher_hub::OnFull) did.
+#[derive(Clone, Copy, Debug, PartialEq, Eq)]
+pub struct PublishedAll {
+    /// The greatest lag of a subscription that accepted the last text, in items; 0 if none did, or if there is no text.
+    pub lag: u64,
+    /// How many of the texts at least one subscription lost.
+    pub lost: usize,
+}
+
 /// Says how far a list of texts was published, in order.
 #[derive(Drop)]
 pub struct Stopped {
     /// How many were published before the first that was not.
     pub published: usize,
+    /// How many of these at least one subscription lost.
+    pub lost: usize,
     /// Why that one was not.
     pub why: NotPublished,
 }
 
-impl<L: Ledger, D: Ledger, B: Listener> State<L, D, B> {
+impl<L: Ledgers, B: Listener> State<L, B> {
     /// Publishes a text to all live subscriptions at once, if all have room. Only then the submitter's share rises, by
     /// one.
     pub fn publish(
         &mut self,
-        own: &mut Own<L, D>,
+        own: &mut Own<L>,
         text: Text,
         due: &mut Vec<Work<Task<B>>>,
     ) -> Result<u64, NotPublished>
@@ -113,55 +129,88 @@ impl<L: Ledger, D: Ledger, B: Listener> State<L, D, B> {
         Ok(lag)
     }
 
-    /// Publishes texts in order, each as [`publish`](State::publish) publishes one, up to one that is not published.
-    /// The answer is the lag after the last, or 0 if there is no text.
+    /// Publishes texts in order, up to one that is not published: each as [`publish`](State::publish) does if the room
+    /// of all is needed, and else as [`publish_by_policy`](State::publish_by_policy) does. The answer has the lag after
+    /// the last, or 0 if there is no text.
     pub fn publish_all(
         &mut self,
-        own: &mut Own<L, D>,
+        own: &mut Own<L>,
         texts: &[Text],
+        need: Need,
         due: &mut Vec<Work<Task<B>>>,
-    ) -> Result<u64, Stopped>
-        ensures ok { IfOk result (λ lag. PublishesFirst own.old.source texts.now (length texts.now)
-            self.old.hub self.new.hub due.old.items due.new.items lag) }
-        ensures stopped { IfErr result (λ stopped. StopsAt own.old.source texts.now stopped
+    ) -> Result<PublishedAll, Stopped>
+        ensures ok { IfOk result (λ all. PublishesFirst need own.old.source texts.now
+            (length texts.now) self.old.hub self.new.hub due.old.items due.new.items all.lag
+            all.lost) }
+        ensures stopped { IfErr result (λ stopped. StopsAt need own.old.source texts.now stopped
             self.old self.new due.old.items due.new.items) }
         ensures all { OnOk result (own.new.publications.amount
             ≡ own.old.publications.amount + length texts.now) }
         ensures some { IfErr result (λ stopped. own.new.publications.amount
             ≡ own.old.publications.amount + stopped.published) }
+        ensures lost { IfOk result
+            (λ all. own.new.drops.amount ≡ own.old.drops.amount + all.lost) }
+        ensures lost_before { IfErr result
+            (λ stopped. own.new.drops.amount ≡ own.old.drops.amount + stopped.lost) }
+        ensures few { IfOk result (λ all. all.lost ≤ length texts.now) }
+        ensures few_before { IfErr result (λ stopped. stopped.lost ≤ stopped.published) }
+        ensures none_lost { need ≡ Need.All → IfOk result (λ all. all.lost ≡ 0) }
+        ensures none_lost_before { need ≡ Need.All → IfErr result (λ stopped. stopped.lost ≡ 0) }
         ensures source { own.new.source ≡ own.old.source }
-        ensures drops { own.new.drops.amount ≡ own.old.drops.amount }
     {
         let mut lag = 0;
+        let mut lost = 0;
         for (published, text) in texts.iter().enumerate() {
-            match self.publish_shared(own, text, due) {
-                Ok(after) => lag = after,
-                Err(why) => return Err(Stopped { published, why }),
+            match self.publish_shared(own, text, need, due) {
+                Ok(one) => {
+                    lag = one.lag;
+                    lost += loss(one.dropped) as usize;
+                }
+                Err(why) => {
+                    return Err(Stopped {
+                        published,
+                        lost,
+                        why,
+                    });
+                }
             }
         }
-        Ok(lag)
+        Ok(PublishedAll { lag, lost })
     }
 
-    /// Publishes a share of a text, as [`publish`](State::publish) publishes a text.
+    /// Publishes a share of a text, if those subscriptions have room whose room is needed.
     fn publish_shared(
         &mut self,
-        own: &mut Own<L, D>,
+        own: &mut Own<L>,
         text: &Text,
+        need: Need,
         due: &mut Vec<Work<Task<B>>>,
-    ) -> Result<u64, NotPublished>
-        ensures ok { IfOk result (λ lag. Publishes producer_end DoesCall own.old.source text.now
-            self.old.hub self.new.hub due.old.items due.new.items lag) }
-        ensures refusals { IfErr result (RefusesShared text.now self.old self.new) }
+    ) -> Result<Published, NotPublished>
+        ensures ok { IfOk result (λ published. PublishesShared need own.old.source text.now
+            self.old.hub self.new.hub due.old.items due.new.items published) }
+        ensures refusals { IfErr result (RefusesShared need text.now self.old self.new) }
         ensures nothing_due { OnErr result (due.new.items ≡ due.old.items) }
         ensures one_more { OnOk result
             (own.new.publications.amount ≡ own.old.publications.amount + 1) }
         ensures none { OnErr result (own.new.publications.amount ≡ own.old.publications.amount) }
+        ensures lost { IfOk result (λ published.
+            own.new.drops.amount ≡ own.old.drops.amount + loss_of published.dropped) }
+        ensures none_lost { OnErr result (own.new.drops.amount ≡ own.old.drops.amount) }
+        ensures waited { need ≡ Need.All → IfOk result (λ published. published.dropped ≡ 0) }
         ensures source { own.new.source ≡ own.old.source }
-        ensures drops { own.new.drops.amount ≡ own.old.drops.amount }
     {
-        match text.share() {
-            Ok(text) => self.publish(own, text, due),
-            Err(NoMemory) => Err(NotPublished(Unpublished::Refused(Refusal::NoMemory))),
+        let text = match text.share() {
+            Ok(text) => text,
+            Err(NoMemory) => {
+                return Err(NotPublished(Unpublished::Refused(Refusal::NoMemory)));
+            }
+        };
+        match need {
+            Need::All => match self.publish(own, text, due) {
+                Ok(lag) => Ok(Published { lag, dropped: 0 }),
+                Err(why) => Err(why),
+            },
+            Need::Waiters => self.publish_by_policy(own, text, due),
         }
     }
 
@@ -169,7 +218,7 @@ impl<L: Ledger, D: Ledger, B: Listener> State<L, D, B> {
     /// share rises, by one, and that of the drops if any dropped it.
     pub fn offer<H: DropHandler>(
         &mut self,
-        own: &mut Own<L, D>,
+        own: &mut Own<L>,
         text: Text,
         handler: Option<&mut H>,
         due: &mut Vec<Work<Task<B>>>,

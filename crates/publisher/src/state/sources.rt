@@ -10,6 +10,7 @@ ghost use Rattle.publisher_hub.specs.declared.hub.TheConstants.{MOST_SOURCES};
 ghost use Rattle.publisher.specs.Together.{AreTogether, Audits, FindsMissing, marks};
 
 use super::{PARTS, State};
+use crate::ledgers::{Drops, Ledgers, Publications};
 use crate::submitter::Submitter;
 use flow_rules::{FailHandler, Listener, Name, Refusal};
 use publisher_hub::MOST_SOURCES;
@@ -18,18 +19,18 @@ use std::sync::ledger::{Book, Ledger, Share};
 /// What a submitter owns: its number, and one part of each ledger, which sum up how many items it published and how
 /// many of its offers found a buffer full.
 #[derive(Drop)]
-pub struct Own<L: Ledger, D: Ledger> {
+pub struct Own<L: Ledgers> {
     pub source: u32,
-    pub publications: Share<L>,
-    pub drops: Share<D>,
+    pub publications: Share<Publications<L>>,
+    pub drops: Share<Drops<L>>,
     ghost few: { source < MOST_SOURCES },
     ghost one: { publications.parts ≡ 1 },
     ghost one_of_drops: { drops.parts ≡ 1 },
 }
 
-impl<L: Ledger, D: Ledger, B: Listener> State<L, D, B> {
+impl<L: Ledgers, B: Listener> State<L, B> {
     /// Gives the number of one more submitter, with its parts of the ledgers. Refused 4 after the last possible one.
-    pub fn next_source(&mut self) -> Result<Own<L, D>, Refusal>
+    pub fn next_source(&mut self) -> Result<Own<L>, Refusal>
         ensures next { IfOk result (λ own. own.source ≡ self.old.hub.sources) }
         ensures new { IfOk result (λ own. (own.publications.amount ≡ 0) × (own.drops.amount ≡ 0)) }
         ensures counted { IfOk result (λ own. self.new ≡ record self.old {
@@ -51,18 +52,18 @@ impl<L: Ledger, D: Ledger, B: Listener> State<L, D, B> {
 
 /// What submitters have together.
 #[derive(Drop)]
-pub(super) struct Together<L: Ledger, D: Ledger> {
-    publications: Share<L>,
-    drops: Share<D>,
+pub(super) struct Together<L: Ledgers> {
+    publications: Share<Publications<L>>,
+    drops: Share<Drops<L>>,
     /// Of each number, whether it is that of one of them.
     sources: [bool; MOST_SOURCES],
     /// Whether one of them knows that the publisher is closed.
     pub knows: bool,
 }
 
-impl<L: Ledger, D: Ledger> Together<L, D> {
+impl<L: Ledgers> Together<L> {
     /// Takes in what one more of them owns.
-    fn take_in(&mut self, own: Own<L, D>, knows: bool)
+    fn take_in(&mut self, own: Own<L>, knows: bool)
         ensures publications { self.new.publications.amount
             ≡ self.old.publications.amount + own.publications.amount }
         ensures drops { self.new.drops.amount ≡ self.old.drops.amount + own.drops.amount }
@@ -83,12 +84,12 @@ impl<L: Ledger, D: Ledger> Together<L, D> {
     }
 }
 
-impl<L: Ledger + Send, D: Ledger + Send, B: Listener + Send> State<L, D, B> {
+impl<L: Ledgers + Send, B: Listener + Send> State<L, B> {
     /// Puts together what these submitters have.
     pub(super) fn put_together<F: FailHandler + Send>(
         &mut self,
-        mut submitters: Vec<Submitter<L, D, B, F>>,
-    ) -> Together<L, D>
+        mut submitters: Vec<Submitter<L, B, F>>,
+    ) -> Together<L>
         ensures together { AreTogether submitters.items [] result.publications.amount
             result.drops.amount result.publications.parts result.drops.parts result.sources
             result.knows }
@@ -109,8 +110,7 @@ impl<L: Ledger + Send, D: Ledger + Send, B: Listener + Send> State<L, D, B> {
 
     /// Compares what submitters have together with the totals. The answer is the name of the first one that is
     /// missing, as `source-3`.
-    pub(super) fn audit(&mut self, together: Together<L, D>) -> Option<Name>
-        requires ledgers { (L.parts ≡ PARTS) × (D.parts ≡ PARTS) }
+    pub(super) fn audit(&mut self, together: Together<L>) -> Option<Name>
         requires parts { marks together.sources ≤ together.publications.parts }
         requires drop_parts { marks together.sources ≤ together.drops.parts }
         ensures audits { Audits together.sources together.publications.amount

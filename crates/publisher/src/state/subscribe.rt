@@ -9,19 +9,19 @@ ghost use Rattle.publisher_hub.specs.Hub.{hub_of};
 ghost use Rattle.publisher_hub.specs.Lists.{greatest};
 ghost use Rattle.publisher_hub.specs.Looking.{LooksAtAll, living, waiting};
 ghost use Rattle.publisher_hub.specs.Names.{IsSubscribed};
-ghost use Rattle.publisher_hub.specs.Subscribing.{Admits, CanAdmit};
+ghost use Rattle.publisher_hub.specs.Subscribing.{AdmitsWith, CanAdmit};
 ghost use Rattle.publisher.specs.Handles.{RefusesSubscribing};
 ghost use Rattle.publisher.specs.State.{producer_end};
 ghost use Rattle.publisher.specs.Subscribing.{AddsNone, AdmitsNew, IsDueAfter, IsSubscription};
 ghost use Rattle.publisher.specs.Tickets.{IsTicketFor};
 
 use super::State;
+use crate::ledgers::Ledgers;
 use close_count::Ticket;
 use feed_cell::{Cell, Handle, Producer, Task};
 use flow_rules::{ErrorOrder, Listener, Name, Refusal};
-use publisher_hub::Work;
+use publisher_hub::{OnFull, Work};
 use std::alloc::Global;
-use std::sync::ledger::Ledger;
 
 /// What the owner of a new subscription gets.
 #[must_use]
@@ -35,27 +35,30 @@ pub struct Subscribed<B: Listener> {
     pub task: Task<B>,
 }
 
-impl<L: Ledger, D: Ledger, B: Listener> State<L, D, B> {
-    /// Adds a subscription, in which a closing error and the items are told in this order. The tasks of others that
-    /// this starts are due. A refused one adds none, and the name stays as free as it was.
+impl<L: Ledgers, B: Listener> State<L, B> {
+    /// Adds a subscription, which says this of its full buffer, and in which a closing error and the items are told in
+    /// this order. The tasks of others that this starts are due. A refused one adds none, and the name stays as free as
+    /// it was.
     pub fn subscribe(
         &mut self,
         alloc: Global,
         name: Name,
+        on_full: OnFull,
         order: ErrorOrder,
         subscriber: B,
         due: &mut Vec<Work<Task<B>>>,
     ) -> Result<Subscribed<B>, (Refusal, B)>
         requires untold { B.told subscriber ≡ [] }
         requires unheard { B.replied subscriber ≡ [] }
-        ensures ok { IfOk result (λ subscribed. IsSubscription name order subscribed self.new) }
+        ensures ok { IfOk result (λ subscribed. IsSubscription name on_full order subscribed
+            self.new) }
         ensures refusals { IfErr result (λ refused. RefusesSubscribing refused.0) }
         ensures back { IfErr result (λ refused. refused.1 ≡ subscriber) }
         ensures adds_none { OnErr result
             (AddsNone (hub_of producer_end self.old.hub) (hub_of producer_end self.new.hub)) }
         ensures due { IfErr result (λ refused. IsDueAfter name refused.0
             due.old.items due.new.items self.old.hub self.new.hub) }
-        ensures admits { IfOk result (λ subscribed. AdmitsNew name subscribed.entry
+        ensures admits { IfOk result (λ subscribed. AdmitsNew name on_full subscribed.entry
             due.old.items due.new.items self.old.hub self.new.hub) }
     {
         let ticket = match self.reserve(name, due) {
@@ -64,7 +67,7 @@ impl<L: Ledger, D: Ledger, B: Listener> State<L, D, B> {
         };
         match Cell::new_with(alloc, self.hub.capacity(), order, subscriber) {
             Ok((producer, handle, task)) => {
-                let entry = self.admit(name, producer, ticket, due);
+                let entry = self.admit(name, on_full, producer, ticket, due);
                 Ok(Subscribed {
                     entry,
                     handle,
@@ -101,6 +104,7 @@ impl<L: Ledger, D: Ledger, B: Listener> State<L, D, B> {
     fn admit(
         &mut self,
         name: Name,
+        on_full: OnFull,
         producer: Producer<B>,
         ticket: Option<Ticket>,
         due: &mut Vec<Work<Task<B>>>,
@@ -108,10 +112,13 @@ impl<L: Ledger, D: Ledger, B: Listener> State<L, D, B> {
         requires can { CanAdmit producer_end name self.old.hub due.old }
         requires ticket { IsTicketFor self.old.hub ticket }
         requires fresh { IsFresh self.old.hub.capacity (producer_end producer) }
-        ensures admits { Admits producer_end DoesCall name producer ticket result due.old.items
-            due.new.items self.old.hub self.new.hub }
+        ensures admits { AdmitsWith producer_end DoesCall name on_full producer ticket result
+            due.old.items due.new.items self.old.hub self.new.hub }
     {
-        let entry = self.hub.admit(name, producer, ticket, due).unwrap();
+        let entry = self
+            .hub
+            .admit_with(name, on_full, producer, ticket, due)
+            .unwrap();
         self.entries = entry + 1;
         entry
     }

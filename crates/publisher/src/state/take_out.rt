@@ -2,7 +2,6 @@
 //!
 //! Only the two ends of subscriptions come out. They are closed outside the lock, by whoever took them out.
 ghost use Rattle.std.specs.Prelude.{◌≡◌, IfErr, IfOk, IfSome};
-ghost use Rattle.publisher.specs.declared.state.TheConstants.{PARTS};
 ghost use Rattle.publisher.specs.Finishing.{IsNothing, TakesBooksOut};
 ghost use Rattle.publisher.specs.Reclaiming.{Knows, NamesOne, Reclaims, RefusesReclaim, TakesEnd};
 
@@ -11,18 +10,21 @@ use super::close::{compare_tickets, keep_last};
 use crate::finishing::find::{Taken, find_all, is_late, place_all};
 use crate::finishing::judge::Books;
 use crate::finishing::room::{Places, new_places};
+use crate::ledgers::Ledgers;
 use crate::outcome::Outcome;
 use crate::submitter::Submitter;
 use crate::subscription::Subscription;
 use feed_cell::{Handle, Producer, is_shared};
 use flow_rules::{FailHandler, Listener, Name, Refusal};
+use publisher_hub::OnFull;
 use std::alloc::Global;
-use std::sync::ledger::Ledger;
 
 /// What a publisher knows of a subscription without its ends.
 #[derive(Drop)]
 pub struct Known {
     name: Name,
+    /// What it said of its full buffer.
+    on_full: OnFull,
     /// The serial number of the next publication when it was subscribed.
     since: u64,
     /// How many publications found its buffer full.
@@ -36,6 +38,7 @@ impl Known {
     fn with<B: Listener>(self, producer: Producer<B>, handle: Handle<B>) -> Taken<B>
         ensures { result ≡ record {
           name = self.name;
+          on_full = self.on_full;
           since = self.since;
           dropped = self.dropped;
           late = self.late;
@@ -45,6 +48,7 @@ impl Known {
     {
         Taken {
             name: self.name,
+            on_full: self.on_full,
             since: self.since,
             dropped: self.dropped,
             late: self.late,
@@ -54,7 +58,7 @@ impl Known {
     }
 }
 
-impl<L: Ledger, D: Ledger, B: Listener> State<L, D, B> {
+impl<L: Ledgers, B: Listener> State<L, B> {
     /// Takes the producer's end of the subscription of this number out, if that has ended, for its handle, which this
     /// is. Its ticket is spent, if it wasn't.
     ///
@@ -98,6 +102,7 @@ impl<L: Ledger, D: Ledger, B: Listener> State<L, D, B> {
     {
         Some(Known {
             name: self.hub.name_of(entry)?,
+            on_full: self.hub.on_full(entry)?,
             since: self.hub.since(entry)?,
             dropped: self.hub.dropped(entry)?,
             late: is_late(self.counted, entry),
@@ -118,16 +123,15 @@ impl<L: Ledger, D: Ledger, B: Listener> State<L, D, B> {
     }
 }
 
-impl<L: Ledger + Send, D: Ledger + Send, B: Listener + Send> State<L, D, B> {
+impl<L: Ledgers + Send, B: Listener + Send> State<L, B> {
     /// Takes the producer's end of each subscription out that was handed in, and sums up the shares of the submitters.
     /// If a growth is refused, the answer is an outcome without lanes and without a handler.
     pub fn take_out<F: FailHandler + Send>(
         &mut self,
         alloc: Global,
-        submitters: Vec<Submitter<L, D, B, F>>,
-        subscriptions: Vec<Subscription<L, D, B, F>>,
+        submitters: Vec<Submitter<L, B, F>>,
+        subscriptions: Vec<Subscription<L, B, F>>,
     ) -> Result<Books<B>, Outcome<B, F>>
-        requires { (L.parts ≡ PARTS) × (D.parts ≡ PARTS) }
         ensures ok { IfOk result
             (λ books. TakesBooksOut submitters.items subscriptions.items self.old books) }
         ensures nothing { IfErr result (λ outcome. IsNothing outcome) }

@@ -1,17 +1,20 @@
 //! The publication of several texts by one call.
 //!
-//! It is `submit` in all but how often it takes the lock. How the texts are published behind it stands in `state`.
-ghost use Rattle.std.specs.Prelude.{◌≡◌, ◌+◌, ◌<◌, None, Err, IfErr, IfSome, OnOk, length};
+//! It is `submit`, or `publish`, in all but how often it takes the lock. How the texts are published behind it stands
+//! in `state`.
+ghost use Rattle.std.specs.Prelude.{◌≡◌, ◌+◌, ◌<◌, ◌≤◌, None, Err, IfErr, IfOk, IfSome, OnOk, length};
 ghost use Rattle.flow_rules.specs.declared.refusal.Refusal.TheVariants as Refusal;
 ghost use Rattle.publisher.specs.Handles.{IsHubRefusal, RefusesPublication, after_refusal};
+ghost use Rattle.publisher.specs.Submitting.{CountsAll, CountsPart};
+ghost use Rattle.publisher.specs.declared.state.look.Need.TheVariants as Need;
 
 use super::Submitter;
-use crate::state::{Refused, Stopped};
+use crate::ledgers::Ledgers;
+use crate::state::{Need, PublishedAll, Refused, Stopped};
 use crossbeam_utils::Backoff;
 use flow_rules::{FailHandler, Listener, Refusal, Text};
 use std::alloc::Global;
 use std::sync::Wait;
-use std::sync::ledger::Ledger;
 
 /// Says how far a list of texts was published, in order, before one was refused. Neither that text nor those after it
 /// were published.
@@ -23,12 +26,27 @@ pub struct Unsent {
     pub refusal: Refusal,
 }
 
-impl<L: Ledger + Send, D: Ledger + Send, B: Listener + Send, F: FailHandler + Send> Submitter<
-    L,
-    D,
-    B,
-    F,
-> {
+/// Says how far a list of texts was published by policy, in order, before one was refused. Neither that text nor those
+/// after it were published.
+#[derive(Debug, Drop)]
+pub struct PublishedPart {
+    /// How many texts were published before the one that was refused.
+    pub published: usize,
+    /// How many of these at least one subscription lost.
+    pub lost: usize,
+    /// Why that one was refused.
+    pub refusal: Refusal,
+}
+
+/// How far a list of texts was published before the Hub refused one.
+#[derive(Drop)]
+struct Halted {
+    published: usize,
+    lost: usize,
+    refused: Refused,
+}
+
+impl<L: Ledgers + Send, B: Listener + Send, F: FailHandler + Send> Submitter<L, B, F> {
     /// Publishes texts in order, each as [`submit`](Submitter::submit) publishes one, and waits as long as a
     /// subscription has no room. The answer is the longest backlog of any live subscription after the last text, in
     /// items, or 0 if there is no text.
@@ -60,29 +78,117 @@ impl<L: Ledger + Send, D: Ledger + Send, B: Listener + Send, F: FailHandler + Se
         ensures refusals { IfErr result (λ unsent.
             RefusesPublication unsent.refusal self.new.known) }
     {
+        match self.send_all(rt, alloc, texts, Need::All) {
+            Ok(all) => Ok(all.lag),
+            Err(
+                PublishedPart {
+                    published,
+                    refusal,
+                    ..
+                },
+            ) => Err(Unsent { published, refusal }),
+        }
+    }
+
+    /// Publishes texts in order, each as [`publish`](Submitter::publish) publishes one: it waits as long as one that
+    /// says [`OnFull::Wait`](crate::OnFull::Wait) has no room, and those that say [`OnFull::Drop`](crate::OnFull::Drop)
+    /// lose each text that finds their buffers full. A text counts as one drop, however many subscriptions lost it.
+    /// (`SubmissionPublisher` has no such method.) The answer is the longest backlog of any subscription that got the
+    /// last text, in items, or 0 if there is no text; and how many of the texts at least one subscription lost.
+    ///
+    /// It takes the lock as [`submit_all`](Submitter::submit_all) does: once for as many texts as there is room for at
+    /// those that it waits for. It is refused as `submit_all` is. What was published before a refusal stays published,
+    /// and the answer says how many texts these are, and how many of them at least one subscription lost.
+    pub fn publish_all<R: Wait>(
+        &mut self,
+        rt: &R,
+        alloc: Global,
+        texts: &[Text],
+    ) -> Result<PublishedAll, PublishedPart>
+        ensures known { IfSome self.old.known (λ ending. (result ≡ Err (record {
+          published = 0;
+          lost = 0;
+          refusal = Refusal.Closed ending;
+        })) × (self.new ≡ self.old)) }
+        ensures ok { IfOk result
+            (λ all. CountsAll (length texts.now) all.lost self.old self.new) }
+        ensures few { IfOk result (λ all. all.lost ≤ length texts.now) }
+        ensures partly { IfErr result (λ part. CountsPart part self.old self.new) }
+        ensures less { self.old.known ≡ None
+            → IfErr result (λ part. part.published < length texts.now) }
+        ensures few_before { IfErr result (λ part. part.lost ≤ part.published) }
+        ensures reasons { IfErr result (λ part. IsHubRefusal part.refusal) }
+        ensures refusals { IfErr result (λ part. RefusesPublication part.refusal self.new.known) }
+    {
+        self.send_all(rt, alloc, texts, Need::Waiters)
+    }
+
+    /// Publishes texts in order, unless it knows of the close, and waits as long as a subscription whose room is needed
+    /// has none. It learns what a refusal tells of the close.
+    fn send_all<R: Wait>(
+        &mut self,
+        rt: &R,
+        alloc: Global,
+        texts: &[Text],
+        need: Need,
+    ) -> Result<PublishedAll, PublishedPart>
+        ensures known { IfSome self.old.known (λ ending. (result ≡ Err (record {
+          published = 0;
+          lost = 0;
+          refusal = Refusal.Closed ending;
+        })) × (self.new ≡ self.old)) }
+        ensures ok { IfOk result
+            (λ all. CountsAll (length texts.now) all.lost self.old self.new) }
+        ensures few { IfOk result (λ all. all.lost ≤ length texts.now) }
+        ensures partly { IfErr result (λ part. CountsPart part self.old self.new) }
+        ensures less { self.old.known ≡ None
+            → IfErr result (λ part. part.published < length texts.now) }
+        ensures few_before { IfErr result (λ part. part.lost ≤ part.published) }
+        ensures none_lost { need ≡ Need.All → IfOk result (λ all. all.lost ≡ 0) }
+        ensures none_lost_before { need ≡ Need.All → IfErr result (λ part. part.lost ≡ 0) }
+        ensures reasons { IfErr result (λ part. IsHubRefusal part.refusal) }
+        ensures refusals { IfErr result (λ part. RefusesPublication part.refusal self.new.known) }
+    {
         if let Some(ending) = self.note.known(&self.closing) {
-            return Err(Unsent {
+            return Err(PublishedPart {
                 published: 0,
+                lost: 0,
                 refusal: Refusal::Closed(ending),
             });
         }
-        match self.publish_all(rt, texts) {
-            Ok(lag) => Ok(lag),
-            Err((published, refused)) => Err(Unsent {
+        match self.send_texts(rt, texts, need) {
+            Ok(all) => Ok(all),
+            Err(
+                Halted {
+                    published,
+                    lost,
+                    refused,
+                },
+            ) => Err(PublishedPart {
                 published,
+                lost,
                 refusal: self.hear(alloc, refused),
             }),
         }
     }
 
-    /// Publishes texts in order, and waits as long as there is no room. A refusal comes with how many were published
-    /// before.
-    fn publish_all<R: Wait>(&mut self, rt: &R, texts: &[Text]) -> Result<u64, (usize, Refused)>
-        ensures ok { OnOk result (self.new ≡ record self.old
-            { published = self.old.published + length texts.now }) }
-        ensures partly { IfErr result (λ stopped. self.new ≡ record self.old
-            { published = self.old.published + stopped.0 }) }
-        ensures less { IfErr result (λ stopped. stopped.0 < length texts.now) }
+    /// Publishes texts in order, and waits as long as a subscription whose room is needed has none. A refusal comes with
+    /// how many were published before, and how many of these at least one subscription lost.
+    fn send_texts<R: Wait>(
+        &mut self,
+        rt: &R,
+        texts: &[Text],
+        need: Need,
+    ) -> Result<PublishedAll, Halted>
+        ensures ok { IfOk result
+            (λ all. CountsAll (length texts.now) all.lost self.old self.new) }
+        ensures few { IfOk result (λ all. all.lost ≤ length texts.now) }
+        ensures partly { IfErr result
+            (λ halted. CountsAll halted.published halted.lost self.old self.new) }
+        ensures less { IfErr result (λ halted. halted.published < length texts.now) }
+        ensures few_before { IfErr result (λ halted. halted.lost ≤ halted.published) }
+        ensures none_lost { need ≡ Need.All → IfOk result (λ all. all.lost ≡ 0) }
+        ensures none_lost_before { need ≡ Need.All → IfErr result (λ halted. halted.lost ≡ 0) }
     {
         let Submitter {
             dispatcher,
@@ -91,27 +197,42 @@ impl<L: Ledger + Send, D: Ledger + Send, B: Listener + Send, F: FailHandler + Se
             ..
         } = self;
         let mut published = 0;
+        let mut lost = 0;
         let mut looks = 0;
         let backoff = Backoff::new();
         for _ in rt.forever() {
             let left = &texts[published..];
-            let sent = dispatcher.shared.lock(rt).publish_all(own, left, due);
+            let sent = dispatcher
+                .shared
+                .lock_to_publish(rt)
+                .publish_all(own, left, need, due);
             dispatcher.start_all(rt, due);
             match sent {
-                Ok(lag) => return Ok(lag),
+                Ok(all) => {
+                    return Ok(PublishedAll {
+                        lag: all.lag,
+                        lost: lost + all.lost,
+                    });
+                }
                 Err(
                     Stopped {
                         published: more,
+                        lost: more_lost,
                         why,
                     },
                 ) => {
                     published += more;
+                    lost += more_lost;
                     if let Err(refused) = why.text() {
-                        return Err((published, refused));
+                        return Err(Halted {
+                            published,
+                            lost,
+                            refused,
+                        });
                     }
                 }
             }
-            looks = dispatcher.pause(rt, looks, &backoff);
+            looks = dispatcher.pause(rt, looks, &backoff, need);
         }
         unreachable!()
     }

@@ -32,6 +32,23 @@ gathers_nothing each (first ∷ answers) place (suc i) answer none at =
     let both = both_empty (each place first) (gather each (suc place) answers) none in
     subst (λ p. each p answer ≡ []) (omega arith) (gathers_nothing each answers (suc place) i answer both.1 at)
 
+-- what stands in the second of two lists stands in both together
+stands_after : {C : Type 0} (xs ys : List C) (j : ℕ) (c : C) → slice_get ys j ≡ Some c → (i : ℕ) × (slice_get (xs ++ ys) i ≡ Some c)
+stands_after [] ys j c at = (j, at)
+stands_after (x ∷ xs) ys j c at = let found = stands_after xs ys j c at in (suc found.0, found.1)
+
+-- what an answer gathers alone stands among what all gather
+pub gathers_one : {B C : Type 0} (each : ℕ → B → List C) (answers : List B) (place i : ℕ) (answer : B) (c : C) → each (place + i) answer ≡ c ∷ []
+    → slice_get answers i ≡ Some answer → (j : ℕ) × (slice_get (gather each place answers) j ≡ Some c)
+unfolding gather
+gathers_one each [] place i answer c one at = cc
+gathers_one each (first ∷ answers) place zero answer c one at =
+    let here : each place first ≡ c ∷ [] = subst (λ a. each place a ≡ c ∷ []) (cc) (subst (λ p. each p answer ≡ c ∷ []) (omega arith) one) in
+    (0, ap (λ cs. slice_get (cs ++ gather each (suc place) answers) 0) here)
+gathers_one each (first ∷ answers) place (suc i) answer c one at =
+    let found = gathers_one each answers (suc place) i answer c (subst (λ p. each p answer ≡ c ∷ []) (omega arith) one) at in
+    stands_after (each place first) (gather each (suc place) answers) found.0 c found.1
+
 -- two lists gather the same if their elements do at each place
 pub gather_same : {A B C : Type 0} (f : ℕ → A → List C) (g : ℕ → B → List C) (xs : List A) (ys : List B) (place : ℕ) → length xs ≡ length ys
     → ((i : ℕ) (x : A) (y : B) → slice_get xs i ≡ Some x → slice_get ys i ≡ Some y → f (place + i) x ≡ g (place + i) y)

@@ -1,5 +1,5 @@
 -- The round that looks at the live subscriptions and makes them ready, as far as it has come.
-use Rattle.std.proofs.Common.{◌≡◌, ◌&&◌, ℕ, ◌+◌, Bool, true, false, Option, None, Some, List, [], ◌∷◌, ◌++◌, length, get_or, replicate, set, refl, ap, ◌∙◌, inl, inr, arith}
+use Rattle.std.proofs.Common.{◌≡◌, ℕ, ◌+◌, true, Option, None, Some, List, ◌++◌, length, get_or, replicate, set, refl, inl, inr, arith}
 use Rattle.std.specs.Prelude.{slice_get}
 use Rattle.std.proofs.lemmas.List.{length-set}
 use Rattle.std.proofs.lemmas.Option.{slice_get-get_or, slice_get_within}
@@ -7,60 +7,46 @@ use Rattle.flow_rules.specs.Call.{Call}
 use Rattle.flow_rules.specs.Feed.{End}
 use Rattle.flow_rules.specs.declared.feed.standing.Standing.{Standing}
 use Rattle.publisher_hub.specs.Lists.{Each}
-use Rattle.publisher_hub.specs.Looking.{FailsToPrepare, IsRoom, MayPrepare, Prepares, full, full_by}
+use Rattle.publisher_hub.specs.Looking.{FailsToPrepare, MayPrepare, Prepares, ShowsRoom, full, full_by}
+use Rattle.publisher_hub.specs.Overview.{CountsRoom}
+use Rattle.publisher_hub.specs.Policy.{waits}
 use Rattle.publisher_hub.specs.Sound.{AreNumbers}
 use Rattle.publisher_hub.specs.declared.entry.Entry.{Entry}
-use Rattle.publisher_hub.proofs.PartialRounds.Progress.{Upto, gather_next, gather_none, upto_each, upto_next, upto_none}
+use Rattle.publisher_hub.specs.declared.hub.room.Room.{Room}
+use Rattle.publisher_hub.proofs.PartialRounds.Rooms.{room_next, room_none}
+use Rattle.publisher_hub.proofs.PartialRounds.Progress.{Upto, gather_next, upto_each, upto_next, upto_none}
 
 module _ {F T : Type 0} (meaning : F → End) (does : F → Call T → F → Type 0) (next capacity : ℕ) (live : List ℕ) where
-  pub record IsPreparing (n : ℕ) (room : Bool) (xs ys : List (Entry F)) : Type 0 where
+  pub record IsPreparing (n : ℕ) (room : Room) (xs ys : List (Entry F)) : Type 0 where
     pub glances : List (Option Standing)
     pub upto : Upto (Prepares meaning does next) None live n glances xs ys
-    pub is_room : IsRoom room capacity glances
+    pub shows : ShowsRoom room capacity xs glances
 
   -- at first nothing is done
-  pub preparing_none : (xs : List (Entry F)) → IsPreparing 0 true xs xs
+  pub preparing_none : (xs : List (Entry F)) → IsPreparing 0 (record { everywhere = true; for_waiters = true }) xs xs
   preparing_none xs = record {
     glances = replicate (length xs) None;
     upto = upto_none (Prepares meaning does next) None live xs;
-    is_room = record { there = λ _. gather_none (full_by capacity) None (length xs) (λ p. refl); missing = λ e. cc };
+    shows = room_none capacity xs;
   }
 
   -- the next subscription was looked at
-  pub preparing_next : (n k : ℕ) (room has : Bool) (xs ys : List (Entry F)) (glance : Option Standing) (x y : Entry F)
+  pub preparing_next : (n k : ℕ) (room after : Room) (xs ys : List (Entry F)) (glance : Option Standing) (x y : Entry F)
       → AreNumbers live (length xs) → slice_get live n ≡ Some k
       → slice_get xs k ≡ Some x → Prepares meaning does next glance x y
-      → (has ≡ false → (number : ℕ) → full_by capacity number glance ≡ number ∷ [])
-      → (has ≡ true → (number : ℕ) → full_by capacity number glance ≡ []) → IsPreparing n room xs ys
-      → IsPreparing (n + 1) (room && has) xs (set ys k y)
-  preparing_next n k room has xs ys glance x y numbers number at became is_full not_full so_far = record {
+      → CountsRoom capacity (waits x.on_full) glance room after → IsPreparing n room xs ys
+      → IsPreparing (n + 1) after xs (set ys k y)
+  preparing_next n k room after xs ys glance x y numbers number at became counts so_far = record {
     glances = set so_far.glances k glance;
     upto = upto_next (Prepares meaning does next) None live n k so_far.glances xs ys glance x y numbers number at became so_far.upto;
-    is_room = by room has so_far.is_room is_full not_full;
+    shows = room_next capacity k room after xs x glance so_far.glances (set so_far.glances k glance) at gathered counts so_far.shows;
   } where
     gathered : full capacity (set so_far.glances k glance) ≡ full capacity so_far.glances ++ full_by capacity k glance
     gathered =
         gather_next (full_by capacity) (Prepares meaning does next) None live n k so_far.glances xs ys glance (λ p. refl) numbers number so_far.upto
 
-    by : (room has : Bool) → IsRoom room capacity so_far.glances
-        → (has ≡ false → (number : ℕ) → full_by capacity number glance ≡ number ∷ [])
-        → (has ≡ true → (number : ℕ) → full_by capacity number glance ≡ []) → IsRoom (room && has) capacity (set so_far.glances k glance)
-    by true true was is_full not_full = record {
-      there = λ _. gathered ∙ ap (λ ns. ns ++ full_by capacity k glance) (was.there refl) ∙ not_full refl k;
-      missing = λ e. cc;
-    }
-    by true false was is_full not_full = record {
-      there = λ e. cc;
-      missing = λ _. rw (gathered, was.there refl, is_full refl k) (omega arith);
-    }
-    by false has was is_full not_full = record {
-      there = λ e. cc;
-      missing = λ _. let some = was.missing refl in let many = ap length gathered
-          ∙ Rattle.std.proofs.lemmas.List.length-append (full capacity so_far.glances) (full_by capacity k glance) in omega arith;
-    }
-
   -- if a subscription can't be prepared, some were looked at
-  pub stopped : (n k : ℕ) (room : Bool) (xs ys : List (Entry F)) (x y : Entry F) → AreNumbers live (length xs) → slice_get live n ≡ Some k
+  pub stopped : (n k : ℕ) (room : Room) (xs ys : List (Entry F)) (x y : Entry F) → AreNumbers live (length xs) → slice_get live n ≡ Some k
       → slice_get xs k ≡ Some x → FailsToPrepare meaning does next x y → IsPreparing n room xs ys
       → Each (MayPrepare meaning does next) xs (set ys k y)
   stopped n k room xs ys x y numbers number at fails so_far =

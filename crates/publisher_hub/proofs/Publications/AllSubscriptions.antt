@@ -1,5 +1,5 @@
 -- A publication to all subscriptions of a Hub.
-use Rattle.std.proofs.Common.{◌≡◌, ◌||◌, ℕ, ◌+◌, ◌<◌, Bool, true, false, Option, None, Some, option_map, Result, Ok, Err, List, [], ◌∷◌, length, map, nat_lt, if◌then◌else◌, refl, ap, sym, subst, ◌∙◌, arith}
+use Rattle.std.proofs.Common.{◌≡◌, ◌⊎◌, inl, inr, ◌||◌, ℕ, ◌+◌, ◌<◌, Bool, true, false, Option, None, Some, option_map, Result, Ok, Err, List, [], ◌∷◌, length, map, nat_lt, if◌then◌else◌, refl, ap, sym, subst, ◌∙◌, arith}
 use Rattle.std.specs.Prelude.{slice_get}
 use Rattle.std.proofs.lemmas.Bool.{ltb-true}
 use Rattle.std.proofs.lemmas.List.{length-map}
@@ -15,18 +15,33 @@ use Rattle.flow_rules.specs.declared.refusal.NoMemory.{NoMemory}
 use Rattle.publisher_hub.specs.Entry.{EntryState, entry_of}
 use Rattle.publisher_hub.specs.Hub.{HubState}
 use Rattle.publisher_hub.specs.Lists.{Each, EachBy}
-use Rattle.publisher_hub.specs.Looking.{Follows, IsReadied, Prepares, Readies, full, full_by}
+use Rattle.publisher_hub.specs.Looking.{Follows, IsReadied, Prepares, Readies, full, full_by, full_waiters}
 use Rattle.publisher_hub.specs.Gathering.{missed, missed_by}
 use Rattle.publisher_hub.specs.Offering.{PutsTo, IsOffered}
+use Rattle.publisher_hub.specs.Policy.{LosesNothing, is_waited_for}
 use Rattle.publisher_hub.specs.Sound.{IsSound}
 use Rattle.publisher_hub.specs.Steps.{CanAllPut}
 use Rattle.publisher_hub.specs.declared.entry.Entry.{Entry}
-use Rattle.publisher_hub.proofs.AnswerLists.Gathering.{gather_nothing, gathers_nothing}
+use Rattle.publisher_hub.specs.declared.policy.OnFull.TheVariants.{Wait}
+use Rattle.publisher_hub.proofs.AnswerLists.Gathering.{gather_nothing, gathers_nothing, gathers_one}
+use Rattle.publisher_hub.proofs.Soundness.LeavingOut.{filtered_to}
 use Rattle.publisher_hub.proofs.Subscribed.AfterLooks.{follows_ready}
 use Rattle.publisher_hub.proofs.PartialRounds.Next.{get_before_map}
 use Rattle.publisher_hub.proofs.Publications.OneSubscription.{not_both, prepared_can_take, prepared_offered}
 use Rattle.publisher_hub.proofs.PartialRounds.Progress.{same_some}
 use Rattle.publisher_hub.proofs.AnswerLists.Places.{stood_by, there}
+
+-- a look shows that a subscription is full, or it doesn't
+full_or_not : (capacity k : ℕ) (glance : Option Standing) → (full_by capacity k glance ≡ []) ⊎ (full_by capacity k glance ≡ k ∷ [])
+full_or_not capacity k None = inl refl
+full_or_not capacity k (Some standing) = by (standing.ended || nat_lt standing.held capacity) where
+  by : (b : Bool) → ((if b then [] else k ∷ []) ≡ []) ⊎ ((if b then [] else k ∷ []) ≡ k ∷ [])
+  by true = inl refl
+  by false = inr refl
+
+-- no number stands in an empty list
+none_there : (i n : ℕ) → slice_get [] i ≡ Some n → ⊥
+none_there i n at = cc
 
 -- a look at a subscription that goes on and isn't full showed room
 below : (standing : Standing) (capacity k : ℕ) → standing.ended ≡ false → full_by capacity k (Some standing) ≡ [] → standing.held < capacity
@@ -192,24 +207,55 @@ module _ {F T : Type 0} (meaning : F → End) (does : F → Call T → F → Typ
           subst (λ p. missed_by (0 + k) p ≡ []) same (not_missed capacity next (0 + k) x was.glance was.put was.old was.seen stands.0 (here k was.old was.at)
           (gathers_nothing (full_by capacity) glances 0 k was.glance room was.glanced) was.prepares was.puts_to)
 
+    -- one that did not miss the item has counted no drop
+    kept_count : (k : ℕ) (y : Entry F) (was : Stood k y) → missed_by (0 + k) was.put ≡ [] → y.dropped ≡ was.old.dropped
+    kept_count k y was none = put_dropped was.put was.seen y none was.puts_to ∙ prepares_dropped was.glance was.old was.seen was.prepares where
+      put_dropped : (put : Option (Put T)) (old new : Entry F) → missed_by (0 + k) put ≡ [] → PutsTo meaning does x put old new
+          → new.dropped ≡ old.dropped
+      put_dropped None old new none puts_to = ap (λ (entry : Entry F). entry.dropped) puts_to.1
+      put_dropped (Some (Accepted lag start)) old new none puts_to = ap (λ (entry : Entry F). entry.dropped) puts_to.now
+      put_dropped (Some (Full back)) old new none puts_to = cc
+      put_dropped (Some (Gone back)) old new none puts_to = ap (λ (entry : Entry F). entry.dropped) puts_to.now
+
+      prepares_dropped : (glance : Option Standing) (old new : Entry F) → Prepares meaning does next glance old new
+          → new.dropped ≡ old.dropped
+      prepares_dropped None old new stays = ap (λ (entry : Entry F). entry.dropped) stays.1
+      prepares_dropped (Some standing) old new sees = by standing.ended refl where
+        by : (ended : Bool) → standing.ended ≡ ended → new.dropped ≡ old.dropped
+        by true is = ap (λ (entry : Entry F). entry.dropped) (sees.ended is ∙ sees.sees.ended is)
+        by false is = ap (λ (entry : Entry F). entry.dropped) ((sees.stays is).1.1.now)
+            ∙ ap (λ (entry : Entry F). entry.dropped) (sees.sees.stays is)
+
     -- if no subscription missed the item, no drop was counted
     pub no_drop_counted : missed puts ≡ [] → (k : ℕ) (y : Entry F) → slice_get ys k ≡ Some y
         → (old : Entry F) × ((slice_get xs k ≡ Some old) × (y.dropped ≡ old.dropped))
     no_drop_counted none k y at =
         let was = stood k y at in
-        (was.old, (was.at, put_dropped was.put was.seen y (gathers_nothing missed_by puts 0 k was.put none was.said) was.puts_to ∙ prepares_dropped was.glance was.old was.seen was.prepares)) where
-          put_dropped : (put : Option (Put T)) (old new : Entry F) → missed_by (0 + k) put ≡ [] → PutsTo meaning does x put old new
-              → new.dropped ≡ old.dropped
-          put_dropped None old new none puts_to = ap (λ (entry : Entry F). entry.dropped) puts_to.1
-          put_dropped (Some (Accepted lag start)) old new none puts_to = ap (λ (entry : Entry F). entry.dropped) puts_to.now
-          put_dropped (Some (Full back)) old new none puts_to = cc
-          put_dropped (Some (Gone back)) old new none puts_to = ap (λ (entry : Entry F). entry.dropped) puts_to.now
+        (was.old, (was.at, kept_count k y was (gathers_nothing missed_by puts 0 k was.put none was.said)))
 
-          prepares_dropped : (glance : Option Standing) (old new : Entry F) → Prepares meaning does next glance old new
-              → new.dropped ≡ old.dropped
-          prepares_dropped None old new stays = ap (λ (entry : Entry F). entry.dropped) stays.1
-          prepares_dropped (Some standing) old new sees = by standing.ended refl where
-            by : (ended : Bool) → standing.ended ≡ ended → new.dropped ≡ old.dropped
-            by true is = ap (λ (entry : Entry F). entry.dropped) (sees.ended is ∙ sees.sees.ended is)
-            by false is = ap (λ (entry : Entry F). entry.dropped) ((sees.stays is).1.1.now)
-                ∙ ap (λ (entry : Entry F). entry.dropped) (sees.sees.stays is)
+    -- one that is waited for, and that no look showed to be full, has lost nothing
+    pub waiters_kept : ((k : ℕ) (old : Entry F) → slice_get xs k ≡ Some old → (e : End) → (entry_of meaning old).feed ≡ Some e → (e.closing ≡ None) × (e.capacity ≡ capacity))
+        → full_waiters capacity xs glances ≡ [] → Each LosesNothing (map (entry_of meaning) xs) (map (entry_of meaning) ys)
+    waiters_kept here room = record {
+      as_long = length-map ys (entry_of meaning) ∙ given.as_long ∙ prepared.as_long ∙ sym (length-map xs (entry_of meaning));
+      each = λ k old new at at' waited.
+          let before = get_before_map (entry_of meaning) xs k old at in
+          let after = get_before_map (entry_of meaning) ys k new at' in
+          let was = stood k after.0 after.1.0 in
+          let same : was.old ≡ before.0 = same_some (sym was.at ∙ before.1.0) in
+          let waits : was.old.on_full ≡ Wait =
+          ap (λ (entry : Entry F). entry.on_full) same ∙ ap (λ (entry : EntryState). entry.on_full) before.1.1 ∙ waited in
+          let none = not_missed capacity next (0 + k) x was.glance was.put was.old was.seen after.0 (here k was.old was.at)
+          (by k was.old was.glance was.at was.glanced waits (full_or_not capacity (0 + k) was.glance)) was.prepares was.puts_to in
+          ap (λ (entry : EntryState). entry.dropped) (sym after.1.1) ∙ kept_count k after.0 was none
+          ∙ ap (λ (entry : Entry F). entry.dropped) same ∙ ap (λ (entry : EntryState). entry.dropped) before.1.1;
+    } where
+      by : (k : ℕ) (old : Entry F) (glance : Option Standing) → slice_get xs k ≡ Some old → slice_get glances k ≡ Some glance → old.on_full ≡ Wait
+          → (full_by capacity (0 + k) glance ≡ []) ⊎ (full_by capacity (0 + k) glance ≡ (0 + k) ∷ []) → full_by capacity (0 + k) glance ≡ []
+      by k old glance at glanced waits (inl none) = none
+      by k old glance at glanced waits (inr one) =
+          let found = gathers_one (full_by capacity) glances 0 k glance (0 + k) one glanced in
+          let is : is_waited_for xs k ≡ true = rw (at, waits) refl in
+          let passes : is_waited_for xs (0 + k) ≡ true = subst (λ j. is_waited_for xs j ≡ true) (omega arith) is in
+          let among = filtered_to (is_waited_for xs) (full capacity glances) found.0 (0 + k) found.1 passes in
+          absurd (none_there among.0 (0 + k) (subst (λ (ns : List ℕ). slice_get ns among.0 ≡ Some (0 + k)) room among.1))

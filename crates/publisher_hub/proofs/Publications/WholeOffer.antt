@@ -36,23 +36,28 @@ use Rattle.publisher_hub.proofs.Publications.SecondTries.{can_each_retry}
 use Rattle.publisher_hub.proofs.Publications.WholePublication.{below_most, counted_after, known_of}
 
 module _ {F T : Type 0} (meaning : F → End) (does : F → Call T → F → Type 0) where
-  pub offers_item : (old seen given tried counted new : Hub F) (x : Item) (source : ℕ) (text : List ℕ) (declines : Bool) (due_old due_seen due_given due_new : Vec (Work T) Global)
+  -- what an offer leaves of a Hub
+  pub record Leaves (x : Item) (seconds : List (Second T)) (old new : Hub F) : Type 0 where
+    pub sound : IsSound (hub_of meaning new)
+    pub reaches : ReachesAll x (hub_of meaning old) (hub_of meaning new)
+    pub counted : new.dropping ≡ dropping_after (length (dropped seconds)) old.dropping
+
+  pub leaves : (old seen given tried counted new : Hub F) (x : Item) (source : ℕ) (declines : Bool) (due_given due_new : Vec (Work T) Global)
       (glances : List (Option Standing)) (puts : List (Option (Put T))) (seconds : List (Second T))
-      → IsSound (hub_of meaning old) → source < MOST_SOURCES → x.source ≡ source → x.text ≡ text → x.serial ≡ old.next
+      → IsSound (hub_of meaning old) → source < MOST_SOURCES → x.source ≡ source → x.serial ≡ old.next
       → slice_get old.counts.items source ≡ Some x.seq
       → IsLookedAt (hub_of meaning old) (hub_of meaning seen)
       → EachBy (Prepares meaning does old.next) glances old.entries.items seen.entries.items
-      → due_seen.items ≡ due_old.items → IsRefused (hub_of meaning seen).progress None
-      → EachBy (PutsTo meaning does x) puts seen.entries.items given.entries.items → Gathers x puts given.gathering due_seen due_given
+      → IsRefused (hub_of meaning seen).progress None
+      → EachBy (PutsTo meaning does x) puts seen.entries.items given.entries.items
       → hub_of meaning given ≡ record (hub_of meaning seen) { entries = (hub_of meaning given).entries }
       → PassesAgain meaning does x declines puts seconds given.entries.items tried.entries.items given.gathering tried.gathering due_given due_new
       → hub_of meaning tried ≡ record (hub_of meaning given) { entries = (hub_of meaning tried).entries }
       → counted ≡ record tried { dropping = dropping_after tried.gathering.drops tried.dropping }
       → hub_of meaning new ≡ record (hub_of meaning counted) { progress = progress_after x (hub_of meaning counted).progress.dropping (hub_of meaning counted).progress }
-      → new.entries ≡ counted.entries → new.gathering.lag ≡ counted.gathering.lag → new.gathering.drops ≡ counted.gathering.drops
-      → IsSound (hub_of meaning new) × OffersItem meaning does source text declines old new due_old.items due_new.items (offer_answer new.gathering.drops new.gathering.lag)
-  offers_item old seen given tried counted new x source text declines due_old due_seen due_given due_new glances puts seconds sound within from words serial seq looked prepared due_same open_still
-      gave gathers rest_given passes rest_tried counted_is rest_new entries_same lag_same drops_same =
+      → new.entries ≡ counted.entries → Leaves x seconds old new
+  leaves old seen given tried counted new x source declines due_given due_new glances puts seconds sound within from serial seq looked prepared open_still
+      gave rest_given passes rest_tried counted_is rest_new entries_same =
       let progress_seen : (hub_of meaning seen).progress ≡ (hub_of meaning old).progress = ap (λ (s : HubState). s.progress) looked.rest in
       let progress_tried : (hub_of meaning tried).progress ≡ (hub_of meaning old).progress =
       ap (λ (s : HubState). s.progress) rest_tried ∙ ap (λ (s : HubState). s.progress) rest_given ∙ progress_seen in
@@ -93,12 +98,40 @@ module _ {F T : Type 0} (meaning : F → End) (does : F → Call T → F → Typ
             (λ j was at_j. (sound.entries j (entry_of meaning was) (get_mapped (entry_of meaning) old.entries.items j was at_j)).drops) serial k raw.0 raw.1.0 in
             subst (λ (state : EntryState). state.dropped ≤ new.dropping) raw.1.1 (subst (λ n. raw.0.dropped ≤ n) (sym dropping_new) few);
       } in
+      record {
+        sound = sound_offered (hub_of meaning old) (hub_of meaning new) x (subst (λ s. s < MOST_SOURCES) (sym from) within) sound offers;
+        reaches = offers;
+        counted = dropping_new;
+      }
+
+  pub offers_item : (old seen given tried counted new : Hub F) (x : Item) (source : ℕ) (text : List ℕ) (declines : Bool) (due_old due_seen due_given due_new : Vec (Work T) Global)
+      (glances : List (Option Standing)) (puts : List (Option (Put T))) (seconds : List (Second T))
+      → IsSound (hub_of meaning old) → source < MOST_SOURCES → x.source ≡ source → x.text ≡ text → x.serial ≡ old.next
+      → slice_get old.counts.items source ≡ Some x.seq
+      → IsLookedAt (hub_of meaning old) (hub_of meaning seen)
+      → EachBy (Prepares meaning does old.next) glances old.entries.items seen.entries.items
+      → due_seen.items ≡ due_old.items → IsRefused (hub_of meaning seen).progress None
+      → EachBy (PutsTo meaning does x) puts seen.entries.items given.entries.items → Gathers x puts given.gathering due_seen due_given
+      → hub_of meaning given ≡ record (hub_of meaning seen) { entries = (hub_of meaning given).entries }
+      → PassesAgain meaning does x declines puts seconds given.entries.items tried.entries.items given.gathering tried.gathering due_given due_new
+      → hub_of meaning tried ≡ record (hub_of meaning given) { entries = (hub_of meaning tried).entries }
+      → counted ≡ record tried { dropping = dropping_after tried.gathering.drops tried.dropping }
+      → hub_of meaning new ≡ record (hub_of meaning counted) { progress = progress_after x (hub_of meaning counted).progress.dropping (hub_of meaning counted).progress }
+      → new.entries ≡ counted.entries → new.gathering.lag ≡ counted.gathering.lag → new.gathering.drops ≡ counted.gathering.drops
+      → IsSound (hub_of meaning new) × OffersItem meaning does source text declines old new due_old.items due_new.items (offer_answer new.gathering.drops new.gathering.lag)
+  offers_item old seen given tried counted new x source text declines due_old due_seen due_given due_new glances puts seconds sound within from words serial seq looked prepared due_same open_still
+      gave gathers rest_given passes rest_tried counted_is rest_new entries_same lag_same drops_same =
+      let entries_new : new.entries ≡ tried.entries = entries_same ∙ ap (λ (h : Hub F). h.entries) counted_is in
+      let again : EachBy (PutsAgain meaning does x) seconds given.entries.items new.entries.items =
+      subst (λ (v : Vec (Entry F) Global). EachBy (PutsAgain meaning does x) seconds given.entries.items v.items) (sym entries_new) passes.again in
+      let left = leaves old seen given tried counted new x source declines due_given due_new glances puts seconds sound within from serial seq looked prepared open_still
+      gave rest_given passes rest_tried counted_is rest_new entries_same in
       let drops_new : new.gathering.drops ≡ length (dropped seconds) =
-      drops_same ∙ ap (λ (h : Hub F). h.gathering.drops) counted_is ∙ drops in
+      drops_same ∙ ap (λ (h : Hub F). h.gathering.drops) counted_is ∙ passes.gathers.drops in
       let lag_new : new.gathering.lag ≡ greatest (lags puts ++ lags_again seconds) =
       lag_same ∙ ap (λ (h : Hub F). h.gathering.lag) counted_is ∙ passes.gathers.lag ∙ ap (λ n. fold max n (lags_again seconds)) gathers.lag
       ∙ sym (fold-append max 0 (lags puts) (lags_again seconds)) in (
-        sound_offered (hub_of meaning old) (hub_of meaning new) x (subst (λ s. s < MOST_SOURCES) (sym from) within) sound offers,
+        left.sound,
         record {
           item = x;
           from = from;
@@ -113,8 +146,8 @@ module _ {F T : Type 0} (meaning : F → End) (does : F → Call T → F → Typ
           again = again;
           revisited = passes.revisited;
           declined = passes.declined;
-          reaches = offers;
-          counted = dropping_new;
+          reaches = left.reaches;
+          counted = left.counted;
           due = passes.gathers.due ∙ ap (λ works. works ++ started_again seconds) gathers.due
               ∙ ap (λ works. works ++ started puts ++ started_again seconds) due_same;
           answers = ap (λ n. offer_answer n new.gathering.lag) drops_new ∙ ap (λ n. offer_answer (length (dropped seconds)) n) lag_new;

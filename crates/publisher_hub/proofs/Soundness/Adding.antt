@@ -10,9 +10,10 @@ use Rattle.publisher_hub.specs.Adding.{hub_with, new_entry}
 use Rattle.publisher_hub.specs.Entry.{EntryState, entry_of}
 use Rattle.publisher_hub.specs.Hub.{HubState, Progress, hub_of}
 use Rattle.publisher_hub.specs.Sound.{AreLive, IsAccepted, IsCounted, IsEntry, IsSound, MOST_ENTRIES, MOST_LIVE}
-use Rattle.publisher_hub.specs.Subscribing.{HasPlace, first_entry}
+use Rattle.publisher_hub.specs.Subscribing.{HasPlace, first_entry_with}
 use Rattle.publisher_hub.specs.declared.entry.Entry.{Entry}
 use Rattle.publisher_hub.specs.declared.hub.Hub.{Hub}
+use Rattle.publisher_hub.specs.declared.policy.OnFull.{OnFull}
 use Rattle.publisher_hub.proofs.AnswerLists.Updates.{get_grown}
 use Rattle.publisher_hub.proofs.Soundness.Looking.{same_end}
 
@@ -32,11 +33,11 @@ get_first (first ∷ xs) x y zero at = at
 get_first (first ∷ xs) x y (suc i) at = get_first xs x y i at
 
 -- a new subscription has accepted and dropped nothing since it was subscribed
-entry_added : (p : Progress) (name : List ℕ) (e : End) (ticket : Option Ticket) → e.accepted ≡ [] → e.capacity ≡ p.capacity
-    → (p.ending ≡ None → e.closing ≡ None) → IsEntry p (new_entry p name e ticket)
-entry_added p name e ticket empty capacity unclosed = record {
+entry_added : (p : Progress) (name : List ℕ) (on_full : OnFull) (e : End) (ticket : Option Ticket) → e.accepted ≡ [] → e.capacity ≡ p.capacity
+    → (p.ending ≡ None → e.closing ≡ None) → IsEntry p (new_entry p name on_full e ticket)
+entry_added p name on_full e ticket empty capacity unclosed = record {
   here = λ _. cc;
-  counted = λ f at. subst (λ (end : End). IsCounted p (new_entry p name e ticket) end) (same_end at) (record {
+  counted = λ f at. subst (λ (end : End). IsCounted p (new_entry p name on_full e ticket) end) (same_end at) (record {
     capacity = capacity;
     ordered = λ i j x y at at' before. absurd (none_in e.accepted i x empty at);
     items = λ i x at. absurd (none_in e.accepted i x empty at);
@@ -87,12 +88,12 @@ live_added live entries entry are = record {
   found k l lives (inr last) = (length live, get_last live (length entries) ∙ ap Some (sym last.0))
 
 -- a sound Hub that a subscription is added to stays sound
-pub sound_added : (hub : HubState) (name : List ℕ) (e : End) (ticket : Option Ticket) → e.accepted ≡ [] → e.capacity ≡ hub.progress.capacity
+pub sound_added : (hub : HubState) (name : List ℕ) (on_full : OnFull) (e : End) (ticket : Option Ticket) → e.accepted ≡ [] → e.capacity ≡ hub.progress.capacity
     → (hub.progress.ending ≡ None → e.closing ≡ None)
     → length hub.live < MOST_LIVE → length hub.entries < MOST_ENTRIES → IsSound hub
-    → IsSound (hub_with (new_entry hub.progress name e ticket) hub)
-sound_added hub name e ticket empty capacity unclosed few_live few_entries sound =
-    let entry : EntryState = new_entry hub.progress name e ticket in
+    → IsSound (hub_with (new_entry hub.progress name on_full e ticket) hub)
+sound_added hub name on_full e ticket empty capacity unclosed few_live few_entries sound =
+    let entry : EntryState = new_entry hub.progress name on_full e ticket in
     let many_live = length-append hub.live (length hub.entries ∷ []) in
     let many_entries = length-append hub.entries (entry ∷ []) in
     record {
@@ -108,25 +109,25 @@ sound_added hub name e ticket empty capacity unclosed few_live few_entries sound
       few_counts = sound.few_counts;
     } where
       by : (k : ℕ) (l : EntryState)
-          → (slice_get hub.entries k ≡ Some l) ⊎ ((k ≡ length hub.entries) × (new_entry hub.progress name e ticket ≡ l))
+          → (slice_get hub.entries k ≡ Some l) ⊎ ((k ≡ length hub.entries) × (new_entry hub.progress name on_full e ticket ≡ l))
           → IsEntry hub.progress l
       by k l (inl before) = sound.entries k l before
-      by k l (inr now) = subst (λ (entry : EntryState). IsEntry hub.progress entry) now.1 (entry_added hub.progress name e ticket empty capacity unclosed)
+      by k l (inr now) = subst (λ (entry : EntryState). IsEntry hub.progress entry) now.1 (entry_added hub.progress name on_full e ticket empty capacity unclosed)
 
 -- the same of what is stored
-pub sound_grown : {F : Type 0} (meaning : F → End) (hub : Hub F) (entries : List (Entry F)) (live : List ℕ) (name : List ℕ) (feed : F) (ticket : Option Ticket) → (meaning feed).accepted ≡ []
+pub sound_grown : {F : Type 0} (meaning : F → End) (hub : Hub F) (entries : List (Entry F)) (live : List ℕ) (name : List ℕ) (on_full : OnFull) (feed : F) (ticket : Option Ticket) → (meaning feed).accepted ≡ []
     → (meaning feed).capacity ≡ hub.capacity → (hub.ending ≡ None → (meaning feed).closing ≡ None) → HasPlace hub
-    → entries ≡ hub.entries.items ++ first_entry name hub.next feed ticket ∷ []
+    → entries ≡ hub.entries.items ++ first_entry_with name on_full hub.next feed ticket ∷ []
     → live ≡ hub.live.items ++ length hub.entries.items ∷ [] → IsSound (hub_of meaning hub)
     → IsSound (record (hub_of meaning hub) { entries = map (entry_of meaning) entries; live = live })
-sound_grown {F} meaning hub entries live name feed ticket empty capacity unclosed place entries_are live_is sound =
+sound_grown {F} meaning hub entries live name on_full feed ticket empty capacity unclosed place entries_are live_is sound =
     let many : length (map (entry_of meaning) hub.entries.items) ≡ length hub.entries.items =
     length-map hub.entries.items (entry_of meaning) in
     let few_entries = place.few_entries in
-    let added = sound_added (hub_of meaning hub) name (meaning feed) ticket empty capacity unclosed place.few_live (omega arith) sound in
-    let mapped : map (entry_of meaning) entries ≡ map (entry_of meaning) hub.entries.items ++ new_entry (hub_of meaning hub).progress name (meaning feed) ticket ∷ [] =
+    let added = sound_added (hub_of meaning hub) name on_full (meaning feed) ticket empty capacity unclosed place.few_live (omega arith) sound in
+    let mapped : map (entry_of meaning) entries ≡ map (entry_of meaning) hub.entries.items ++ new_entry (hub_of meaning hub).progress name on_full (meaning feed) ticket ∷ [] =
     ap (λ (l : List (Entry F)). map (entry_of meaning) l) entries_are
-    ∙ map-append (entry_of meaning) hub.entries.items (first_entry name hub.next feed ticket ∷ []) in
+    ∙ map-append (entry_of meaning) hub.entries.items (first_entry_with name on_full hub.next feed ticket ∷ []) in
     let numbered : live ≡ hub.live.items ++ length (map (entry_of meaning) hub.entries.items) ∷ [] =
     live_is ∙ ap (λ n. hub.live.items ++ n ∷ []) (sym many) in
     subst (λ (l : List ℕ). IsSound (record (hub_of meaning hub) { entries = map (entry_of meaning) entries; live = l })) (sym numbered)

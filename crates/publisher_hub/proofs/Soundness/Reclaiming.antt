@@ -13,7 +13,7 @@ use Rattle.publisher_hub.specs.Hub.{hub_of}
 use Rattle.publisher_hub.specs.Reclaiming.{TakesEnded, TakesEndedAt}
 use Rattle.publisher_hub.specs.Sound.{IsSound}
 use Rattle.publisher_hub.specs.Taking.{entry_without_feed}
-use Rattle.publisher_hub.specs.Tickets.{AsksForTicket}
+use Rattle.publisher_hub.specs.Tickets.{RetiresIfEnded}
 use Rattle.publisher_hub.specs.declared.entry.Entry.{Entry}
 use Rattle.publisher_hub.specs.declared.hub.Hub.{Hub}
 use Rattle.publisher_hub.proofs.PartialRounds.Next.{get_mapped}
@@ -38,7 +38,7 @@ module _ {F T : Type 0} (meaning : F → End) (does : F → Call T → F → Typ
 
   -- a subscription that goes on was looked at as if it were asked for its ticket
   asks_of : (next : ℕ) (glance : Option Standing) (before after : Entry F) → TakesEnded meaning does next glance None before after
-      → AsksForTicket meaning does next glance None before after
+      → RetiresIfEnded meaning does next glance None before after
   asks_of next None before after left = (left.0, (refl, left.1))
   asks_of next (Some standing) before after on = record {
     before = on.before;
@@ -59,7 +59,7 @@ module _ {F T : Type 0} (meaning : F → End) (does : F → Call T → F → Typ
   sound_ended number None hub before after glance sound at takes = sound_asked meaning does number None hub (record hub { entries = with_item hub.entries number after }) sound (record {
     rest = refl;
     none = λ none. let no : None ≡ Some before = sym none ∙ at in cc;
-    there = λ entry is. (glance, after, (subst (λ (old : Entry F). AsksForTicket meaning does hub.next glance None old after) (same_some (sym at ∙ is)) (asks_of hub.next glance before after takes), refl));
+    there = λ entry is. (glance, after, (subst (λ (old : Entry F). RetiresIfEnded meaning does hub.next glance None old after) (same_some (sym at ∙ is)) (asks_of hub.next glance before after takes), refl));
   })
   sound_ended number (Some (feed, ticket)) hub before after None sound at both = elim both [ ]
   sound_ended number (Some (feed, ticket)) hub before after (Some standing) sound at both =

@@ -11,7 +11,7 @@ use Rattle.flow_rules.specs.declared.feed.standing.Standing.{Standing}
 use Rattle.publisher_hub.specs.Entry.{EntryState, entry_of, until_of}
 use Rattle.publisher_hub.specs.Hub.{HubState, Progress, hub_of}
 use Rattle.publisher_hub.specs.Sound.{IsCounted, IsEntry, IsSound}
-use Rattle.publisher_hub.specs.Tickets.{AsksForTicket, AsksForTicketAt, HandsOut, without_ticket}
+use Rattle.publisher_hub.specs.Tickets.{RetiresIfEnded, RetiresIfEndedAt, HandsOut, without_ticket}
 use Rattle.publisher_hub.specs.declared.entry.Entry.{Entry}
 use Rattle.publisher_hub.specs.declared.hub.Hub.{Hub}
 use Rattle.publisher_hub.proofs.PartialRounds.Next.{get_mapped}
@@ -79,16 +79,16 @@ module _ {F T : Type 0} (meaning : F → End) (does : F → Call T → F → Typ
   -- the subscription that stands there was asked for its ticket
   pub asks_there : (number : ℕ) (ticket : Option Ticket) (hub : Hub F) (before after : Entry F) (glance : Option Standing)
       → slice_get hub.entries.items number ≡ Some before
-      → AsksForTicket meaning does hub.next glance ticket before after
-      → AsksForTicketAt meaning does number ticket hub (record hub { entries = with_item hub.entries number after })
+      → RetiresIfEnded meaning does hub.next glance ticket before after
+      → RetiresIfEndedAt meaning does number ticket hub (record hub { entries = with_item hub.entries number after })
   asks_there number ticket hub before after glance at asked = record {
     rest = refl;
     none = λ none. let no : None ≡ Some before = sym none ∙ at in cc;
-    there = λ entry is. (glance, after, (subst (λ (old : Entry F). AsksForTicket meaning does hub.next glance ticket old after) (same_some (sym at ∙ is)) asked, refl));
+    there = λ entry is. (glance, after, (subst (λ (old : Entry F). RetiresIfEnded meaning does hub.next glance ticket old after) (same_some (sym at ∙ is)) asked, refl));
   }
 
   -- none stands there
-  pub asks_nobody : (number : ℕ) (hub : Hub F) → length hub.entries.items ≤ number → AsksForTicketAt meaning does number None hub hub
+  pub asks_nobody : (number : ℕ) (hub : Hub F) → length hub.entries.items ≤ number → RetiresIfEndedAt meaning does number None hub hub
   asks_nobody number hub above = record {
     rest = refl;
     none = λ _. (refl, refl);
@@ -97,14 +97,14 @@ module _ {F T : Type 0} (meaning : F → End) (does : F → Call T → F → Typ
 
   -- a sound Hub stays sound
   pub sound_asked : (number : ℕ) (ticket : Option Ticket) (old new : Hub F) → IsSound (hub_of meaning old)
-      → AsksForTicketAt meaning does number ticket old new → IsSound (hub_of meaning new)
+      → RetiresIfEndedAt meaning does number ticket old new → IsSound (hub_of meaning new)
   sound_asked number ticket old new sound asks =
       subst (λ (hub : HubState). IsSound hub) (sym asks.rest) (by (slice_get old.entries.items number) refl) where
         with_items : List (Entry F) → HubState
         with_items items = record (hub_of meaning old) { entries = map (entry_of meaning) items }
 
         asked : (before after : Entry F) (glance : Option Standing) → slice_get old.entries.items number ≡ Some before
-            → AsksForTicket meaning does old.next glance ticket before after
+            → RetiresIfEnded meaning does old.next glance ticket before after
             → IsSound (with_items (set old.entries.items number after))
         asked before after None at left = subst (λ items. IsSound (with_items items))
             (sym (ap (λ (entry : Entry F). set old.entries.items number entry) left.1.1 ∙ set_same old.entries.items number before at)) sound

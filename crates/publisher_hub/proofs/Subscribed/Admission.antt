@@ -14,7 +14,7 @@ use Rattle.publisher_hub.specs.Hub.{HubState, hub_of}
 use Rattle.publisher_hub.specs.Lists.{Each, EachBy}
 use Rattle.publisher_hub.specs.Looking.{IsKept, IsLookedAt, Prepares}
 use Rattle.publisher_hub.specs.Readiness.{AreReady}
-use Rattle.publisher_hub.specs.Subscribing.{CanAdmit, HasNoPlace, HasPlace, IsLiveAt, IsNamed, IsNotNamed, IsSeen, IsUnnamed, Refuses}
+use Rattle.publisher_hub.specs.Subscribing.{CanAdmit, HasNoPlace, HasPlace, IsLiveAt, IsNamed, IsNotNamed, IsPrepared, IsUnnamed, Refuses}
 use Rattle.publisher_hub.specs.declared.entry.Entry.{Entry}
 use Rattle.publisher_hub.specs.declared.hub.Hub.{Hub}
 use Rattle.publisher_hub.specs.declared.work.Work.{Work}
@@ -42,9 +42,9 @@ module _ {F T : Type 0} (meaning : F → End) (does : F → Call T → F → Typ
       (raw.0, (raw.1.0, ap (λ (e : EntryState). e.retired) raw.1.1 ∙ found.1.1))
 
   -- a place changes nothing of what was seen
-  pub seen_with_place : (old middle new : Hub F) → IsSeen meaning does old middle → new.entries.items ≡ middle.entries.items
+  pub seen_with_place : (old middle new : Hub F) → IsPrepared meaning does old middle → new.entries.items ≡ middle.entries.items
       → new.live.items ≡ middle.live.items
-      → hub_of meaning new ≡ hub_of meaning middle → IsSeen meaning does old new
+      → hub_of meaning new ≡ hub_of meaning middle → IsPrepared meaning does old new
   seen_with_place old middle new seen entries live same = record {
     glances = seen.glances;
     prepared = subst (λ (l : List (Entry F)). EachBy (Prepares meaning does old.next) seen.glances old.entries.items l) (sym entries) seen.prepared;
@@ -65,7 +65,7 @@ module _ {F T : Type 0} (meaning : F → End) (does : F → Call T → F → Typ
         ∙ ap (λ (e : Entry F). e.name) (sees.sees.stays is)
 
   -- no live subscription has the name after looks if none had it before
-  pub still_unnamed : (name : List ℕ) (old new : Hub F) → IsSeen meaning does old new → IsUnnamed name (hub_of meaning old).entries
+  pub still_unnamed : (name : List ℕ) (old new : Hub F) → IsPrepared meaning does old new → IsUnnamed name (hub_of meaning old).entries
       → IsUnnamed name (hub_of meaning new).entries
   still_unnamed name old new seen none k entry at live named =
       let now = get_before_map (entry_of meaning) new.entries.items k entry at in
@@ -78,7 +78,7 @@ module _ {F T : Type 0} (meaning : F → End) (does : F → Call T → F → Typ
       none k (entry_of meaning was.0) (get_mapped (entry_of meaning) old.entries.items k was.0 was.1) lived.0 (sym lived.1 ∙ ap (λ (e : EntryState). e.name) now.1.1 ∙ named)
 
   -- a live subscription of the name is found only if one had it before
-  pub found_none : (name : List ℕ) (old new : Hub F) (i number : ℕ) → IsSeen meaning does old new
+  pub found_none : (name : List ℕ) (old new : Hub F) (i number : ℕ) → IsPrepared meaning does old new
       → IsUnnamed name (hub_of meaning old).entries
       → slice_get new.live.items i ≡ Some number → IsNamed name number new.entries.items → ⊥
   found_none name old new i number seen none at named =
@@ -88,7 +88,7 @@ module _ {F T : Type 0} (meaning : F → End) (does : F → Call T → F → Typ
       (ap (λ (e : Entry F). e.name) same ∙ named.1.1)
 
   -- a place that was there is there still after looks
-  pub still_place : (old new : Hub F) → IsSeen meaning does old new → vec_capacity new.entries ≡ vec_capacity old.entries
+  pub still_place : (old new : Hub F) → IsPrepared meaning does old new → vec_capacity new.entries ≡ vec_capacity old.entries
       → vec_capacity new.live ≡ vec_capacity old.live
       → HasPlace old → HasPlace new
   still_place old new seen entries live place =
@@ -106,14 +106,14 @@ module _ {F T : Type 0} (meaning : F → End) (does : F → Call T → F → Typ
       record { entry_place = omega arith; number_place = omega arith; few_live = omega arith; few_entries = omega arith }
 
   -- how far the publications have come, and the ending, are as they were
-  pub seen_next : (old new : Hub F) → IsSeen meaning does old new → new.next ≡ old.next
+  pub seen_next : (old new : Hub F) → IsPrepared meaning does old new → new.next ≡ old.next
   seen_next old new seen = ap (λ (hub : HubState). hub.progress.next) seen.rest
 
-  pub seen_ending : (old new : Hub F) → IsSeen meaning does old new → new.ending ≡ old.ending
+  pub seen_ending : (old new : Hub F) → IsPrepared meaning does old new → new.ending ≡ old.ending
   seen_ending old new seen = ap (λ (hub : HubState). hub.progress.ending) seen.rest
 
   -- what is left of a Hub that was looked at, if then only its subscriptions and the live numbers changed
-  pub rest_seen : (old middle new : Hub F) → IsSeen meaning does old middle → new ≡ record middle { entries = new.entries; live = new.live }
+  pub rest_seen : (old middle new : Hub F) → IsPrepared meaning does old middle → new ≡ record middle { entries = new.entries; live = new.live }
       → hub_of meaning new ≡ record (hub_of meaning old) { entries = (hub_of meaning new).entries; live = new.live.items }
   rest_seen old middle new seen rest = ap (λ (hub : Hub F). hub_of meaning hub) rest
       ∙ ap (λ (hub : HubState). record hub { entries = (hub_of meaning new).entries; live = new.live.items }) seen.rest
@@ -123,8 +123,8 @@ module _ {F T : Type 0} (meaning : F → End) (does : F → Call T → F → Typ
       → EachBy (Prepares meaning does old.next) glances old.entries.items middle.entries.items
       → IsLookedAt (hub_of meaning old) (hub_of meaning middle) → new ≡ record middle { live = new.live }
       → new.live.items ≡ live_of (hub_of meaning middle).entries middle.live.items
-      → AreAllLive new.live.items (hub_of meaning middle).entries → IsSeen meaning does old new
-  seen_left old middle new glances prepared looked rest left are = subst (λ (hub : Hub F). IsSeen meaning does old hub) (sym rest) (record {
+      → AreAllLive new.live.items (hub_of meaning middle).entries → IsPrepared meaning does old new
+  seen_left old middle new glances prepared looked rest left are = subst (λ (hub : Hub F). IsPrepared meaning does old hub) (sym rest) (record {
     glances = glances;
     prepared = prepared;
     left = left ∙ ap (λ (hub : HubState). live_of (hub_of meaning middle).entries hub.live) looked.rest;
@@ -153,7 +153,7 @@ on_ok (Err e) P p = _
 
 -- if no place is found, a subscribing is refused
 pub refused_place : {F T : Type 0} (meaning : F → End) (does : F → Call T → F → Type 0) (name : List ℕ) (result : Result Unit Refusal) (due_before due_after : List (Work T)) (old new : Hub F)
-    → IsSeen meaning does old new → IsUnnamed name (hub_of meaning new).entries → due_after ≡ due_before
+    → IsPrepared meaning does old new → IsUnnamed name (hub_of meaning new).entries → due_after ≡ due_before
     → IfErr result (λ refusal. HasNoPlace refusal new)
     → IfErr result (λ refusal. Refuses meaning does name refusal due_before due_after old new)
 refused_place meaning does name (Ok x) due_before due_after old new seen unnamed due why = _

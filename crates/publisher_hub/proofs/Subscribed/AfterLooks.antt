@@ -7,9 +7,10 @@ use Rattle.flow_rules.specs.declared.feed.standing.Standing.{Standing}
 use Rattle.flow_rules.specs.declared.refusal.NoMemory.{NoMemory}
 use Rattle.publisher_hub.specs.Entry.{EntryState, entry_of}
 use Rattle.publisher_hub.specs.Lists.{Each, EachBy}
-use Rattle.publisher_hub.specs.Looking.{Follows, Glances, IsKept, IsReadied, IsRoom, MayPrepare, Prepares, Readies, Sees}
+use Rattle.publisher_hub.specs.Looking.{Follows, Glances, IsKept, IsReadied, MayPrepare, Prepares, Readies, Sees, ShowsRoom}
 use Rattle.publisher_hub.specs.Steps.{AreHere, IsHere}
 use Rattle.publisher_hub.specs.declared.entry.Entry.{Entry}
+use Rattle.publisher_hub.specs.declared.hub.room.Room.{Room}
 use Rattle.publisher_hub.proofs.Subscribed.Ends.{follows_look}
 use Rattle.publisher_hub.proofs.PartialRounds.Next.{get_before_map}
 use Rattle.publisher_hub.proofs.AnswerLists.Places.{answered_at}
@@ -166,8 +167,8 @@ each_untouched next entries here = record {
 }
 
 -- what the round leaves that prepares all is kept, whatever it answered
-pub round_kept : {F T : Type 0} (meaning : F → End) (does : F → Call T → F → Type 0) (next capacity : ℕ) (xs ys : List (Entry F)) (result : Result Bool NoMemory) → AreHere (map (entry_of meaning) xs)
-    → IfOk result (λ room. (glances : List (Option Standing)) × (EachBy (Prepares meaning does next) glances xs ys × IsRoom room capacity glances))
+pub round_kept : {F T : Type 0} (meaning : F → End) (does : F → Call T → F → Type 0) (next capacity : ℕ) (xs ys : List (Entry F)) (result : Result Room NoMemory) → AreHere (map (entry_of meaning) xs)
+    → IfOk result (λ room. (glances : List (Option Standing)) × (EachBy (Prepares meaning does next) glances xs ys × ShowsRoom room capacity xs glances))
     → OnErr result (Each (MayPrepare meaning does next) xs ys) → Each (IsKept next) (map (entry_of meaning) xs) (map (entry_of meaning) ys)
 round_kept meaning does next capacity xs ys (Ok room) here ok err =
     each_mapped meaning (Prepares meaning does next) (IsKept next) ok.0 xs ys (prepares_kept meaning does next) ok.1.0

@@ -8,11 +8,12 @@ use Rattle.flow_rules.specs.declared.refusal.NoMemory.{NoMemory}
 use Rattle.publisher_hub.specs.Entry.{EntryState, entry_of}
 use Rattle.publisher_hub.specs.Hub.{HubState}
 use Rattle.publisher_hub.specs.Lists.{EachBy}
-use Rattle.publisher_hub.specs.Looking.{FailsToPrepare, IsKept, IsLookedAt, IsRoom, Prepares, Readies}
+use Rattle.publisher_hub.specs.Looking.{FailsToPrepare, IsKept, IsLookedAt, Prepares, Readies, ShowsRoom}
 use Rattle.publisher_hub.specs.Readiness.{AreReady, CanAllTake, IsReady}
 use Rattle.publisher_hub.specs.Sound.{IsSound}
 use Rattle.publisher_hub.specs.Steps.{AreHere}
 use Rattle.publisher_hub.specs.declared.entry.Entry.{Entry}
+use Rattle.publisher_hub.specs.declared.hub.room.Room.{Room}
 use Rattle.publisher_hub.proofs.Subscribed.AfterLooks.{untouched_kept}
 use Rattle.publisher_hub.proofs.PartialRounds.Next.{get_before_map}
 use Rattle.publisher_hub.proofs.PartialRounds.Progress.{same_some}
@@ -74,8 +75,8 @@ ready_can_take entries ready k entry at live =
     (has.0, (has.1.0, ap (λ b. b || is_some has.0.closing) has.1.1))
 
 -- what a round has made ready is ready, if it isn't refused
-pub on_ok_ready : {F T : Type 0} (meaning : F → End) (does : F → Call T → F → Type 0) (next capacity : ℕ) (result : Result Bool NoMemory) (xs ys : List (Entry F))
-    → IfOk result (λ room. (glances : List (Option Standing)) × (EachBy (Prepares meaning does next) glances xs ys × IsRoom room capacity glances)) → OnOk result (AreReady (map (entry_of meaning) ys))
+pub on_ok_ready : {F T : Type 0} (meaning : F → End) (does : F → Call T → F → Type 0) (next capacity : ℕ) (result : Result Room NoMemory) (xs ys : List (Entry F))
+    → IfOk result (λ room. (glances : List (Option Standing)) × (EachBy (Prepares meaning does next) glances xs ys × ShowsRoom room capacity xs glances)) → OnOk result (AreReady (map (entry_of meaning) ys))
 on_ok_ready meaning does next capacity (Ok room) xs ys ok = all_prepared_ready meaning does next ok.0 xs ys ok.1.0
 on_ok_ready meaning does next capacity (Err e) xs ys ok = _
 

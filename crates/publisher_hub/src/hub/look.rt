@@ -5,16 +5,17 @@ ghost use Rattle.flow_rules.specs.declared.feed.standing.Standing.{Standing};
 ghost use Rattle.publisher_hub.specs.Entry.{entry_of};
 ghost use Rattle.publisher_hub.specs.Hub.{hub_of};
 ghost use Rattle.publisher_hub.specs.Lists.{greatest, EachBy};
-ghost use Rattle.publisher_hub.specs.Looking.{IsRoom, LooksAtAll, living, waiting, LooksAtOne, Glances};
+ghost use Rattle.publisher_hub.specs.Looking.{IsRoom, IsRoomForWaiters, LooksAtAll, living, waiting, LooksAtOne, Glances};
 ghost use Rattle.publisher_hub.specs.Names.{IsSubscribed, live_names};
 ghost use Rattle.publisher_hub.specs.Overview.{Shows, CountsLook};
+ghost use Rattle.publisher_hub.specs.Policy.{waits};
 ghost use Rattle.publisher_hub.specs.Sound.{IsSound, AreLive};
-ghost use Rattle.publisher_hub.specs.Steps.{AreHere};
+ghost use Rattle.publisher_hub.specs.Steps.{AreHere, IsHere};
 ghost use Rattle.publisher_hub.specs.Subscribing.{IsNamed, IsNotNamed};
 
 use crate::entry::Entry;
 use crate::hub::Hub;
-use crate::hub::prepare::shows_room;
+use crate::hub::room::Room;
 use flow_rules::{Feed, Name, NoMemory, Standing};
 use std::alloc::Global;
 
@@ -28,7 +29,20 @@ impl<F: Feed> Hub<F> {
             × IsRoom result (hub_of F.meaning self.old).progress.capacity glances) }
         ensures sound { IsSound (hub_of F.meaning self.new) }
     {
-        self.look_at_all().room
+        self.look_at_all().room.everywhere
+    }
+
+    /// Says whether no live subscription's buffer is full of those that say [`OnFull::Wait`](crate::OnFull::Wait): a
+    /// publication that heeds that would not have to wait then.
+    pub fn has_room_for_waiters(&mut self) -> bool
+        requires sound { IsSound (hub_of F.meaning self.old) }
+        ensures looks { (glances : List (Option Standing))
+            × (LooksAtAll F.meaning F.does glances self.old self.new
+            × IsRoomForWaiters result (hub_of F.meaning self.old).progress.capacity
+            self.old.entries.items glances) }
+        ensures sound { IsSound (hub_of F.meaning self.new) }
+    {
+        self.look_at_all().room.for_waiters
     }
 
     /// Counts the live subscriptions (`SubmissionPublisher.getNumberOfSubscribers`).
@@ -101,7 +115,7 @@ impl<F: Feed> Hub<F> {
         requires sound { IsSound (hub_of F.meaning self.old) }
         ensures looks { (glances : List (Option Standing))
             × (LooksAtAll F.meaning F.does glances self.old self.new
-            × Shows self.old.capacity glances result) }
+            × Shows self.old.capacity self.old.entries.items glances result) }
         ensures sound { IsSound (hub_of F.meaning self.new) }
     {
         let Hub {
@@ -122,17 +136,17 @@ struct Overview {
     pub living: usize,
     /// How many items wait for that of them for which most do.
     pub most_waiting: u64,
-    /// Whether none of their buffers is full.
-    pub room: bool,
+    /// What they showed of room.
+    pub room: Room,
 }
 
 impl Overview {
-    /// Adds what another look showed.
-    fn count_look(&mut self, glance: &Option<Standing>, capacity: usize)
+    /// Adds what another look showed of a subscription, for which publications wait or don't.
+    fn count_look(&mut self, glance: &Option<Standing>, waited: bool, capacity: usize)
         requires { self.old.living + 1 < 2 ^ 64 }
-        ensures { CountsLook capacity glance.now self.old self.new }
+        ensures { CountsLook capacity waited glance.now self.old self.new }
     {
-        self.room &= shows_room(glance, capacity);
+        self.room.count(glance, waited, capacity);
         if let Some(standing) = glance {
             if !standing.ended {
                 self.living += 1;
@@ -148,18 +162,35 @@ fn look_all<F: Feed>(entries: &mut [Entry<F>], live: &[u32], next: u64, capacity
     requires here { AreHere (map (entry_of F.meaning) entries.old) }
     ensures { (glances : List (Option Standing))
         × (EachBy (Glances F.meaning F.does next) glances entries.old entries.new
-        × Shows capacity glances result) }
+        × Shows capacity entries.old glances result) }
 {
     let mut overview = Overview {
         living: 0,
         most_waiting: 0,
-        room: true,
+        room: Room::everywhere(),
     };
     for number in live {
-        let glance = entries[*number as usize].look(next);
-        overview.count_look(&glance, capacity);
+        look_one(
+            &mut entries[*number as usize],
+            next,
+            capacity,
+            &mut overview,
+        );
     }
     overview
+}
+
+/// Looks at a subscription, and adds what that showed.
+fn look_one<F: Feed>(entry: &mut Entry<F>, next: u64, capacity: usize, overview: &mut Overview)
+    requires here { IsHere (entry_of F.meaning entry.old) }
+    requires few { overview.old.living + 1 < 2 ^ 64 }
+    ensures { (glance : Option Standing)
+        × (Glances F.meaning F.does next glance entry.old entry.new
+        × CountsLook capacity (waits entry.old.on_full) glance overview.old overview.new) }
+{
+    let waited = entry.on_full.waits();
+    let glance = entry.look(next);
+    overview.count_look(&glance, waited, capacity);
 }
 
 /// Lists the names of the subscriptions that aren't retired, in order of subscription.

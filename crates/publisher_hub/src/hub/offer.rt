@@ -128,7 +128,7 @@ impl<F: Feed> Hub<F> {
     }
 
     /// Counts an offer that found a buffer full, if drops stand.
-    fn count_drops(&mut self)
+    pub(super) fn count_drops(&mut self)
         requires few { self.old.dropping < MOST_PUBLICATIONS }
         ensures { self.new ≡ record self.old {
           dropping = dropping_after self.old.gathering.drops self.old.dropping;

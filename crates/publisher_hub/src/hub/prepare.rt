@@ -1,25 +1,28 @@
 //! How the live subscriptions of a Hub are made ready for a call that may start tasks: each is looked at, and has what
 //! a started task needs if it goes on. No task is started here.
-ghost use Rattle.std.specs.Prelude.{◌≡◌, IfOk, IsOk, OnErr, OnOk, vec_capacity, ◌<◌, vec_len, List, Option, map, true, false, [], ◌∷◌, ℕ, ◌+◌, ◌≤◌};
+ghost use Rattle.std.specs.Prelude.{◌≡◌, IfOk, IsOk, OnErr, OnOk, vec_capacity, ◌<◌, vec_len, List, Option, map, ◌+◌, ◌≤◌};
 ghost use Rattle.flow_rules.specs.declared.feed.standing.Standing.{Standing};
 ghost use Rattle.publisher_hub.specs.Entry.{entry_of};
 ghost use Rattle.publisher_hub.specs.Hub.{hub_of};
 ghost use Rattle.publisher_hub.specs.Lists.{Each, EachBy};
-ghost use Rattle.publisher_hub.specs.Looking.{FindsRoom, IsLookedAt, PreparesInPart, MayPrepare, Prepares, IsRoom, full_by};
+ghost use Rattle.publisher_hub.specs.Looking.{FailsToPrepare, FindsRoom, IsLookedAt, PreparesInPart, MayPrepare, Prepares, ShowsRoom};
+ghost use Rattle.publisher_hub.specs.Overview.{CountsRoom};
+ghost use Rattle.publisher_hub.specs.Policy.{waits};
 ghost use Rattle.publisher_hub.specs.Readiness.{AreReady};
 ghost use Rattle.publisher_hub.specs.Sound.{IsSound, AreLive};
-ghost use Rattle.publisher_hub.specs.Steps.{AreHere};
-ghost use Rattle.publisher_hub.specs.Subscribing.{IsSeen, IsSeenInPart};
+ghost use Rattle.publisher_hub.specs.Steps.{AreHere, IsHere};
+ghost use Rattle.publisher_hub.specs.Subscribing.{IsPrepared, IsPreparedInPart};
 
 use crate::entry::Entry;
 use crate::hub::Hub;
+use crate::hub::room::Room;
 use crate::work::Work;
-use flow_rules::{Feed, NoMemory, Standing};
+use flow_rules::{Feed, NoMemory};
 
 impl<F: Feed> Hub<F> {
     /// Looks at all live subscriptions, retires those that have ended, and makes each that goes on ready for one task.
-    /// The answer is whether none of them is full.
-    pub(super) fn prepare_live(&mut self) -> Result<bool, NoMemory>
+    /// The answer is what that showed of their room.
+    pub(super) fn prepare_live(&mut self) -> Result<Room, NoMemory>
         requires sound { IsSound (hub_of F.meaning self.old) }
         ensures ok { IfOk result (FindsRoom F.meaning F.does self.old self.new) }
         ensures exact { OnErr result (PreparesInPart F.meaning F.does self.old self.new) }
@@ -44,8 +47,8 @@ impl<F: Feed> Hub<F> {
     /// leaves the numbers of the retired ones out. There is a place for one task, too.
     pub(super) fn see_all(&mut self, due: &mut Vec<Work<F::Task>>) -> Result<(), NoMemory>
         requires sound { IsSound (hub_of F.meaning self.old) }
-        ensures seen { OnOk result (IsSeen F.meaning F.does self.old self.new) }
-        ensures in_part { OnErr result (IsSeenInPart F.meaning F.does self.old self.new) }
+        ensures seen { OnOk result (IsPrepared F.meaning F.does self.old self.new) }
+        ensures in_part { OnErr result (IsPreparedInPart F.meaning F.does self.old self.new) }
         ensures rest { self.new ≡ record self.old {
           entries = self.new.entries;
           live = self.new.live;
@@ -66,41 +69,47 @@ impl<F: Feed> Hub<F> {
     }
 }
 
-/// Looks at all live subscriptions, and makes each that goes on ready for one task. The answer is whether none
-/// of them is full.
+/// Looks at all live subscriptions, and makes each that goes on ready for one task. The answer is what that showed of
+/// their room.
 fn prepare_all<F: Feed>(
     entries: &mut [Entry<F>],
     live: &[u32],
     next: u64,
     capacity: usize,
-) -> Result<bool, NoMemory>
+) -> Result<Room, NoMemory>
     requires live { AreLive live.now (map (entry_of F.meaning) entries.old) }
     requires here { AreHere (map (entry_of F.meaning) entries.old) }
     ensures ok { IfOk result (λ room. (glances : List (Option Standing))
         × (EachBy (Prepares F.meaning F.does next) glances entries.old entries.new
-        × IsRoom room capacity glances)) }
+        × ShowsRoom room capacity entries.old glances)) }
     ensures exact { OnErr result (Each (MayPrepare F.meaning F.does next) entries.old entries.new) }
     ensures not_refused { AreReady (map (entry_of F.meaning) entries.old) → IsOk result }
 {
-    let mut room = true;
+    let mut room = Room::everywhere();
     for number in live {
         // The others are made ready, also after a subscription without room.
-        let glance = entries[*number as usize].prepare(next)?;
-        room &= shows_room(&glance, capacity);
+        prepare_one(&mut entries[*number as usize], next, capacity, &mut room)?;
     }
     Ok(room)
 }
 
-/// Says whether a look showed no full buffer.
-pub(super) fn shows_room(glance: &Option<Standing>, capacity: usize) -> bool
-    ensures full { result ≡ false → (number : ℕ)
-        → full_by capacity number glance.now ≡ number ∷ [] }
-    ensures not_full { result ≡ true → (number : ℕ) → full_by capacity number glance.now ≡ [] }
+/// Looks at a subscription, makes it ready for one task if it goes on, and counts what that showed of its room.
+fn prepare_one<F: Feed>(
+    entry: &mut Entry<F>,
+    next: u64,
+    capacity: usize,
+    room: &mut Room,
+) -> Result<(), NoMemory>
+    requires here { IsHere (entry_of F.meaning entry.old) }
+    ensures ok { OnOk result ((glance : Option Standing)
+        × (Prepares F.meaning F.does next glance entry.old entry.new
+        × CountsRoom capacity (waits entry.old.on_full) glance room.old room.new)) }
+    ensures refused { OnErr result (FailsToPrepare F.meaning F.does next entry.old entry.new) }
 {
-    match glance {
-        Some(standing) => standing.ended || standing.held < capacity as u64,
-        None => true,
-    }
+    let waited = entry.on_full.waits();
+    let glance = entry.prepare(next)?;
+    room.count(&glance, waited, capacity);
+    Ok(())
 }
 
 /// Makes room for this many tasks.

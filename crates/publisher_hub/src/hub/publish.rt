@@ -17,6 +17,7 @@ ghost use Rattle.publisher_hub.specs.declared.work.Work.{Work};
 
 use crate::entry::Entry;
 use crate::hub::gathering::Gathering;
+use crate::hub::room::Room;
 use crate::hub::{Hub, MOST_SOURCES};
 use crate::work::Work;
 use flow_rules::{Feed, Item, MOST_PUBLICATIONS, NoMemory, Refusal, Text};
@@ -76,7 +77,7 @@ impl<F: Feed> Hub<F> {
     {
         let item = self.next_item(source, text);
         let room = match self.prepare_publication(&item, due) {
-            Ok(room) => room,
+            Ok(room) => room.everywhere,
             Err(NoMemory) => return Err(Unpublished::Refused(Refusal::NoMemory)),
         };
         if let Some(refusal) = self.refusal() {
@@ -93,7 +94,7 @@ impl<F: Feed> Hub<F> {
     }
 
     /// Gives up an item for which a live subscription has no room. Its text comes back.
-    fn no_room(&mut self, item: Item) -> Unpublished
+    pub(super) fn no_room(&mut self, item: Item) -> Unpublished
         ensures text { result ≡ NoRoom item.text }
         ensures no_share { self.new.gathering.shares.items ≡ [] }
         ensures rest { self.new ≡ record self.old { gathering = self.new.gathering } }
@@ -121,12 +122,13 @@ impl<F: Feed> Hub<F> {
         }
     }
 
-    /// Takes all that a publication needs, and looks at each live subscription. The answer is whether all have room.
+    /// Takes all that a publication needs, and looks at each live subscription. The answer is what that showed of their
+    /// room.
     pub(super) fn prepare_publication(
         &mut self,
         item: &Item,
         due: &mut Vec<Work<F::Task>>,
-    ) -> Result<bool, NoMemory>
+    ) -> Result<Room, NoMemory>
         requires sound { IsSound (hub_of F.meaning self.old) }
         ensures ok { IfOk result (FindsRoom F.meaning F.does self.old self.new) }
         ensures exact { OnErr result (PreparesInPart F.meaning F.does self.old self.new) }

@@ -7,7 +7,7 @@ ghost use Rattle.publisher_hub.specs.Hub.{hub_of};
 ghost use Rattle.publisher_hub.specs.Reclaiming.{TakesEndedAt};
 ghost use Rattle.publisher_hub.specs.Sound.{IsSound};
 ghost use Rattle.publisher_hub.specs.Taking.{TakesOutAt};
-ghost use Rattle.publisher_hub.specs.Tickets.{AsksForTicketAt};
+ghost use Rattle.publisher_hub.specs.Tickets.{RetiresIfEndedAt};
 
 use crate::entry::Entry;
 use crate::hub::Hub;
@@ -23,7 +23,7 @@ impl<F: Feed> Hub<F> {
     #[must_use]
     pub fn ended(&mut self, entry: u32) -> Option<Ticket>
         requires sound { IsSound (hub_of F.meaning self.old) }
-        ensures looks { AsksForTicketAt F.meaning F.does entry result self.old self.new }
+        ensures looks { RetiresIfEndedAt F.meaning F.does entry result self.old self.new }
         ensures sound { IsSound (hub_of F.meaning self.new) }
     {
         let next = self.next;

@@ -8,7 +8,7 @@ ghost use Rattle.publisher_hub.specs.Hub.{hub_of};
 ghost use Rattle.publisher_hub.specs.OpeningTicket.{AddsTicket, RefusesTicket};
 ghost use Rattle.publisher_hub.specs.Readiness.{AreReady};
 ghost use Rattle.publisher_hub.specs.Sound.{IsSound};
-ghost use Rattle.publisher_hub.specs.Subscribing.{CanAdmit, HasNoPlace, HasPlace, IsLiveAt, IsSeen, Refuses, DoublesAt, Admits, ClosesNew, first_entry};
+ghost use Rattle.publisher_hub.specs.Subscribing.{CanAdmit, HasNoPlace, HasPlace, IsLiveAt, IsPrepared, Refuses, DoublesAt, Admits, AdmitsWith, ClosesNew, first_entry_with};
 ghost use Rattle.publisher_hub.specs.Tickets.{ticket_at, without_ticket};
 ghost use Rattle.publisher_hub.specs.declared.work.Work.{Work};
 
@@ -16,6 +16,7 @@ use crate::entry::Entry;
 use crate::hub::gathering::push_started;
 use crate::hub::look::find_named;
 use crate::hub::{Hub, MOST_ENTRIES, MOST_LIVE};
+use crate::policy::OnFull;
 use crate::work::Work;
 use close_count::{Opening, Ticket};
 use flow_rules::{Ending, Feed, Name, NoMemory, Refusal};
@@ -32,7 +33,7 @@ impl<F: Feed> Hub<F> {
     pub fn may_subscribe(&mut self, name: Name, due: &mut Vec<Work<F::Task>>) -> Result<(), Refusal>
         requires sound { IsSound (hub_of F.meaning self.old) }
         ensures can { OnOk result (CanAdmit F.meaning name self.new due.new) }
-        ensures seen { OnOk result (IsSeen F.meaning F.does self.old self.new) }
+        ensures seen { OnOk result (IsPrepared F.meaning F.does self.old self.new) }
         ensures nothing_due { OnOk result (due.new.items ≡ due.old.items) }
         ensures refusals { IfErr result (λ refusal.
             Refuses F.meaning F.does name refusal due.old.items due.new.items self.old self.new) }
@@ -85,8 +86,8 @@ impl<F: Feed> Hub<F> {
     /// not used. The answer is its number, from 0 in the order in which they are made. It takes part in each
     /// publication from now on. If the Hub is closed, the subscription is closed at once, in the same way.
     ///
-    /// It is refused when, and as, [`may_subscribe`](Hub::may_subscribe) is. Then the producer's end and the ticket are
-    /// dropped.
+    /// Publications wait for its room, as [`OnFull::Wait`] says. It is refused when, and as,
+    /// [`may_subscribe`](Hub::may_subscribe) is. Then the producer's end and the ticket are dropped.
     pub fn admit(
         &mut self,
         name: Name,
@@ -103,10 +104,34 @@ impl<F: Feed> Hub<F> {
         ensures not_refused { CanAdmit F.meaning name self.old due.old → IsOk result }
         ensures sound { IsSound (hub_of F.meaning self.new) }
     {
+        self.admit_with(name, OnFull::Wait, feed, ticket, due)
+    }
+
+    /// Adds a subscription, as [`admit`](Hub::admit) does, which says this of its full buffer.
+    ///
+    /// It is refused when, and as, [`may_subscribe`](Hub::may_subscribe) is. Then the producer's end and the ticket are
+    /// dropped.
+    pub fn admit_with(
+        &mut self,
+        name: Name,
+        on_full: OnFull,
+        feed: F,
+        ticket: Option<Ticket>,
+        due: &mut Vec<Work<F::Task>>,
+    ) -> Result<u32, Refusal>
+        requires sound { IsSound (hub_of F.meaning self.old) }
+        requires fresh { IsFresh self.old.capacity (F.meaning feed) }
+        ensures ok { IfOk result (λ number. AdmitsWith F.meaning F.does name on_full feed ticket
+            number due.old.items due.new.items self.old self.new) }
+        ensures refusals { IfErr result (λ refusal.
+            Refuses F.meaning F.does name refusal due.old.items due.new.items self.old self.new) }
+        ensures not_refused { CanAdmit F.meaning name self.old due.old → IsOk result }
+        ensures sound { IsSound (hub_of F.meaning self.new) }
+    {
         self.may_subscribe(name, due)?;
         let number = self.entries.len() as u32;
         let feed = close_new(self.ending, feed, number, due);
-        self.add(name, feed, ticket);
+        self.add(name, on_full, feed, ticket);
         Ok(number)
     }
 
@@ -185,14 +210,14 @@ impl<F: Feed> Hub<F> {
     }
 
     /// Adds a subscription, for which there is a place.
-    fn add(&mut self, name: Name, feed: F, ticket: Option<Ticket>)
+    fn add(&mut self, name: Name, on_full: OnFull, feed: F, ticket: Option<Ticket>)
         requires sound { IsSound (hub_of F.meaning self.old) }
         requires place { HasPlace self.old }
         requires empty { (F.meaning feed).accepted ≡ [] }
         requires capacity { (F.meaning feed).capacity ≡ self.old.capacity }
         requires unclosed { self.old.ending ≡ None → (F.meaning feed).closing ≡ None }
         ensures entries { self.new.entries.items ≡ self.old.entries.items
-            ++ first_entry name self.old.next feed ticket ∷ [] }
+            ++ first_entry_with name on_full self.old.next feed ticket ∷ [] }
         ensures live { self.new.live.items ≡ self.old.live.items
             ++ length self.old.entries.items ∷ [] }
         ensures rest { self.new ≡ record self.old {
@@ -204,6 +229,7 @@ impl<F: Feed> Hub<F> {
         let number = self.entries.len() as u32;
         self.entries.push_reserved(Entry {
             name,
+            on_full,
             since: self.next,
             until: self.next,
             dropped: 0,

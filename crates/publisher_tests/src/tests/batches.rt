@@ -1,14 +1,13 @@
 //! Several texts that one call publishes.
 mod waking;
 
-ghost use Rattle.publisher.specs.Blanks.{IsBlankOf};
+ghost use Rattle.publisher.specs.Blanks.{AreBlanksOf};
 
 use flow_rules::{Collector, Ending, Refusal, Signal, Subscriber, Text};
-use publisher::{PARTS, Publisher, Submitter, Subscription, Unsent};
+use publisher::{BlankPair, Ledgers, Publisher, Submitter, Subscription, Unsent};
 use std::alloc::Global;
 use std::marker::Brand;
 use std::sync::Wait;
-use std::sync::ledger::{Blank, Ledger};
 use std::test::Fail;
 use std::thread;
 use std::thread::Threads;
@@ -28,11 +27,11 @@ fn texts_from(alloc: Global, letter: u8, many: u8) -> Result<Vec<Text>, Fail> {
 }
 
 // Waits until this many items wait for a subscription, but not for ever; and then closes its publisher.
-fn close_at<L: Ledger + Send + Sync + 'static, D: Ledger + Send + Sync + 'static, R: Wait>(
+fn close_at<L: Ledgers + Send + Sync + 'static, R: Wait>(
     rt: &R,
     alloc: Global,
-    publisher: &Publisher<L, D, Collector>,
-    subscription: &mut Subscription<L, D, Collector>,
+    publisher: &Publisher<L, Collector>,
+    subscription: &mut Subscription<L, Collector>,
     lag: u64,
 ) -> Result<(), Refusal> {
     for _ in 0..MOST_LOOKS {
@@ -63,16 +62,12 @@ fn said(alloc: Global, answer: Result<u64, Unsent>) -> Result<String, Fail> {
 
 // What calls say that publish no text, two and then ten into a buffer of four, while another thread closes; and one
 // that comes after it.
-fn submit_all_and_close<
-    L: Ledger + Send + Sync + 'static,
-    D: Ledger + Send + Sync + 'static,
-    R: Threads + Wait + Sync,
->(
+fn submit_all_and_close<L: Ledgers + Send + Sync + 'static, R: Threads + Wait + Sync>(
     rt: &R,
     alloc: Global,
-    publisher: &Publisher<L, D, Collector>,
-    submitter: &mut Submitter<L, D, Collector>,
-    subscription: &mut Subscription<L, D, Collector>,
+    publisher: &Publisher<L, Collector>,
+    submitter: &mut Submitter<L, Collector>,
+    subscription: &mut Subscription<L, Collector>,
 ) -> Result<String, Fail> {
     let none = texts_from(alloc, b'a', 0)?;
     let two = texts_from(alloc, b'a', 2)?;
@@ -110,25 +105,16 @@ fn told_to(alloc: Global, subscriber: &Collector) -> Result<String, Fail> {
 
 // What the calls say, and what the subscriber is told that requests five items after them.
 fn publish_and_read<
-    L: Ledger + Send + Sync + 'static,
-    D: Ledger + Send + Sync + 'static,
+    L: Ledgers + Send + Sync + 'static,
     R: Threads + Wait + Copy + Send + Sync + 'static,
->(rt: R, alloc: Global, publications: Blank, drops: Blank) -> Result<String, Fail>
-    requires publications { IsBlankOf publications L.name L.parts }
-    requires drops { IsBlankOf drops D.name D.parts }
+>(rt: R, alloc: Global, blanks: BlankPair) -> Result<String, Fail>
+    requires blanks { AreBlanksOf blanks L.publications L.drops }
 {
-    let mut stand: Stand<L, D, Collector> = Stand::new(rt, alloc, publications, drops, 1, 4)?;
-    stand.subscribe(&rt, "a", Collector::new(alloc))?;
-    let mut subscription = stand.last_subscription()?;
-    let Some(submitter) = stand.submitters.first_mut() else {
-        return Err(Fail::new("there is no submitter"));
-    };
-    let publisher = &stand.publisher;
-    let mut report = submit_all_and_close(&rt, alloc, publisher, submitter, &mut subscription)?;
-    subscription.request(&rt, 5)?;
-    subscription.wait_end(&rt);
-    stand.subscriptions.push(subscription)?;
-    let Ok(outcome) = stand.finish(&rt) else {
+    let mut stand: Stand<L, Collector> = Stand::new(rt, alloc, blanks, 1, 4)?;
+    let report = publish_several(&rt, &mut stand);
+    let finished = stand.finish(&rt);
+    let mut report = report?;
+    let Ok(outcome) = finished else {
         return Err(Fail::new("finish refuses"));
     };
     for left in outcome.lanes.iter() {
@@ -139,10 +125,27 @@ fn publish_and_read<
     Ok(report)
 }
 
+fn publish_several<L: Ledgers + Send + Sync + 'static, R: Threads + Wait + Sync>(
+    rt: &R,
+    stand: &mut Stand<L, Collector>,
+) -> Result<String, Fail> {
+    stand.subscribe(rt, "a", Collector::new(stand.alloc))?;
+    let (Some(submitter), Some(subscription)) = (
+        stand.submitters.first_mut(),
+        stand.subscriptions.first_mut(),
+    ) else {
+        return Err(Fail::new("there is no submitter or no subscription"));
+    };
+    let report = submit_all_and_close(rt, stand.alloc, &stand.publisher, submitter, subscription)?;
+    subscription.request(rt, 5)?;
+    subscription.wait_end(rt);
+    Ok(report)
+}
+
 #[test]
 fn several_texts_are_published_by_one_call(rt: HostRuntime) -> Result<(), Fail> {
-    let (publications, drops) = (Blank::new(PARTS), Blank::new(PARTS));
-    let told = publish_and_read::<Brand, Brand, _>(rt, rt.alloc(), publications, drops)?;
+    let blanks = BlankPair::new();
+    let told = publish_and_read::<Brand, _>(rt, rt.alloc(), blanks)?;
     let wanted = "lag 0; lag 2; 2 before the close; 0 before the close; 0 before the close; \
         a b c d complete";
     assert!(rt; told.as_str() == wanted, "{told}");
@@ -151,8 +154,8 @@ fn several_texts_are_published_by_one_call(rt: HostRuntime) -> Result<(), Fail> 
 
 #[test]
 fn a_call_wakes_several(rt: HostRuntime) -> Result<(), Fail> {
-    let (publications, drops) = (Blank::new(PARTS), Blank::new(PARTS));
-    let told = wake_several::<Brand, Brand, _>(rt, rt.alloc(), publications, drops)?;
+    let blanks = BlankPair::new();
+    let told = wake_several::<Brand, _>(rt, rt.alloc(), blanks)?;
     assert!(rt;
         told.as_str() == "lag 4; told all: [true, true, true]",
         "{told}"

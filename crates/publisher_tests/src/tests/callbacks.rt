@@ -10,13 +10,12 @@ use flow_rules::{Listener, Watching};
 use handling::offer_twice;
 use meeting::meet;
 use mixing::{Ones, Tens, mix};
-use publisher::PARTS;
+use publisher::BlankPair;
 use std::alloc::Global;
 use std::marker::Brand;
 use std::sync::Arc;
 use std::sync::atomic::Ordering::SeqCst;
 use std::sync::atomic::{AtomicBool, AtomicU64};
-use std::sync::ledger::Blank;
 use std::test::Fail;
 use waiting::call_all;
 
@@ -26,14 +25,14 @@ type Count = Arc<AtomicU64, Global>;
 
 #[test]
 fn two_callbacks_meet(rt: HostRuntime) -> Result<(), Fail> {
-    let met = meet::<Brand, Brand, _>(rt, rt.alloc(), Blank::new(PARTS), Blank::new(PARTS))?;
+    let met = meet::<Brand, _>(rt, rt.alloc(), BlankPair::new())?;
     assert!(rt; met == 2, "{met} met");
     Ok(())
 }
 
 #[test]
 fn each_call_returns_while_a_callback_runs(rt: HostRuntime) -> Result<(), Fail> {
-    let told = call_all::<Brand, Brand, _>(rt, rt.alloc(), Blank::new(PARTS), Blank::new(PARTS))?;
+    let told = call_all::<Brand, _>(rt, rt.alloc(), BlankPair::new())?;
     let wanted = "lag 1, answer 2, lag 2 of 2, a true; 0 and 2 went on";
     assert!(rt; told.as_str() == wanted, "{told}");
     Ok(())
@@ -41,12 +40,7 @@ fn each_call_returns_while_a_callback_runs(rt: HostRuntime) -> Result<(), Fail> 
 
 #[test]
 fn a_handler_finds_room_that_is_made_meanwhile(rt: HostRuntime) -> Result<(), Fail> {
-    let answer = offer_twice::<Brand, Brand, _>(
-        rt,
-        rt.alloc(),
-        Blank::new(PARTS),
-        Blank::new(PARTS),
-    )?;
+    let answer = offer_twice::<Brand, _>(rt, rt.alloc(), BlankPair::new())?;
     assert!(rt; answer == 1, "answer {answer}");
     Ok(())
 }
@@ -59,8 +53,8 @@ fn listeners_of_two_types_hear_one_publisher(rt: HostRuntime) -> Result<(), Fail
     let ones = Acting::new(Ones(Arc::try_clone(&count)?));
     let tens: Box<dyn Listener + Send> = Box::new(alloc, tens)?;
     let ones: Box<dyn Listener + Send> = Box::new(alloc, ones)?;
-    let (publications, drops) = (Blank::new(PARTS), Blank::new(PARTS));
-    mix::<Brand, Brand, _, _>(rt, alloc, publications, drops, tens, ones)?;
+    let blanks = BlankPair::new();
+    mix::<Brand, _, _>(rt, alloc, blanks, tens, ones)?;
     let count = count.load(SeqCst);
     // The watch counts two items as ten each, and the other one an item as one.
     assert!(rt; count == 21, "counted {count}");

@@ -1,13 +1,12 @@
 //! What is told of a close, and when.
-ghost use Rattle.publisher.specs.Blanks.{IsBlankOf};
+ghost use Rattle.publisher.specs.Blanks.{AreBlanksOf};
 
 use flow_rules::{DropHandler, Ending, Item, Name, Refusal, Tally, Text};
-use publisher::{PARTS, Publisher, Submitter};
+use publisher::{BlankPair, Ledgers, Publisher, Submitter};
 use std::alloc::{AllocError, Global};
 use std::marker::Brand;
 use std::sync::atomic::AtomicBool;
 use std::sync::atomic::Ordering::SeqCst;
-use std::sync::ledger::{Blank, Ledger};
 use std::sync::{Arc, Wait};
 use std::test::Fail;
 use std::thread;
@@ -54,31 +53,30 @@ impl DropHandler for Holds {
 // What a third thread is told of the close while an offer holds the lock and a second one closes, and what is told
 // afterwards.
 fn ask_while_held<
-    L: Ledger + Send + Sync + 'static,
-    D: Ledger + Send + Sync + 'static,
+    L: Ledgers + Send + Sync + 'static,
     R: Threads + Wait + Copy + Send + Sync + 'static,
->(rt: R, alloc: Global, publications: Blank, drops: Blank) -> Result<String, Fail>
-    requires publications { IsBlankOf publications L.name L.parts }
-    requires drops { IsBlankOf drops D.name D.parts }
+>(rt: R, alloc: Global, blanks: BlankPair) -> Result<String, Fail>
+    requires blanks { AreBlanksOf blanks L.publications L.drops }
 {
     let flags = Flags::new(alloc)?;
-    let mut stand: Stand<L, D, Tally> = Stand::new(rt, alloc, publications, drops, 1, 1)?;
-    stand.subscribe(&rt, "a", Tally::new())?;
-    stand.submit(&rt, b"x")?;
-    let while_held = offer_and_close(&mut stand, &rt, &flags)?;
+    let mut stand: Stand<L, Tally> = Stand::new(rt, alloc, blanks, 1, 1)?;
+    let while_held = offer_and_close(&mut stand, &rt, &flags);
     let mut note = stand.publisher.note();
     let is_closed = stand.publisher.is_closed(&mut note);
     let ending = stand.publisher.closed_with(&mut note);
     let _ = stand.end(&rt);
+    let while_held = while_held?;
     Ok(format!(in alloc; "{while_held} while it is held, then {is_closed}, {ending:?}")?)
 }
 
 // Whether a third thread is told of a close that waits for the lock, which an offer holds.
-fn offer_and_close<
-    L: Ledger + Send + Sync + 'static,
-    D: Ledger + Send + Sync + 'static,
-    R: Threads + Wait + Sync,
->(stand: &mut Stand<L, D, Tally>, rt: &R, flags: &Flags) -> Result<bool, Fail> {
+fn offer_and_close<L: Ledgers + Send + Sync + 'static, R: Threads + Wait + Sync>(
+    stand: &mut Stand<L, Tally>,
+    rt: &R,
+    flags: &Flags,
+) -> Result<bool, Fail> {
+    stand.subscribe(rt, "a", Tally::new())?;
+    stand.submit(rt, b"x")?;
     let (alloc, publisher) = (stand.alloc, &stand.publisher);
     let Some(submitter) = stand.submitters.first_mut() else {
         return Err(Fail::new("there is no submitter"));
@@ -94,10 +92,10 @@ fn offer_and_close<
 }
 
 // Offers to a full buffer, with a handler that holds the lock.
-fn offer<L: Ledger + Send + Sync + 'static, D: Ledger + Send + Sync + 'static, R: Wait>(
+fn offer<L: Ledgers + Send + Sync + 'static, R: Wait>(
     rt: &R,
     alloc: Global,
-    submitter: &mut Submitter<L, D, Tally>,
+    submitter: &mut Submitter<L, Tally>,
     flags: &Flags,
 ) -> Result<(), Refusal> {
     let mut holds = Holds {
@@ -109,14 +107,10 @@ fn offer<L: Ledger + Send + Sync + 'static, D: Ledger + Send + Sync + 'static, R
 }
 
 // One thread closes, and another one asks.
-fn close_and_ask<
-    L: Ledger + Send + Sync + 'static,
-    D: Ledger + Send + Sync + 'static,
-    R: Threads + Wait + Sync,
->(
+fn close_and_ask<L: Ledgers + Send + Sync + 'static, R: Threads + Wait + Sync>(
     rt: &R,
     alloc: Global,
-    publisher: &Publisher<L, D, Tally>,
+    publisher: &Publisher<L, Tally>,
     flags: &Flags,
 ) -> (Result<(), Refusal>, bool) {
     thread::join(
@@ -127,10 +121,10 @@ fn close_and_ask<
 }
 
 // Closes once the lock is held.
-fn close_once_held<L: Ledger + Send + Sync + 'static, D: Ledger + Send + Sync + 'static, R: Wait>(
+fn close_once_held<L: Ledgers + Send + Sync + 'static, R: Wait>(
     rt: &R,
     alloc: Global,
-    publisher: &Publisher<L, D, Tally>,
+    publisher: &Publisher<L, Tally>,
     flags: &Flags,
 ) -> Result<(), Refusal> {
     let _ = wait_for(&flags.is_held);
@@ -140,10 +134,7 @@ fn close_once_held<L: Ledger + Send + Sync + 'static, D: Ledger + Send + Sync + 
 }
 
 // Whether the publisher is closed while another thread closes it.
-fn ask<L: Ledger + Send + Sync + 'static, D: Ledger + Send + Sync + 'static>(
-    publisher: &Publisher<L, D, Tally>,
-    flags: &Flags,
-) -> bool {
+fn ask<L: Ledgers + Send + Sync + 'static>(publisher: &Publisher<L, Tally>, flags: &Flags) -> bool {
     let _ = wait_for(&flags.is_closing);
     let mut note = publisher.note();
     let is_closed = publisher.is_closed(&mut note);
@@ -153,8 +144,8 @@ fn ask<L: Ledger + Send + Sync + 'static, D: Ledger + Send + Sync + 'static>(
 
 #[test]
 fn a_closing_is_read_while_the_lock_is_held(rt: HostRuntime) -> Result<(), Fail> {
-    let (publications, drops) = (Blank::new(PARTS), Blank::new(PARTS));
-    let told = ask_while_held::<Brand, Brand, _>(rt, rt.alloc(), publications, drops)?;
+    let blanks = BlankPair::new();
+    let told = ask_while_held::<Brand, _>(rt, rt.alloc(), blanks)?;
     let wanted = "false while it is held, then true, Some(Failed(4))";
     assert!(rt; told.as_str() == wanted, "{told}");
     Ok(())
@@ -163,31 +154,38 @@ fn a_closing_is_read_while_the_lock_is_held(rt: HostRuntime) -> Result<(), Fail>
 // What a submitter from before the close is refused, which was told nothing: a text that is too long for its length,
 // until it knows. And one that is made by a note that knows.
 fn submit_after_the_close<
-    L: Ledger + Send + Sync + 'static,
-    D: Ledger + Send + Sync + 'static,
+    L: Ledgers + Send + Sync + 'static,
     R: Threads + Wait + Copy + Send + Sync + 'static,
->(rt: R, alloc: Global, publications: Blank, drops: Blank) -> Result<String, Fail>
-    requires publications { IsBlankOf publications L.name L.parts }
-    requires drops { IsBlankOf drops D.name D.parts }
+>(rt: R, alloc: Global, blanks: BlankPair) -> Result<String, Fail>
+    requires blanks { AreBlanksOf blanks L.publications L.drops }
 {
-    let mut stand: Stand<L, D, Tally> = Stand::new(rt, alloc, publications, drops, 1, 1)?;
-    let mut note = stand.publisher.note();
-    stand.publisher.close(&rt, alloc, &mut note)?;
-    let late = stand.publisher.submitter(&rt, alloc, &mut note)?;
-    stand.submitters.push(late)?;
-    let mut report = String::new(alloc);
-    for submitter in stand.submitters.iter_mut() {
-        report.push_str(&refusals(&rt, alloc, submitter)?)?;
-    }
+    let mut stand: Stand<L, Tally> = Stand::new(rt, alloc, blanks, 1, 1)?;
+    let report = all_refusals(&rt, &mut stand);
     let _ = stand.end(&rt);
+    report
+}
+
+// Closes, makes a submitter by a note that knows, and tells what each submitter is refused.
+fn all_refusals<L: Ledgers + Send + Sync + 'static, R: Wait>(
+    rt: &R,
+    stand: &mut Stand<L, Tally>,
+) -> Result<String, Fail> {
+    let mut note = stand.publisher.note();
+    stand.publisher.close(rt, stand.alloc, &mut note)?;
+    let late = stand.publisher.submitter(rt, stand.alloc, &mut note)?;
+    stand.submitters.push(late)?;
+    let mut report = String::new(stand.alloc);
+    for submitter in stand.submitters.iter_mut() {
+        report.push_str(&refusals(rt, stand.alloc, submitter)?)?;
+    }
     Ok(report)
 }
 
 // What a submitter is refused for a text that is too long, for a short one, and for a long one that it offers.
-fn refusals<L: Ledger + Send + Sync + 'static, D: Ledger + Send + Sync + 'static, R: Wait>(
+fn refusals<L: Ledgers + Send + Sync + 'static, R: Wait>(
     rt: &R,
     alloc: Global,
-    submitter: &mut Submitter<L, D, Tally>,
+    submitter: &mut Submitter<L, Tally>,
 ) -> Result<String, Fail> {
     let long = Vec::from_elem(alloc, b'x', Text::LONGEST + 1)?;
     let first = submitter.submit(rt, alloc, long.as_slice()).err();
@@ -211,22 +209,20 @@ fn number_of(refusal: Option<Refusal>) -> u32 {
 
 #[test]
 fn a_submitter_from_before_the_close_learns_of_it(rt: HostRuntime) -> Result<(), Fail> {
-    let (publications, drops) = (Blank::new(PARTS), Blank::new(PARTS));
-    let told = submit_after_the_close::<Brand, Brand, _>(rt, rt.alloc(), publications, drops)?;
+    let blanks = BlankPair::new();
+    let told = submit_after_the_close::<Brand, _>(rt, rt.alloc(), blanks)?;
     assert!(rt; told.as_str() == "6, 2, 2; 2, 2, 2; ", "{told}");
     Ok(())
 }
 
 // Whether two threads that close at once, one of them with an error, and one who asks later, are told one ending.
 fn close_twice<
-    L: Ledger + Send + Sync + 'static,
-    D: Ledger + Send + Sync + 'static,
+    L: Ledgers + Send + Sync + 'static,
     R: Threads + Wait + Copy + Send + Sync + 'static,
->(rt: R, alloc: Global, publications: Blank, drops: Blank) -> Result<bool, Fail>
-    requires publications { IsBlankOf publications L.name L.parts }
-    requires drops { IsBlankOf drops D.name D.parts }
+>(rt: R, alloc: Global, blanks: BlankPair) -> Result<bool, Fail>
+    requires blanks { AreBlanksOf blanks L.publications L.drops }
 {
-    let stand: Stand<L, D, Tally> = Stand::new(rt, alloc, publications, drops, 1, 1)?;
+    let stand: Stand<L, Tally> = Stand::new(rt, alloc, blanks, 1, 1)?;
     let (one, other) = both_close(&rt, alloc, &stand.publisher);
     let mut note = stand.publisher.note();
     let ending = stand.publisher.closed_with(&mut note);
@@ -236,11 +232,11 @@ fn close_twice<
 
 type Told = Result<Option<Ending>, Refusal>;
 
-fn both_close<
-    L: Ledger + Send + Sync + 'static,
-    D: Ledger + Send + Sync + 'static,
-    R: Threads + Wait + Sync,
->(rt: &R, alloc: Global, publisher: &Publisher<L, D, Tally>) -> (Told, Told) {
+fn both_close<L: Ledgers + Send + Sync + 'static, R: Threads + Wait + Sync>(
+    rt: &R,
+    alloc: Global,
+    publisher: &Publisher<L, Tally>,
+) -> (Told, Told) {
     thread::join(
         rt,
         || close(rt, alloc, publisher, None),
@@ -249,10 +245,10 @@ fn both_close<
 }
 
 // Closes, with a code if there is one, and tells how the publisher is closed.
-fn close<L: Ledger + Send + Sync + 'static, D: Ledger + Send + Sync + 'static, R: Wait>(
+fn close<L: Ledgers + Send + Sync + 'static, R: Wait>(
     rt: &R,
     alloc: Global,
-    publisher: &Publisher<L, D, Tally>,
+    publisher: &Publisher<L, Tally>,
     code: Option<u32>,
 ) -> Told {
     let mut note = publisher.note();
@@ -266,8 +262,8 @@ fn close<L: Ledger + Send + Sync + 'static, D: Ledger + Send + Sync + 'static, R
 #[test]
 fn two_closers_are_told_one_ending(rt: HostRuntime) -> Result<(), Fail> {
     for round in 0..1000 {
-        let (publications, drops) = (Blank::new(PARTS), Blank::new(PARTS));
-        let is_one = close_twice::<Brand, Brand, _>(rt, rt.alloc(), publications, drops)?;
+        let blanks = BlankPair::new();
+        let is_one = close_twice::<Brand, _>(rt, rt.alloc(), blanks)?;
         assert!(rt; is_one, "two endings in round {round}");
     }
     Ok(())

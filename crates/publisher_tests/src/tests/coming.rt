@@ -1,15 +1,13 @@
 //! Subscriptions that come and go.
 ghost use Rattle.std.specs.Prelude.{◌≡◌};
-ghost use Rattle.publisher.specs.Blanks.{IsBlankOf};
-ghost use Rattle.publisher.specs.declared.state.TheConstants.{PARTS};
+ghost use Rattle.publisher.specs.Blanks.{AreBlanksOf};
 
 use flow_rules::{How, Refusal, Tally};
-use publisher::PARTS;
+use publisher::{BlankPair, Ledgers};
 use std::alloc::Global;
 use std::env;
 use std::marker::Brand;
 use std::sync::Wait;
-use std::sync::ledger::{Blank, Ledger};
 use std::test::Fail;
 use std::thread::Threads;
 use test_stand::{Stand, name_of};
@@ -20,14 +18,12 @@ const LIVE: usize = 64;
 // Has as many subscribe as may be live, and all of them cancelled, this many times. How many are left that were
 // cancelled.
 fn come_and_go<
-    L: Ledger + Send + Sync + 'static,
-    D: Ledger + Send + Sync + 'static,
+    L: Ledgers + Send + Sync + 'static,
     R: Threads + Wait + Copy + Send + Sync + 'static,
->(rt: R, alloc: Global, publications: Blank, drops: Blank, rounds: u64) -> Result<usize, Fail>
-    requires publications { IsBlankOf publications L.name L.parts }
-    requires drops { IsBlankOf drops D.name D.parts }
+>(rt: R, alloc: Global, blanks: BlankPair, rounds: u64) -> Result<usize, Fail>
+    requires blanks { AreBlanksOf blanks L.publications L.drops }
 {
-    let mut stand: Stand<L, D, Tally> = Stand::new(rt, alloc, publications, drops, 1, 1)?;
+    let mut stand: Stand<L, Tally> = Stand::new(rt, alloc, blanks, 1, 1)?;
     for _ in 0..rounds {
         fill(&rt, &mut stand)?;
         empty(&rt, &mut stand)?;
@@ -39,9 +35,9 @@ fn come_and_go<
 }
 
 // Has as many subscribe as may be live. One more is refused.
-fn fill<L: Ledger + Send + Sync + 'static, D: Ledger + Send + Sync + 'static, R: Wait>(
+fn fill<L: Ledgers + Send + Sync + 'static, R: Wait>(
     rt: &R,
-    stand: &mut Stand<L, D, Tally>,
+    stand: &mut Stand<L, Tally>,
 ) -> Result<(), Fail> {
     for number in 0..LIVE {
         let name = format!(in stand.alloc; "s{number}")?;
@@ -52,15 +48,18 @@ fn fill<L: Ledger + Send + Sync + 'static, D: Ledger + Send + Sync + 'static, R:
         .publisher
         .subscribe(rt, stand.alloc, more, Tally::new())
     {
-        Err((Refusal::TooMany, _)) => Ok(()),
-        _ => Err(Fail::new("one more is not refused as one too many")),
+        Err(refused) => match refused.refusal() {
+            Refusal::TooMany => Ok(()),
+            _ => Err(Fail::new("one more is refused, but not as one too many")),
+        },
+        Ok(_) => Err(Fail::new("one more is not refused as one too many")),
     }
 }
 
 // Cancels the last ones, and waits for their ends.
-fn empty<L: Ledger + Send + Sync + 'static, D: Ledger + Send + Sync + 'static, R: Wait>(
+fn empty<L: Ledgers + Send + Sync + 'static, R: Wait>(
     rt: &R,
-    stand: &mut Stand<L, D, Tally>,
+    stand: &mut Stand<L, Tally>,
 ) -> Result<(), Fail> {
     let ended = stand.subscriptions.len().saturating_sub(LIVE);
     for subscription in stand.subscriptions[ended..].iter_mut() {
@@ -71,15 +70,13 @@ fn empty<L: Ledger + Send + Sync + 'static, D: Ledger + Send + Sync + 'static, R
 }
 
 // Ends the publisher, and counts the subscriptions that were cancelled.
-fn count_cancelled<L: Ledger + Send + Sync + 'static, D: Ledger + Send + Sync + 'static, R: Wait>(
+fn count_cancelled<L: Ledgers + Send + Sync + 'static, R: Wait>(
     rt: &R,
-    stand: Stand<L, D, Tally>,
-) -> Result<usize, Fail>
-    requires { (L.parts ≡ PARTS) × (D.parts ≡ PARTS) }
-{
+    stand: Stand<L, Tally>,
+) -> Result<usize, Fail> {
     let outcome = match stand.finish(rt) {
         Ok(outcome) => outcome,
-        Err((refusal, _)) => return Err(refusal.into()),
+        Err(refused) => return Err(refused.into()),
     };
     let mut cancelled: usize = 0;
     for left in outcome.lanes.iter() {
@@ -101,8 +98,8 @@ fn rounds_of(rt: &HostRuntime) -> u64 {
 #[test]
 fn thousands_come_and_go(rt: HostRuntime) -> Result<(), Fail> {
     let rounds = rounds_of(&rt);
-    let (publications, drops) = (Blank::new(PARTS), Blank::new(PARTS));
-    let left = come_and_go::<Brand, Brand, _>(rt, rt.alloc(), publications, drops, rounds)?;
+    let blanks = BlankPair::new();
+    let left = come_and_go::<Brand, _>(rt, rt.alloc(), blanks, rounds)?;
     let is_each = (left / LIVE) as u64 == rounds && left % LIVE == 0;
     assert!(rt; is_each, "{left} in {rounds} rounds");
     Ok(())

@@ -6,9 +6,8 @@ mod waiting;
 use draining::hears_before_the_drain;
 use flow_rules::Answer;
 use hearing::hear;
-use publisher::PARTS;
+use publisher::BlankPair;
 use std::marker::Brand;
-use std::sync::ledger::Blank;
 use std::test::Fail;
 use waiting::look_while_it_hears;
 
@@ -26,17 +25,8 @@ fn a_handler_hears_of_a_failed_item_alone(rt: HostRuntime) -> Result<(), Fail> {
         (0, Answer::Request(3), "0 times"),
     ];
     for (callbacks, answer, wanted) in rows {
-        let (publications, drops) = (Blank::new(PARTS), Blank::new(PARTS));
-        let heard = hear::<Brand, Brand, _>(
-            rt,
-            rt.alloc(),
-            publications,
-            drops,
-            1,
-            1,
-            callbacks,
-            answer,
-        )?;
+        let blanks = BlankPair::new();
+        let heard = hear::<Brand, _>(rt, rt.alloc(), blanks, 1, 1, callbacks, answer)?;
         assert!(rt;
             heard.as_str() == wanted,
             "{heard}, after {callbacks} and {answer:?}"
@@ -48,17 +38,8 @@ fn a_handler_hears_of_a_failed_item_alone(rt: HostRuntime) -> Result<(), Fail> {
 #[test]
 fn a_handler_hears_once_of_each_of_many(rt: HostRuntime) -> Result<(), Fail> {
     for round in 0..20 {
-        let (publications, drops) = (Blank::new(PARTS), Blank::new(PARTS));
-        let heard = hear::<Brand, Brand, _>(
-            rt,
-            rt.alloc(),
-            publications,
-            drops,
-            4,
-            40,
-            1,
-            Answer::Fail(9),
-        )?;
+        let blanks = BlankPair::new();
+        let heard = hear::<Brand, _>(rt, rt.alloc(), blanks, 4, 40, 1, Answer::Fail(9))?;
         assert!(rt;
             heard.as_str() == "40 times, 0 again, last 9",
             "{heard} in round {round}"
@@ -69,8 +50,8 @@ fn a_handler_hears_once_of_each_of_many(rt: HostRuntime) -> Result<(), Fail> {
 
 #[test]
 fn a_handler_hears_after_the_end_while_the_lock_is_free(rt: HostRuntime) -> Result<(), Fail> {
-    let (publications, drops) = (Blank::new(PARTS), Blank::new(PARTS));
-    let told = look_while_it_hears::<Brand, Brand, _>(rt, rt.alloc(), publications, drops)?;
+    let blanks = BlankPair::new();
+    let told = look_while_it_hears::<Brand, _>(rt, rt.alloc(), blanks)?;
     let wanted = "ended true, live 0, lag 0; went on true, last a 7";
     assert!(rt; told.as_str() == wanted, "{told}");
     Ok(())
@@ -79,13 +60,8 @@ fn a_handler_hears_after_the_end_while_the_lock_is_free(rt: HostRuntime) -> Resu
 #[test]
 fn a_handler_hears_before_all_have_ended(rt: HostRuntime) -> Result<(), Fail> {
     for round in 0..20 {
-        let (publications, drops) = (Blank::new(PARTS), Blank::new(PARTS));
-        let is_told = hears_before_the_drain::<Brand, Brand, _>(
-            rt,
-            rt.alloc(),
-            publications,
-            drops,
-        )?;
+        let blanks = BlankPair::new();
+        let is_told = hears_before_the_drain::<Brand, _>(rt, rt.alloc(), blanks)?;
         assert!(rt; is_told, "it has not heard in round {round}");
     }
     Ok(())

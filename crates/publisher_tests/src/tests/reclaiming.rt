@@ -1,15 +1,13 @@
 //! Subscriptions that are told ten items each, end in one way after the other, and are reclaimed.
 ghost use Rattle.std.specs.Prelude.{◌≡◌};
 ghost use Rattle.flow_rules.specs.Callback.{heard_nothing};
-ghost use Rattle.publisher.specs.Blanks.{IsBlankOf};
-ghost use Rattle.publisher.specs.declared.state.TheConstants.{PARTS};
+ghost use Rattle.publisher.specs.Blanks.{AreBlanksOf};
 
 use flow_rules::{Answer, Fault, How, Refusal};
-use publisher::{NamedLane, PARTS, Submitter, Subscription};
+use publisher::{BlankPair, Ledgers, NamedLane, Submitter, Subscription};
 use std::alloc::Global;
 use std::marker::Brand;
 use std::sync::Wait;
-use std::sync::ledger::{Blank, Ledger};
 use std::test::Fail;
 use std::thread::Threads;
 use std::{env, thread};
@@ -49,14 +47,12 @@ fn ending(number: u32) -> How {
 
 // Has this many rounds of subscriptions come and go. How many there were.
 fn come_and_go<
-    L: Ledger + Send + Sync + 'static,
-    D: Ledger + Send + Sync + 'static,
+    L: Ledgers + Send + Sync + 'static,
     R: Threads + Wait + Copy + Send + Sync + 'static,
->(rt: R, alloc: Global, publications: Blank, drops: Blank, rounds: u32) -> Result<usize, Fail>
-    requires publications { IsBlankOf publications L.name L.parts }
-    requires drops { IsBlankOf drops D.name D.parts }
+>(rt: R, alloc: Global, blanks: BlankPair, rounds: u32) -> Result<usize, Fail>
+    requires blanks { AreBlanksOf blanks L.publications L.drops }
 {
-    let mut stand: Stand<L, D, Answering> = Stand::new(rt, alloc, publications, drops, 2, 16)?;
+    let mut stand: Stand<L, Answering> = Stand::new(rt, alloc, blanks, 2, 16)?;
     stand.add_submitter(&rt)?;
     for round in 0..rounds {
         subscribe_all(&rt, &mut stand, round)?;
@@ -68,9 +64,9 @@ fn come_and_go<
 }
 
 // Has as many subscribe as may be live, each of which requests what it is told.
-fn subscribe_all<L: Ledger + Send + Sync + 'static, D: Ledger + Send + Sync + 'static, R: Wait>(
+fn subscribe_all<L: Ledgers + Send + Sync + 'static, R: Wait>(
     rt: &R,
-    stand: &mut Stand<L, D, Answering>,
+    stand: &mut Stand<L, Answering>,
     round: u32,
 ) -> Result<(), Fail> {
     for place in 0..LIVE {
@@ -83,11 +79,10 @@ fn subscribe_all<L: Ledger + Send + Sync + 'static, D: Ledger + Send + Sync + 's
 }
 
 // Two threads publish at the same time.
-fn publish_all<
-    L: Ledger + Send + Sync + 'static,
-    D: Ledger + Send + Sync + 'static,
-    R: Threads + Wait + Sync,
->(rt: &R, stand: &mut Stand<L, D, Answering>) -> Result<(), Fail> {
+fn publish_all<L: Ledgers + Send + Sync + 'static, R: Threads + Wait + Sync>(
+    rt: &R,
+    stand: &mut Stand<L, Answering>,
+) -> Result<(), Fail> {
     let alloc = stand.alloc;
     let (Some(mut other), Some(submitter)) = (stand.submitters.pop(), stand.submitters.first_mut())
     else {
@@ -104,10 +99,10 @@ fn publish_all<
     Ok(())
 }
 
-fn publish<L: Ledger + Send + Sync + 'static, D: Ledger + Send + Sync + 'static, R: Wait>(
+fn publish<L: Ledgers + Send + Sync + 'static, R: Wait>(
     rt: &R,
     alloc: Global,
-    submitter: &mut Submitter<L, D, Answering>,
+    submitter: &mut Submitter<L, Answering>,
 ) -> Result<(), Refusal> {
     for _ in 0..ITEMS {
         let _ = submitter.submit(rt, alloc, b"an item")?;
@@ -116,9 +111,9 @@ fn publish<L: Ledger + Send + Sync + 'static, D: Ledger + Send + Sync + 'static,
 }
 
 // Ends those that have not ended by their last item, once they were given it, and waits for all ends.
-fn end_all<L: Ledger + Send + Sync + 'static, D: Ledger + Send + Sync + 'static, R: Wait>(
+fn end_all<L: Ledgers + Send + Sync + 'static, R: Wait>(
     rt: &R,
-    stand: &mut Stand<L, D, Answering>,
+    stand: &mut Stand<L, Answering>,
 ) -> Result<(), Fail> {
     for subscription in stand.subscriptions.iter_mut() {
         wait_given(rt, subscription);
@@ -132,9 +127,9 @@ fn end_all<L: Ledger + Send + Sync + 'static, D: Ledger + Send + Sync + 'static,
     Ok(())
 }
 
-fn wait_given<L: Ledger + Send + Sync + 'static, D: Ledger + Send + Sync + 'static, R: Wait>(
+fn wait_given<L: Ledgers + Send + Sync + 'static, R: Wait>(
     rt: &R,
-    subscription: &Subscription<L, D, Answering>,
+    subscription: &Subscription<L, Answering>,
 ) {
     for _ in rt.forever() {
         if subscription.lag(rt) == 0 {
@@ -145,9 +140,9 @@ fn wait_given<L: Ledger + Send + Sync + 'static, D: Ledger + Send + Sync + 'stat
 }
 
 // Reclaims all, from the last on, and looks at what is left of each.
-fn reclaim_all<L: Ledger + Send + Sync + 'static, D: Ledger + Send + Sync + 'static, R: Wait>(
+fn reclaim_all<L: Ledgers + Send + Sync + 'static, R: Wait>(
     rt: &R,
-    stand: &mut Stand<L, D, Answering>,
+    stand: &mut Stand<L, Answering>,
 ) -> Result<(), Fail> {
     for _ in 0..LIVE {
         let Some(subscription) = stand.subscriptions.pop() else {
@@ -163,17 +158,19 @@ fn reclaim_all<L: Ledger + Send + Sync + 'static, D: Ledger + Send + Sync + 'sta
 }
 
 // Reclaims a subscription, once the thread that ended it has let go of its task.
-fn reclaim<L: Ledger + Send + Sync + 'static, D: Ledger + Send + Sync + 'static, R: Wait>(
+fn reclaim<L: Ledgers + Send + Sync + 'static, R: Wait>(
     rt: &R,
-    stand: &Stand<L, D, Answering>,
-    subscription: Subscription<L, D, Answering>,
+    stand: &Stand<L, Answering>,
+    subscription: Subscription<L, Answering>,
 ) -> Result<NamedLane<Answering>, Refusal> {
     let mut subscription = subscription;
     for _ in rt.forever() {
         match stand.publisher.reclaim(rt, stand.alloc, subscription) {
             Ok(left) => return Ok(left),
-            Err((Refusal::StillHeld(_), back)) => subscription = back,
-            Err((refusal, _)) => return Err(refusal),
+            Err(refused) => match refused.into_parts() {
+                (Refusal::StillHeld(_), back) => subscription = back,
+                (refusal, _) => return Err(refusal),
+            },
         }
         thread::yield_now();
     }
@@ -197,16 +194,14 @@ fn is_right(left: &NamedLane<Answering>) -> bool {
 
 // Closes the publisher, which has no lane left and whose last ticket is spent, and counts the subscriptions that were
 // reclaimed.
-fn count_reclaimed<L: Ledger + Send + Sync + 'static, D: Ledger + Send + Sync + 'static, R: Wait>(
+fn count_reclaimed<L: Ledgers + Send + Sync + 'static, R: Wait>(
     rt: &R,
-    stand: Stand<L, D, Answering>,
-) -> Result<usize, Fail>
-    requires { (L.parts ≡ PARTS) × (D.parts ≡ PARTS) }
-{
+    stand: Stand<L, Answering>,
+) -> Result<usize, Fail> {
     stand.close(rt)?;
     let outcome = match stand.finish(rt) {
         Ok(outcome) => outcome,
-        Err((refusal, _)) => return Err(refusal.into()),
+        Err(refused) => return Err(refused.into()),
     };
     if !outcome.lanes.is_empty() || !outcome.drained {
         return Err(Fail::new("a lane or a ticket is left"));
@@ -225,8 +220,8 @@ fn rounds_of(rt: &HostRuntime) -> u32 {
 #[test]
 fn a_thousand_are_reclaimed(rt: HostRuntime) -> Result<(), Fail> {
     let rounds = rounds_of(&rt);
-    let (publications, drops) = (Blank::new(PARTS), Blank::new(PARTS));
-    let many = come_and_go::<Brand, Brand, _>(rt, rt.alloc(), publications, drops, rounds)?;
+    let blanks = BlankPair::new();
+    let many = come_and_go::<Brand, _>(rt, rt.alloc(), blanks, rounds)?;
     assert!(rt;
         many as u64 == rounds.saturating_mul(LIVE) as u64,
         "{many} in {rounds} rounds"

@@ -1,26 +1,24 @@
 //! How many submitters a publisher has at most.
-ghost use Rattle.publisher.specs.Blanks.{IsBlankOf};
+ghost use Rattle.publisher.specs.Blanks.{AreBlanksOf};
 
 use flow_rules::{Refusal, Tally};
-use publisher::{MOST_SOURCES, PARTS};
+use publisher::{BlankPair, Ledgers, MOST_SOURCES};
 use std::alloc::Global;
 use std::marker::Brand;
 use std::sync::Wait;
-use std::sync::ledger::{Blank, Ledger};
 use std::test::Fail;
 use std::thread::Threads;
 use test_stand::Stand;
 
 // Why a publisher that has as many submitters as there may be refuses one more.
-fn refuse_one_more<
-    L: Ledger + Send + Sync + 'static,
-    D: Ledger + Send + Sync + 'static,
-    R: Threads + Wait + Copy + Send + 'static,
->(rt: R, alloc: Global, publications: Blank, drops: Blank) -> Result<Option<Refusal>, Fail>
-    requires publications { IsBlankOf publications L.name L.parts }
-    requires drops { IsBlankOf drops D.name D.parts }
+fn refuse_one_more<L: Ledgers + Send + Sync + 'static, R: Threads + Wait + Copy + Send + 'static>(
+    rt: R,
+    alloc: Global,
+    blanks: BlankPair,
+) -> Result<Option<Refusal>, Fail>
+    requires blanks { AreBlanksOf blanks L.publications L.drops }
 {
-    let mut stand: Stand<L, D, Tally> = Stand::new(rt, alloc, publications, drops, 1, 1)?;
+    let mut stand: Stand<L, Tally> = Stand::new(rt, alloc, blanks, 1, 1)?;
     for _ in 1..MOST_SOURCES {
         stand.add_submitter(&rt)?;
     }
@@ -34,8 +32,8 @@ fn refuse_one_more<
 // submitters there are.
 #[test]
 fn one_submitter_more_than_there_may_be_is_refused(rt: HostRuntime) -> Result<(), Fail> {
-    let (publications, drops) = (Blank::new(PARTS), Blank::new(PARTS));
-    let refusal = refuse_one_more::<Brand, Brand, _>(rt, rt.alloc(), publications, drops)?;
+    let blanks = BlankPair::new();
+    let refusal = refuse_one_more::<Brand, _>(rt, rt.alloc(), blanks)?;
     if refusal == Some(Refusal::NoMemory) {
         return Err(Fail::new("error: NoMemory, of one submitter more"));
     }

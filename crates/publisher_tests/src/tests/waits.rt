@@ -1,12 +1,11 @@
 //! Who waits until one subscription, or all, have ended, while others end or there are none.
-ghost use Rattle.publisher.specs.Blanks.{IsBlankOf};
+ghost use Rattle.publisher.specs.Blanks.{AreBlanksOf};
 
 use flow_rules::{Refusal, Tally};
-use publisher::{PARTS, Publisher, Subscription};
+use publisher::{BlankPair, Ledgers, Publisher, Subscription};
 use std::alloc::Global;
 use std::marker::Brand;
 use std::sync::Wait;
-use std::sync::ledger::{Blank, Ledger};
 use std::test::Fail;
 use std::thread;
 use std::thread::Threads;
@@ -22,10 +21,10 @@ fn yield_often() {
 }
 
 // Closes, once another thread is likely to sleep.
-fn close_later<L: Ledger + Send + Sync + 'static, D: Ledger + Send + Sync + 'static, R: Wait>(
+fn close_later<L: Ledgers + Send + Sync + 'static, R: Wait>(
     rt: &R,
     alloc: Global,
-    publisher: &Publisher<L, D, Tally>,
+    publisher: &Publisher<L, Tally>,
 ) -> Result<(), Refusal> {
     yield_often();
     let mut note = publisher.note();
@@ -33,9 +32,9 @@ fn close_later<L: Ledger + Send + Sync + 'static, D: Ledger + Send + Sync + 'sta
 }
 
 // Waits until all have ended. Whether a note that knew nothing is told of the close then.
-fn wait_drained<L: Ledger + Send + Sync + 'static, D: Ledger + Send + Sync + 'static, R: Wait>(
+fn wait_drained<L: Ledgers + Send + Sync + 'static, R: Wait>(
     rt: &R,
-    publisher: &Publisher<L, D, Tally>,
+    publisher: &Publisher<L, Tally>,
 ) -> bool {
     publisher.wait_drained(rt);
     let mut note = publisher.note();
@@ -43,11 +42,11 @@ fn wait_drained<L: Ledger + Send + Sync + 'static, D: Ledger + Send + Sync + 'st
 }
 
 // One thread waits until all have ended, and another one closes. No turn follows the close.
-fn drain<
-    L: Ledger + Send + Sync + 'static,
-    D: Ledger + Send + Sync + 'static,
-    R: Threads + Wait + Sync,
->(rt: &R, alloc: Global, publisher: &Publisher<L, D, Tally>) -> Result<bool, Refusal> {
+fn drain<L: Ledgers + Send + Sync + 'static, R: Threads + Wait + Sync>(
+    rt: &R,
+    alloc: Global,
+    publisher: &Publisher<L, Tally>,
+) -> Result<bool, Refusal> {
     let (is_closed, closed) = thread::join(
         rt,
         || wait_drained(rt, publisher),
@@ -59,42 +58,39 @@ fn drain<
 
 // Drains a publisher without subscriptions, or whose only one has ended before.
 fn drain_without_turns<
-    L: Ledger + Send + Sync + 'static,
-    D: Ledger + Send + Sync + 'static,
+    L: Ledgers + Send + Sync + 'static,
     R: Threads + Wait + Copy + Send + Sync + 'static,
->(
-    rt: R,
-    alloc: Global,
-    publications: Blank,
-    drops: Blank,
-    has_subscription: bool,
-) -> Result<bool, Fail>
-    requires publications { IsBlankOf publications L.name L.parts }
-    requires drops { IsBlankOf drops D.name D.parts }
+>(rt: R, alloc: Global, blanks: BlankPair, has_subscription: bool) -> Result<bool, Fail>
+    requires blanks { AreBlanksOf blanks L.publications L.drops }
 {
-    let mut stand: Stand<L, D, Tally> = Stand::new(rt, alloc, publications, drops, 1, 4)?;
-    if has_subscription {
-        stand.subscribe(&rt, "a", Tally::new())?;
-        stand.cancel(&rt, 0)?;
-        let ended = stand.last_subscription()?;
-        ended.wait_end(&rt);
-        stand.subscriptions.push(ended)?;
-    }
-    let is_closed = drain(&rt, alloc, &stand.publisher)?;
+    let mut stand: Stand<L, Tally> = Stand::new(rt, alloc, blanks, 1, 4)?;
+    let is_closed = drain_stand(&rt, &mut stand, has_subscription);
     let _ = stand.end(&rt);
-    Ok(is_closed)
+    is_closed
+}
+
+fn drain_stand<L: Ledgers + Send + Sync + 'static, R: Threads + Wait + Sync>(
+    rt: &R,
+    stand: &mut Stand<L, Tally>,
+    has_subscription: bool,
+) -> Result<bool, Fail> {
+    if has_subscription {
+        stand.subscribe(rt, "a", Tally::new())?;
+        stand.cancel(rt, 0)?;
+        stand.wait_end(rt, 0);
+    }
+    Ok(drain(rt, stand.alloc, &stand.publisher)?)
 }
 
 #[test]
 fn a_close_wakes_who_waits_for_the_end_of_all(rt: HostRuntime) -> Result<(), Fail> {
     for round in 0..50 {
         for has_subscription in [false, true] {
-            let (publications, drops) = (Blank::new(PARTS), Blank::new(PARTS));
-            let is_closed = drain_without_turns::<Brand, Brand, _>(
+            let blanks = BlankPair::new();
+            let is_closed = drain_without_turns::<Brand, _>(
                 rt,
                 rt.alloc(),
-                publications,
-                drops,
+                blanks,
                 has_subscription,
             )?;
             assert!(rt; is_closed, "no note knows of the close in round {round}");
@@ -104,20 +100,20 @@ fn a_close_wakes_who_waits_for_the_end_of_all(rt: HostRuntime) -> Result<(), Fai
 }
 
 // Waits until a subscription has ended. Whether it has then.
-fn wait_end<L: Ledger + Send + Sync + 'static, D: Ledger + Send + Sync + 'static, R: Wait>(
+fn wait_end<L: Ledgers + Send + Sync + 'static, R: Wait>(
     rt: &R,
-    subscription: &mut Subscription<L, D, Tally>,
+    subscription: &mut Subscription<L, Tally>,
 ) -> bool {
     subscription.wait_end(rt);
     subscription.has_ended(rt)
 }
 
 // Cancels a subscription beside one that is waited for, and ends that later by a close.
-fn cancel_and_close<L: Ledger + Send + Sync + 'static, D: Ledger + Send + Sync + 'static, R: Wait>(
+fn cancel_and_close<L: Ledgers + Send + Sync + 'static, R: Wait>(
     rt: &R,
     alloc: Global,
-    publisher: &Publisher<L, D, Tally>,
-    other: &mut Subscription<L, D, Tally>,
+    publisher: &Publisher<L, Tally>,
+    other: &mut Subscription<L, Tally>,
 ) -> Result<(), Refusal> {
     yield_often();
     other.cancel(rt)?;
@@ -126,16 +122,12 @@ fn cancel_and_close<L: Ledger + Send + Sync + 'static, D: Ledger + Send + Sync +
 }
 
 // One thread waits for the end of a subscription, and another one cancels the one beside it before.
-fn end_one_of_two<
-    L: Ledger + Send + Sync + 'static,
-    D: Ledger + Send + Sync + 'static,
-    R: Threads + Wait + Sync,
->(
+fn end_one_of_two<L: Ledgers + Send + Sync + 'static, R: Threads + Wait + Sync>(
     rt: &R,
     alloc: Global,
-    publisher: &Publisher<L, D, Tally>,
-    one: &mut Subscription<L, D, Tally>,
-    other: &mut Subscription<L, D, Tally>,
+    publisher: &Publisher<L, Tally>,
+    one: &mut Subscription<L, Tally>,
+    other: &mut Subscription<L, Tally>,
 ) -> Result<bool, Refusal> {
     let (has_ended, closed) = thread::join(
         rt,
@@ -147,35 +139,34 @@ fn end_one_of_two<
 }
 
 fn wait_beside_a_cancel<
-    L: Ledger + Send + Sync + 'static,
-    D: Ledger + Send + Sync + 'static,
+    L: Ledgers + Send + Sync + 'static,
     R: Threads + Wait + Copy + Send + Sync + 'static,
->(rt: R, alloc: Global, publications: Blank, drops: Blank) -> Result<bool, Fail>
-    requires publications { IsBlankOf publications L.name L.parts }
-    requires drops { IsBlankOf drops D.name D.parts }
+>(rt: R, alloc: Global, blanks: BlankPair) -> Result<bool, Fail>
+    requires blanks { AreBlanksOf blanks L.publications L.drops }
 {
-    let mut stand: Stand<L, D, Tally> = Stand::new(rt, alloc, publications, drops, 1, 4)?;
-    stand.subscribe(&rt, "a", Tally::new())?;
-    stand.subscribe(&rt, "b", Tally::new())?;
-    let mut other = stand.last_subscription()?;
-    let mut one = stand.last_subscription()?;
-    let has_ended = end_one_of_two(&rt, alloc, &stand.publisher, &mut one, &mut other)?;
-    stand.subscriptions.push(one)?;
-    stand.subscriptions.push(other)?;
+    let mut stand: Stand<L, Tally> = Stand::new(rt, alloc, blanks, 1, 4)?;
+    let has_ended = wait_for_one(&rt, &mut stand);
     let _ = stand.end(&rt);
-    Ok(has_ended)
+    has_ended
+}
+
+fn wait_for_one<L: Ledgers + Send + Sync + 'static, R: Threads + Wait + Sync>(
+    rt: &R,
+    stand: &mut Stand<L, Tally>,
+) -> Result<bool, Fail> {
+    stand.subscribe(rt, "a", Tally::new())?;
+    stand.subscribe(rt, "b", Tally::new())?;
+    let [one, other] = stand.subscriptions.as_mut_slice() else {
+        return Err(Fail::new("there are no two subscriptions"));
+    };
+    Ok(end_one_of_two(rt, stand.alloc, &stand.publisher, one, other)?)
 }
 
 #[test]
 fn who_waits_for_one_end_waits_on_at_another(rt: HostRuntime) -> Result<(), Fail> {
     for round in 0..50 {
-        let (publications, drops) = (Blank::new(PARTS), Blank::new(PARTS));
-        let has_ended = wait_beside_a_cancel::<Brand, Brand, _>(
-            rt,
-            rt.alloc(),
-            publications,
-            drops,
-        )?;
+        let blanks = BlankPair::new();
+        let has_ended = wait_beside_a_cancel::<Brand, _>(rt, rt.alloc(), blanks)?;
         assert!(rt; has_ended, "the wait ended too early in round {round}");
     }
     Ok(())

@@ -6,7 +6,7 @@ use std::process::Abort;
 use std::test::Fail;
 
 /// Each kind of event, those of a turn and of a put more than once.
-const EVENTS: [Event; 54] = [
+const EVENTS: [Event; 58] = [
     Event::Room,
     Event::Room,
     Event::Put,
@@ -46,6 +46,10 @@ const EVENTS: [Event; 54] = [
     Event::Take,
     Event::Take,
     Event::Take,
+    Event::TakeKnown,
+    Event::TakeKnown,
+    Event::TakeKnown,
+    Event::TakeKnown,
     Event::Rest,
     Event::Rest,
     Event::Rest,

@@ -87,6 +87,7 @@ const ERRORS: [Row<'static>; 5] = [
             own: 1,
             causes: FAILED_LATE,
             runner: Runner::Over(How::Errored(Fault::Published(7))),
+            known_put: 1,
             ..MADE
         }),
     ),
@@ -125,6 +126,7 @@ const ERRORS: [Row<'static>; 5] = [
             accepted: 1,
             causes: FAILED_LATE,
             runner: Runner::Nobody,
+            known_put: 1,
             ..MADE
         }),
     ),

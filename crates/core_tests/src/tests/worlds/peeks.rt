@@ -40,6 +40,7 @@ const PEEKS: [Row<'static>; 5] = [
             asked: 1,
             active: true,
             runner: Runner::Ready,
+            known_asked: 1,
             ..MADE
         }),
     ),
@@ -61,6 +62,7 @@ const PEEKS: [Row<'static>; 5] = [
         Some(Parts {
             asked: 1,
             runner: Runner::Nobody,
+            known_asked: 1,
             ..MADE
         }),
     ),

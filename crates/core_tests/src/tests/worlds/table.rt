@@ -72,14 +72,28 @@ fn of_the_runner(now: Parts, event: Event) -> Option<Parts> {
         (Event::Peek(answer), _) => look(now, answer, now.active),
         (Event::See, Runner::Looked(causes)) if first_end(causes) == None => Some(Parts {
             runner: Runner::Saw(causes, now.accepted),
+            known_put: now.accepted,
             ..now
         }),
         (Event::Measure, Runner::Saw(causes, put)) => {
             let asked = UNBOUNDED.min(now.asked.saturating_add(now.own));
             Some(Parts {
                 runner: Runner::Measured(causes, put, asked),
+                known_asked: now.asked,
                 ..now
             })
+        }
+        (Event::TakeKnown, Runner::Looked(causes)) if first_end(causes) == None => {
+            let asked = UNBOUNDED.min(now.known_asked.saturating_add(now.own));
+            if now.given < now.known_put.min(asked) {
+                Some(Parts {
+                    given: now.given.saturating_add(1),
+                    runner: Runner::Taken,
+                    ..now
+                })
+            } else {
+                None
+            }
         }
         (Event::Take, Runner::Measured(_, put, asked)) if now.given < put.min(asked) => Some(
             Parts {

@@ -1,22 +1,18 @@
 //! The end of a publisher.
 ghost use Rattle.std.specs.Prelude.{◌≡◌};
-ghost use Rattle.publisher.specs.declared.state.TheConstants.{PARTS};
 
 use super::Player;
 use crate::tests::heard::Heard;
 use crate::tests::left::outcome_lines;
 use flow_rules::NoMemory;
-use publisher::Subscription;
+use publisher::{Ledgers, Subscription};
 use std::sync::Wait;
 use std::sync::atomic::Ordering::SeqCst;
-use std::sync::ledger::Ledger;
 use std::test::Fail;
 
-impl<L: Ledger + Send + Sync + 'static, D: Ledger + Send + Sync + 'static> Player<L, D> {
+impl<L: Ledgers + Send + Sync + 'static> Player<L> {
     // What is left, and how many signals come of a request of each subscription that was kept.
-    pub fn end<R: Wait>(self, rt: &R) -> Result<Vec<String>, Fail>
-        requires { (L.parts ≡ PARTS) × (D.parts ≡ PARTS) }
-    {
+    pub fn end<R: Wait>(self, rt: &R) -> Result<Vec<String>, Fail> {
         let Player {
             stand,
             kept_submitters,
@@ -29,7 +25,8 @@ impl<L: Ledger + Send + Sync + 'static, D: Ledger + Send + Sync + 'static> Playe
         let alloc = stand.alloc;
         let mut lines = match stand.finish(rt) {
             Ok(outcome) => outcome_lines(alloc, "done", &outcome, amid, may_be_refused)?,
-            Err((refusal, outcome)) => {
+            Err(refused) => {
+                let (refusal, outcome) = refused.into_parts();
                 let why = format!(in alloc; "{refusal:?}")?;
                 outcome_lines(alloc, &why, &outcome, amid, may_be_refused)?
             }
@@ -46,9 +43,9 @@ impl<L: Ledger + Send + Sync + 'static, D: Ledger + Send + Sync + 'static> Playe
 }
 
 // Requests this many items, a second time if memory was refused.
-pub fn request_of<L: Ledger + Send + Sync + 'static, D: Ledger + Send + Sync + 'static, R: Wait>(
+pub fn request_of<L: Ledgers + Send + Sync + 'static, R: Wait>(
     rt: &R,
-    subscription: &mut Subscription<L, D, Heard>,
+    subscription: &mut Subscription<L, Heard>,
     n: i64,
 ) -> Result<(), NoMemory> {
     if subscription.request(rt, n).is_err() {

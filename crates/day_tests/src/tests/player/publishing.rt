@@ -1,14 +1,14 @@
 //! What the submitters do.
-use super::senders::Sent;
+use super::senders::{Call, Sent, letters};
 use super::{Player, refused_line};
 use flow_rules::{DropHandler, Refusal};
+use publisher::{Ledgers, Published, PublishedAll, PublishedPart};
 use std::sync::Wait;
-use std::sync::ledger::Ledger;
 use std::test::Fail;
 use std::thread::Threads;
 use test_kit::Notes;
 
-impl<L: Ledger + Send + Sync + 'static, D: Ledger + Send + Sync + 'static> Player<L, D> {
+impl<L: Ledgers + Send + Sync + 'static> Player<L> {
     // Submits a text of this many bytes, a second time if memory was refused.
     pub fn submit<R: Wait>(&mut self, rt: &R, place: usize, bytes: usize) -> Result<String, Fail> {
         let alloc = self.stand.alloc;
@@ -23,6 +23,68 @@ impl<L: Ledger + Send + Sync + 'static, D: Ledger + Send + Sync + 'static> Playe
         match answer {
             Ok(lag) => Ok(format!(in alloc; "lag {lag}")?),
             Err(refusal) => refused_line(alloc, &refusal),
+        }
+    }
+
+    // Publishes a text of this many bytes, a second time if memory was refused.
+    pub fn publish<R: Wait>(&mut self, rt: &R, place: usize, bytes: usize) -> Result<String, Fail> {
+        let alloc = self.stand.alloc;
+        let text = vec![in alloc; b'x'; bytes]?;
+        let Some(submitter) = self.stand.submitters.get_mut(place) else {
+            return Ok(String::new(alloc));
+        };
+        let answer = match submitter.publish(rt, alloc, &text) {
+            Err(Refusal::NoMemory) => submitter.publish(rt, alloc, &text),
+            other => other,
+        };
+        match answer {
+            Ok(Published { lag, dropped }) => Ok(format!(in alloc; "lag {lag} dropped {dropped}")?),
+            Err(refusal) => refused_line(alloc, &refusal),
+        }
+    }
+
+    // Publishes texts of these many bytes by one call, and what is left of them by a second one if memory was refused.
+    pub fn publish_all<R: Wait>(
+        &mut self,
+        rt: &R,
+        place: usize,
+        lengths: &[usize],
+    ) -> Result<String, Fail> {
+        let alloc = self.stand.alloc;
+        let mut texts = Vec::new(alloc);
+        for bytes in lengths.iter() {
+            texts.push(letters(alloc, *bytes)?)?;
+        }
+        let Some(submitter) = self.stand.submitters.get_mut(place) else {
+            return Ok(String::new(alloc));
+        };
+        let mut before = 0_usize;
+        let answer = match submitter.publish_all(rt, alloc, texts.as_slice()) {
+            Err(
+                PublishedPart {
+                    published,
+                    lost,
+                    refusal: Refusal::NoMemory,
+                },
+            ) => {
+                before = lost;
+                let left = texts.as_slice().get(published..).unwrap_or(&[]);
+                submitter.publish_all(rt, alloc, left)
+            }
+            other => other,
+        };
+        match answer {
+            Ok(PublishedAll { lag, lost }) => {
+                let lost = lost.saturating_add(before);
+                Ok(format!(in alloc; "lag {lag} lost {lost}")?)
+            }
+            Err(
+                PublishedPart {
+                    published,
+                    lost,
+                    refusal,
+                },
+            ) => Ok(format!(in alloc; "{published} lost {lost}; {refusal:?}")?),
         }
     }
 
@@ -66,15 +128,16 @@ impl<L: Ledger + Send + Sync + 'static, D: Ledger + Send + Sync + 'static> Playe
         Ok(format!(in alloc; "answer {answer} asked {asked}")?)
     }
 
-    // Gives the last submitter to a thread of its own.
+    // Gives the last submitter to a thread of its own, which submits its texts or publishes them.
     pub fn send<R: Threads + Wait + Copy + Send + 'static>(
         &mut self,
         rt: R,
         texts: u64,
+        call: Call,
     ) -> Result<String, Fail> {
         if let Some(submitter) = self.stand.submitters.pop() {
             let sent = Sent::new(submitter);
-            self.senders.start(rt, self.stand.alloc, sent, texts)?;
+            self.senders.start(rt, self.stand.alloc, sent, texts, call)?;
         }
         Ok(String::new(self.stand.alloc))
     }

@@ -3,13 +3,12 @@ use super::{Player, refused_line};
 use crate::tests::heard::Heard;
 use crate::tests::left::reclaimed_line;
 use flow_rules::Refusal;
-use publisher::{NamedLane, Subscription};
+use publisher::{Ledgers, NamedLane, Refused, Subscription};
 use std::sync::Wait;
-use std::sync::ledger::Ledger;
 use std::test::Fail;
 use std::thread;
 
-impl<L: Ledger + Send + Sync + 'static, D: Ledger + Send + Sync + 'static> Player<L, D> {
+impl<L: Ledgers + Send + Sync + 'static> Player<L> {
     // Waits until the subscription of this place has ended.
     pub fn wait_end<R: Wait>(&mut self, rt: &R, place: usize) -> Result<String, Fail> {
         if let Some(subscription) = self.stand.subscriptions.get(place) {
@@ -26,7 +25,8 @@ impl<L: Ledger + Send + Sync + 'static, D: Ledger + Send + Sync + 'static> Playe
         let subscription = self.stand.subscriptions.remove(place);
         match self.reclaim_patiently(rt, subscription) {
             Ok(left) => reclaimed_line(self.stand.alloc, &left, self.may_be_refused),
-            Err((refusal, back)) => {
+            Err(refused) => {
+                let (refusal, back) = refused.into_parts();
                 self.stand.subscriptions.insert(place, back)?;
                 refused_line(self.stand.alloc, &refusal)
             }
@@ -37,22 +37,25 @@ impl<L: Ledger + Send + Sync + 'static, D: Ledger + Send + Sync + 'static> Playe
     fn reclaim_patiently<R: Wait>(
         &self,
         rt: &R,
-        subscription: Subscription<L, D, Heard>,
-    ) -> Result<NamedLane<Heard>, (Refusal, Subscription<L, D, Heard>)> {
+        subscription: Subscription<L, Heard>,
+    ) -> Result<NamedLane<Heard>, Refused<Subscription<L, Heard>>> {
         let mut subscription = subscription;
-        let mut refused = 0;
+        let mut was_refused = false;
         for _ in rt.forever() {
             match self
                 .stand
                 .publisher
                 .reclaim(rt, self.stand.alloc, subscription)
             {
-                Err((Refusal::StillHeld(_), back)) => subscription = back,
-                Err((Refusal::NoMemory, back)) if refused == 0 => {
-                    refused = 1;
-                    subscription = back;
-                }
-                other => return other,
+                Ok(left) => return Ok(left),
+                Err(refused) => match refused.into_parts() {
+                    (Refusal::StillHeld(_), back) => subscription = back,
+                    (Refusal::NoMemory, back) if !was_refused => {
+                        was_refused = true;
+                        subscription = back;
+                    }
+                    parts => return Err(parts.into()),
+                },
             }
             thread::yield_now();
         }

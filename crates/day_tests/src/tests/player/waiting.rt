@@ -2,9 +2,9 @@
 use super::Player;
 use super::senders::Sent;
 use crate::tests::step::Step;
+use publisher::Ledgers;
 use std::sync::Wait;
 use std::sync::atomic::Ordering::SeqCst;
-use std::sync::ledger::Ledger;
 use std::test::Fail;
 use std::thread;
 use std::thread::Threads;
@@ -28,7 +28,7 @@ enum Until {
     Ended,
 }
 
-impl<L: Ledger + Send + Sync + 'static, D: Ledger + Send + Sync + 'static> Player<L, D> {
+impl<L: Ledgers + Send + Sync + 'static> Player<L> {
     // Waits as the step says.
     pub fn wait<R: Clock + Threads + Wait>(&mut self, rt: &R, step: Step) -> Result<String, Fail> {
         match step {

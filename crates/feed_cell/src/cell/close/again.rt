@@ -20,8 +20,8 @@ pub fn close_again<B: Listener>(producer: Producer<B>) -> Result<Lane<B>, Produc
     ensures left { IfOk result (IsLeftOf B.told B.replied producer.end None) }
     ensures back { IfErr result (λ back. back ≡ not_ready producer) }
 {
-    let (table, seat) = unshared(producer)?;
-    Ok(take_apart(table, seat))
+    let (table, seat, capacity) = unshared(producer)?;
+    Ok(take_apart(table, seat, capacity))
 }
 
 /// Tells whether anybody shares a subscription but its own two ends, which these are: its task does while it is alive.

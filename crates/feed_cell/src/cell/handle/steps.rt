@@ -6,8 +6,9 @@ ghost use Rattle.feed_cell.specs.HandleSteps.{MayRequest};
 ghost use Rattle.feed_cell.specs.Seats.{StepsTo};
 
 use super::plays::{AskStep, LeaveStep};
+use crate::cell::MARK;
 use crate::cell::seated::Seated;
-use crate::cell::{ASKED, MARK};
+use crate::cell::words::{Word, place_of};
 use flow_rules::{Listener, UNBOUNDED};
 
 /// Stores the total with this many more, and answers it.
@@ -21,7 +22,8 @@ pub(crate) fn ask_more<B: Listener>(party: &mut Seated<B>, asked: u64, more: u64
 {
     let table = &party.table.shared;
     let total = (asked + more).min(UNBOUNDED);
-    table.store::<AskStep>(&mut party.seat, ASKED, total);
+    let at = place_of(party.capacity, Word::Asked);
+    table.store::<AskStep>(&mut party.seat, at, total);
     total
 }
 
@@ -33,5 +35,6 @@ pub(crate) fn leave<B: Listener>(party: &mut Seated<B>, asked: u64)
     ensures left { StepsTo party.old.seat (Leaves party.old.seat.me) party.new.seat }
 {
     let table = &party.table.shared;
-    table.store::<LeaveStep>(&mut party.seat, ASKED, asked + MARK);
+    let at = place_of(party.capacity, Word::Asked);
+    table.store::<LeaveStep>(&mut party.seat, at, asked + MARK);
 }

@@ -11,7 +11,8 @@ ghost use Rattle.feed_cell.specs.declared.cell.Held.TheVariants as Held;
 use super::plays::{PutStep, RoomStep, StandStep};
 use crate::cell::seated::Seated;
 use crate::cell::signal::signal;
-use crate::cell::{CODE, COMPLETE, CellSeat, ERROR, HEAD, Held, MARK, TAIL};
+use crate::cell::words::{Word, place_of};
+use crate::cell::{CODE, COMPLETE, CellSeat, ERROR, Held, MARK};
 use flow_rules::{Ending, Item, Listener};
 use std::mem::ManuallyDrop;
 
@@ -49,7 +50,8 @@ fn look_for_room<B: Listener>(party: &mut Seated<B>) -> u64
     ensures finds { StepsTo party.old.seat (FindsRoom party.old.seat.me result) party.new.seat }
 {
     let table = &party.table.shared;
-    table.load::<RoomStep>(&mut party.seat, HEAD)
+    let at = place_of(party.capacity, Word::Head);
+    table.load::<RoomStep>(&mut party.seat, at)
 }
 
 /// Loads head.
@@ -58,7 +60,8 @@ pub(crate) fn see_standing<B: Listener>(party: &mut Seated<B>) -> u64
     ensures stands { StepsTo party.old.seat (FindsHead party.old.seat.me result) party.new.seat }
 {
     let table = &party.table.shared;
-    table.load::<StandStep>(&mut party.seat, HEAD)
+    let at = place_of(party.capacity, Word::Head);
+    table.load::<StandStep>(&mut party.seat, at)
 }
 
 /// Places the item in the slot that is out, and stores the new tail.
@@ -70,7 +73,8 @@ pub(crate) fn place<B: Listener>(party: &mut Seated<B>, tail: u64, item: Item)
     let slot = (tail % party.capacity) as usize;
     let nothing = table.exchange(&mut party.seat, slot, Held::Item(item));
     leave(nothing);
-    table.store::<PutStep>(&mut party.seat, TAIL, tail + 1);
+    let at = place_of(party.capacity, Word::Tail);
+    table.store::<PutStep>(&mut party.seat, at, tail + 1);
 }
 
 /// Leaves what an empty slot held. To drop it would be to read it, which would fetch the slot from the task's cache

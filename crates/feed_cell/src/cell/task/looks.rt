@@ -1,28 +1,24 @@
 //! What the task does after a look or a peek: it gives one item, or ends the subscription, or rests. If it finds
 //! nothing to do after a peek, it waits a moment and peeks again, a few times, and then it looks, for it rests only
 //! after a look.
-ghost use Rattle.std.specs.Prelude.{◌≡◌, ◌+◌, ◌≤◌, ◌<◌, length, ◌==◌, IfSome, IfNone};
+ghost use Rattle.std.specs.Prelude.{◌≡◌, ◌+◌, ◌≤◌, ◌<◌, length, ◌==◌, Some};
 ghost use Rattle.std.specs.Int.{bit_at};
 ghost use Rattle.feed_core.specs.Prelude.{UNBOUNDED};
-ghost use Rattle.feed_core.specs.World.Table.{MayRest, MaySee};
+ghost use Rattle.feed_core.specs.World.Table.{MayRest};
 ghost use Rattle.feed_core.specs.declared.turn.TheConstants.{SIGNALS_IN_A_TURN};
 ghost use Rattle.feed_cell.specs.Control.{NEW};
-ghost use Rattle.feed_cell.specs.TaskSteps.{notes_of, MayFinish, Carries, HasLookedAt, HasTaken, HasNoneToGive, FindsNone, TakesNext};
-ghost use Rattle.feed_cell.specs.TaskLooks.{IsNotedOut, Serves, ServesOnce, ServesSoon, GivesAs, FinishesAs, RestsIfQuiet, EndsOrRests};
+ghost use Rattle.feed_cell.specs.TaskSteps.{notes_of, MayFinish, Carries, HasLookedAt, HasTaken, HasNoneToGive, IsKnown};
+ghost use Rattle.feed_cell.specs.TaskLooks.{IsNotedOut, OnGoing, Serves, ServesOnce, ServesSoon, GivesAs, FinishesAs, RestsIfQuiet, EndsOrRests};
 ghost use Rattle.feed_cell.specs.Seats.{IsSameSeat};
 
 use super::causes::causes_in;
-use super::steps::{end, look, measure, measure_none, peek, see, take, try_rest};
+use super::known::{Known, next_item};
+use super::steps::{end, look, peek, try_rest};
+use super::waits::{pause, waits};
 use crate::cell::seated::Seated;
-use crate::cell::{Held, MARK, NEW};
-use crossbeam_utils::Backoff;
+use crate::cell::{Held, NEW};
 use feed_core::{Causes, Seen};
 use flow_rules::{How, Item, Listener, UNBOUNDED};
-
-/// How often a task that finds nothing to do peeks again before it looks and rests. It spins before each of these
-/// peeks, some 3 to 4 microseconds in all: to rest and be started again costs more than the item that is likely to come
-/// meanwhile.
-const PATIENCE: u32 = 6;
 
 /// What the task did after a look, or after some peeks and a look.
 #[derive(Clone, Copy, Debug, PartialEq, Eq)]
@@ -39,18 +35,25 @@ pub(crate) enum Served {
 
 /// Does what a peek that left this word allows: the end at once, or the next item, or the end that waits for the items,
 /// or rest. To rest it waits a moment and looks first, which may show something else to do.
-pub(crate) fn serve<B: Listener>(party: &mut Seated<B>, word: u64, seen: &mut Seen) -> Served
+pub(crate) fn serve<B: Listener>(
+    party: &mut Seated<B>,
+    word: u64,
+    seen: &mut Seen,
+    known: &mut Known,
+) -> Served
     requires looked { HasLookedAt B.told word party.old.seat.me }
     requires room { length seen.old.signals < SIGNALS_IN_A_TURN }
+    requires known { IsKnown known.old party.old.seat.me.0 }
     ensures seat { IsSameSeat party.old.seat party.new.seat }
     ensures serves { Serves B.told B.replied result
         party.old.seat.me party.new.seat.me seen.old seen.new }
+    ensures known { OnGoing (Some result) (IsKnown known.new party.new.seat.me.0) }
 {
-    if let Some(served) = serve_soon(party, word, seen) {
+    if let Some(served) = serve_soon(party, word, seen, known) {
         return served;
     }
     let word = look(party);
-    match serve_once(party, word, seen) {
+    match serve_once(party, word, seen, known) {
         Some(served) => served,
         None => unreachable!(),
     }
@@ -58,21 +61,27 @@ pub(crate) fn serve<B: Listener>(party: &mut Seated<B>, word: u64, seen: &mut Se
 
 /// Does what a peek that left this word allows, or one of the peeks that it makes in the moment after that. Answers
 /// nothing if there was nothing to do until then, and something was new at each peek.
-fn serve_soon<B: Listener>(party: &mut Seated<B>, word: u64, seen: &mut Seen) -> Option<Served>
+fn serve_soon<B: Listener>(
+    party: &mut Seated<B>,
+    word: u64,
+    seen: &mut Seen,
+    known: &mut Known,
+) -> Option<Served>
     requires looked { HasLookedAt B.told word party.old.seat.me }
     requires room { length seen.old.signals < SIGNALS_IN_A_TURN }
+    requires known { IsKnown known.old party.old.seat.me.0 }
     ensures seat { IsSameSeat party.old.seat party.new.seat }
     ensures serves { ServesSoon B.told B.replied result
         party.old.seat.me party.new.seat.me seen.old seen.new }
+    ensures known { OnGoing result (IsKnown known.new party.new.seat.me.0) }
 {
-    if let Some(served) = serve_once(party, word, seen) {
+    if let Some(served) = serve_once(party, word, seen, known) {
         return Some(served);
     }
-    let backoff = Backoff::new();
-    for _ in 0..PATIENCE {
-        backoff.spin();
+    for pauses in waits(party.capacity) {
+        pause(*pauses);
         let word = peek(party);
-        if let Some(served) = serve_once(party, word, seen) {
+        if let Some(served) = serve_once(party, word, seen, known) {
             return Some(served);
         }
     }
@@ -81,19 +90,26 @@ fn serve_soon<B: Listener>(party: &mut Seated<B>, word: u64, seen: &mut Seen) ->
 
 /// Does what a look or a peek that left this word allows. Answers nothing if that is to rest, and something was new at
 /// the peek.
-fn serve_once<B: Listener>(party: &mut Seated<B>, word: u64, seen: &mut Seen) -> Option<Served>
+fn serve_once<B: Listener>(
+    party: &mut Seated<B>,
+    word: u64,
+    seen: &mut Seen,
+    known: &mut Known,
+) -> Option<Served>
     requires looked { HasLookedAt B.told word party.old.seat.me }
     requires room { length seen.old.signals < SIGNALS_IN_A_TURN }
+    requires known { IsKnown known.old party.old.seat.me.0 }
     ensures seat { IsSameSeat party.old.seat party.new.seat }
     ensures serves { ServesOnce B.told B.replied word result
         party.old.seat.me party.new.seat.me seen.old seen.new }
+    ensures known { OnGoing result (IsKnown known.new party.new.seat.me.0) }
 {
     let (given, own, answers) = notes(party);
     let causes = causes_in(word, answers);
     if let Some(due) = causes.stops() {
         return Some(finish(party, given, due, seen));
     }
-    let (tail, next) = next_item(party, given, own);
+    let (tail, next) = next_item(party, given, own, known);
     match next {
         Some(item) => Some(give(party, given, item, seen)),
         None => close_or_rest(party, given, tail, causes.closes(), word, seen),
@@ -116,28 +132,6 @@ fn notes<B: Listener>(party: &mut Seated<B>) -> (u64, u64, Causes)
         Held::Guest(guest) => guest.notes(),
         _ => unreachable!(),
     }
-}
-
-/// Takes the next item, if one was put and requested: it sees, measures, and takes. Answers how many items it saw, too.
-fn next_item<B: Listener>(party: &mut Seated<B>, given: u64, own: u64) -> (u64, Option<Item>)
-    requires carries { Carries B.told party.old.seat.me }
-    requires stage { MaySee party.old.seat.me.0.runner }
-    requires counted { length party.old.seat.me.0.taken ≡ given }
-    requires own { own ≡ party.old.seat.me.0.own }
-    ensures seat { IsSameSeat party.old.seat party.new.seat }
-    ensures none { IfNone result.1 (FindsNone result.0 party.old.seat.me party.new.seat.me) }
-    ensures some { IfSome result.1 (λ item. TakesNext item party.old.seat.me party.new.seat.me) }
-{
-    let tail = see(party);
-    if tail == given {
-        measure_none(party);
-        return (tail, None);
-    }
-    let asked = measure(party) % MARK;
-    if asked.saturating_add(own).min(UNBOUNDED) <= given {
-        return (tail, None);
-    }
-    (tail, Some(take(party, given)))
 }
 
 /// Gives the item that was taken. Ends the subscription, if what its callback answers is an end.

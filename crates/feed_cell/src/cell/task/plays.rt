@@ -48,6 +48,15 @@ impl<B: Listener> Play<Held<B>, View> for SeeStep {
     ghost then = { λ _. SeesPut };
 }
 
+/// The task takes the slot of an item out that it knows of: a load of head, which only the task stores.
+pub(crate) struct GrabStep;
+
+impl<B: Listener> Play<Held<B>, View> for GrabStep {
+    ghost use Rattle.feed_cell.specs.TaskPlays.{Grabs};
+
+    ghost then = { λ _. Grabs };
+}
+
 /// The task looks for demand, with an item out: a load of asked, which gives the slot back if there is none.
 pub(crate) struct MeasureStep;
 

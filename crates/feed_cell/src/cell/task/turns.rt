@@ -12,6 +12,7 @@ ghost use Rattle.feed_cell.specs.Seats.{IsSameSeat};
 ghost use Rattle.feed_cell.specs.TaskTurns.{MayGoOn, OnAgain, OnEnded, has_cancel, outlook_of, IsBeforeLook, RunsAs, TurnsInto, MayLookNext, KeepsGoing};
 ghost use Rattle.feed_cell.specs.Views.{RunsFree};
 
+use super::known::Known;
 use super::looks::{Served, serve};
 use super::steps::{end, peek, peek_first};
 use super::{Spent, Stage, Task};
@@ -36,10 +37,10 @@ impl<B: Listener> Task<B> {
     /// Tells the subscriber what is owed: `onSubscribe` first of all, then items below the demand, 64 at most, then the
     /// terminal signal. What it was told is what `seen` then holds (`Flow.Subscriber`; Reactive Streams 1.0, rules 1.1,
     /// 1.3, 1.5, 1.7 and 1.9). Before each item it looks or peeks: that showed no cancel, bad request, second
-    /// subscribing or error that overtakes the items, and a measure after it showed that the item was requested. What a
-    /// callback answers is done at once; one that is refused memory ends the subscription. If nothing is left to tell,
-    /// it spins for a few microseconds in case more comes. It goes on only after 64 items, or if something was new when
-    /// it would have rested.
+    /// subscribing or error that overtakes the items, and a measure showed that the item was requested. What a callback
+    /// answers is done at once; one that is refused memory ends the subscription. If nothing is left to tell,
+    /// it spins for a few microseconds at most, in case more comes. It goes on only after 64 items, or if something was
+    /// new when it would have rested.
     pub fn turn(self, seen: &mut Seen) -> Turn<B>
 
         // What it tells, by what it takes each item, and what became of the task.
@@ -101,9 +102,10 @@ fn run<B: Listener>(party: &mut Seated<B>, stage: Stage, seen: &mut Seen) -> Out
         Ok(stage) => stage,
         Err(how) => return Outlook::Ended(how),
     };
+    let mut known = Known::nothing();
     for _ in 0..ITEMS_IN_A_TURN {
         let word = peek_next(party, stage);
-        match serve(party, word, seen) {
+        match serve(party, word, seen, &mut known) {
             Served::Gave => stage = Stage::Going,
             Served::Rested => return Outlook::Resting,
             Served::Missed => return Outlook::Again,

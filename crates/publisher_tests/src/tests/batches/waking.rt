@@ -1,13 +1,13 @@
 //! A call whose texts wake several subscriptions.
 ghost use Rattle.std.specs.Prelude.{◌≡◌, [], IfOk};
-ghost use Rattle.publisher.specs.Blanks.{IsBlankOf};
+ghost use Rattle.publisher.specs.Blanks.{AreBlanksOf};
 
 use super::{said, texts_from};
 use flow_rules::{Answer, Fault, Item, NoMemory, Watch, Watching};
+use publisher::{BlankPair, Ledgers};
 use std::alloc::Global;
 use std::sync::atomic::AtomicBool;
 use std::sync::atomic::Ordering::SeqCst;
-use std::sync::ledger::{Blank, Ledger};
 use std::sync::{Arc, Wait};
 use std::test::Fail;
 use std::thread::Threads;
@@ -80,42 +80,45 @@ fn one_that_notes(notes: &Notes, stop: Option<Stop>) -> Result<Watching<Noting>,
 
 // What a call says that publishes four texts to two subscriptions at rest and to one in the middle of a callback; and
 // which of these were told all of them, and their completion.
-pub fn wake_several<
-    L: Ledger + Send + Sync + 'static,
-    D: Ledger + Send + Sync + 'static,
-    R: Threads + Wait + Copy + Send + 'static,
->(rt: R, alloc: Global, publications: Blank, drops: Blank) -> Result<String, Fail>
-    requires publications { IsBlankOf publications L.name L.parts }
-    requires drops { IsBlankOf drops D.name D.parts }
+pub fn wake_several<L: Ledgers + Send + Sync + 'static, R: Threads + Wait + Copy + Send + 'static>(
+    rt: R,
+    alloc: Global,
+    blanks: BlankPair,
+) -> Result<String, Fail>
+    requires blanks { AreBlanksOf blanks L.publications L.drops }
 {
     let stop = Stop::new(alloc)?;
     let (a, b, c) = (Notes::new(alloc)?, Notes::new(alloc)?, Notes::new(alloc)?);
-    let mut stand: Stand<L, D, Watching<Noting>> = Stand::new(
-        rt,
-        alloc,
-        publications,
-        drops,
-        1,
-        4,
-    )?;
-    stand.subscribe(&rt, "a", one_that_notes(&a, None)?)?;
-    stand.subscribe(&rt, "b", one_that_notes(&b, None)?)?;
-    stand.subscribe(&rt, "c", one_that_notes(&c, Some(stop.share()?))?)?;
+    let mut stand: Stand<L, Watching<Noting>> = Stand::new(rt, alloc, blanks, 1, 4)?;
+    let answer = wake_all(&rt, &mut stand, [&a, &b, &c], &stop);
+    let _ = stand.end(&rt);
+    let told = [a.take(b"abcd."), b.take(b"abcd."), c.take(b"abcd.")];
+    Ok(format!(in alloc; "{}told all: {told:?}", answer?)?)
+}
+
+// What the call says, once all have ended.
+fn wake_all<L: Ledgers + Send + Sync + 'static, R: Wait>(
+    rt: &R,
+    stand: &mut Stand<L, Watching<Noting>>,
+    [a, b, c]: [&Notes; 3],
+    stop: &Stop,
+) -> Result<String, Fail> {
+    stand.subscribe(rt, "a", one_that_notes(a, None)?)?;
+    stand.subscribe(rt, "b", one_that_notes(b, None)?)?;
+    stand.subscribe(rt, "c", one_that_notes(c, Some(stop.share()?))?)?;
     // There is one worker: when it is in the callback of the last, the other two have had their turns, and are at rest.
     if !wait_for(&stop.is_in) {
         return Err(Fail::new("nobody is told of the subscribing"));
     }
-    let texts = texts_from(alloc, b'a', 4)?;
+    let texts = texts_from(stand.alloc, b'a', 4)?;
     let Some(submitter) = stand.submitters.first_mut() else {
         return Err(Fail::new("there is no submitter"));
     };
-    let answer = submitter.submit_all(&rt, alloc, texts.as_slice());
+    let answer = submitter.submit_all(rt, stand.alloc, texts.as_slice());
     stop.may_go.store(true, SeqCst);
-    stand.close(&rt)?;
-    for subscription in stand.subscriptions.iter_mut() {
-        subscription.wait_end(&rt);
+    stand.close(rt)?;
+    for subscription in stand.subscriptions.iter() {
+        subscription.wait_end(rt);
     }
-    let _ = stand.end(&rt);
-    let told = [a.take(b"abcd."), b.take(b"abcd."), c.take(b"abcd.")];
-    Ok(format!(in alloc; "{}told all: {told:?}", said(alloc, answer)?)?)
+    said(stand.alloc, answer)
 }

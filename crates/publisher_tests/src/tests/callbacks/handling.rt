@@ -1,14 +1,15 @@
 //! A handler of drops for whom room is made while it is asked.
-ghost use Rattle.publisher.specs.Blanks.{IsBlankOf};
+ghost use Rattle.std.specs.Prelude.{◌≡◌};
+ghost use Rattle.flow_rules.specs.Callback.{heard_nothing};
+ghost use Rattle.publisher.specs.Blanks.{AreBlanksOf};
 
 use super::acting::{Act, Acting};
 use super::{Count, Flag};
 use flow_rules::{DropHandler, Item, Name, Refusal};
-use publisher::{Submitter, Subscription};
+use publisher::{BlankPair, Ledgers, Submitter, Subscription};
 use std::alloc::{AllocError, Global};
 use std::sync::atomic::Ordering::SeqCst;
 use std::sync::atomic::{AtomicBool, AtomicU64};
-use std::sync::ledger::{Blank, Ledger};
 use std::sync::{Arc, Wait};
 use std::test::Fail;
 use std::thread;
@@ -60,38 +61,44 @@ impl DropHandler for Signs {
 // What the second of two offers answers, at a buffer of one place, when another thread requests an item once the
 // handler is asked.
 pub fn offer_twice<
-    L: Ledger + Send + Sync + 'static,
-    D: Ledger + Send + Sync + 'static,
+    L: Ledgers + Send + Sync + 'static,
     R: Threads + Wait + Copy + Send + Sync + 'static,
->(rt: R, alloc: Global, publications: Blank, drops: Blank) -> Result<i64, Fail>
-    requires publications { IsBlankOf publications L.name L.parts }
-    requires drops { IsBlankOf drops D.name D.parts }
+>(rt: R, alloc: Global, blanks: BlankPair) -> Result<i64, Fail>
+    requires blanks { AreBlanksOf blanks L.publications L.drops }
 {
     let signs = Signs::new(alloc)?;
     let act = Acting::new(Counts(Arc::try_clone(&signs.told)?));
-    let mut stand: Stand<L, D, Acting<Counts>> = Stand::new(rt, alloc, publications, drops, 1, 1)?;
-    stand.subscribe(&rt, "a", act)?;
-    stand.submit(&rt, b"x")?;
-    let mut subscription = stand.last_subscription()?;
-    let Some(submitter) = stand.submitters.first_mut() else {
-        return Err(Fail::new("there is no submitter"));
-    };
-    let answer = offer_and_request(&rt, alloc, submitter, &mut subscription, &signs);
-    stand.subscriptions.push(subscription)?;
+    let mut stand: Stand<L, Acting<Counts>> = Stand::new(rt, alloc, blanks, 1, 1)?;
+    let answer = offer_after_one(&rt, &mut stand, act, &signs);
     let _ = stand.end(&rt);
-    Ok(answer?)
+    answer
+}
+
+fn offer_after_one<L: Ledgers + Send + Sync + 'static, R: Threads + Wait + Sync>(
+    rt: &R,
+    stand: &mut Stand<L, Acting<Counts>>,
+    act: Acting<Counts>,
+    signs: &Signs,
+) -> Result<i64, Fail>
+    requires { act ≡ heard_nothing }
+{
+    stand.subscribe(rt, "a", act)?;
+    stand.submit(rt, b"x")?;
+    let (Some(submitter), Some(subscription)) = (
+        stand.submitters.first_mut(),
+        stand.subscriptions.first_mut(),
+    ) else {
+        return Err(Fail::new("there is no submitter or no subscription"));
+    };
+    Ok(offer_and_request(rt, stand.alloc, submitter, subscription, signs)?)
 }
 
 // One thread offers, and another one requests once the handler of the first is asked.
-fn offer_and_request<
-    L: Ledger + Send + Sync + 'static,
-    D: Ledger + Send + Sync + 'static,
-    R: Threads + Wait + Sync,
->(
+fn offer_and_request<L: Ledgers + Send + Sync + 'static, R: Threads + Wait + Sync>(
     rt: &R,
     alloc: Global,
-    submitter: &mut Submitter<L, D, Acting<Counts>>,
-    subscription: &mut Subscription<L, D, Acting<Counts>>,
+    submitter: &mut Submitter<L, Acting<Counts>>,
+    subscription: &mut Subscription<L, Acting<Counts>>,
     signs: &Signs,
 ) -> Result<i64, Refusal> {
     let (answer, ()) = thread::join(
@@ -102,21 +109,21 @@ fn offer_and_request<
     answer
 }
 
-fn offer<L: Ledger + Send + Sync + 'static, D: Ledger + Send + Sync + 'static, R: Wait>(
+fn offer<L: Ledgers + Send + Sync + 'static, R: Wait>(
     rt: &R,
     alloc: Global,
-    submitter: &mut Submitter<L, D, Acting<Counts>>,
+    submitter: &mut Submitter<L, Acting<Counts>>,
     signs: &Signs,
 ) -> Result<i64, Refusal> {
     let mut handler: Box<dyn DropHandler> = Box::new(alloc, signs.share()?)?;
     submitter.offer(rt, alloc, b"y", Some(&mut handler))
 }
 
-fn request_once_asked<
-    L: Ledger + Send + Sync + 'static,
-    D: Ledger + Send + Sync + 'static,
-    R: Wait,
->(rt: &R, subscription: &mut Subscription<L, D, Acting<Counts>>, signs: &Signs) {
+fn request_once_asked<L: Ledgers + Send + Sync + 'static, R: Wait>(
+    rt: &R,
+    subscription: &mut Subscription<L, Acting<Counts>>,
+    signs: &Signs,
+) {
     if wait_for(&signs.is_asked) {
         let _ = subscription.request(rt, 1);
     }

@@ -1,14 +1,14 @@
 //! What others do while a callback runs.
 ghost use Rattle.std.specs.Prelude.{◌≡◌};
 ghost use Rattle.flow_rules.specs.Callback.{heard_nothing};
-ghost use Rattle.publisher.specs.Blanks.{IsBlankOf};
+ghost use Rattle.publisher.specs.Blanks.{AreBlanksOf};
 
 use super::acting::{Act, Acting};
 use super::{Count, Flag};
+use publisher::{BlankPair, Ledgers};
 use std::alloc::{AllocError, Global};
 use std::sync::atomic::Ordering::SeqCst;
 use std::sync::atomic::{AtomicBool, AtomicU64};
-use std::sync::ledger::{Blank, Ledger};
 use std::sync::{Arc, Wait};
 use std::test::Fail;
 use std::thread::Threads;
@@ -45,29 +45,21 @@ impl Waits {
 
 // What the calls of a publisher answer while a callback runs, and how many callbacks had gone on before the last of
 // them returned, and at the end. A callback goes on only once it is let, after all calls.
-pub fn call_all<
-    L: Ledger + Send + Sync + 'static,
-    D: Ledger + Send + Sync + 'static,
-    R: Threads + Wait + Copy + Send + 'static,
->(rt: R, alloc: Global, publications: Blank, drops: Blank) -> Result<String, Fail>
-    requires publications { IsBlankOf publications L.name L.parts }
-    requires drops { IsBlankOf drops D.name D.parts }
+pub fn call_all<L: Ledgers + Send + Sync + 'static, R: Threads + Wait + Copy + Send + 'static>(
+    rt: R,
+    alloc: Global,
+    blanks: BlankPair,
+) -> Result<String, Fail>
+    requires blanks { AreBlanksOf blanks L.publications L.drops }
 {
     let waits = new_waits(alloc)?;
-    let mut stand: Stand<L, D, Acting<Waits>> = Stand::new(rt, alloc, publications, drops, 1, 8)?;
-    stand.subscribe(&rt, "a", Acting::new(waits.share()?))?;
-    stand.request(&rt, 0, 1)?;
-    stand.submit(&rt, b"x")?;
-    if !wait_for(&waits.is_in) {
-        return Err(Fail::new("nothing is told"));
-    }
-    let act = Acting::new(waits.share()?);
-    let answers = answers(&mut stand, &rt, act)?;
+    let mut stand: Stand<L, Acting<Waits>> = Stand::new(rt, alloc, blanks, 1, 8)?;
+    let answers = answers(&rt, &mut stand, &waits);
     let before = waits.went_on.load(SeqCst);
     waits.may_go.store(true, SeqCst);
     let _ = stand.end(&rt);
     let after = waits.went_on.load(SeqCst);
-    Ok(format!(in alloc; "{answers}; {before} and {after} went on")?)
+    Ok(format!(in alloc; "{}; {before} and {after} went on", answers?)?)
 }
 
 fn new_waits(alloc: Global) -> Result<Waits, AllocError> {
@@ -78,10 +70,24 @@ fn new_waits(alloc: Global) -> Result<Waits, AllocError> {
     })
 }
 
-// Makes each call, and says what it answers.
-fn answers<L: Ledger + Send + Sync + 'static, D: Ledger + Send + Sync + 'static, R: Wait>(
-    stand: &mut Stand<L, D, Acting<Waits>>,
+// Has a callback wait, makes each call then, and says what it answers.
+fn answers<L: Ledgers + Send + Sync + 'static, R: Wait>(
     rt: &R,
+    stand: &mut Stand<L, Acting<Waits>>,
+    waits: &Waits,
+) -> Result<String, Fail> {
+    stand.subscribe(rt, "a", Acting::new(waits.share()?))?;
+    stand.request(rt, 0, 1)?;
+    stand.submit(rt, b"x")?;
+    if !wait_for(&waits.is_in) {
+        return Err(Fail::new("nothing is told"));
+    }
+    call_each(rt, stand, Acting::new(waits.share()?))
+}
+
+fn call_each<L: Ledgers + Send + Sync + 'static, R: Wait>(
+    rt: &R,
+    stand: &mut Stand<L, Acting<Waits>>,
     act: Acting<Waits>,
 ) -> Result<String, Fail>
     requires { act ≡ heard_nothing }
@@ -97,8 +103,8 @@ fn answers<L: Ledger + Send + Sync + 'static, D: Ledger + Send + Sync + 'static,
 }
 
 // What is asked of all subscriptions.
-fn looks<L: Ledger + Send + Sync + 'static, D: Ledger + Send + Sync + 'static, R: Wait>(
-    stand: &Stand<L, D, Acting<Waits>>,
+fn looks<L: Ledgers + Send + Sync + 'static, R: Wait>(
+    stand: &Stand<L, Acting<Waits>>,
     rt: &R,
 ) -> Result<String, Fail> {
     let lag = stand.publisher.estimate_maximum_lag(rt);

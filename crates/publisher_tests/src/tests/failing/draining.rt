@@ -1,11 +1,11 @@
 //! A handler that takes its time, while another thread waits until all have ended.
-ghost use Rattle.publisher.specs.Blanks.{IsBlankOf};
+ghost use Rattle.publisher.specs.Blanks.{AreBlanksOf};
 
 use flow_rules::{Answer, FailHandler, Name};
+use publisher::{BlankPair, Ledgers};
 use std::alloc::Global;
 use std::sync::atomic::AtomicBool;
 use std::sync::atomic::Ordering::SeqCst;
-use std::sync::ledger::{Blank, Ledger};
 use std::sync::{Arc, Wait};
 use std::test::Fail;
 use std::thread;
@@ -41,26 +41,34 @@ impl FailHandler for HearsLate {
 
 // Whether the handler has heard of a failure once a thread that waited for the end of all goes on.
 pub fn hears_before_the_drain<
-    L: Ledger + Send + Sync + 'static,
-    D: Ledger + Send + Sync + 'static,
+    L: Ledgers + Send + Sync + 'static,
     R: Threads + Wait + Copy + Send + 'static,
->(rt: R, alloc: Global, publications: Blank, drops: Blank) -> Result<bool, Fail>
-    requires publications { IsBlankOf publications L.name L.parts }
-    requires drops { IsBlankOf drops D.name D.parts }
+>(rt: R, alloc: Global, blanks: BlankPair) -> Result<bool, Fail>
+    requires blanks { AreBlanksOf blanks L.publications L.drops }
 {
     let has_heard = Arc::new(alloc, AtomicBool::new(false))?;
     let handler = HearsLate {
         has_heard: Arc::try_clone(&has_heard)?,
         last: None,
     };
-    let made = Stand::with_handler(rt, alloc, publications, drops, 1, handler);
-    let mut stand: Stand<L, D, Answering, HearsLate> = made?;
-    stand.subscribe(&rt, "a", Answering::after(1, Answer::Fail(7)))?;
-    stand.request(&rt, 0, 1)?;
-    stand.submit(&rt, b"x")?;
-    stand.close(&rt)?;
-    stand.publisher.wait_drained(&rt);
+    let made = Stand::with_handler(rt, alloc, blanks, 1, handler);
+    let mut stand: Stand<L, Answering, HearsLate> = made?;
+    let drained = fail_and_drain(&rt, &mut stand);
     let is_told = has_heard.load(SeqCst);
     let _ = stand.end(&rt);
+    drained?;
     Ok(is_told)
+}
+
+// Has a subscriber fail, and waits until all have ended.
+fn fail_and_drain<L: Ledgers + Send + Sync + 'static, R: Wait>(
+    rt: &R,
+    stand: &mut Stand<L, Answering, HearsLate>,
+) -> Result<(), Fail> {
+    stand.subscribe(rt, "a", Answering::after(1, Answer::Fail(7)))?;
+    stand.request(rt, 0, 1)?;
+    stand.submit(rt, b"x")?;
+    stand.close(rt)?;
+    stand.publisher.wait_drained(rt);
+    Ok(())
 }

@@ -1,11 +1,10 @@
 //! How often a handler hears, and of whom.
-ghost use Rattle.publisher.specs.Blanks.{IsBlankOf};
+ghost use Rattle.publisher.specs.Blanks.{AreBlanksOf};
 
 use flow_rules::{Answer, FailHandler, Name};
-use publisher::Outcome;
+use publisher::{BlankPair, Ledgers, Outcome};
 use std::alloc::Global;
 use std::sync::Wait;
-use std::sync::ledger::{Blank, Ledger};
 use std::test::Fail;
 use std::thread::Threads;
 use test_kit::Answering;
@@ -56,40 +55,46 @@ fn count_repeated(names: &[Name]) -> usize {
 
 // What the handler hears of this many subscribers, each of which requests one item and gives this answer after this
 // many callbacks, when five items are published.
-pub fn hear<
-    L: Ledger + Send + Sync + 'static,
-    D: Ledger + Send + Sync + 'static,
-    R: Threads + Wait + Copy + Send + 'static,
->(
+pub fn hear<L: Ledgers + Send + Sync + 'static, R: Threads + Wait + Copy + Send + 'static>(
     rt: R,
     alloc: Global,
-    publications: Blank,
-    drops: Blank,
+    blanks: BlankPair,
     workers: usize,
     subscribers: u32,
     callbacks: u32,
     answer: Answer,
 ) -> Result<String, Fail>
-    requires publications { IsBlankOf publications L.name L.parts }
-    requires drops { IsBlankOf drops D.name D.parts }
+    requires blanks { AreBlanksOf blanks L.publications L.drops }
 {
     let hears = Hears {
         names: Vec::new(alloc),
         last: None,
     };
-    let made = Stand::with_handler(rt, alloc, publications, drops, workers, hears);
-    let mut stand: Stand<L, D, Answering, Hears> = made?;
-    for number in 0..subscribers {
-        let name = format!(in alloc; "s{number}")?;
-        stand.subscribe(&rt, name.as_str(), Answering::after(callbacks, answer))?;
-        stand.request(&rt, number as usize, 1)?;
-    }
-    for text in [b"v", b"w", b"x", b"y", b"z"] {
-        stand.submit(&rt, text)?;
-    }
+    let made = Stand::with_handler(rt, alloc, blanks, workers, hears);
+    let mut stand: Stand<L, Answering, Hears> = made?;
+    let published = publish_to_each(&rt, &mut stand, subscribers, callbacks, answer);
     let Outcome { handler, .. } = stand.end(&rt);
+    published?;
     match handler {
         Some(hears) => hears.report(alloc),
         None => Err(Fail::new("there is no handler")),
     }
+}
+
+fn publish_to_each<L: Ledgers + Send + Sync + 'static, R: Wait>(
+    rt: &R,
+    stand: &mut Stand<L, Answering, Hears>,
+    subscribers: u32,
+    callbacks: u32,
+    answer: Answer,
+) -> Result<(), Fail> {
+    for number in 0..subscribers {
+        let name = format!(in stand.alloc; "s{number}")?;
+        stand.subscribe(rt, name.as_str(), Answering::after(callbacks, answer))?;
+        stand.request(rt, number as usize, 1)?;
+    }
+    for text in [b"v", b"w", b"x", b"y", b"z"] {
+        stand.submit(rt, text)?;
+    }
+    Ok(())
 }

@@ -1,12 +1,11 @@
 //! A handler that waits, and what others see and do meanwhile.
-ghost use Rattle.publisher.specs.Blanks.{IsBlankOf};
+ghost use Rattle.publisher.specs.Blanks.{AreBlanksOf};
 
 use flow_rules::{Answer, FailHandler, Name};
-use publisher::Outcome;
+use publisher::{BlankPair, Ledgers, Outcome};
 use std::alloc::{AllocError, Global};
 use std::sync::atomic::AtomicBool;
 use std::sync::atomic::Ordering::SeqCst;
-use std::sync::ledger::{Blank, Ledger};
 use std::sync::{Arc, Wait};
 use std::test::Fail;
 use std::thread::Threads;
@@ -70,26 +69,19 @@ impl Waits {
 // What is seen of a subscription, and what a submit answers, while the handler hears that it failed; and what the
 // handler has heard then.
 pub fn look_while_it_hears<
-    L: Ledger + Send + Sync + 'static,
-    D: Ledger + Send + Sync + 'static,
+    L: Ledgers + Send + Sync + 'static,
     R: Threads + Wait + Copy + Send + 'static,
->(rt: R, alloc: Global, publications: Blank, drops: Blank) -> Result<String, Fail>
-    requires publications { IsBlankOf publications L.name L.parts }
-    requires drops { IsBlankOf drops D.name D.parts }
+>(rt: R, alloc: Global, blanks: BlankPair) -> Result<String, Fail>
+    requires blanks { AreBlanksOf blanks L.publications L.drops }
 {
     let waits = Waits::new(alloc)?;
     let handler = waits.share()?;
-    let made = Stand::with_handler(rt, alloc, publications, drops, 1, handler);
-    let mut stand: Stand<L, D, Answering, Waits> = made?;
-    stand.subscribe(&rt, "a", Answering::after(1, Answer::Fail(7)))?;
-    stand.request(&rt, 0, 1)?;
-    stand.submit(&rt, b"x")?;
-    if !wait_for(&waits.is_in) {
-        return Err(Fail::new("the handler is not called"));
-    }
-    let seen = look(&mut stand, &rt)?;
+    let made = Stand::with_handler(rt, alloc, blanks, 1, handler);
+    let mut stand: Stand<L, Answering, Waits> = made?;
+    let seen = fail_and_look(&rt, &mut stand, &waits);
     waits.may_go.store(true, SeqCst);
     let Outcome { handler, .. } = stand.end(&rt);
+    let seen = seen?;
     match handler {
         Some(waits) => {
             let heard = waits.report(alloc)?;
@@ -99,9 +91,24 @@ pub fn look_while_it_hears<
     }
 }
 
+// Has a subscriber fail, and looks while the handler is called.
+fn fail_and_look<L: Ledgers + Send + Sync + 'static, R: Wait>(
+    rt: &R,
+    stand: &mut Stand<L, Answering, Waits>,
+    waits: &Waits,
+) -> Result<String, Fail> {
+    stand.subscribe(rt, "a", Answering::after(1, Answer::Fail(7)))?;
+    stand.request(rt, 0, 1)?;
+    stand.submit(rt, b"x")?;
+    if !wait_for(&waits.is_in) {
+        return Err(Fail::new("the handler is not called"));
+    }
+    look(stand, rt)
+}
+
 // Whether the first subscription has ended, how many are live, and what a submit answers.
-fn look<L: Ledger + Send + Sync + 'static, D: Ledger + Send + Sync + 'static, R: Wait>(
-    stand: &mut Stand<L, D, Answering, Waits>,
+fn look<L: Ledgers + Send + Sync + 'static, R: Wait>(
+    stand: &mut Stand<L, Answering, Waits>,
     rt: &R,
 ) -> Result<String, Fail> {
     let Some(subscription) = stand.subscriptions.first() else {

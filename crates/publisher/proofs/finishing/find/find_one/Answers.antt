@@ -21,6 +21,8 @@ returns-in-Some-take_feed-clause-finds g c =
     (λ entry stands. (
       read_of (λ (e : EntryState). e.name) c.args.hub.now c.args.number entry c.name_of.result c.unwrap-name.result
           c.unwrap-name.ensures c.name_of.ensures stands,
+      read_of (λ (e : EntryState). e.on_full) c.args.hub.now c.args.number entry c.on_full.result c.unwrap-on_full.result
+          c.unwrap-on_full.ensures c.on_full.ensures stands,
       read_of (λ (e : EntryState). e.since) c.args.hub.now c.args.number entry c.since.result c.unwrap-since.result
           c.unwrap-since.ensures c.since.ensures stands,
       read_of (λ (e : EntryState). e.dropped) c.args.hub.now c.args.number entry c.dropped.result

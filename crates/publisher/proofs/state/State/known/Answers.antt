@@ -12,5 +12,6 @@ returns g c = rw (← c.self.view_is) (knows_of
       waiters =
           c.self.inside.waiters;
     }) c.args.entry _
-    (sym c.in_ok-name_of.was ∙ c.name_of.ensures) (sym c.in_ok-since.was ∙ c.since.ensures)
+    (sym c.in_ok-name_of.was ∙ c.name_of.ensures) (sym c.in_ok-on_full.was ∙ c.on_full.ensures)
+    (sym c.in_ok-since.was ∙ c.since.ensures)
     (sym c.in_ok-dropped.was ∙ c.dropped.ensures) c.is_late.ensures)

@@ -1,7 +1,7 @@
 use Rattle.std.proofs.Common.{◌∙◌, ap, subst}
 use Rattle.feed_cell.specs.Parties.{IsNewTaskIn, new_handle_in}
 use Rattle.feed_cell.specs.Offering.{DoesCall}
-use Rattle.publisher_hub.specs.Subscribing.{Admits}
+use Rattle.publisher_hub.specs.Subscribing.{AdmitsWith}
 use Rattle.publisher.specs.State.{PublisherState, producer_end}
 use Rattle.publisher.proofs.Subscribing.Subscribed.{subscribed_is}
 use Rattle.publisher.proofs.state.State.subscribe.Goals as goal
@@ -12,7 +12,7 @@ admit-entry-requires-clause-ticket g c = c.in-Ok.ensures.ticket
 pub returns-in-Ok-new_with-clause-ok : goal.returns-in-Ok-new_with-clause-ok
 returns-in-Ok-new_with-clause-ok g c =
     let table = c.in-Ok-new_with.producer.table in
-    subscribed_is c.args.name c.args.order _ _ _ _ c.reserve.new.self c.admit-entry.new.self _
+    subscribed_is c.args.name c.args.on_full c.args.order _ _ _ _ c.reserve.new.self c.admit-entry.new.self _
     c.admit-entry.ensures.admits (c.in-Ok-new_with.ensures.handle
     ∙ ap (λ n. new_handle_in c.args.order n table) c.capacity.ensures
     ∙ ap (λ (s : PublisherState). new_handle_in c.args.order s.hub.capacity table) c.self.view_is)
@@ -29,7 +29,7 @@ returns-in-Ok-new_with-clause-admits g c = (
       c.in-Ok-new_with.producer,
       (
         c.in-Ok.ticket,
-        subst (λ due. Admits producer_end DoesCall c.args.name c.in-Ok-new_with.producer c.in-Ok.ticket
+        subst (λ due. AdmitsWith producer_end DoesCall c.args.name c.args.on_full c.in-Ok-new_with.producer c.in-Ok.ticket
             c.admit-entry.result due c.admit-entry.new.due.items c.reserve.new.self.hub c.admit-entry.new.self.hub)
             c.in-Ok.ensures.nothing_due c.admit-entry.ensures.admits,
       ),

@@ -20,7 +20,7 @@ looks g c =
     record { rest = refl; entries = rw (items, ← c.deref_mut.ensures.value) c.look_all.ensures.1.0 }
 
 pub returns-clause-looks : goal.returns-clause-looks
-returns-clause-looks g c = (c.look_all.ensures.0, (looks g c, c.look_all.ensures.1.1))
+returns-clause-looks g c = (c.look_all.ensures.0, (looks g c, rw (← c.deref_mut.ensures.value) c.look_all.ensures.1.1))
 
 pub returns-clause-sound : goal.returns-clause-sound
 returns-clause-sound g c = sound_looks g.F.Feed.meaning g.F.Feed.does c.look_all.ensures.0 c.args.self.now _ c.requires.sound (looks g c)

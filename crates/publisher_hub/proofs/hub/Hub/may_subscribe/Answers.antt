@@ -2,7 +2,7 @@
 use Rattle.std.proofs.Common.{rules, ◌≡◌, ℕ, None, Some, List, sym, subst}
 use Rattle.std.specs.Prelude.{slice_get}
 use Rattle.publisher_hub.specs.Hub.{hub_of}
-use Rattle.publisher_hub.specs.Subscribing.{IsNamed, IsNotNamed, IsSeen, IsUnnamed, DoublesAt}
+use Rattle.publisher_hub.specs.Subscribing.{IsNamed, IsNotNamed, IsPrepared, IsUnnamed, DoublesAt}
 use Rattle.publisher_hub.specs.declared.entry.Entry.{Entry}
 use Rattle.publisher_hub.proofs.Subscribed.Admission.{can_admit, found_none, live_at, on_ok, refused_place, seen_with_place, still_place, unnamed_of}
 use Rattle.publisher_hub.proofs.hub.Hub.may_subscribe.Goals as goal
@@ -44,7 +44,7 @@ unnamed g c =
     subst (λ (l : List (Entry g.row.F.Denot)). IsNotNamed c.args.name number l) c.deref.ensures.value
     (c.find_named.ensures.none none i number (subst (λ (l : List ℕ). slice_get l i ≡ Some number) (sym c.deref-2.ensures.value) at)))
 
-seen : (g : _) (c : goal.After-make_place g) → IsSeen g.F.Feed.meaning g.F.Feed.does c.args.self.now c.make_place.new.self
+seen : (g : _) (c : goal.After-make_place g) → IsPrepared g.F.Feed.meaning g.F.Feed.does c.args.self.now c.make_place.new.self
 seen g c =
     seen_with_place g.F.Feed.meaning g.F.Feed.does c.args.self.now c.see_all.new.self c.make_place.new.self c.in_ok-see_all.ensures.seen
     c.make_place.ensures.entries c.make_place.ensures.live c.make_place.ensures.same

@@ -5,7 +5,7 @@ use Rattle.std.proofs.lemmas.List.{with_items_is}
 use Rattle.flow_rules.specs.declared.feed.standing.Standing.{Standing}
 use Rattle.publisher_hub.specs.Hub.{hub_of}
 use Rattle.publisher_hub.specs.Lists.{Each, EachBy}
-use Rattle.publisher_hub.specs.Looking.{IsRoom, MayPrepare, Prepares}
+use Rattle.publisher_hub.specs.Looking.{MayPrepare, Prepares, ShowsRoom}
 use Rattle.publisher_hub.proofs.Subscribed.AfterLooks.{round_kept}
 use Rattle.publisher_hub.proofs.Soundness.Looking.{sound_looked_at}
 use Rattle.publisher_hub.proofs.Subscribed.Readiness.{all_here, on_ok_ready}
@@ -22,7 +22,7 @@ returns-clause-ok g c =
     let hub = c.args.self.now in
     let whole = with_items_is hub.entries c.prepare_all.new.entries (c.prepare_all.auto.entries ∙ c.deref_mut.ensures.len) in
     let found : IfOk c.prepare_all.result (λ room. (glances : List (Option Standing))
-    × (EachBy (Prepares g.F.Feed.meaning g.F.Feed.does hub.next) glances hub.entries.items (with_items hub.entries c.prepare_all.new.entries).items × IsRoom room hub.capacity glances)) =
+    × (EachBy (Prepares g.F.Feed.meaning g.F.Feed.does hub.next) glances hub.entries.items (with_items hub.entries c.prepare_all.new.entries).items × ShowsRoom room hub.capacity hub.entries.items glances)) =
     rw (whole, ← c.deref_mut.ensures.value) c.prepare_all.ensures.ok in found
 
 pub returns-clause-exact : goal.returns-clause-exact

@@ -30,7 +30,7 @@ whole g c =
     let puts = c.put.ensures.puts in
     publishes meaning g.F.Feed.does c.args.self.now c.prepare_publication.new.self c.put.new.self c.count_published.new.self c.next_item-item.result c.args.source c.args.text
     c.args.due.now c.prepare_publication.new.due c.put.new.due looks.0 puts.0 c.requires.sound c.requires.source item.source item.text item.serial item.seq c.prepare_publication.ensures.looked
-    looks.1.0 (looks.1.1.there c.if-not-room.false) c.prepare_publication.ensures.due c.in_default.ensures puts.1.0 puts.1.1 c.put.ensures.rest c.count_published.ensures.rest c.count_published.ensures.entries (ap (λ (g : Gathering). g.lag) c.count_published.ensures.gathering ∙ c.drop_shares-2.ensures.lag)
+    looks.1.0 (looks.1.1.all.there c.if-not-room.false) c.prepare_publication.ensures.due c.in_default.ensures puts.1.0 puts.1.1 c.put.ensures.rest c.count_published.ensures.rest c.count_published.ensures.entries (ap (λ (g : Gathering). g.lag) c.count_published.ensures.gathering ∙ c.drop_shares-2.ensures.lag)
 
 pub returns-clause-sound : goal.returns-clause-sound
 returns-clause-sound g c = (whole g c).0

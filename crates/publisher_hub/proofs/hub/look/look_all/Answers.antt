@@ -7,7 +7,7 @@ use Rattle.publisher_hub.proofs.PartialRounds.Looking.{looking_next, looking_non
 use Rattle.publisher_hub.proofs.hub.look.look_all.Goals as goal
 
 pub loop-number-init : goal.loop-number-init
-loop-number-init g c = looking_none g.F.Feed.meaning g.F.Feed.does c.args.next c.args.capacity c.args.live.now c.args.entries.now
+loop-number-init g c = rw c.everywhere.ensures (looking_none g.F.Feed.meaning g.F.Feed.does c.args.next c.args.capacity c.args.live.now c.args.entries.now)
 
 pub offset_bounds-entries-number : goal.offset_bounds-entries-number
 offset_bounds-entries-number g c = let inside = number_inside g.F.Feed.meaning c.args.live.now c.args.entries.now c.requires.live c.loop-number.number-index c.loop-number-test.true in search rules
@@ -17,20 +17,19 @@ bounds-entries-number g c =
     number_there g.F.Feed.meaning c.args.live.now c.args.entries.now c.requires.live c.loop-number.number-index (Glances g.F.Feed.meaning g.F.Feed.does c.args.next) None
     c.loop-number.invariant.glances c.loop-number.entries c.loop-number.invariant.upto c.loop-number-test.true
 
-pub look-glance-requires : goal.look-glance-requires
-look-glance-requires g c = record {
-  here =
-      stands_as g.F.Feed.meaning c.args.live.now c.args.entries.now c.requires.live c.loop-number.number-index (Glances g.F.Feed.meaning g.F.Feed.does c.args.next) None
-      c.loop-number.invariant.glances c.loop-number.entries c.loop-number.invariant.upto IsHere c.requires.here c.loop-number-test.true c.index-entries-number.result;
-}
+pub look_one-requires-clause-here : goal.look_one-requires-clause-here
+look_one-requires-clause-here g c =
+    stands_as g.F.Feed.meaning c.args.live.now c.args.entries.now c.requires.live c.loop-number.number-index (Glances g.F.Feed.meaning g.F.Feed.does c.args.next) None
+    c.loop-number.invariant.glances c.loop-number.entries c.loop-number.invariant.upto IsHere c.requires.here c.loop-number-test.true c.index-entries-number.result
 
 pub loop-number-preserved : goal.loop-number-preserved
 loop-number-preserved g c =
     let numbers = numbers_of g.F.Feed.meaning c.args.live.now c.args.entries.now c.requires.live in
     let stood = stood_next g.F.Feed.meaning c.args.live.now c.args.entries.now c.requires.live c.loop-number.number-index (Glances g.F.Feed.meaning g.F.Feed.does c.args.next) None
     c.loop-number.invariant.glances c.loop-number.entries c.loop-number.invariant.upto c.loop-number-test.true c.index-entries-number.result in
-    looking_next g.F.Feed.meaning g.F.Feed.does c.args.next c.args.capacity c.args.live.now c.loop-number.number-index _ c.loop-number.overview c.count_look.new.self c.args.entries.now c.loop-number.entries
-    c.look-glance.result _ c.look-glance.new.self numbers (number_at c.args.live.now c.loop-number.number-index c.loop-number-test.true) stood c.look-glance.ensures c.count_look.ensures c.loop-number.invariant
+    let looked = c.look_one.ensures in
+    looking_next g.F.Feed.meaning g.F.Feed.does c.args.next c.args.capacity c.args.live.now c.loop-number.number-index _ c.loop-number.overview c.look_one.new.overview c.args.entries.now c.loop-number.entries
+    looked.0 _ c.look_one.new.entry numbers (number_at c.args.live.now c.loop-number.number-index c.loop-number-test.true) stood looked.1.0 looked.1.1 c.loop-number.invariant
 
 pub returns : goal.returns
 returns g c =

@@ -13,7 +13,7 @@ on_err (Ok x) P p = _
 on_err (Err e) P p = p
 
 pub loop-number-init : goal.loop-number-init
-loop-number-init g c = preparing_none g.F.Feed.meaning g.F.Feed.does c.args.next c.args.capacity c.args.live.now c.args.entries.now
+loop-number-init g c = rw c.everywhere-room.ensures (preparing_none g.F.Feed.meaning g.F.Feed.does c.args.next c.args.capacity c.args.live.now c.args.entries.now)
 
 pub offset_bounds-entries-number : goal.offset_bounds-entries-number
 offset_bounds-entries-number g c = let inside = number_inside g.F.Feed.meaning c.args.live.now c.args.entries.now c.requires.live c.loop-number.number-index c.loop-number-test.true in search rules
@@ -23,29 +23,29 @@ bounds-entries-number g c =
     number_there g.F.Feed.meaning c.args.live.now c.args.entries.now c.requires.live c.loop-number.number-index (Prepares g.F.Feed.meaning g.F.Feed.does c.args.next) None
     c.loop-number.invariant.glances c.loop-number.entries c.loop-number.invariant.upto c.loop-number-test.true
 
-pub prepare-requires : goal.prepare-requires
-prepare-requires g c = record {
+pub prepare_one-requires : goal.prepare_one-requires
+prepare_one-requires g c = record {
   here =
       stands_as g.F.Feed.meaning c.args.live.now c.args.entries.now c.requires.live c.loop-number.number-index (Prepares g.F.Feed.meaning g.F.Feed.does c.args.next) None
       c.loop-number.invariant.glances c.loop-number.entries c.loop-number.invariant.upto IsHere c.requires.here c.loop-number-test.true c.index-entries-number.result;
 }
 
-pub returns-in_err-glance-clause-exact : goal.returns-in_err-glance-clause-exact
-returns-in_err-glance-clause-exact g c =
+pub returns-in_err-prepare_one-clause-exact : goal.returns-in_err-prepare_one-clause-exact
+returns-in_err-prepare_one-clause-exact g c =
     let numbers = numbers_of g.F.Feed.meaning c.args.live.now c.args.entries.now c.requires.live in
     let stood = stood_next g.F.Feed.meaning c.args.live.now c.args.entries.now c.requires.live c.loop-number.number-index (Prepares g.F.Feed.meaning g.F.Feed.does c.args.next) None
     c.loop-number.invariant.glances c.loop-number.entries c.loop-number.invariant.upto c.loop-number-test.true c.index-entries-number.result in
     on_err c.from_residual.result _ (stopped g.F.Feed.meaning g.F.Feed.does c.args.next c.args.capacity c.args.live.now c.loop-number.number-index _ c.loop-number.room c.args.entries.now c.loop-number.entries
-    _ c.prepare.new.self numbers (number_at c.args.live.now c.loop-number.number-index c.loop-number-test.true) stood c.in_err-glance.ensures.refused c.loop-number.invariant)
+    _ c.prepare_one.new.entry numbers (number_at c.args.live.now c.loop-number.number-index c.loop-number-test.true) stood c.in_err-prepare_one.ensures.refused c.loop-number.invariant)
 
 pub loop-number-preserved : goal.loop-number-preserved
 loop-number-preserved g c =
     let numbers = numbers_of g.F.Feed.meaning c.args.live.now c.args.entries.now c.requires.live in
     let stood = stood_next g.F.Feed.meaning c.args.live.now c.args.entries.now c.requires.live c.loop-number.number-index (Prepares g.F.Feed.meaning g.F.Feed.does c.args.next) None
     c.loop-number.invariant.glances c.loop-number.entries c.loop-number.invariant.upto c.loop-number-test.true c.index-entries-number.result in
-    preparing_next g.F.Feed.meaning g.F.Feed.does c.args.next c.args.capacity c.args.live.now c.loop-number.number-index _ c.loop-number.room c.shows_room-room.result c.args.entries.now c.loop-number.entries
-    c.in_ok-glance.glance _ c.prepare.new.self numbers (number_at c.args.live.now c.loop-number.number-index c.loop-number-test.true) stood c.in_ok-glance.ensures.ok
-    c.shows_room-room.ensures.full c.shows_room-room.ensures.not_full c.loop-number.invariant
+    let looked = c.in_ok-prepare_one.ensures.ok in
+    preparing_next g.F.Feed.meaning g.F.Feed.does c.args.next c.args.capacity c.args.live.now c.loop-number.number-index _ c.loop-number.room c.prepare_one.new.room c.args.entries.now c.loop-number.entries
+    looked.0 _ c.prepare_one.new.entry numbers (number_at c.args.live.now c.loop-number.number-index c.loop-number-test.true) stood looked.1.0 looked.1.1 c.loop-number.invariant
 
 pub returns-clause-ok : goal.returns-clause-ok
 returns-clause-ok g c =
@@ -55,14 +55,14 @@ returns-clause-ok g c =
       (
         whole_round g.F.Feed.meaning c.args.live.now c.args.entries.now c.requires.live c.loop-number.number-index (Prepares g.F.Feed.meaning g.F.Feed.does c.args.next) None
             so_far.glances c.loop-number.entries so_far.upto (λ x retired. (retired, refl)) done,
-        so_far.is_room,
+        so_far.shows,
       ),
     )
 
-pub returns-in_err-glance-clause-not_refused : goal.returns-in_err-glance-clause-not_refused
-returns-in_err-glance-clause-not_refused g c ready =
+pub returns-in_err-prepare_one-clause-not_refused : goal.returns-in_err-prepare_one-clause-not_refused
+returns-in_err-prepare_one-clause-not_refused g c ready =
     let numbers = numbers_of g.F.Feed.meaning c.args.live.now c.args.entries.now c.requires.live in
     let stood = stood_next g.F.Feed.meaning c.args.live.now c.args.entries.now c.requires.live c.loop-number.number-index (Prepares g.F.Feed.meaning g.F.Feed.does c.args.next) None
     c.loop-number.invariant.glances c.loop-number.entries c.loop-number.invariant.upto c.loop-number-test.true c.index-entries-number.result in
-    absurd (ready_is_prepared g.F.Feed.meaning g.F.Feed.does c.args.next _ c.prepare.new.self c.in_err-glance.ensures.refused
+    absurd (ready_is_prepared g.F.Feed.meaning g.F.Feed.does c.args.next _ c.prepare_one.new.entry c.in_err-prepare_one.ensures.refused
     (ready _ _ (get_mapped (entry_of g.F.Feed.meaning) c.args.entries.now _ _ stood)))

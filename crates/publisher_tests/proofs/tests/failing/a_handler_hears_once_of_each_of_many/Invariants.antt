@@ -1,7 +1,4 @@
 use Rattle.publisher_tests.proofs.tests.failing.a_handler_hears_once_of_each_of_many.Given as goal
 
-abbrev pub ghosts-hear-L-Ledger : goal.ghosts-hear-L-Ledger
-ghosts-hear-L-Ledger g a = record { name = a.publications.name; parts = a.publications.parts }
-
-abbrev pub ghosts-hear-D-Ledger : goal.ghosts-hear-D-Ledger
-ghosts-hear-D-Ledger g a = record { name = a.drops.name; parts = a.drops.parts }
+abbrev pub ghosts-hear : goal.ghosts-hear
+ghosts-hear g a = record { publications = a.blanks.publications.name; drops = a.blanks.drops.name }

@@ -1,7 +1,4 @@
 use Rattle.publisher_tests.proofs.tests.standing.each_subscription_tells_how_it_stands_itself.Given as goal
 
-abbrev pub ghosts-look_at_two-L-Ledger : goal.ghosts-look_at_two-L-Ledger
-ghosts-look_at_two-L-Ledger g a = record { name = a.publications.name; parts = a.publications.parts }
-
-abbrev pub ghosts-look_at_two-D-Ledger : goal.ghosts-look_at_two-D-Ledger
-ghosts-look_at_two-D-Ledger g a = record { name = a.drops.name; parts = a.drops.parts }
+abbrev pub ghosts-look_at_two : goal.ghosts-look_at_two
+ghosts-look_at_two g a = record { publications = a.blanks.publications.name; drops = a.blanks.drops.name }

@@ -1,6 +1,14 @@
-use Rattle.std.proofs.Common.{rules}
+use Rattle.std.proofs.Common.{rules, inr}
 use Rattle.feed_cell.proofs.Tasks.See.{measures_none}
+use Rattle.feed_cell.specs.declared.cell.words.Word.{Word}
+use Rattle.feed_cell.proofs.Words.FourWords.{at_place}
+use Rattle.feed_cell.specs.TaskPlays.{MeasuresNone}
 use Rattle.feed_cell.proofs.cell.task.steps.measure_none.Goals as goal
 
 pub load-requires : goal.load-requires
-load-requires g c = (search rules, search rules, measures_none g.B.Listener.told _ _ _ _ c.requires.away.0 c.requires.away.1 c.requires.may c.requires.none)
+load-requires g c = (
+  search rules,
+  search rules,
+  at_place g.B.Listener.told _ _ _ c.args.party.now.seat.me c.args.party.now.capacity _ Word.Asked (λ n. n) (MeasuresNone c.args.party.now.seat.me) (inr (inr c.requires.away.0.2)) c.args.party.now.sized c.place_of-at.ensures.place
+      (measures_none g.B.Listener.told _ _ _ _ c.requires.away.0 c.requires.away.1 c.requires.may c.requires.none),
+)

@@ -6,6 +6,7 @@ use Rattle.feed_core.proofs.Turns.Failed.{ends_obeyed_after}
 use Rattle.feed_core.specs.Seen.{SeenState}
 use Rattle.feed_cell.specs.TaskSteps.{IsInOrder}
 use Rattle.feed_cell.specs.TaskTurns.{TellsSoFar}
+use Rattle.feed_cell.proofs.Tasks.Known.{known_kept}
 use Rattle.feed_cell.proofs.Tasks.Turns.{ends_after, full, gave_on, going_on, looked_in_order, looked_on, may_look_next, misses_after, rests_after, room_so_far}
 use Rattle.feed_cell.proofs.cell.task.turns.run.Goals as goal
 use Rattle.feed_cell.proofs.cell.task.turns.run.Goals.{After-peek_next-word}
@@ -13,7 +14,7 @@ use Rattle.feed_cell.proofs.cell.task.turns.run.Given.{Over}
 
 pub loop-init : goal.loop-init
 loop-init g c =
-    (c.in-Ok.ensures.goes, c.in-Ok.ensures.room, c.in-Ok.ensures.seat, c.in-Ok.ensures.runner)
+    (c.in-Ok.ensures.goes, c.in-Ok.ensures.room, c.in-Ok.ensures.seat, c.in-Ok.ensures.runner, (omega (arith, c.nothing-known.ensures.0), omega (arith, c.nothing-known.ensures.1)))
 
 pub returns-in-Err-clause-failed : goal.returns-in-Err-clause-failed
 returns-in-Err-clause-failed g c = λ code e.
@@ -39,6 +40,11 @@ in_order g c = looked_in_order g.B.Listener.told g.B.Listener.replied c.args.par
 
 pub serve-requires-clause-room : goal.serve-requires-clause-room
 serve-requires-clause-room g c = room_so_far g.B.Listener.told g.B.Listener.replied c.loop.counter c.args.party.now.seat.me c.peek_next-word.new.party.seat.me c.peek_next-word.new.party.seat.me c.loop.seen c.loop.seen (looked g (goal.at.serve-requires-clause-room g c).After-peek_next-word) (in_order g (goal.at.serve-requires-clause-room g c).After-peek_next-word) c.loop-test.true
+
+pub serve-requires-clause-known : goal.serve-requires-clause-known
+serve-requires-clause-known g c =
+    let counts = c.peek_next-word.ensures.counts in
+    known_kept c.loop.known c.loop.party.seat.me.0 c.peek_next-word.new.party.seat.me.0 counts.3 counts.4 c.loop.invariant.4
 
 pub returns-in-Rested-clause-seat : goal.returns-in-Rested-clause-seat
 returns-in-Rested-clause-seat g c = (c.in-Rested.ensures.seat.0 ∙ c.peek_next-word.ensures.seat.0 ∙ c.loop.invariant.2.0, c.in-Rested.ensures.seat.1 ∙ c.peek_next-word.ensures.seat.1 ∙ c.loop.invariant.2.1)
@@ -90,6 +96,7 @@ loop-preserved g c =
       ap (λ (s : SeenState). s.room) gives.saw ∙ c.loop.invariant.1,
       (c.in-Gave.ensures.seat.0 ∙ c.peek_next-word.ensures.seat.0 ∙ c.loop.invariant.2.0, c.in-Gave.ensures.seat.1 ∙ c.peek_next-word.ensures.seat.1 ∙ c.loop.invariant.2.1),
       (gives.is, gives.none_out),
+      c.in-Gave.ensures.known,
     )
 
 pub returns-clause-seat : goal.returns-clause-seat

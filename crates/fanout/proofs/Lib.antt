@@ -1,0 +1,4 @@
+pub mod Cuts
+pub mod Left
+pub mod Skips
+pub mod Words

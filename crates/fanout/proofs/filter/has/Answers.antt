@@ -1,0 +1,11 @@
+use Rattle.std.proofs.Common.{◌≡◌, sym, ◌∙◌, rules, is_some}
+use Rattle.fanout.proofs.Words.{found_has}
+use Rattle.fanout.proofs.filter.has.Goals as goal
+
+pub returns : goal.returns
+returns c =
+    let parts = found_has c.args.bytes.now c.args.word.now c.find.result c.find.ensures in
+    let same : c.is_some.result ≡ is_some c.find.result = search rules in (
+      (λ is. parts.0 (sym same ∙ is)),
+      (λ has. same ∙ parts.1 has),
+    )

@@ -1,0 +1,5 @@
+-- The two ledgers of the publisher are those of its blanks.
+use Rattle.fanout.proofs.hold.Given as goal
+
+abbrev pub ghosts-run_session : goal.ghosts-run_session
+ghosts-run_session g a = record { publications = a.blanks.publications.name; drops = a.blanks.drops.name }

@@ -1,0 +1,229 @@
+//! Ships lines from sources to any number of sinks, in constant memory. Each sink is a subscription: one that waits gets
+//! every line, and one that is lossy loses whole lines if its reader is slow, and stops nobody.
+#![tactic(auto)]
+
+mod board;
+mod doors;
+mod fault;
+mod filter;
+mod intake;
+mod options;
+mod page;
+mod piece;
+mod plan;
+mod policy;
+mod progress;
+mod report;
+mod session;
+mod sink;
+mod site;
+mod source;
+mod strand;
+mod strands;
+mod verdict;
+
+use board::Board;
+use clap::error::ErrorKind;
+use doors::Doors;
+use fault::{EndFault, FanoutFault};
+use options::{WrongPlan, command_line, read_plan};
+use plan::{Format, Plan};
+use progress::Pace;
+use publisher::BlankPair;
+use report::report;
+use session::run_session;
+use site::Site;
+use std::alloc::{AllocError, Global};
+use std::fmt::Display;
+use std::marker::Brand;
+use std::process::ExitCode;
+use std::rt::Env;
+use std::sync::{Arc, Wait};
+use std::thread::Threads;
+use std::time::Clock;
+use std::{env, io, thread};
+use verdict::Verdict;
+
+/// The exit status if a source failed, or the program.
+const FAULT: u8 = 1;
+
+/// The exit status of a wrong command line.
+const WRONG_USE: u8 = 2;
+
+/// The exit status if a sink failed.
+const SINK_FAULT: u8 = 3;
+
+/// How many seconds the threads of sources and sinks may take to start.
+const PATIENCE: u64 = 10;
+
+fn main(rt: HostRuntime) -> ExitCode {
+    match run(rt) {
+        Ok(status) => ExitCode::from(status),
+        Err(fault) => ExitCode::from(fail(&rt, fault, FAULT)),
+    }
+}
+
+/// Does what the command line asks for, and tells the exit status.
+fn run<
+    R: Print
+        + Eprint
+        + Env
+        + Doors
+        + Clock
+        + AllocGlobal
+        + Threads
+        + Wait
+        + Copy
+        + Send
+        + Sync
+        + 'static,
+>(rt: R) -> Result<u8, FanoutFault> {
+    let Some(words) = command_words(&rt)? else {
+        return Ok(fail(&rt, "an argument is not UTF-8", WRONG_USE));
+    };
+    let command = command_line(rt.alloc())?;
+    let error = match command.try_get_matches_from(words.as_slice()) {
+        Ok(matches) => match read_plan(rt.alloc(), &matches) {
+            Ok(plan) => return start(rt, plan),
+            Err(WrongPlan::Memory) => return Err(FanoutFault::Memory),
+            Err(wrong) => return Ok(fail(&rt, wrong.explain(), WRONG_USE)),
+        },
+        Err(error) => error,
+    };
+    if error.kind() == ErrorKind::OutOfMemory {
+        return Err(FanoutFault::Memory);
+    }
+    let _ = error.print(&rt);
+    if error.use_stderr() {
+        Ok(WRONG_USE)
+    } else {
+        Ok(0)
+    }
+}
+
+/// Has a thread of its own hold the session, waits until that has ended, or need not be waited for, and reports.
+fn start<
+    R: Print + Eprint + Doors + Clock + AllocGlobal + Threads + Wait + Copy + Send + Sync + 'static,
+>(rt: R, plan: Plan) -> Result<u8, FanoutFault> {
+    let alloc = rt.alloc();
+    let board = Board::new(alloc, plan.sources.len(), plan.sinks.len(), plan.room())?;
+    let site = Site {
+        alloc,
+        plan: Arc::new(alloc, plan)?,
+        board: Arc::new(alloc, board)?,
+        verdict: Arc::new(alloc, Verdict::new())?,
+    };
+    let theirs = Site {
+        alloc,
+        plan: Arc::try_clone(&site.plan)?,
+        board: Arc::try_clone(&site.board)?,
+        verdict: Arc::try_clone(&site.verdict)?,
+    };
+    let session = move || {
+        let ended = hold(&rt, &theirs);
+        theirs.verdict.say(&rt, ended);
+    };
+    if thread::spawn(&rt, session).is_err() {
+        return Err(FanoutFault::Memory);
+    }
+    let ended = wait(&rt, &site);
+    tell(&rt, &site)?;
+    ended?;
+    Ok(status_of(&rt, &site))
+}
+
+/// Holds the session, on a publisher of its own.
+fn hold<R: Print + Doors + Clock + Threads + Wait + Copy + Send + Sync + 'static>(
+    rt: &R,
+    site: &Site,
+) -> Result<(), FanoutFault> {
+    let _left = run_session::<Brand, R>(rt, site, BlankPair::new())?;
+    Ok(())
+}
+
+/// Waits until the session has ended, or only lossy sinks are left that are stuck. Tells each second how far it is, if
+/// that is asked for. A thread that can't be started is as memory that is refused.
+fn wait<R: Eprint + Clock + Wait>(rt: &R, site: &Site) -> Result<(), FanoutFault> {
+    let mut begun = 0_u64;
+    let mut stuck = 0_u64;
+    let mut pace = Pace::new();
+    for _ in rt.forever() {
+        if let Some(ended) = site.verdict.wait_a_second(rt) {
+            return ended;
+        }
+        if site.plan.is_watched {
+            let line = pace.line(site.alloc, &site.plan, &site.board)?;
+            let _ = eprint!(*rt; "{line}");
+        }
+        begun = count_if(!site.board.have_all_begun(), begun);
+        if begun > PATIENCE {
+            return Err(FanoutFault::Memory);
+        }
+        stuck = count_if(are_others_over(&site.plan, &site.board), stuck);
+        if stuck > site.plan.linger {
+            return Ok(());
+        }
+    }
+    unreachable!()
+}
+
+/// For how many seconds something has been so.
+fn count_if(is_so: bool, seconds: u64) -> u64 {
+    if is_so { seconds.saturating_add(1) } else { 0 }
+}
+
+/// Whether all sources have ended, and all sinks but lossy ones.
+fn are_others_over(plan: &Plan, board: &Board) -> bool {
+    board.are_sources_over()
+        && plan
+            .sinks
+            .iter()
+            .zip(board.sinks.iter())
+            .all(|(sink, count)| sink.is_lossy || count.has_ended())
+}
+
+/// Writes the report on standard error.
+fn tell<R: Eprint + Wait>(rt: &R, site: &Site) -> Result<(), FanoutFault> {
+    if site.plan.format != Format::None {
+        let text = report(rt, site.alloc, &site.plan, &site.board)?;
+        let _ = eprint!(*rt; "{text}");
+    }
+    Ok(())
+}
+
+/// The exit status of a session that has ended, or whose sinks have.
+fn status_of<R: Wait>(rt: &R, site: &Site) -> u8 {
+    let board = &site.board;
+    let is_source_faulty = board.sources.iter().any(|source| !matches!(
+        source.fault(rt),
+        None | Some(EndFault::Stopped)
+    ));
+    if is_source_faulty {
+        return FAULT;
+    }
+    let is_sink_faulty = board
+        .sinks
+        .iter()
+        .any(|sink| !sink.has_ended() || sink.fault(rt).is_some());
+    if is_sink_faulty { SINK_FAULT } else { 0 }
+}
+
+/// Says why the program stops.
+fn fail<R: Eprint, D: Display + Drop>(rt: &R, fault: D, status: u8) -> u8 {
+    let _ = eprintln!(rt; "fanout: {fault}");
+    status
+}
+
+/// The words of the command line, or `None` if one of them is not UTF-8.
+fn command_words<R: Env + AllocGlobal>(rt: &R) -> Result<Option<Vec<String>>, FanoutFault> {
+    match env::args(rt) {
+        Ok(words) => match words.collect::<Vec<String>>(rt.alloc()) {
+            Ok(words) => Ok(Some(words)),
+            Err(_) => Err(FanoutFault::Memory),
+        },
+        Err(error) => match error.kind() {
+            io::ErrorKind::OutOfMemory => Err(FanoutFault::Memory),
+            _ => Ok(None),
+        },
+    }
+}

@@ -1,0 +1,30 @@
+//! How long a task that finds nothing to do waits before it rests, by the capacity of its buffer.
+//!
+//! The waits are chosen for processors whose pause takes 4.5 nanoseconds. Where one takes ten times as long, so does
+//! each wait.
+use std::hint::spin_loop;
+
+/// From this capacity on a task waits long. A smaller buffer fills up meanwhile.
+const WAITS_LONG_FROM: u64 = 32;
+
+/// The pauses of each wait of a task with a small buffer: 63 in all, some 0.3 microseconds.
+const SHORT_WAITS: [u32; 6] = [1, 2, 4, 8, 16, 32];
+
+/// The pauses of each wait of a task with a larger buffer: 800 in all, some 3.6 microseconds.
+const LONG_WAITS: [u32; 4] = [200, 200, 200, 200];
+
+/// Gives the pauses of each wait, one after the other, of a task with a buffer of this capacity.
+pub(super) fn waits(capacity: u64) -> &'static [u32] {
+    if capacity < WAITS_LONG_FROM {
+        &SHORT_WAITS
+    } else {
+        &LONG_WAITS
+    }
+}
+
+/// Spins for this many pauses.
+pub(super) fn pause(pauses: u32) {
+    for _ in 0..pauses {
+        spin_loop();
+    }
+}
