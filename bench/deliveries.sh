@@ -3,7 +3,8 @@
 # switches). A delivery is an item that one subscriber is told. There are 1 and 4 submitters, each a thread, and 1 and 4 subscribers that
 # count what they are told and request all of it; capacities of 4, 16 and 256; texts of 16 and 256 bytes, whose bytes are made before; 1 and 4
 # workers. A run is from the start of the submitters' threads to the end of `finish`, and counts only if each subscriber was told every item.
-# Then it measures with 1, 2 and 4 workers how long two subscribers that sleep for 10 ms over each item take for 64 items each, which wait
+# Then it measures the same at capacities of 4 and 256 with texts of 16 bytes that are published by `submit`, and 16 and 64 by one `submit_all`.
+# Last it measures with 1, 2 and 4 workers how long two subscribers that sleep for 10 ms over each item take for 64 items each, which wait
 # when the items are requested, and the longest call of `number_of_subscribers` meanwhile.
 # With OTHER_CHECKOUT, another clone of this repository, the same program (crates/deliveries_bench) runs over the publisher of that
 # clone, too, in turns with this one's. A row has the figures of both, and their ratios, this one's to the other's.
@@ -71,6 +72,24 @@ fast() {
     }'
 }
 
+# by_call WORKERS SUBMITTERS SUBSCRIBERS CAPACITY: a row of deliveries a second by submit, and by submit_all of 16 and of 64 texts.
+by_call() {
+    for batch in 0 16 64; do
+        measure fast "$@" 16 "$items" "$batch"
+        for name in $names; do
+            median "$name.times" 1
+        done
+    done | xargs | awk -v row="$1 $2 $3 $4" -v items="$items" '{
+        split(row, at, " ")
+        told = items * at[3] * 1e9
+        printf "%7d %10d %11d %8d", at[1], at[2], at[3], at[4]
+        step = NF / 3
+        for (i = 1; i <= NF; i += step) printf " %12.0f", told / $i
+        if (step > 1) for (i = 1; i <= NF; i += step) printf " %5.2f", $(i + 1) / $i
+        print ""
+    }'
+}
+
 # slow WORKERS: a row of subscribers that sleep.
 slow() {
     measure slow "$1"
@@ -105,6 +124,17 @@ for workers in 1 4; do
                 for bytes in 16 256; do
                     fast "$workers" "$submitters" "$subscribers" "$capacity" "$bytes"
                 done
+            done
+        done
+    done
+done
+echo
+echo "workers submitters subscribers capacity       submit submit_all16 submit_all64$(if_other 'ratio ratio ratio')"
+for workers in 1 4; do
+    for submitters in 1 4; do
+        for subscribers in 1 4; do
+            for capacity in 4 256; do
+                by_call "$workers" "$submitters" "$subscribers" "$capacity"
             done
         done
     done

@@ -61,6 +61,17 @@ fast() {
     row "$1, $2 workers, capacity $5, $6 bytes"
 }
 
+# batches NAME WORKERS SUBMITTERS SUBSCRIBERS CAPACITY BYTES BATCH: such a row by calls that publish so many texts, beside Java's, which publish
+# one each: its class has no others.
+batches() {
+    rm -f "$work"/*.times
+    for _ in $(seq "$runs"); do
+        "$deliveries" fast "$2" "$3" "$4" "$5" "$6" "$items" "$7" >>"$work/this.times"
+        case $peers in *java*) java -cp "$work" Deliveries "$2" "$3" "$4" "$5" "$6" "$items" >>"$work/java.times" ;; esac
+    done
+    row "$1 by $7, $2 workers, capacity $5, $6 bytes"
+}
+
 # alone NAME WORKERS PAUSE: a row of one item at a time to one subscriber at rest, with a pause before each, in microseconds.
 alone() {
     rm -f "$work"/*.times
@@ -96,6 +107,10 @@ fast '1 submitter to 4' 4 1 4 256 16
 fast '4 submitters to 4' 4 4 4 256 16
 fast '4 submitters to 4' 4 4 4 256 256
 fast '4 submitters to 4' 4 4 4 4 16
+batches '1 submitter to 1' 1 1 1 256 16 16
+batches '1 submitter to 4' 4 1 4 256 16 16
+batches '4 submitters to 4' 4 4 4 256 16 16
+batches '4 submitters to 4' 4 4 4 256 16 64
 alone 'one item at a time, 2,000 of them' 1 10
 alone 'one item at a time, 2,000 of them' 1 1000
 mkdir -p bench/results

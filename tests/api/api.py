@@ -56,7 +56,8 @@ VALUES = {
 
 def plain(text):
     """A text in one line, without what only rustdoc reads, for a cell of a table."""
-    return re.sub(r"\[(`[^`]*`)\](\([^)]*\))?", r"\1", " ".join(text.split())).replace("|", "\\|")
+    text = re.sub(r"\[([^]`]*)\]\(crate::[^)]*\)", r"\1", " ".join(text.split()))
+    return re.sub(r"\[(`[^`]*`)\](\([^)]*\))?", r"\1", text).replace("|", "\\|")
 
 
 def paragraphs_of(text):

@@ -43,5 +43,5 @@ said=$(cd "$work/crates/soak" && rt try soak -- 2 4 2000 2>"$work/said") || {
     exit 1
 }
 # The faults are the last number but one.
-fits 'soak 2 4 2000' '([0-9]+ ){7}0 [0-9]+' "$said"
+fits 'soak 2 4 2000' '([0-9]+ ){8}0 [0-9]+' "$said"
 echo 'each program of bench/ runs'

@@ -23,7 +23,7 @@ REFUSED, UNKNOWN, UNSETTLED, HELD = b"= refused 12 command", b"= refused 10 unkn
 LONG = b"x" * 4097
 
 # The commands that a wrong one is told of.
-LISTED = b"no such command (sub, request, cancel, leave, offer, retry, submit, publish, close, fail, lag, subscribers, closed, help, quit)"
+LISTED = b"no such command (sub, request, cancel, leave, offer, retry, submit, publish, close, fail, lag, stats, subscribers, closed, help, quit)"
 
 DIGITS, NAME, SPACE = b"a number has digits alone", b"a name has 1 to 32 letters, digits, - and _", b"a space too many"
 SHOWN = b"x" * 60 + b" .."
@@ -92,6 +92,7 @@ def commands(program):
     """Each command, and what it is answered."""
     with Console(program, ["--workers", "2", "--cap", "3"]) as it:
         it.say(b"lag", b"= lag 0")
+        it.say(b"stats", b"= stats published 0, subscribed 0, reclaimed 0, live 0")
         it.say(b"subscribers", b"= subscribers 0")
         it.say(b"closed", b"= closed 0")
         it.say(b"offer x", b"= offer 0")
@@ -103,10 +104,12 @@ def commands(program):
         it.say(b"offer 3", b"= offer 3")
         it.say(b"offer 4", b"= offer 4")
         it.say(b"lag", b"= lag 4")
+        it.say(b"stats", b"= stats published 6, subscribed 1, reclaimed 0, live 1", b"= a lag 4, accepted 5, dropped 0")
         it.say(b"offer 5", b"= offer -1")
         it.say(b"retry 5", b"= retry -1 calls 1")
         it.say(b"request a 2", b"= ok", b"a next 1", b"a next 2")
         it.say(b"lag", b"= lag 2")
+        it.say(b"stats", b"= stats published 8, subscribed 1, reclaimed 0, live 1", b"= a lag 2, accepted 5, dropped 2")
         it.say(b"submit 4294967295 6", b"= submit 4294967295 3")
         it.say(b"cancel a", b"= ok")
         it.say(b"request a 9", b"= ok")
@@ -213,6 +216,8 @@ def losing(program):
         it.say(b"publish 7 v", b"= publish 7 1, 1 dropped")
         it.say(b"publish 7 w", b"= publish 7 waits for a (1 of 1)")
         it.quiet()
+        stands = (b"= a lag 1, accepted 2, dropped 0", b"= b drop lag 1, accepted 1, dropped 1")
+        it.say(b"stats", b"= stats published 3, subscribed 2, reclaimed 0, live 2", *stands)
         it.say(b"request a 1", b"= ok", b"a next v", b"= publish 7 1, 1 dropped")
         it.say(b"request b 1", b"= ok", b"b next u")
         it.say(b"publish 7 x", b"= publish 7 waits for a (1 of 1)")
@@ -477,9 +482,9 @@ def words(program):
         it.type(b"# a comment")
         it.type(b"#")
         it.type(b"?")
-        asked = [it.line() for _ in range(18)]
+        asked = [it.line() for _ in range(19)]
         it.type(b"help")
-        if not asked[0].startswith(b"= sub NAME N ") or asked != [it.line() for _ in range(18)]:
+        if not asked[0].startswith(b"= sub NAME N ") or asked != [it.line() for _ in range(19)]:
             raise Stopped(f"help is {asked}")
         it.say(b"lag", b"= lag 0")
         it.say(b"exit", b"= drained 1")

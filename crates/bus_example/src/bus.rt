@@ -41,7 +41,7 @@ pub fn run_bus<
     options: PublisherOptions,
     bus: Bus<B>,
 ) -> anyhow::Result<Outcome<B>>
-    requires blanks { AreBlanksOf blanks L.publications L.drops }
+    requires blanks { AreBlanksOf blanks L.publications L.drops L.history }
     requires untold { (B.told bus.file ≡ [])
         × ((B.told bus.counter ≡ []) × (B.told bus.slow ≡ [])) }
     requires unheard { (B.replied bus.file ≡ [])

@@ -13,7 +13,7 @@ mod watches;
 
 use anyhow::{bail, ensure};
 use bus::{Bus, run_bus};
-use flow_rules::{ErrorOrder, Listener, Watching};
+use flow_rules::{Listener, Watching};
 use publisher::{BlankPair, PublisherOptions};
 use std::fs;
 use std::io::BufWriter;
@@ -51,11 +51,10 @@ fn main(rt: HostRuntime) -> anyhow::Result<()> {
         slow,
     };
     let options = PublisherOptions {
-        workers: 2,
         capacity: 64,
-        order: ErrorOrder::Overtake,
+        ..PublisherOptions::default()
     };
-    let outcome = run_bus::<Brand, Subscriber, _>(rt, alloc, BlankPair::new(), options, bus)?;
+    let outcome = run_bus::<Brand, Subscriber, _>(rt, alloc, BlankPair::new(alloc)?, options, bus)?;
     for lane in outcome.lanes.iter() {
         let lines = lane.lane.accepted.saturating_add(lane.dropped);
         println!(rt; "{}: {lines} lines told or dropped", lane.name)?;

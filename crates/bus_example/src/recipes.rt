@@ -4,7 +4,7 @@ use flow_rules::{Listener, Name, Refusal, Text};
 use publisher::{NamedLane, SharedLedgers, Submitter};
 use std::alloc::Global;
 use std::io::{BufRead, BufReader, Read};
-use std::sync::Wait;
+use std::sync::{Mutex, Wait};
 
 /// How many bytes of a long text stand in one piece, beside its mark.
 const PIECE: usize = Text::LONGEST - 1;
@@ -37,6 +37,21 @@ pub fn submit_long<L: SharedLedgers, B: Listener + Send, R: Wait>(
         rest = others;
     }
     Ok(())
+}
+
+/// Publishes a text by one of the submitters that are idle, and gives that back. `None` if all are lent.
+pub fn submit_lent<L: SharedLedgers, B: Listener + Send, R: Wait>(
+    rt: &R,
+    alloc: Global,
+    idle: &Mutex<Vec<Submitter<L, B>>>,
+    text: &[u8],
+) -> Result<Option<u64>, Refusal> {
+    let Some(mut lent) = idle.lock(rt).pop() else {
+        return Ok(None);
+    };
+    let lag = lent.submit(rt, alloc, text);
+    idle.lock(rt).push(lent)?;
+    lag.map(Some)
 }
 
 /// Publishes the lines of a reader: many by one call while they come fast, and what is there as soon as they pause.

@@ -4,7 +4,7 @@ ghost use Rattle.feed_core.specs.LaneCalls.{IsCapacity};
 use super::in_order::InOrder;
 use super::putting::{Putting, Tasks, put_all};
 use crossbeam_queue::ArrayQueue;
-use feed_cell::{Cell, Task, Turn};
+use feed_cell::{Cell, Patience, Task, Turn};
 use feed_core::Seen;
 use flow_rules::Item;
 use std::alloc::Global;
@@ -76,7 +76,7 @@ fn run_all<R: Wait>(rt: &R, tasks: &Tasks, mut seen: Seen) {
 fn run<R: Wait>(rt: &R, task: Task<InOrder>, seen: &mut Seen) -> bool {
     let mut task = task;
     for _ in rt.forever() {
-        match task.turn(seen) {
+        match task.turn(seen, Patience::Waits) {
             Turn::Again(next) => task = next,
             Turn::Resting(_) => return false,
             Turn::Ended(..) => return true,

@@ -136,7 +136,7 @@ fn open<
     run_session::<Brand, R>(
         rt,
         alloc,
-        BlankPair::new(),
+        BlankPair::new(alloc)?,
         options.publisher,
         screen,
         &input,

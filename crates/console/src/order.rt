@@ -4,7 +4,7 @@ use flow_rules::Name;
 
 /// The commands, as they are listed.
 const COMMANDS: &str =
-    "sub, request, cancel, leave, offer, retry, submit, publish, close, fail, lag, subscribers, closed, help, quit";
+    "sub, request, cancel, leave, offer, retry, submit, publish, close, fail, lag, stats, subscribers, closed, help, quit";
 
 /// How a source publishes a text.
 #[derive(Clone, Copy, Debug, PartialEq, Eq)]
@@ -48,6 +48,8 @@ pub enum Order<'a> {
     Leave(&'a [u8]),
     /// `lag`: the longest backlog of any subscriber.
     Lag,
+    /// `stats`: how each live subscription stands.
+    Stats,
     /// `subscribers`: how many subscriptions are live.
     Subscribers,
     /// `closed`: whether the publisher is closed, and how.
@@ -118,6 +120,8 @@ fn parse_word<'a>(line: &[u8]) -> Option<Order<'a>> {
         Some(Order::Comment)
     } else if line == b"lag".as_slice() {
         Some(Order::Lag)
+    } else if line == b"stats".as_slice() {
+        Some(Order::Stats)
     } else if line == b"subscribers".as_slice() {
         Some(Order::Subscribers)
     } else if line == b"closed".as_slice() {
@@ -147,6 +151,8 @@ fn mistake_of(line: &[u8]) -> Mistake<'_> {
 fn form_of_look(word: &[u8]) -> Option<Form> {
     if word == b"lag".as_slice() {
         Some(Form::word("lag"))
+    } else if word == b"stats".as_slice() {
+        Some(Form::word("stats"))
     } else if word == b"subscribers".as_slice() {
         Some(Form::word("subscribers"))
     } else if word == b"closed".as_slice() {

@@ -37,7 +37,7 @@ pub fn run_session<
     input: &Queue<Heard>,
     verdict: Arc<Verdict>,
 ) -> Result<(), ConsoleFault>
-    requires blanks { AreBlanksOf blanks L.publications L.drops }
+    requires blanks { AreBlanksOf blanks L.publications L.drops L.history }
 {
     let submitters = Vec::with_capacity(alloc, MOST_SOURCES)?;
     let site: Site<L, R> = Site {

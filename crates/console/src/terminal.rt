@@ -14,7 +14,7 @@ use crate::source::Texts;
 use commands::{Command, OutputFault, Reply};
 use flow_rules::{Ending, Name, Refusal};
 use inbox::Queue;
-use publisher::{Ledgers, OnFull, Submitter, Subscription};
+use publisher::{Ledgers, OnFull, Stats, Submitter, Subscription};
 use std::sync::atomic::AtomicU64;
 use std::sync::{Arc, Wait};
 use std::thread::{Scope, Threads};
@@ -24,7 +24,7 @@ use std::time::Clock;
 const PAUSE: u64 = 1;
 
 /// What `help` prints.
-const HELP: [&str; 18] = [
+const HELP: [&str; 19] = [
     "sub NAME N          subscribes with this name, and requests N items",
     "sub NAME N drop     the same, of one that loses a text if publish finds its buffer full",
     "request NAME N      the latest of this name requests N items more; an N below 1 is a bad request",
@@ -37,6 +37,7 @@ const HELP: [&str; 18] = [
     "close               each subscriber completes after its items",
     "fail C              closes with the error C, before the items that wait",
     "lag                 the longest backlog of any subscriber",
+    "stats               how much was published, and how each live subscription stands",
     "subscribers         how many subscriptions are live",
     "closed              whether the publisher is closed, and how",
     "help, ?             this",
@@ -199,6 +200,10 @@ impl<
                 let lag = publisher.estimate_maximum_lag(rt);
                 screen.say(format_args!("= lag {lag}"))
             }
+            Order::Stats => match publisher.stats(rt, self.site.alloc) {
+                Ok(stats) => self.show(&stats),
+                Err(refusal) => self.refuse(refusal),
+            },
             Order::Subscribers => {
                 let live = publisher.number_of_subscribers(rt);
                 screen.say(format_args!("= subscribers {live}"))
@@ -215,6 +220,29 @@ impl<
                 Ok(())
             }
         }
+    }
+
+    /// Prints how the publisher stands.
+    fn show(&self, stats: &Stats) -> Result<(), OutputFault> {
+        let screen = &self.site.screen;
+        screen.say(format_args!(
+            "= stats published {}, subscribed {}, reclaimed {}, live {}",
+            stats.published,
+            stats.made,
+            stats.reclaimed,
+            stats.live.len()
+        ))?;
+        for one in &stats.live {
+            let policy = match one.on_full {
+                OnFull::Wait => "",
+                OnFull::Drop => " drop",
+            };
+            screen.say(format_args!(
+                "= {}{policy} lag {}, accepted {}, dropped {}",
+                one.name, one.lag, one.accepted, one.dropped
+            ))?;
+        }
+        Ok(())
     }
 
     /// Answers a line with a refusal.

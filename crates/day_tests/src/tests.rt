@@ -23,7 +23,7 @@ mod waking;
 use day::Day;
 use flow_rules::ErrorOrder;
 use player::play;
-use publisher::{BlankPair, PublisherOptions};
+use publisher::{BlankPair, PublisherOptions, USUAL_LIVE};
 use std::alloc::Global;
 use std::marker::Brand;
 use std::process::Abort;
@@ -46,8 +46,9 @@ fn played<R: Clock + Threads + Wait + Copy + Send + 'static>(
         workers,
         capacity: day.capacity,
         order,
+        most_live: USUAL_LIVE,
     };
-    let blanks = BlankPair::new();
+    let blanks = BlankPair::new(alloc)?;
     play::<Brand, R>(rt, alloc, blanks, options, round, day)
 }
 

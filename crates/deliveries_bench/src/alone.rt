@@ -25,7 +25,7 @@ pub fn measure_alone<
     L: Ledgers + Send + Sync + 'static,
     R: Threads + Wait + Clock + Copy + Send + Sync + 'static,
 >(rt: R, alloc: Global, workers: usize, items: usize, pause: u64, blanks: BlankPair) -> Option<u128>
-    requires blanks { AreBlanksOf blanks L.publications L.drops }
+    requires blanks { AreBlanksOf blanks L.publications L.drops L.history }
 {
     let publisher: Publisher<L, Bell> = Publisher::new(rt, alloc, blanks, workers, 256).ok()?;
     let rung = Arc::new(alloc, AtomicU64::new(0)).ok()?;

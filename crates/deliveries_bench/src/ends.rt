@@ -2,7 +2,7 @@
 //! every item.
 ghost use Rattle.std.specs.Prelude.{◌≡◌};
 
-use flow_rules::{How, Listener};
+use flow_rules::{How, Listener, Text};
 use publisher::{Ledgers, Outcome, Publisher, Submitter, Subscription, finish};
 use std::alloc::Global;
 use std::sync::Wait;
@@ -25,8 +25,53 @@ pub fn make_submitters<L: Ledgers + Send + Sync + 'static, B: Listener + Send + 
     Some(submitters)
 }
 
-/// Publishes this many items, up to one that is refused.
+/// Publishes this many items, up to one that is refused: one by one, or by calls of `submit_all` with so many texts.
 pub fn send_all<L: Ledgers + Send, B: Listener + Send, R: Wait>(
+    rt: &R,
+    alloc: Global,
+    submitter: &mut Submitter<L, B>,
+    text: &[u8],
+    items: usize,
+    batch: usize,
+) {
+    if batch < 2 {
+        send_singly(rt, alloc, submitter, text, items);
+    } else if send_batches(rt, alloc, submitter, text, items / batch, batch).is_some() {
+        send_singly(rt, alloc, submitter, text, items % batch);
+    }
+}
+
+/// Publishes this many batches of so many items, whose texts are made before each, up to one that is refused.
+fn send_batches<L: Ledgers + Send, B: Listener + Send, R: Wait>(
+    rt: &R,
+    alloc: Global,
+    submitter: &mut Submitter<L, B>,
+    text: &[u8],
+    batches: usize,
+    batch: usize,
+) -> Option<()> {
+    let mut texts = Vec::with_capacity(alloc, batch).ok()?;
+    for _ in 0..batches {
+        texts.clear();
+        fill(alloc, &mut texts, text, batch)?;
+        submitter.submit_all(rt, alloc, texts.as_slice()).ok()?;
+    }
+    Some(())
+}
+
+/// Adds this many texts of these bytes.
+fn fill(alloc: Global, texts: &mut Vec<Text>, text: &[u8], many: usize) -> Option<()> {
+    if text.len() > Text::LONGEST {
+        return None;
+    }
+    for _ in 0..many {
+        texts.push(Text::new(alloc, text).ok()?).ok()?;
+    }
+    Some(())
+}
+
+/// Publishes this many items one by one, up to one that is refused.
+pub fn send_singly<L: Ledgers + Send, B: Listener + Send, R: Wait>(
     rt: &R,
     alloc: Global,
     submitter: &mut Submitter<L, B>,

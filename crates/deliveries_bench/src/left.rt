@@ -28,7 +28,7 @@ pub fn measure_left<
     L: Ledgers + Send + Sync + 'static,
     R: Threads + Wait + Clock + Copy + Send + Sync + 'static,
 >(rt: R, alloc: Global, plan: &Plan, blanks: BlankPair) -> Option<Spent>
-    requires blanks { AreBlanksOf blanks L.publications L.drops }
+    requires blanks { AreBlanksOf blanks L.publications L.drops L.history }
 {
     let publisher: Publisher<L, Tally> = Publisher::new(
         rt,
@@ -62,7 +62,7 @@ fn time_told<L: Ledgers + Send + Sync + 'static, R: Threads + Wait + Clock + Syn
     let text = vec![in alloc; b'x'; plan.bytes].ok()?;
     let each = plan.items.checked_div(plan.submitters)?;
     let start = Instant::now(rt).ok()?;
-    send_each(rt, alloc, text.as_slice(), each, submitters);
+    send_each(rt, alloc, text.as_slice(), each, plan.batch, submitters);
     publisher.close(rt, alloc, &mut publisher.note()).ok()?;
     publisher.wait_drained(rt);
     Some(start.elapsed(rt).ok()?.as_nanos())
@@ -80,7 +80,7 @@ fn finish_left<L: Ledgers + Send + Sync + 'static, R: Wait>(
     match finish(rt, alloc, publisher, submitters, subscriptions) {
         Ok(outcome) => {
             is_whole(&outcome, plan.subscribers, plan.items as u64)
-                && outcome.reclaimed.len() == plan.reclaimed
+                && outcome.reclaimed == plan.reclaimed as u64
         }
         Err(_) => false,
     }

@@ -1,9 +1,10 @@
 //! Prints the nanoseconds in which a publisher gives items to its subscribers. `deliveries_bench fast WORKERS SUBMITTERS SUBSCRIBERS
-//! CAPACITY BYTES ITEMS` measures subscribers that count, with the items of all submitters; `deliveries_bench slow WORKERS` measures two that
-//! sleep, and prints the nanoseconds of the longest call of `number_of_subscribers`, too; `deliveries_bench alone WORKERS ITEMS PAUSE` measures one
-//! subscriber at rest, who is told one item at a time, with a pause of this many microseconds before each. `deliveries_bench left RECLAIMED
-//! WORKERS ..` measures as `fast` does, after this many subscriptions came, ended and were reclaimed, and prints the nanoseconds until all
-//! subscribers were told all, those of `finish` after that, and those of a `reclaim` before.
+//! CAPACITY BYTES ITEMS [BATCH]` measures subscribers that count, with the items of all submitters, each published by `submit`, or BATCH of
+//! them by one `submit_all`. `deliveries_bench slow WORKERS` measures two subscribers that sleep, and prints the nanoseconds of the longest
+//! call of `number_of_subscribers`, too. `deliveries_bench alone WORKERS ITEMS PAUSE` measures one subscriber at rest, who is told one item at
+//! a time, with a pause of this many microseconds before each. `deliveries_bench left RECLAIMED WORKERS ..` measures as `fast` does, after
+//! this many subscriptions came, ended and were reclaimed, and prints the nanoseconds until all subscribers were told all, those of `finish`
+//! after that, and those of a `reclaim` before.
 #![tactic(auto)]
 
 mod alone;
@@ -27,34 +28,34 @@ use std::thread::Threads;
 use std::time::Clock;
 use std::{env, io};
 
-/// Measures subscribers that count, on a publisher with two new ledgers.
+/// Measures subscribers that count, on a publisher with new ledgers.
 fn fast_run<R: Threads + Wait + Clock + Copy + Send + Sync + 'static>(
     rt: R,
     alloc: Global,
     plan: &Plan,
 ) -> Option<u128> {
-    measure_fast::<Brand, R>(rt, alloc, plan, BlankPair::new())
+    measure_fast::<Brand, R>(rt, alloc, plan, BlankPair::new(alloc).ok()?)
 }
 
-/// Measures subscribers that count after others were reclaimed, on a publisher with two new ledgers.
+/// Measures subscribers that count after others were reclaimed, on a publisher with new ledgers.
 fn left_run<R: Threads + Wait + Clock + Copy + Send + Sync + 'static>(
     rt: R,
     alloc: Global,
     plan: &Plan,
 ) -> Option<Spent> {
-    measure_left::<Brand, R>(rt, alloc, plan, BlankPair::new())
+    measure_left::<Brand, R>(rt, alloc, plan, BlankPair::new(alloc).ok()?)
 }
 
-/// Measures subscribers that sleep, on a publisher with two new ledgers.
+/// Measures subscribers that sleep, on a publisher with new ledgers.
 fn slow_run<R: Threads + Wait + Clock + Copy + Send + Sync + 'static>(
     rt: R,
     alloc: Global,
     workers: usize,
 ) -> Option<(u128, u128)> {
-    measure_slow::<Brand, R>(rt, alloc, workers, BlankPair::new())
+    measure_slow::<Brand, R>(rt, alloc, workers, BlankPair::new(alloc).ok()?)
 }
 
-/// Measures one subscriber at rest, on a publisher with two new ledgers.
+/// Measures one subscriber at rest, on a publisher with new ledgers.
 fn alone_run<R: Threads + Wait + Clock + Copy + Send + Sync + 'static>(
     rt: R,
     alloc: Global,
@@ -62,7 +63,7 @@ fn alone_run<R: Threads + Wait + Clock + Copy + Send + Sync + 'static>(
     items: usize,
     pause: usize,
 ) -> Option<u128> {
-    let blanks = BlankPair::new();
+    let blanks = BlankPair::new(alloc).ok()?;
     measure_alone::<Brand, R>(rt, alloc, workers, items, pause as u64, blanks)
 }
 
@@ -146,6 +147,7 @@ fn main(rt: HostRuntime) -> io::Result<()> {
         capacity: number(words.next()),
         bytes: number(words.next()),
         items: number(words.next()),
+        batch: number(words.next()),
     };
     print_times(rt, rt.alloc(), kind, &plan)
 }

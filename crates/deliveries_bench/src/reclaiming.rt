@@ -1,6 +1,6 @@
 //! Subscriptions that come, end and are reclaimed before a run, some at a time.
 use flow_rules::{How, Name, Refusal, Tally};
-use publisher::{Ledgers, MOST_LIVE, Publisher, Subscription};
+use publisher::{Ledgers, Publisher, Subscription, USUAL_LIVE};
 use std::alloc::Global;
 use std::sync::Wait;
 use std::thread;
@@ -9,7 +9,7 @@ use std::time::{Clock, Instant};
 /// How often a subscription is tried to be reclaimed that has ended, but whose task a thread still has.
 const MOST_TRIES: u64 = 1_000_000;
 
-/// Has this many subscriptions come, end and be reclaimed, as many at a time as may be live. Measures the nanoseconds of a `reclaim`, on an
+/// Has this many subscriptions come, end and be reclaimed, 64 at a time. Measures the nanoseconds of a `reclaim`, on an
 /// average of the last ones.
 pub fn reclaim_many<L: Ledgers + Send + Sync + 'static, R: Wait + Clock>(
     rt: &R,
@@ -17,9 +17,9 @@ pub fn reclaim_many<L: Ledgers + Send + Sync + 'static, R: Wait + Clock>(
     publisher: &Publisher<L, Tally>,
     many: usize,
 ) -> Option<u128> {
-    let mut spent = come_and_go(rt, alloc, publisher, many % MOST_LIVE)?;
-    for _ in 0..many / MOST_LIVE {
-        spent = come_and_go(rt, alloc, publisher, MOST_LIVE)?;
+    let mut spent = come_and_go(rt, alloc, publisher, many % USUAL_LIVE)?;
+    for _ in 0..many / USUAL_LIVE {
+        spent = come_and_go(rt, alloc, publisher, USUAL_LIVE)?;
     }
     Some(spent)
 }

@@ -2,7 +2,7 @@
 //! and again.
 ghost use Rattle.publisher.specs.Blanks.{AreBlanksOf};
 
-use super::ends::{NAMES, end_all, make_submitters, send_all};
+use super::ends::{NAMES, end_all, make_submitters, send_singly};
 use super::sleeper::Sleeper;
 use flow_rules::{Listener, Name};
 use publisher::{BlankPair, Ledgers, Publisher, Submitter, Subscription};
@@ -28,7 +28,7 @@ pub fn measure_slow<
     L: Ledgers + Send + Sync + 'static,
     R: Threads + Wait + Clock + Copy + Send + Sync + 'static,
 >(rt: R, alloc: Global, workers: usize, blanks: BlankPair) -> Option<(u128, u128)>
-    requires blanks { AreBlanksOf blanks L.publications L.drops }
+    requires blanks { AreBlanksOf blanks L.publications L.drops L.history }
 {
     let slept = Arc::new(alloc, AtomicU64::new(0)).ok()?;
     let publisher: Publisher<L, Sleeper<R>> = Publisher::new(
@@ -80,7 +80,7 @@ fn publish_slept<L: Ledgers + Send, B: Listener + Send, R: Wait>(
     submitters: &mut [Submitter<L, B>],
 ) {
     for submitter in submitters.iter_mut() {
-        send_all(rt, alloc, submitter, b"x", SLEPT_ITEMS as usize);
+        send_singly(rt, alloc, submitter, b"x", SLEPT_ITEMS as usize);
     }
 }
 

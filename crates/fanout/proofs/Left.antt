@@ -34,7 +34,7 @@ told_all told replied published left lane is rests completed =
 
 -- so it is of each
 pub tells_all : {B H : Type 0} (told : B → List Signal) (replied : B → List Reply) (submitters : List SubmitterState)
-    (subscriptions : List SubscriptionState) (outcome : Outcome B H) → IsOutcome told replied outcome
+    (subscriptions : List SubscriptionState) (outcome : Outcome B H) → IsOutcome told replied submitters outcome
     → LeavesAllDone submitters subscriptions outcome → TellsAll told outcome
 tells_all told replied submitters subscriptions outcome is done = record {
   lanes = is.lanes;

@@ -1,7 +1,7 @@
 -- Whether a word stands in a piece, as the search for it tells.
-use Rattle.std.proofs.Common.{◌≡◌, ℕ, ◌+◌, ◌<◌, ◌≤◌, true, false, refl, List, length, None, Some, Option, arith}
+use Rattle.std.proofs.Common.{◌≡◌, ℕ, true, false, refl, List, None, Some, Option, arith}
 use Rattle.std.specs.Prelude.{◌↔◌, IsTrue, is_some}
-use Rattle.memchr.specs.Find.{FindsNeedle, OccursAt}
+use Rattle.memchr.specs.Find.{FindsNeedle}
 use Rattle.fanout.specs.Filter.{Has}
 
 -- a word stands there if the search has found it, and only then

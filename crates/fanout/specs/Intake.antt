@@ -1,18 +1,22 @@
 -- What an intake holds, and what a read and a cut do to it.
-use Rattle.std.specs.Prelude.{◌≡◌, ◌≢◌, ℕ, ◌+◌, ◌<◌, Bool, not, true, List, [], ◌++◌, length, slice_index}
-use Rattle.fanout.specs.Piece.{HasNoLineFeed, ends_line, is_first, piece_bytes}
+use Rattle.std.specs.Prelude.{◌≡◌, ◌≢◌, ℕ, ◌+◌, ◌<◌, ◌≤◌, Bool, not, true, false, List, [], ◌++◌, length, slice_index}
+use Rattle.fanout.specs.Piece.{HasNoLineFeed, ends_line, is_first, is_marked, most_of, piece_bytes}
 
--- the bytes that wait, and whether the line of the last piece goes on
+-- the bytes that wait, and whether the line of the last text goes on
 pub record IntakeState : Type 0 where
   pub waiting : List ℕ
   pub in_line : Bool
 
--- a text was cut off: its bytes stood before those that still wait, and no line ends among them but at their end
+-- a text was cut off: its bytes stood before those that still wait. In the middle of a line it ends with that line at the latest;
+-- else it is as many whole lines as it has room for, or a line's beginning and no line before it
 pub record CutsOff (text : List ℕ) (old new : IntakeState) : Type 0 where
   pub bytes : piece_bytes text ++ new.waiting ≡ old.waiting
   pub some : 0 < length (piece_bytes text)
   pub first : is_first text ≡ not old.in_line
-  pub whole : (i : ℕ) → i + 1 < length (piece_bytes text) → slice_index (piece_bytes text) i ≢ 10
+  pub whole : ends_line (piece_bytes text) ≡ false → HasNoLineFeed (piece_bytes text)
+  pub one : old.in_line ≡ true → (i : ℕ) → i + 1 < length (piece_bytes text) → slice_index (piece_bytes text) i ≢ 10
+  pub longest : old.in_line ≡ false → (i : ℕ) → length (piece_bytes text) ≤ i
+      → i < most_of (is_marked old.in_line old.waiting) → i < length old.waiting → slice_index old.waiting i ≢ 10
   pub goes_on : new.in_line ≡ not (ends_line (piece_bytes text))
 
 -- nothing can be cut off before more bytes come, or at the end since nothing waits

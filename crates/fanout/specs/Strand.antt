@@ -1,5 +1,5 @@
 -- What comes of a piece at a sink.
-use Rattle.std.specs.Prelude.{◌≡◌, ◌≢◌, ◌⊎◌, ◌↔◌, Bool, true, false}
+use Rattle.std.specs.Prelude.{◌≡◌, ◌⊎◌, true, false}
 use Rattle.fanout.specs.declared.strand.Deed.{Deed}
 use Rattle.fanout.specs.declared.strand.Deed.TheVariants as deed
 use Rattle.fanout.specs.declared.strand.Sight.{Sight}

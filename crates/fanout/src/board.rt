@@ -150,6 +150,11 @@ impl Board {
         waiting
     }
 
+    /// Whether the sink of this number has ended.
+    pub fn has_ended(&self, sink: usize) -> bool {
+        self.sinks.get(sink).is_some_and(|count| count.has_ended())
+    }
+
     /// Whether all sources have ended.
     pub fn are_sources_over(&self) -> bool {
         self.sources

@@ -1,10 +1,10 @@
 //! The intake of a source: the bytes that were read of it and not published yet.
-ghost use Rattle.std.specs.Prelude.{◌≡◌, ◌≢◌, ℕ, ◌+◌, ◌<◌, ◌≤◌, false, IfOk, IfNone, IfSome, OnErr, not, [], length, slice_index};
+ghost use Rattle.std.specs.Prelude.{◌≡◌, ◌≢◌, ℕ, ◌+◌, ◌-◌, ◌<◌, ◌≤◌, true, false, IfOk, IfNone, IfSome, OnErr, [], length, slice_index};
 ghost use Rattle.std.specs.Io.{StartsWith};
 ghost use Rattle.fanout.specs.Intake.{CutsOff, NeedsMore};
-ghost use Rattle.fanout.specs.Piece.{most_of};
+ghost use Rattle.fanout.specs.Piece.{is_marked, most_of};
 
-use crate::piece::{LONGEST, ends_line, most_of, piece_length, text_of};
+use crate::piece::{LONGEST, ends_line, is_marked, most_of, piece_length, text_of};
 use flow_rules::{NoMemory, Text};
 use std::alloc::Global;
 use std::io;
@@ -12,9 +12,9 @@ use std::io::Read;
 use std::marker::Model;
 
 /// How many bytes are read at once, at most.
-const AT_ONCE: usize = 65_536;
+const AT_ONCE: usize = 16_384;
 
-/// The room: for what is read at once, and for the beginning of a piece before it.
+/// The room: for what is read at once, and for the beginning of a text before it.
 const ROOM: usize = AT_ONCE + LONGEST;
 
 /// The bytes of a source that wait to be published. They stand in `room` from `start` to `end`.
@@ -23,7 +23,7 @@ pub struct Intake {
     room: Vec<u8>,
     start: usize,
     end: usize,
-    /// Whether the line of the last piece goes on.
+    /// Whether the line of the last text goes on.
     is_in_line: bool,
 }
 
@@ -35,7 +35,7 @@ impl Model for Intake {
     ghost Value = { IntakeState };
 
     ghost invariant = { λ i. (i.start ≤ i.end) × (i.end ≤ length i.room.items)
-        × (length i.room.items ≡ 69632) };
+        × (length i.room.items ≡ 20480) };
 
     ghost view = { λ i. record {
       waiting = slice_range i.room.items i.start i.end;
@@ -76,8 +76,8 @@ impl Intake {
         Ok(read)
     }
 
-    /// Cuts the next piece off, as a text; `None` if more bytes have to come first. At the end of the source what waits is
-    /// a piece, too, and `None` says that nothing does.
+    /// Cuts the next text off; `None` if more bytes have to come first. At the end of the source what waits without a line
+    /// feed is a text, too, and `None` says that nothing waits.
     pub fn cut(&mut self, alloc: Global, is_over: bool) -> Result<Option<Text>, NoMemory>
         ensures some { IfOk result
             (λ cut. IfSome cut (λ text. CutsOff text self.old self.new)) }
@@ -89,32 +89,32 @@ impl Intake {
         if length == 0 {
             return Ok(None);
         }
-        let piece = &self.room[self.start..self.start + length];
-        let text = text_of(alloc, piece, self.is_in_line)?;
-        self.is_in_line = !ends_line(piece);
+        let bytes = &self.room[self.start..self.start + length];
+        let text = text_of(alloc, bytes, is_marked(self.is_in_line, bytes))?;
+        self.is_in_line = !ends_line(bytes);
         self.start += length;
         Ok(Some(text))
     }
 
-    /// How many bytes the next piece has; 0 if more bytes have to come first, or none wait at the end.
+    /// How many bytes the next text has; 0 if more bytes have to come first, or none wait at the end.
     fn next_length(&self, is_over: bool) -> usize
         ensures within { result ≤ length self.now.waiting }
-        ensures few { result ≤ most_of self.now.in_line }
-        ensures whole { (i : ℕ) → i + 1 < result → slice_index self.now.waiting i ≢ 10 }
+        ensures few { result ≤ most_of (is_marked self.now.in_line self.now.waiting) }
+        ensures whole { slice_index self.now.waiting (result - 1) ≢ 10
+            → (i : ℕ) → i < result → slice_index self.now.waiting i ≢ 10 }
+        ensures one { self.now.in_line ≡ true
+            → (i : ℕ) → i + 1 < result → slice_index self.now.waiting i ≢ 10 }
+        ensures longest { self.now.in_line ≡ false → (i : ℕ) → result ≤ i
+            → i < most_of (is_marked self.now.in_line self.now.waiting)
+            → i < length self.now.waiting → slice_index self.now.waiting i ≢ 10 }
         ensures none { result ≡ 0 → NeedsMore LONGEST is_over self.now self.now }
     {
         let waiting = &self.room[self.start..self.end];
-        match piece_length(waiting, most_of(self.is_in_line)) {
+        let most = most_of(is_marked(self.is_in_line, waiting));
+        match piece_length(waiting, most, self.is_in_line) {
             Some(length) => length,
             None if is_over => waiting.len(),
             None => 0,
         }
-    }
-
-    /// Whether the next piece is the first of its line.
-    pub fn is_before_line(&self) -> bool
-        ensures { result ≡ not self.now.in_line }
-    {
-        !self.is_in_line
     }
 }

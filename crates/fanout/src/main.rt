@@ -7,6 +7,7 @@ mod doors;
 mod fault;
 mod filter;
 mod intake;
+mod lines;
 mod options;
 mod page;
 mod piece;
@@ -28,7 +29,6 @@ use doors::Doors;
 use fault::{EndFault, FanoutFault};
 use options::{WrongPlan, command_line, read_plan};
 use plan::{Format, Plan};
-use progress::Pace;
 use publisher::BlankPair;
 use report::report;
 use session::run_session;
@@ -133,27 +133,22 @@ fn start<
 }
 
 /// Holds the session, on a publisher of its own.
-fn hold<R: Print + Doors + Clock + Threads + Wait + Copy + Send + Sync + 'static>(
+fn hold<R: Print + Eprint + Doors + Clock + Threads + Wait + Copy + Send + Sync + 'static>(
     rt: &R,
     site: &Site,
 ) -> Result<(), FanoutFault> {
-    let _left = run_session::<Brand, R>(rt, site, BlankPair::new())?;
+    let _left = run_session::<Brand, R>(rt, site, BlankPair::new(site.alloc)?)?;
     Ok(())
 }
 
-/// Waits until the session has ended, or only lossy sinks are left that are stuck. Tells each second how far it is, if
-/// that is asked for. A thread that can't be started is as memory that is refused.
-fn wait<R: Eprint + Clock + Wait>(rt: &R, site: &Site) -> Result<(), FanoutFault> {
+/// Waits until the session has ended, or only lossy sinks are left that are stuck. A thread that can't be started is as
+/// memory that is refused.
+fn wait<R: Clock + Wait>(rt: &R, site: &Site) -> Result<(), FanoutFault> {
     let mut begun = 0_u64;
     let mut stuck = 0_u64;
-    let mut pace = Pace::new();
     for _ in rt.forever() {
         if let Some(ended) = site.verdict.wait_a_second(rt) {
             return ended;
-        }
-        if site.plan.is_watched {
-            let line = pace.line(site.alloc, &site.plan, &site.board)?;
-            let _ = eprint!(*rt; "{line}");
         }
         begun = count_if(!site.board.have_all_begun(), begun);
         if begun > PATIENCE {

@@ -1,54 +1,22 @@
-//! The command line.
+//! What the command line says, as a plan.
+mod command;
+
 use crate::filter::Rule;
 use crate::plan::{Format, MOST, Plan, STANDARD, SinkPlan};
-use clap::builder::ValueParser;
-use clap::{Arg, ArgAction, ArgMatches, Command};
+use clap::ArgMatches;
+pub use command::command_line;
+use command::{
+    APPEND, CAPACITY, FILE, FROM, GREP, LINGER, LOSSY, NOT, PROGRESS, REPORT, TO, WORKERS,
+};
 use publisher::PublisherOptions;
 use std::alloc::{AllocError, AllocFailed, Global};
 use std::mem;
 
-const FILE: &str = "file";
-
-const TO: &str = "to";
-
-const LOSSY: &str = "lossy";
-
-const GREP: &str = "grep";
-
-const NOT: &str = "not";
-
-const FROM: &str = "from";
-
-const APPEND: &str = "append";
-
-const REPORT: &str = "report";
-
-const PROGRESS: &str = "progress";
-
-const LINGER: &str = "linger";
-
-const WORKERS: &str = "workers";
-
-const CAPACITY: &str = "cap";
-
-/// The most threads that a publisher takes.
-const MOST_WORKERS: u64 = 8;
+/// How many texts may wait in the buffer of a sink, if nothing else is asked for.
+const TEXTS: usize = 16;
 
 /// For how many seconds a lossy sink may be stuck at the end, if nothing else is asked for.
 const LINGER_SECONDS: u64 = 2;
-
-/// What `--version` prints after the name.
-const VERSION: &str = "0.1.0";
-
-/// What `--help` says at its end, for a terminal of 80 columns.
-const HELP: &str = "Examples:
-  tail -F app.log | fanout all.log --grep error errors.log --lossy /dev/ttyS0
-  fanout --from a.fifo --from b.fifo --to - --report json
-  make 2>&1 | fanout - --append build.log
-Each sink gets the bytes of its lines, in their order. One that waits gets every
-line, and a lossy one loses whole lines if its reader is slow. A sink that fails
-ends alone. The status is 0, 1 if a source failed, 2 for a wrong command line,
-and 3 if a sink failed.";
 
 /// A sink or a filter, and where it stands on the command line.
 #[derive(Clone, Copy)]
@@ -108,7 +76,7 @@ impl WrongPlan {
 pub fn read_plan(alloc: Global, matches: &ArgMatches<'_>) -> Result<Plan, WrongPlan> {
     let mut publisher = PublisherOptions::default();
     publisher.workers = number_of(matches, WORKERS, publisher.workers);
-    publisher.capacity = number_of(matches, CAPACITY, publisher.capacity);
+    publisher.capacity = number_of(matches, CAPACITY, TEXTS);
     let sources = sources_of(alloc, matches)?;
     let sinks = sinks_of(alloc, matches)?;
     if sources.len() > MOST || sinks.len() > MOST {
@@ -209,91 +177,4 @@ fn add_words<'a>(
         })?;
     }
     Ok(())
-}
-
-/// The command line.
-pub fn command_line<'a>(alloc: Global) -> Result<Command<'a>, AllocError> {
-    let file = Arg::new(alloc, FILE)
-        .value_name("FILE")
-        .num_args(0..)
-        .action(ArgAction::Append)
-        .help("A sink that gets every line; - is standard output");
-    let command = Command::new(alloc, "fanout")
-        .about("Ships lines to any number of sinks, of which no slow one stops the others")
-        .version(VERSION)
-        .after_help(HELP)
-        .arg(file)?
-        .arg(list(alloc, TO, "FILE", "The same"))?
-        .arg(list(
-            alloc,
-            LOSSY,
-            "FILE",
-            "A sink that loses whole lines if its reader is slow",
-        ))?
-        .arg(list(
-            alloc,
-            GREP,
-            "TEXT",
-            "The next sink gets the lines alone that have TEXT",
-        ))?
-        .arg(list(
-            alloc,
-            NOT,
-            "TEXT",
-            "The next sink gets the lines alone that don't have TEXT",
-        ))?
-        .arg(list(alloc, FROM, "FILE", "A source [standard input]"))?;
-    add_settings(alloc, command)
-}
-
-/// An option that may stand several times.
-fn list<'a>(alloc: Global, name: &'a str, value: &'a str, help: &'a str) -> Arg<'a> {
-    Arg::new(alloc, name)
-        .long(name)
-        .value_name(value)
-        .action(ArgAction::Append)
-        .help(help)
-}
-
-/// Adds the options that are for all.
-fn add_settings<'a>(alloc: Global, command: Command<'a>) -> Result<Command<'a>, AllocError> {
-    let append = Arg::new(alloc, APPEND)
-        .long(APPEND)
-        .action(ArgAction::SetTrue)
-        .help("Writes behind what the files have");
-    let report = Arg::new(alloc, REPORT)
-        .long(REPORT)
-        .value_name("FORMAT")
-        .action(ArgAction::Set)
-        .value_parser(["text", "json", "csv", "none"].as_slice())
-        .help("How it is told at the end, on standard error, what came of each [text]");
-    let progress = Arg::new(alloc, PROGRESS)
-        .long(PROGRESS)
-        .action(ArgAction::SetTrue)
-        .help("Tells each second how many lines came, and how many wait for each sink");
-    let linger = number(alloc, LINGER, "SECONDS", 0, u64::MAX).help(
-        "How long a stuck lossy sink is waited for at the end [2]",
-    );
-    let workers = number(alloc, WORKERS, "W", 1, MOST_WORKERS).help(
-        "How many threads hand lines to sinks, 1 to 8 [2]",
-    );
-    let capacity = number(alloc, CAPACITY, "N", 1, u64::MAX).help(
-        "How many lines may wait for a sink, to a power of two, up to 65536 [256]",
-    );
-    command
-        .arg(append)?
-        .arg(report)?
-        .arg(progress)?
-        .arg(linger)?
-        .arg(workers)?
-        .arg(capacity)
-}
-
-/// An option with a number.
-fn number<'a>(alloc: Global, name: &'a str, value: &'a str, least: u64, most: u64) -> Arg<'a> {
-    Arg::new(alloc, name)
-        .long(name)
-        .value_name(value)
-        .action(ArgAction::Set)
-        .value_parser(ValueParser::Unsigned(least, most))
 }

@@ -1,6 +1,7 @@
 //! The page of a sink: what it writes, many lines at once.
 use crate::board::SinkCount;
 use crate::fault::EndFault;
+use crate::filter::{Rule, keep};
 use flow_rules::NoMemory;
 use std::alloc::Global;
 use std::io::Write;
@@ -8,7 +9,7 @@ use std::mem;
 use std::sync::atomic::Ordering::SeqCst;
 
 /// How many bytes are written at once.
-const AT_ONCE: usize = 65_536;
+const AT_ONCE: usize = 16_384;
 
 /// A writer with the bytes that wait to be written. They are counted once they were.
 #[derive(Drop)]
@@ -34,12 +35,27 @@ impl<'a, W: Write + Drop> Page<'a, W> {
         })
     }
 
-    /// Adds bytes behind all others, and writes what waits before if there is no room.
+    /// Adds bytes behind all others.
     pub fn put(&mut self, bytes: &[u8]) -> Result<(), EndFault> {
-        if self.waiting.len().saturating_add(bytes.len()) > AT_ONCE {
+        self.make_room(bytes.len())?;
+        self.waiting.extend_from_slice(bytes)?;
+        Ok(())
+    }
+
+    /// Adds those of some lines that pass behind all others, and counts them.
+    pub fn put_lines(&mut self, rules: &[Rule], lines: &[u8]) -> Result<(), EndFault> {
+        self.make_room(lines.len())?;
+        let kept = keep(rules, lines, &mut self.waiting)?;
+        self.lines = self.lines.saturating_add(kept.lines as u64);
+        self.count.left_out.fetch_add(kept.left_out as u64, SeqCst);
+        Ok(())
+    }
+
+    /// Writes what waits if there is no room for so many bytes more.
+    fn make_room(&mut self, bytes: usize) -> Result<(), EndFault> {
+        if self.waiting.len().saturating_add(bytes) > AT_ONCE {
             self.flush()?;
         }
-        self.waiting.extend_from_slice(bytes)?;
         Ok(())
     }
 

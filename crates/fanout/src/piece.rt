@@ -1,87 +1,114 @@
-//! Pieces: how the bytes of a source are cut into texts, and what a sink sees of a text.
+//! Texts: how the bytes of a source are cut into them, and what a sink sees of one.
 //!
-//! A piece is a line with its line feed, or a part of a longer line. Where a source is cut is a function of its bytes,
-//! however they were read.
-ghost use Rattle.std.specs.Prelude.{◌≡◌, ◌<◌, ◌≤◌, IfNone, IfOk, IfSome, length};
-ghost use Rattle.fanout.specs.Piece.{HasNoLineFeed, IsPieceOf, ends_line, is_first, most_of, piece_bytes, text_of};
+//! A text has whole lines, each with its line feed, or a piece of a line that is longer than a text, or the last line of a
+//! source if that has no line feed. A long line is cut where it has filled texts, however its bytes were read.
+ghost use Rattle.std.specs.Prelude.{◌≡◌, ◌<◌, ◌≤◌, IfNone, IfOk, IfSome, false, length, true};
+ghost use Rattle.memchr.specs.Find.{IsFirstByte, IsLastByte, is_byte};
+ghost use Rattle.fanout.specs.Piece.{HasNoLineFeed, IsPieceOf, begins_with_feed, ends_line, is_first, is_marked, most_of, piece_bytes, text_of};
 
 use flow_rules::{NoMemory, Text};
-use memchr::memchr;
+use memchr::{memchr, memrchr};
 use std::alloc::Global;
 
 /// What ends a line.
 pub const LINE_FEED: u8 = b'\n';
 
-/// The most bytes of a line's first piece. A further one has one byte less, and its text begins with a line feed in
-/// their place, which says that it is no first piece: a first piece that begins with a line feed has no other byte.
+/// The most bytes of a text. One in the middle of a line begins with a line feed that is none of the line's, and so does
+/// one whose first line is empty; other texts never begin with a line feed and more.
 pub const LONGEST: usize = Text::LONGEST;
 
-/// A piece of a line.
+/// What a text has of its source.
 #[derive(Clone, Copy)]
 pub struct Piece<'a> {
-    /// Whether its line begins with it.
+    /// Whether a line begins with it.
     pub is_first: bool,
-    /// Its bytes, as they stand in the line.
+    /// Its bytes, as they stand in the source.
     pub bytes: &'a [u8],
 }
 
-/// The piece that a text is.
+/// What a text has.
 pub fn piece_of(text: &[u8]) -> Piece<'_>
     ensures first { result.is_first ≡ is_first text.entry.now }
     ensures bytes { result.bytes.now ≡ piece_bytes text.entry.now }
 {
-    if text.len() > 1 && text[0] == LINE_FEED {
-        Piece {
-            is_first: false,
-            bytes: &text[1..],
-        }
-    } else {
-        Piece {
+    if !begins_with_feed(text) {
+        return Piece {
             is_first: true,
             bytes: text,
-        }
+        };
+    }
+    let bytes = &text[1..];
+    Piece {
+        is_first: begins_with_feed(bytes),
+        bytes,
     }
 }
 
-/// Whether a line ends with this piece.
-pub fn ends_line(piece: &[u8]) -> bool
-    ensures { result ≡ ends_line piece.now }
+/// Whether a line feed begins these bytes, and they have more.
+fn begins_with_feed(bytes: &[u8]) -> bool
+    ensures { result ≡ begins_with_feed bytes.now }
 {
-    !piece.is_empty() && piece[piece.len() - 1] == LINE_FEED
+    bytes.len() > 1 && bytes[0] == LINE_FEED
 }
 
-/// The most bytes of the next piece, in the middle of a line or not.
-pub fn most_of(is_in_line: bool) -> usize
-    ensures { result ≡ most_of is_in_line }
+/// Whether a line ends with these bytes.
+pub fn ends_line(bytes: &[u8]) -> bool
+    ensures { result ≡ ends_line bytes.now }
 {
-    if is_in_line { LONGEST - 1 } else { LONGEST }
+    !bytes.is_empty() && bytes[bytes.len() - 1] == LINE_FEED
 }
 
-/// The text of a piece with these bytes, in the middle of a line or not. `NoMemory` if its memory is refused.
-pub fn text_of(alloc: Global, piece: &[u8], is_in_line: bool) -> Result<Text, NoMemory>
-    requires { length piece.now ≤ most_of is_in_line }
-    ensures { IfOk result (λ text. text ≡ text_of is_in_line piece.now) }
+/// Whether the text with these bytes is marked, in the middle of a line or not.
+pub fn is_marked(is_in_line: bool, bytes: &[u8]) -> bool
+    ensures { result ≡ is_marked is_in_line bytes.now }
 {
-    if !is_in_line {
-        return Text::new(alloc, piece);
+    is_in_line || begins_with_feed(bytes)
+}
+
+/// The most bytes that a text has, marked or not.
+pub fn most_of(is_marked: bool) -> usize
+    ensures { result ≡ most_of is_marked }
+{
+    if is_marked { LONGEST - 1 } else { LONGEST }
+}
+
+/// The text with these bytes, marked or not. `NoMemory` if its memory is refused.
+pub fn text_of(alloc: Global, bytes: &[u8], is_marked: bool) -> Result<Text, NoMemory>
+    requires { length bytes.now ≤ most_of is_marked }
+    ensures { IfOk result (λ text. text ≡ text_of is_marked bytes.now) }
+{
+    if !is_marked {
+        return Text::new(alloc, bytes);
     }
-    let mut marked = Vec::with_capacity(alloc, piece.len() + 1)?;
+    let mut marked = Vec::with_capacity(alloc, bytes.len() + 1)?;
     marked.push(LINE_FEED)?;
-    marked.extend_from_slice(piece)?;
+    marked.extend_from_slice(bytes)?;
     Text::new(alloc, marked.as_slice())
 }
 
-/// How many of these bytes the next piece has: all up to the first line feed, and no more than `most`. `None` if that
-/// can't be known before more bytes have come.
-pub fn piece_length(bytes: &[u8], most: usize) -> Option<usize>
+/// How many of these bytes the next text has: in the middle of a line all up to the first line feed, else all up to the
+/// last one, and no more than `most`. `None` if that can't be known before more bytes have come.
+pub fn piece_length(bytes: &[u8], most: usize, is_in_line: bool) -> Option<usize>
     requires { 0 < most }
-    ensures some { IfSome result (λ n. IsPieceOf bytes.now most n) }
+    ensures some { IfSome result (λ n. IsPieceOf is_in_line bytes.now most n) }
     ensures none { IfNone result ((length bytes.now < most) × HasNoLineFeed bytes.now) }
 {
     let within = &bytes[..bytes.len().min(most)];
-    match memchr(LINE_FEED, within) {
+    match line_end(within, is_in_line) {
         Some(place) => Some(place + 1),
         None if within.len() == most => Some(most),
         None => None,
+    }
+}
+
+/// Where the first of these lines ends, or the last.
+fn line_end(bytes: &[u8], is_first: bool) -> Option<usize>
+    ensures first { is_first ≡ true → IsFirstByte (is_byte 10) bytes.now result }
+    ensures last { is_first ≡ false → IsLastByte (is_byte 10) bytes.now result }
+{
+    if is_first {
+        memchr(LINE_FEED, bytes)
+    } else {
+        memrchr(LINE_FEED, bytes)
     }
 }

@@ -9,8 +9,8 @@ pub const STANDARD: &str = "-";
 /// The most sources, and the most sinks. Each has a thread.
 pub const MOST: usize = 64;
 
-/// How many pieces the thread of a sink requests in advance.
-pub const BATCH: u32 = 256;
+/// How many texts the thread of a sink requests in advance.
+pub const BATCH: u32 = 16;
 
 /// A sink, as it is asked for.
 #[derive(Drop)]
@@ -49,7 +49,7 @@ pub struct Plan {
 }
 
 impl Plan {
-    /// The most pieces that may wait for a sink: those of its buffer, and those that its thread has requested.
+    /// The most texts that may wait for a sink: those of its buffer, and those that its thread has requested.
     pub fn room(&self) -> u64 {
         let buffer = match capacity(self.publisher.capacity) {
             Ok(buffer) => buffer as u64,

@@ -6,9 +6,11 @@ ghost use Rattle.publisher.specs.Blanks.{AreBlanksOf};
 use crate::doors::Doors;
 use crate::fault::FanoutFault;
 use crate::plan::{BATCH, SinkPlan};
-use crate::sink::{Sink, run_sink};
+use crate::progress::watch;
+use crate::sink::{Sink, name_of, run_sink};
 use crate::site::{Inlets, Site};
 use crate::source::run_source;
+use crate::verdict::Verdict;
 use flow_rules::{Listener, Name, NoMemory, Refusal, Watching};
 use inbox::Inbox;
 use publisher::{
@@ -28,9 +30,9 @@ const MOST_TRIES: u32 = 100;
 /// name it. What is left of it tells of each sink; refused, if some sink has not ended, or memory was refused.
 pub fn run_session<
     L: Ledgers + Send + Sync + 'static,
-    R: Print + Doors + Clock + Threads + Wait + Copy + Send + Sync + 'static,
+    R: Print + Eprint + Doors + Clock + Threads + Wait + Copy + Send + Sync + 'static,
 >(rt: &R, site: &Site, blanks: BlankPair) -> Result<Outcome<Inlets<R>>, FanoutFault>
-    requires blanks { AreBlanksOf blanks L.publications L.drops }
+    requires blanks { AreBlanksOf blanks L.publications L.drops L.history }
     ensures told { IfOk result (TellsAll (λ sink. sink.told)) }
 {
     let publisher: Publisher<L, Inlets<R>> = Publisher::with_options(
@@ -62,7 +64,10 @@ fn end<L: SharedLedgers, B: Listener + Send + 'static, R: Wait>(
 }
 
 /// Subscribes the sinks, has all threads work, and hands in what goes back to the publisher.
-fn ship<L: SharedLedgers, R: Print + Doors + Clock + Threads + Wait + Copy + Send + Sync + 'static>(
+fn ship<
+    L: SharedLedgers,
+    R: Print + Eprint + Doors + Clock + Threads + Wait + Copy + Send + Sync + 'static,
+>(
     rt: &R,
     site: &Site,
     publisher: &Publisher<L, Inlets<R>>,
@@ -74,7 +79,7 @@ fn ship<L: SharedLedgers, R: Print + Doors + Clock + Threads + Wait + Copy + Sen
         hired = hire_sources(rt, site, publisher, &mut handed_in.submitters);
     }
     if hired.is_ok() {
-        work(rt, site, publisher, &mut handed_in.submitters, &mut sinks);
+        oversee(rt, site, publisher, &mut handed_in.submitters, &mut sinks);
     }
     hand_in(sinks, &mut handed_in.subscriptions)?;
     hired
@@ -124,15 +129,6 @@ fn on_full_of(plan: &SinkPlan) -> OnFull {
     }
 }
 
-/// The name with which the sink of this number subscribes.
-fn name_of(alloc: Global, number: usize) -> Result<Name, FanoutFault> {
-    let text = format!(in alloc; "sink-{number}")?;
-    match Name::parse(text.as_str()) {
-        Ok(name) => Ok(name),
-        Err(_) => Err(FanoutFault::Memory),
-    }
-}
-
 /// Makes a submitter for each source, in order.
 fn hire_sources<L: SharedLedgers, B: Listener + Send + 'static, R: Wait>(
     rt: &R,
@@ -156,6 +152,33 @@ fn hand_in<L: SharedLedgers, B: Listener + Send>(
         subscriptions.push(sink.subscription)?;
     }
     Ok(())
+}
+
+/// Has all threads work, and tells each second how far they are, if that is asked for.
+fn oversee<
+    L: SharedLedgers,
+    B: Listener + Send + 'static,
+    R: Print + Eprint + Doors + Clock + Threads + Wait + Sync,
+>(
+    rt: &R,
+    site: &Site,
+    publisher: &Publisher<L, B>,
+    submitters: &mut [Submitter<L, B>],
+    sinks: &mut [Sink<L, B>],
+) {
+    if !site.plan.is_watched {
+        work(rt, site, publisher, submitters, sinks);
+        return;
+    }
+    let over = Verdict::new();
+    thread::join(
+        rt,
+        || watch(rt, site, publisher, &over),
+        || {
+            work(rt, site, publisher, submitters, sinks);
+            over.say(rt, Ok(()));
+        },
+    );
 }
 
 /// Has each source read and each sink written by a thread of its own, and waits for all.

@@ -6,9 +6,10 @@ use crate::page::Page;
 use crate::plan::{STANDARD, SinkPlan};
 use crate::site::Site;
 use crate::strands::Strands;
-use flow_rules::{How, Item, Listener};
+use flow_rules::{How, Item, Listener, Name};
 use inbox::Inbox;
 use publisher::{Ledgers, Subscription};
+use std::alloc::Global;
 use std::io::Write;
 use std::sync::Wait;
 use std::sync::atomic::Ordering::SeqCst;
@@ -23,6 +24,15 @@ const MOST_TRIES: u32 = 100;
 pub struct Sink<L: Ledgers + Send, B: Listener + Send> {
     pub subscription: Subscription<L, B>,
     pub inbox: Inbox,
+}
+
+/// The name with which the sink of this number subscribes.
+pub fn name_of(alloc: Global, number: usize) -> Result<Name, FanoutFault> {
+    let text = format!(in alloc; "sink-{number}")?;
+    match Name::parse(text.as_str()) {
+        Ok(name) => Ok(name),
+        Err(_) => Err(FanoutFault::Memory),
+    }
 }
 
 /// Writes the lines of the sink of this number up to the end, or until that fails: then its subscription is cancelled, and

@@ -1,4 +1,4 @@
-//! The sources: each has a thread of its own, which publishes what it reads, 64 pieces by one call, and none late.
+//! The sources: each has a thread of its own, which publishes what it reads, a few texts by one call, and none late.
 ghost use Rattle.std.specs.Prelude.{◌≡◌, ◌<◌, false, IfOk, OnOk, length};
 ghost use Rattle.fanout.specs.declared.piece.TheConstants.{LONGEST};
 
@@ -6,6 +6,7 @@ use crate::board::SourceCount;
 use crate::doors::Doors;
 use crate::fault::EndFault;
 use crate::intake::Intake;
+use crate::lines::lines_begun;
 use crate::piece::piece_of;
 use crate::plan::STANDARD;
 use crate::policy::publish_all;
@@ -17,8 +18,8 @@ use std::io::{ErrorKind, Read};
 use std::sync::Wait;
 use std::sync::atomic::Ordering::SeqCst;
 
-/// How many pieces are published by one call, at most.
-const AT_ONCE: usize = 64;
+/// How many texts are published by one call, at most.
+const AT_ONCE: usize = 8;
 
 /// Pieces that were cut and not published yet.
 #[derive(Drop)]
@@ -44,11 +45,9 @@ impl<'a> Batch<'a> {
         let mut lines = 0_u64;
         let mut bytes = 0_u64;
         for text in self.texts.iter().take(published) {
-            let piece = piece_of(text.as_bytes());
-            if piece.is_first {
-                lines = lines.saturating_add(1);
-            }
-            bytes = bytes.saturating_add(piece.bytes.len() as u64);
+            let text = text.as_bytes();
+            lines = lines.saturating_add(lines_begun(text) as u64);
+            bytes = bytes.saturating_add(piece_of(text).bytes.len() as u64);
         }
         self.count.pieces.fetch_add(published as u64, SeqCst);
         self.count.lines.fetch_add(lines, SeqCst);

@@ -1,6 +1,11 @@
-//! The rule by which a sink takes the pieces of one source, or skips them: no line is written in part.
+//! The rule by which a sink takes the texts of one source, or skips them: no line is written in part.
 ghost use Rattle.std.specs.Prelude.{◌≡◌, ◌⊎◌, ◌↔◌, true, false, IsTrue};
+ghost use Rattle.fanout.specs.Filter.{passes};
+ghost use Rattle.fanout.specs.Piece.{ends_line};
 ghost use Rattle.fanout.specs.Strand.{GivesUp, IsOpen, Takes, stand_of};
+
+use crate::filter::{Rule, passes};
+use crate::piece::{Piece, ends_line};
 
 /// Where a sink stands in the pieces of a source.
 #[derive(Clone, Copy, PartialEq, Eq, Debug)]
@@ -15,19 +20,49 @@ pub enum Stand {
     Skipping,
 }
 
-/// What a sink sees of a piece.
+/// What a sink sees of a piece: of whole lines, or of a part of one.
 #[derive(Clone, Copy)]
 pub struct Sight {
     /// Whether pieces of the source before it are missing.
     pub is_late: bool,
     /// Whether a line begins with it.
     pub is_first: bool,
-    /// Whether its line ends with it.
+    /// Whether a line ends with it.
     pub is_last: bool,
-    /// Whether the filter lets a line through that begins with it.
+    /// Whether the filter lets a line through that begins with it and goes on. Of whole lines it decides each by itself.
     pub passes: bool,
     /// Whether a line is held back until it is whole, and there is room for one piece more.
     pub is_held: bool,
+}
+
+impl Sight {
+    /// What a sink with these rules sees of a piece.
+    pub fn of(rules: &[Rule], piece: Piece<'_>, is_late: bool, is_held: bool) -> Sight
+        ensures late { result.is_late ≡ is_late }
+        ensures first { result.is_first ≡ piece.entry.is_first }
+        ensures last { result.is_last ≡ ends_line piece.entry.bytes.now }
+        ensures begins { (result.is_first ≡ true) → (result.is_last ≡ false)
+            → result.passes ≡ passes rules.now piece.entry.bytes.now }
+        ensures lines { (result.is_first ≡ true) → (result.is_last ≡ true)
+            → result.passes ≡ true }
+        ensures held { result.is_held ≡ is_held }
+    {
+        let is_last = ends_line(piece.bytes);
+        Sight {
+            is_late,
+            is_first: piece.is_first,
+            is_last,
+            passes: piece.is_first && (is_last || passes(rules, piece.bytes)),
+            is_held,
+        }
+    }
+
+    /// Whether it has whole lines.
+    pub fn has_lines(self) -> bool
+        ensures { IsTrue result ↔ ((self.is_first ≡ true) × (self.is_last ≡ true)) }
+    {
+        self.is_first && self.is_last
+    }
 }
 
 /// What is done with a piece.
@@ -37,7 +72,7 @@ pub enum Deed {
     Skip,
     /// It is held back behind those that are.
     Hold,
-    /// Those that are held back are written, and then it.
+    /// Those that are held back are written, and then it; of whole lines those that pass.
     Write,
 }
 

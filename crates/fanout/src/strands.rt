@@ -1,10 +1,10 @@
 //! The strands of a sink: for each source where the sink stands in it, and what it holds back of its line.
 use crate::board::{Board, SinkCount};
 use crate::fault::EndFault;
-use crate::filter::{Rule, passes};
+use crate::filter::Rule;
 use crate::page::Page;
-use crate::piece::{LINE_FEED, ends_line, piece_of};
-use crate::strand::{Deed, Sight, Stand, Step};
+use crate::piece::{LINE_FEED, piece_of};
+use crate::strand::{Deed, Sight, Stand};
 use flow_rules::{Item, NoMemory};
 use std::alloc::Global;
 use std::io::Write;
@@ -63,7 +63,7 @@ impl<'a> Strands<'a> {
         })
     }
 
-    /// Takes a piece, or skips it.
+    /// Takes a text, or skips it.
     pub fn take<W: Write + Drop>(
         &mut self,
         item: &Item,
@@ -73,13 +73,9 @@ impl<'a> Strands<'a> {
             return Ok(());
         };
         let piece = piece_of(item.text.as_bytes());
-        let sight = Sight {
-            is_late: item.seq != strand.next,
-            is_first: piece.is_first,
-            is_last: ends_line(piece.bytes),
-            passes: piece.is_first && passes(self.rules, piece.bytes),
-            is_held: self.is_holding && strand.pieces < MOST_HELD,
-        };
+        let is_late = item.seq != strand.next;
+        let is_held = self.is_holding && strand.pieces < MOST_HELD;
+        let sight = Sight::of(self.rules, piece, is_late, is_held);
         let next = item.seq.saturating_add(1);
         self.count
             .passed
@@ -88,7 +84,7 @@ impl<'a> Strands<'a> {
         if sight.is_first && !sight.passes {
             self.count.left_out.fetch_add(1, SeqCst);
         }
-        strand.follow(strand.stand.step(sight), piece.bytes, sight.is_last, page)
+        strand.follow(sight, self.rules, piece.bytes, page)
     }
 
     /// Writes, at the end, the lines that have no line feed. One is left if its last piece is missing, or if its source
@@ -117,11 +113,12 @@ impl Strand {
     /// Does what comes of a piece of these bytes.
     fn follow<W: Write + Drop>(
         &mut self,
-        step: Step,
+        sight: Sight,
+        rules: &[Rule],
         bytes: &[u8],
-        is_last: bool,
         page: &mut Page<'_, W>,
     ) -> Result<(), EndFault> {
+        let step = self.stand.step(sight);
         if step.gives_up {
             self.give_up(page)?;
         }
@@ -131,10 +128,11 @@ impl Strand {
                 self.held.extend_from_slice(bytes)?;
                 self.pieces = self.pieces.saturating_add(1);
             }
+            Deed::Write if sight.has_lines() => page.put_lines(rules, bytes)?,
             Deed::Write => {
                 self.release(page)?;
                 page.put(bytes)?;
-                if is_last {
+                if sight.is_last {
                     page.end_line();
                 }
             }

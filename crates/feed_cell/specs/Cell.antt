@@ -15,15 +15,21 @@ pub use Rattle.feed_cell.specs.WordPlaces.{words_by}
 use Rattle.feed_cell.specs.Control.{Flags, Reads, causes_of, marked}
 use Rattle.feed_cell.specs.Outlooks.{IsReachedBy}
 
--- what was put and taken, the item whose slot is out, if any, and the number from which on places are free and at home
-pub record Lists (capacity : ℕ) (log taken item : List Item) (free : ℕ) : Type 0 where
+-- what lies beyond tail: the items that were placed in their slots and not put yet, and the number from which on places
+-- are free and at home
+pub record Beyond : Type 0 where
+  pub placed : List Item
+  pub free : ℕ
+
+-- what was put and taken, the item whose slot is out, if any, and what lies beyond tail
+pub record Lists (capacity : ℕ) (log taken item : List Item) (beyond : Beyond) : Type 0 where
   pub sized : 0 < capacity
   -- what was taken is the first of what was put, in its order, and the item that is out comes next
   pub begins : taken ++ item ≡ take (length taken + length item) log
   pub one_out : length item ≤ 1
   pub within : length taken + length item ≤ length log
-  pub above : length log ≤ free
-  pub below : free ≤ length taken + capacity
+  pub above : length log + length beyond.placed ≤ beyond.free
+  pub below : beyond.free ≤ length taken + capacity
 
 -- each item from the number full on lies in its slot, and each place from the number free on is empty
 pub record Lies {B : Type 0} (capacity : ℕ) (log : List Item) (head full free : ℕ) (homes : List (slot.Option (Held B))) : Type 0 where
@@ -116,13 +122,14 @@ LodgesAt told capacity Fresh taken own answers homes = get_elem? homes capacity 
 LodgesAt told capacity runner taken own answers homes = Lodges told capacity runner taken own answers homes
 
 -- what the producer knows
-pub record AsProducer (capacity : ℕ) (order : ErrorOrder) (log : List Item) (given free : ℕ) (ended : Bool) (closing : Option Ending)
+pub record AsProducer (capacity : ℕ) (order : ErrorOrder) (log : List Item) (given : ℕ) (beyond : Beyond) (ended : Bool) (closing : Option Ending)
     (state : Bool) (producing : Producing) (d : View) : Type 0 where
   pub sized : d.capacity ≡ capacity
   pub ordered : d.order ≡ order
   pub put : d.put ≡ log
   pub seen : d.seen ≤ given
-  pub places : free ≡ length log + d.places
+  pub laid : d.placed ≡ beyond.placed
+  pub places : beyond.free ≡ length log + length beyond.placed + d.places
   pub over : d.over ≡ true → ended ≡ true
   pub closed : d.closing ≡ closing
   pub doubled : d.state ≡ state
@@ -165,12 +172,11 @@ pub record AsRunner (capacity : ℕ) (runner : Runner) (active : Bool) (control 
 pub record CellData : Type 0 where
   -- its parts, which some list of possible events leads to
   pub world : Parts
-  -- what was put, what was taken of it, the item whose slot is out, and the number from which on places are free and at
-  -- home
+  -- what was put, what was taken of it, the item whose slot is out, and what lies beyond tail
   pub log : List Item
   pub taken : List Item
   pub item : List Item
-  pub free : ℕ
+  pub beyond : Beyond
   -- the control word, and what that says
   pub control : ℕ
   pub flags : Flags
@@ -187,7 +193,7 @@ pub record CellData : Type 0 where
 
 -- what each party knows of it
 abbrev pub KnownByProducer : ℕ → CellData → View → Type 0
-KnownByProducer capacity cell = AsProducer capacity cell.answers.order cell.log cell.world.given cell.free (is_over cell.world.runner)
+KnownByProducer capacity cell = AsProducer capacity cell.answers.order cell.log cell.world.given cell.beyond (is_over cell.world.runner)
     cell.flags.closing cell.flags.state cell.world.producer
 
 abbrev pub KnownByHandle : ℕ → CellData → View → Type 0
@@ -204,11 +210,11 @@ module _ {B : Type 0} (told : B → List Signal) where
     pub cell : CellData
     -- the seats show each rest and the end that are among the events
     pub reached : IsReachedBy s.views cell.world
-    pub lists : Lists capacity cell.log cell.taken cell.item cell.free
+    pub lists : Lists capacity cell.log cell.taken cell.item cell.beyond
     pub shows : ShowsParts capacity cell.world cell.log cell.taken cell.item cell.flags cell.answers cell.away cell.left
     pub reads : Reads cell.control cell.flags
     pub words : s.words ≡ words_of capacity cell.world cell.left cell.control
-    pub lies : Lies capacity cell.log (length cell.taken) (length cell.taken + length cell.item) cell.free s.homes
+    pub lies : Lies capacity (cell.log ++ cell.beyond.placed) (length cell.taken) (length cell.taken + length cell.item) cell.beyond.free s.homes
     pub lodges : cell.away ≡ false → LodgesAt told capacity cell.world.runner cell.taken cell.world.own cell.answers s.homes
     pub producers : Only has_put cell.producer (KnownByProducer capacity cell) s.views
     pub handles : Only has_ask cell.handle (KnownByHandle capacity cell) s.views

@@ -2,6 +2,7 @@
 use Rattle.std.specs.Prelude.{◌≡◌, ℕ, ◌-◌, ◌<◌, ◌≤◌, false, Option, None, IfSome, IsSome}
 use Rattle.flow_rules.specs.Call.{Call}
 use Rattle.flow_rules.specs.declared.feed.put.Put.TheVariants.{Accepted, Full, Gone}
+use Rattle.flow_rules.specs.declared.feed.put_all.PutAll.TheVariants as Several
 use Rattle.feed_cell.specs.Control.{MARK}
 use Rattle.feed_cell.specs.Parties.{ProducerState, TaskState, IsStarted}
 use Rattle.feed_cell.specs.ProducerSteps.{FindsRoom}
@@ -25,6 +26,8 @@ started_in (Call.Readies answer) = None
 started_in (Call.Puts item (Accepted lag start)) = start
 started_in (Call.Puts item (Full back)) = None
 started_in (Call.Puts item (Gone back)) = None
+started_in (Call.PutsAll items (Several.Accepted lag start)) = start
+started_in (Call.PutsAll items (Several.Gone back)) = None
 started_in (Call.Ends ending start) = start
 started_in (Call.Duplicates start) = start
 started_in (Call.Looks standing) = None

@@ -6,7 +6,7 @@ pub use Rattle.feed_core.specs.declared.world.events.Side.TheVariants.{Producer,
 pub use Rattle.feed_core.specs.declared.world.events.Cause.{Cause}
 pub use Rattle.feed_core.specs.declared.world.events.Cause.TheVariants.{Cancel, Argument, State, Closing}
 pub use Rattle.feed_core.specs.declared.world.events.Event.{Event}
-pub use Rattle.feed_core.specs.declared.world.events.Event.TheVariants.{Make, Room, Put, See, Take, TakeKnown, Ask, Signal, Hand, Look, Peek, Measure, Rest, End}
+pub use Rattle.feed_core.specs.declared.world.events.Event.TheVariants.{Make, Room, Put, PutMore, See, Take, TakeKnown, Ask, Signal, Hand, Look, Peek, Measure, Rest, End}
 pub use Rattle.feed_core.specs.declared.world.parts.Producing.{Producing}
 pub use Rattle.feed_core.specs.declared.world.parts.Producing.TheVariants.{Free, HasRoom, HasPut, Hands}
 pub use Rattle.feed_core.specs.declared.world.parts.Requesting.{Requesting}

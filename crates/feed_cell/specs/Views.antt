@@ -13,6 +13,7 @@ first_view capacity order = record {
   started = 0;
   puts = true;
   put = [];
+  placed = [];
   producing = Free;
   places = 0;
   seen = 0;

@@ -150,6 +150,8 @@ pub struct View {
     pub puts: bool,
     /// All that it put.
     pub put: LinkedList<Item>,
+    /// The items that it placed in their slots beyond those, and has not put yet.
+    pub placed: LinkedList<Item>,
     /// What it is in the middle of.
     pub producing: Producing,
     /// How many free slots it has out, 0 or 1.

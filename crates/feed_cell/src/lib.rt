@@ -26,7 +26,8 @@
 //! | 5 | it was closed with an error, whose code is in bits 32 to 63 | the producer | nobody |
 //! | 6 | it was closed without an error | the producer | nobody |
 //!
-//! Each of the first three words has one writer, which keeps the number beside its seat and never reads its own word.
+//! Each of the first three words has one writer, which keeps the number beside its seat. It loads its own word only to
+//! take a slot out or to give one back, and never for the number.
 //! None of the numbers ever falls, so what a load shows is at most what there is.
 //!
 //! In a buffer of fewer than 32 places the words lie side by side. In a larger one head, tail and the other two lie in
@@ -40,6 +41,10 @@
 //!
 //! - A put loads head. If fewer items than the capacity were put and not taken, slot tail is free, and that load takes
 //!   it out. The producer places the item in it, and the store of tail + 1 gives it back, with the item.
+//! - A put of several takes the first slot out in the same way. A load of tail gives that slot back, with its item, and
+//!   takes the next one out, and so on. The store of tail + m gives the last one back, and only then do others see the
+//!   first. Until then the items beyond tail are the producer's alone: no other party reads a slot that is not below
+//!   tail.
 //! - The task loads tail. If more items were put than taken, slot head has one, and that load takes it out. A load of
 //!   asked follows: if no more are requested, it gives the slot back as it was. Otherwise the task moves the item out,
 //!   and the store of head + 1 gives the slot back, free. Of an item that it has seen in this turn already, a load of
@@ -108,7 +113,7 @@
 //! ```
 //! let (mut producer, mut handle, task) = Cell::new(alloc, 4, Collector::asking(alloc, 1))?;
 //! let put = producer.put(item);                    // accepted, with lag 1; its first turn is owed already
-//! let turn = task.turn(&mut seen);                 // told onSubscribe and the item, and rests
+//! let turn = task.turn(&mut seen, Patience::Waits); // told onSubscribe and the item, and rests
 //! handle.ready()?;
 //! let woken = handle.request(1);                   // a task, which has to be run: the subscription was at rest
 //! producer.ready()?;
@@ -125,4 +130,5 @@ pub use cell::handle::Handle;
 pub use cell::maker::Cell;
 pub use cell::producer::Producer;
 pub use cell::task::turns::Turn;
+pub use cell::task::waits::Patience;
 pub use cell::task::{Spent, Task};

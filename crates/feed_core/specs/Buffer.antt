@@ -10,3 +10,7 @@ pub record BufferState : Type 0 where
 -- the buffer with one more item, and the same room
 abbrev pub buffer_with : Item → BufferState → BufferState
 buffer_with item buffer = record buffer { items = buffer.items ++ item ∷ [] }
+
+-- the buffer with these items more, in their order, and the same room
+abbrev pub buffer_with_all : List Item → BufferState → BufferState
+buffer_with_all items buffer = record buffer { items = buffer.items ++ items }

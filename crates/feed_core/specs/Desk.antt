@@ -1,11 +1,11 @@
 -- One subscription as plain state: what its calls change, and what they answer.
-use Rattle.std.specs.Prelude.{◌≡◌, ◌↔◌, ℕ, zero, suc, ℤ, pos, negsuc, ◌+◌, ◌<◌, ◌≤◌, Bool, true, false, ◌&&◌, if◌then◌else◌, is_none, is_some, Option, None, IsSome, List, [], ◌++◌}
+use Rattle.std.specs.Prelude.{◌≡◌, ◌↔◌, ℕ, zero, suc, ℤ, pos, negsuc, ◌+◌, ◌<◌, ◌≤◌, Bool, true, false, ◌&&◌, if◌then◌else◌, is_none, is_some, Option, None, IsSome, List, [], ◌++◌, length}
 use Rattle.feed_core.specs.Prelude.{Item, Signal, Ending, ErrorOrder, Overtake, total_after}
 use Rattle.feed_core.specs.declared.turn.outlook.Outlook.{Outlook}
 use Rattle.feed_core.specs.declared.turn.outlook.Outlook.TheVariants.{Again, Resting, Ended}
 use Rattle.feed_core.specs.AnsweredTurn.{Reply}
 use Rattle.feed_core.specs.Lane.{LaneState}
-use Rattle.feed_core.specs.LaneCalls.{empty_lane_in, lag_of, accepts, IsOpen, lane_with_item, lane_with_closing, lane_with_duplicate, lane_with_demand, lane_with_request, lane_with_cancel}
+use Rattle.feed_core.specs.LaneCalls.{empty_lane_in, lag_of, accepts, IsOpen, lane_with_item, lane_with_items, lane_with_closing, lane_with_duplicate, lane_with_demand, lane_with_request, lane_with_cancel}
 use Rattle.feed_core.specs.Replies.{replies_in}
 use Rattle.feed_core.specs.Turn.{lane_after_turn}
 
@@ -80,6 +80,16 @@ pub record AcceptsItem (old new : DeskState) (item : Item) (lag : ℕ) (start : 
   pub open_before : IsOpen old.lane
   pub room_before : lag_of old.lane < old.capacity
   pub taken : new ≡ desk_after_signal (desk_after_look old) (lane_with_item item old.lane)
+  pub lag_after : lag ≡ lag_of new.lane
+  pub lag_fits : lag ≤ new.capacity
+  pub starts : IsSome start ↔ Rests old
+
+-- an open subscription whose buffer had room for these items took them, answered its new lag, and was started if it was
+-- at rest
+pub record AcceptsItems (old new : DeskState) (items : List Item) (lag : ℕ) (start : Option Unit) : Type 0 where
+  pub open_before : IsOpen old.lane
+  pub room_before : lag_of old.lane + length items ≤ old.capacity
+  pub taken : new ≡ desk_after_signal (desk_after_look old) (lane_with_items items old.lane)
   pub lag_after : lag ≡ lag_of new.lane
   pub lag_fits : lag ≤ new.capacity
   pub starts : IsSome start ↔ Rests old

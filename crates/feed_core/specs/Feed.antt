@@ -1,12 +1,14 @@
 -- A subscription as the producer's end that its publisher calls, and exactly what each of those calls does.
-use Rattle.std.specs.Prelude.{◌≡◌, ◌↔◌, true, is_some, Option, None, IsSome, IsOk}
+use Rattle.std.specs.Prelude.{◌≡◌, ◌↔◌, true, is_some, Option, None, List, IsSome, IsOk}
 use Rattle.flow_rules.specs.Call.{Call}
 use Rattle.flow_rules.specs.Feed.{End}
 use Rattle.flow_rules.specs.declared.feed.put.Put.{Put}
 use Rattle.flow_rules.specs.declared.feed.put.Put.TheVariants.{Accepted, Full, Gone}
+use Rattle.flow_rules.specs.declared.feed.put_all.PutAll.{PutAll}
+use Rattle.flow_rules.specs.declared.feed.put_all.PutAll.TheVariants as Several
 use Rattle.flow_rules.specs.declared.feed.standing.Standing.{Standing}
 use Rattle.feed_core.specs.Prelude.{Item, Ending}
-use Rattle.feed_core.specs.Desk.{DeskState, AcceptsItem, GivesBack, IsFull, Rests, desk_after_look, desk_after_try, desk_after_signal}
+use Rattle.feed_core.specs.Desk.{DeskState, AcceptsItem, AcceptsItems, GivesBack, IsFull, Rests, desk_after_look, desk_after_try, desk_after_signal}
 use Rattle.feed_core.specs.Lane.{IsFlow}
 use Rattle.feed_core.specs.LaneCalls.{is_gone, lag_of, lane_with_closing, lane_with_duplicate}
 
@@ -34,6 +36,16 @@ pub record DoesPut (old new : DeskState) (item : Item) (answer : Put Unit) : Typ
   pub answers : AnswersPut old new item answer
   pub flow : IsFlow new.lane
 
+-- several items were offered: an open subscription took them, and else they came back
+abbrev pub AnswersPutAll : DeskState → DeskState → List Item → PutAll Unit → Type 0
+AnswersPutAll old new items (Several.Accepted lag start) = AcceptsItems old new items lag start
+AnswersPutAll old new items (Several.Gone back) = (is_gone old.lane ≡ true) × (back.items ≡ items) × (new ≡ desk_after_try old)
+
+-- a put of several items answered so, and the lane keeps the Flow rules
+pub record DoesPutAll (old new : DeskState) (items : List Item) (answer : PutAll Unit) : Type 0 where
+  pub answers : AnswersPutAll old new items answer
+  pub flow : IsFlow new.lane
+
 -- it was closed: only the first time changes it, and starts it if it was at rest; the lane keeps the Flow rules
 pub record AnswersEnd (old new : DeskState) (ending : Ending) (start : Option Unit) : Type 0 where
   pub first : old.lane.causes.closing ≡ None → new ≡ desk_after_signal old (lane_with_closing ending old.lane)
@@ -59,6 +71,7 @@ pub record AnswersLook (old new : DeskState) (standing : Standing) : Type 0 wher
 abbrev pub DoesCall : DeskState → Call Unit → DeskState → Type 0
 DoesCall old (Call.Readies answer) new = IsOk answer × (new ≡ old)
 DoesCall old (Call.Puts item answer) new = DoesPut old new item answer
+DoesCall old (Call.PutsAll items answer) new = DoesPutAll old new items answer
 DoesCall old (Call.Ends ending start) new = AnswersEnd old new ending start
 DoesCall old (Call.Duplicates start) new = AnswersDuplicate old new start
 DoesCall old (Call.Looks standing) new = AnswersLook old new standing

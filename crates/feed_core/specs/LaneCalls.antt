@@ -1,6 +1,6 @@
 -- What the calls of a subscription do to its lane (`SubmissionPublisher.offer`, `close` and `subscribe`,
 -- `Flow.Subscription.request` and `cancel`, Java SE 17).
-use Rattle.std.specs.Prelude.{◌≡◌, ℕ, zero, suc, ℤ, pos, negsuc, ◌-◌, ◌<◌, ◌==◌, Bool, true, ◌||◌, ◌&&◌, not, if◌then◌else◌, is_some, None, Some, [], ◌∷◌, ◌++◌, length}
+use Rattle.std.specs.Prelude.{◌≡◌, ℕ, zero, suc, ℤ, pos, negsuc, ◌-◌, ◌<◌, ◌==◌, Bool, true, ◌||◌, ◌&&◌, not, if◌then◌else◌, is_some, None, Some, List, [], ◌∷◌, ◌++◌, length}
 use Rattle.feed_core.specs.Prelude.{Item, Ending, ErrorOrder, Overtake, IsCapacityOf, total_after}
 use Rattle.feed_core.specs.Cause.{no_causes_in}
 use Rattle.feed_core.specs.Lane.{LaneState}
@@ -28,6 +28,10 @@ IsOpen lane = (lane.how ≡ None) × (lane.causes.closing ≡ None)
 -- the lane with one more item
 abbrev pub lane_with_item : Item → LaneState → LaneState
 lane_with_item item lane = record lane { accepted = lane.accepted ++ item ∷ [] }
+
+-- the lane with these items more, in their order
+abbrev pub lane_with_items : List Item → LaneState → LaneState
+lane_with_items items lane = record lane { accepted = lane.accepted ++ items }
 
 -- the lane with this ending as a cause
 abbrev pub lane_with_closing : Ending → LaneState → LaneState

@@ -3,6 +3,8 @@ use Rattle.std.specs.Prelude.{◌≡◌, ℕ, ◌+◌, ◌-◌, ◌<◌, ◌≤�
 use Rattle.flow_rules.specs.declared.ending.Ending.{Ending}
 use Rattle.flow_rules.specs.declared.feed.put.Put.{Put}
 use Rattle.flow_rules.specs.declared.feed.put.Put.TheVariants.{Accepted, Full, Gone}
+use Rattle.flow_rules.specs.declared.feed.put_all.PutAll.{PutAll}
+use Rattle.flow_rules.specs.declared.feed.put_all.PutAll.TheVariants as Several
 use Rattle.flow_rules.specs.declared.item.Item.{Item}
 
 -- the producer's end: the capacity of the buffer; the items that it has accepted, in order; how many of them were taken
@@ -79,6 +81,30 @@ Answers e item (Gone back) f = FindsGone e item back f
 -- Java SE 17)
 abbrev pub Puts : {T : Type 0} → End → Item → Put T → End → Type 0
 Puts e item answer f = (m : End) × LookedIfOpen e m × Answers m item answer f
+
+-- the items were accepted: the buffer had room for all, the list gains them in their order, and the lag is what the
+-- buffer holds with the last
+pub record TakesItems {T : Type 0} (e : End) (items : List Item) (lag : ℕ) (start : Option T) (f : End) : Type 0 where
+  pub open_before : is_gone e ≡ false
+  pub room_before : held_count e + length items ≤ e.capacity
+  pub taken : f ≡ record e { accepted = e.accepted ++ items; ready = f.ready }
+  pub lag_after : lag ≡ held_count f
+  pub ready : KeepsReady start e f
+
+-- the subscription had ended or was closed: the items came back, and nothing changed
+pub record ReturnsItems (e : End) (items back : List Item) (f : End) : Type 0 where
+  pub gone : is_gone e ≡ true
+  pub same : back ≡ items
+  pub unchanged : f ≡ e
+
+-- what a put of several items does, by its answer, once it has looked
+abbrev pub AnswersAll : {T : Type 0} → End → List Item → PutAll T → End → Type 0
+AnswersAll e items (Several.Accepted lag start) f = TakesItems e items lag start f
+AnswersAll e items (Several.Gone back) f = ReturnsItems e items back.items f
+
+-- a put of several items: one look, or none at an end that was closed, and what it allows
+abbrev pub PutsAll : {T : Type 0} → End → List Item → PutAll T → End → Type 0
+PutsAll e items answer f = (m : End) × LookedIfOpen e m × AnswersAll m items answer f
 
 -- a close: only the first sets how it is closed, and only that one may start a task (`SubmissionPublisher.close`, Java
 -- SE 17)

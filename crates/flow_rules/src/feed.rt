@@ -1,6 +1,7 @@
 //! The producer's end of one subscription.
 mod drop_handler;
 mod put;
+mod put_all;
 mod standing;
 
 use crate::ending::Ending;
@@ -8,6 +9,7 @@ use crate::item::Item;
 use crate::refusal::NoMemory;
 pub use drop_handler::DropHandler;
 pub use put::Put;
+pub use put_all::PutAll;
 pub use standing::Standing;
 
 /// The producer's end of one subscription: what a publisher calls, whoever else has the subscription
@@ -19,10 +21,10 @@ pub use standing::Standing;
 /// Its meaning is the publisher's own knowledge: its parts change only in these calls. So what others do, as the taking
 /// of items for `onNext`, shows only in a look.
 pub trait Feed: Drop {
-    ghost use Rattle.std.specs.Prelude.{◌≡◌, ◌<◌, ⊤, true, length, OnOk, OnErr, IsOk};
+    ghost use Rattle.std.specs.Prelude.{◌≡◌, ◌<◌, ◌≤◌, ◌+◌, ⊤, true, length, OnOk, OnErr, IsOk};
     ghost use Rattle.flow_rules.specs.Call as Call;
     ghost use Rattle.flow_rules.specs.Call.{Call};
-    ghost use Rattle.flow_rules.specs.Feed.{End, MayStart, Looked, Puts, Ends, Duplicates, held_count};
+    ghost use Rattle.flow_rules.specs.Feed.{End, MayStart, Looked, Puts, PutsAll, Ends, Duplicates, held_count};
     ghost use Rattle.flow_rules.specs.declared.item.TheConstants.{MOST_PUBLICATIONS};
 
     /// What a caller has to run if it is started.
@@ -50,6 +52,20 @@ pub trait Feed: Drop {
         requires few { length (meaning self.old).accepted < MOST_PUBLICATIONS }
         ensures means { Puts (meaning self.old) item result (meaning self.new) }
         ensures exact { does self.old (Call.Puts item result) self.new };
+
+    /// Offers several items to the buffer at once, after a look that showed room for all of them. It neither waits nor
+    /// takes memory.
+    ///
+    /// It makes one look, or none if it was closed. If that shows that the subscription has ended, and if it was
+    /// closed, all come back. Otherwise all are accepted, in their order, and no other party sees the first of them
+    /// before the last: one signal tells of them.
+    fn put_all(&mut self, items: Vec<Item>) -> PutAll<Self::Task>
+        requires may { MayStart (meaning self.old) }
+        requires some { 0 < length items.items }
+        requires room { held_count (meaning self.old) + length items.items ≤ (meaning self.old).capacity }
+        requires few { length (meaning self.old).accepted + length items.items ≤ MOST_PUBLICATIONS }
+        ensures means { PutsAll (meaning self.old) items.items result (meaning self.new) }
+        ensures exact { does self.old (Call.PutsAll items.items result) self.new };
 
     /// Closes the subscription (`SubmissionPublisher.close` and `closeExceptionally`). Only the first call does
     /// anything.

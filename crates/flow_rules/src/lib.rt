@@ -49,7 +49,7 @@ pub use demand::{Demand, IllegalArgument, UNBOUNDED};
 pub use ending::Ending;
 pub use error_order::ErrorOrder;
 pub use fail_handler::{FailHandler, LastFailure};
-pub use feed::{DropHandler, Feed, Put, Standing};
+pub use feed::{DropHandler, Feed, Put, PutAll, Standing};
 pub use how::How;
 pub use item::{Item, MOST_PUBLICATIONS};
 pub use listener::{GoesOn, Listener};

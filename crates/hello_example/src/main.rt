@@ -39,7 +39,7 @@ fn hello<L: Ledgers + Send + Sync + 'static, R: Threads + Wait + Copy + Send + '
     alloc: Global,
     blanks: BlankPair,
 ) -> anyhow::Result<Outcome<Tally>>
-    requires { AreBlanksOf blanks L.publications L.drops }
+    requires { AreBlanksOf blanks L.publications L.drops L.history }
 {
     let options = PublisherOptions::default();
     let publisher: Publisher<L, Tally> = Publisher::with_options(rt, alloc, blanks, options)?;
@@ -51,7 +51,7 @@ fn hello<L: Ledgers + Send + Sync + 'static, R: Threads + Wait + Copy + Send + '
 }
 
 fn main(rt: HostRuntime) -> anyhow::Result<()> {
-    let outcome = hello::<Brand, _>(rt, rt.alloc(), BlankPair::new())?;
+    let outcome = hello::<Brand, _>(rt, rt.alloc(), BlankPair::new(rt.alloc())?)?;
     for lane in outcome.lanes.iter() {
         if let Some(counter) = &lane.lane.subscriber {
             println!(rt; "{} was told {} items", lane.name, counter.items())?;

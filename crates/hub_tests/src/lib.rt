@@ -12,4 +12,4 @@ mod trial;
 
 pub use counting::Counting;
 #[cfg(test)]
-pub use trial::{Ask, Row, Trial, Why, counting_hub, desks_of};
+pub use trial::{Ask, Row, Spot, Trial, Why, counting_hub, desks_of};

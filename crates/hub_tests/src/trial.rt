@@ -1,5 +1,7 @@
 //! A Hub as tests call it: its calls as rows, with what each has to answer.
 mod by_policy;
+mod places;
+mod several;
 mod why;
 
 ghost use Rattle.std.specs.Prelude.{◌≡◌, ◌≤◌, IfOk};
@@ -15,7 +17,8 @@ pub use by_policy::Row;
 use close_count::Count;
 use feed_core::Desk;
 use flow_rules::{Collector, DropHandler, Ending, Feed, Name, NoMemory, Refusal, Text, capacity};
-use publisher_hub::{Hub, Unpublished, Work};
+pub use places::Spot;
+use publisher_hub::{Hub, OnFull, USUAL_LIVE, Unpublished, Work};
 use std::alloc::Global;
 use test_kit::Notes;
 pub use why::Why;
@@ -36,12 +39,17 @@ pub enum Ask<'a> {
     MaySubscribe(u8, Option<u32>),
     /// An item is published with this lag, or to nobody.
     Publishes(Result<u64, Why>),
+    /// Of this many texts the first ones are published at once: this many, with this lag; or none.
+    PublishesSeveral(usize, Result<(usize, u64), Why>),
     /// An offer of an item without a handler answers this, or is made to nobody.
     Offers(Result<i64, Why>),
     /// So many are live, so many items wait for one of them at most, and all have room or not.
     Shows(usize, u64, bool),
     /// The live subscriptions have these names, of one letter each.
     Names(&'a [u8]),
+    /// These are the live subscriptions: of each its letter, what it said of its full buffer, and its lag, what it
+    /// accepted and what was dropped at it.
+    Figures(&'a [(u8, OnFull, [u64; 3])]),
     /// A live subscription has this name, or none has.
     Subscribed(u8, bool),
     /// The subscription of this number has dropped so many items, or is not there.
@@ -77,7 +85,7 @@ impl<F: Feed> Trial<F> {
     {
         let ticket = self.hub.add_ticket()?;
         self.hub
-            .admit(name_of(letter)?, feed, ticket, &mut self.due)
+            .admit(name_of(letter)?, feed, ticket, USUAL_LIVE, &mut self.due)
     }
 
     /// What an offer of an item answers.
@@ -97,9 +105,11 @@ impl<F: Feed> Trial<F> {
         match ask {
             Ask::MaySubscribe(letter, number) => Ok(self.may_subscribe(letter)? == number),
             Ask::Publishes(want) => Ok(self.publish_again() == want),
+            Ask::PublishesSeveral(many, want) => Ok(self.publish_several_again(many) == want),
             Ask::Offers(want) => Ok(self.offer_again() == want),
             Ask::Shows(many, lag, room) => Ok(self.show() == (many, lag, room)),
             Ask::Names(letters) => self.are_names(letters),
+            Ask::Figures(want) => self.are_figures(want),
             Ask::Subscribed(letter, want) => Ok(self.hub.is_subscribed(name_of(letter)?) == want),
             Ask::Dropped(number, want) => Ok(self.hub.dropped(number) == want),
             Ask::TakesTicket(number, want) => Ok(self.spend_ticket(number) == want),
@@ -113,7 +123,10 @@ impl<F: Feed> Trial<F> {
         requires sound { IsSound (hub_of F.meaning self.old.hub) }
         ensures sound { IsSound (hub_of F.meaning self.new.hub) }
     {
-        match self.hub.may_subscribe(name_of(letter)?, &mut self.due) {
+        match self
+            .hub
+            .may_subscribe(name_of(letter)?, USUAL_LIVE, &mut self.due)
+        {
             Ok(()) => Ok(None),
             Err(Refusal::NoMemory) => Err(Refusal::NoMemory),
             Err(refusal) => Ok(Some(refusal.number())),
@@ -176,6 +189,24 @@ impl<F: Feed> Trial<F> {
             names.push(name).map_err(|_| Refusal::NoMemory)?;
         }
         Ok(self.hub.names(self.alloc)? == names)
+    }
+
+    /// Whether the live subscriptions have these figures.
+    fn are_figures(&mut self, want: &[(u8, OnFull, [u64; 3])]) -> Result<bool, Refusal>
+        requires sound { IsSound (hub_of F.meaning self.old.hub) }
+        ensures sound { IsSound (hub_of F.meaning self.new.hub) }
+    {
+        let figures = self.hub.figures(self.alloc)?;
+        if figures.len() != want.len() {
+            return Ok(false);
+        }
+        for (one, (letter, on_full, numbers)) in figures.iter().zip(want) {
+            let same = one.on_full == *on_full && [one.lag, one.accepted, one.dropped] == *numbers;
+            if one.name != name_of(*letter)? || !same {
+                return Ok(false);
+            }
+        }
+        Ok(true)
     }
 
     /// Takes the ticket of a subscription out and spends it. Whether it is the last, where one comes out.

@@ -91,7 +91,7 @@ fn run<L: Ledgers + Send + Sync + 'static, R: Threads + Wait + Copy + Send + Syn
     alloc: Global,
     blanks: BlankPair,
 ) -> anyhow::Result<(Found, Outcome<Taker<R>>)>
-    requires { AreBlanksOf blanks L.publications L.drops }
+    requires { AreBlanksOf blanks L.publications L.drops L.history }
 {
     let options = PublisherOptions::default();
     let publisher: Publisher<L, Taker<R>> = Publisher::with_options(rt, alloc, blanks, options)?;
@@ -102,7 +102,7 @@ fn run<L: Ledgers + Send + Sync + 'static, R: Threads + Wait + Copy + Send + Syn
 }
 
 fn main(rt: HostRuntime) -> anyhow::Result<()> {
-    let (found, outcome) = run::<Brand, _>(rt, rt.alloc(), BlankPair::new())?;
+    let (found, outcome) = run::<Brand, _>(rt, rt.alloc(), BlankPair::new(rt.alloc())?)?;
     println!(rt; "{} lines of {} bytes were taken", found.lines, found.bytes)?;
     println!(rt; "{} were published", outcome.published)?;
     Ok(())

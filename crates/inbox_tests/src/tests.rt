@@ -3,6 +3,7 @@ mod closures;
 mod ends;
 mod pulling;
 mod queues;
+mod trying;
 mod waiting;
 
 use flow_rules::Watching;

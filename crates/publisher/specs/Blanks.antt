@@ -1,5 +1,6 @@
--- What a publisher's ledgers are opened with.
+-- What a publisher's ledgers and its history are opened with.
 use Rattle.std.specs.Prelude.{◌≡◌, ℕ}
+use Rattle.atomic_table.specs.Seated.{TableId}
 use Rattle.std.specs.declared.sync.ledger.Blank.{Blank}
 use Rattle.publisher.specs.declared.ledgers.BlankPair.{BlankPair}
 use Rattle.publisher.specs.declared.state.TheConstants.{PARTS}
@@ -8,7 +9,7 @@ use Rattle.publisher.specs.declared.state.TheConstants.{PARTS}
 abbrev pub IsBlankOf : Blank → ℕ → Type 0
 IsBlankOf blank name = (blank.name ≡ name) × (blank.parts ≡ PARTS)
 
--- the blanks of a publisher's two ledgers, which have these names
-abbrev pub AreBlanksOf : BlankPair → ℕ → ℕ → Type 0
-AreBlanksOf pair publications drops =
-    IsBlankOf pair.publications publications × IsBlankOf pair.drops drops
+-- the blanks of a publisher's two ledgers, which have these names, and of its history, which has this table
+abbrev pub AreBlanksOf : BlankPair → ℕ → ℕ → TableId → Type 0
+AreBlanksOf pair publications drops history = IsBlankOf pair.publications publications
+    × (IsBlankOf pair.drops drops × (pair.history ≡ history))

@@ -1,5 +1,5 @@
 -- How the two ends of each subscription are brought together.
-use Rattle.std.specs.Prelude.{◌≡◌, ◌⊎◌, ℕ, ◌<◌, Bool, true, false, Option, None, Some, IsSome, List, length, slice_get, slice_set}
+use Rattle.std.specs.Prelude.{◌≡◌, ◌⊎◌, ℕ, ◌<◌, Bool, true, false, not, count_by, Option, None, Some, IsSome, List, length, slice_get, slice_set}
 use Rattle.feed_cell.specs.Parties.{HandleState, ProducerState}
 use Rattle.publisher_hub.specs.Entry.{EntryState, entry_of}
 use Rattle.publisher_hub.specs.Hub.{HubState, OnlyEntriesChange, hub_of}
@@ -43,6 +43,10 @@ pub record ArePlaced (subscriptions : List SubscriptionState) (handles : List (O
 abbrev pub is_reclaimed : {B : Type 0} → Found B → Bool
 is_reclaimed Found.Reclaimed = true
 is_reclaimed _ = false
+
+-- how many of these have an end that was not taken out before
+abbrev pub ends_of : {B : Type 0} → List (Found B) → ℕ
+ends_of founds = count_by (λ found. not (is_reclaimed found)) founds
 
 -- both ends of the subscription of this number, of which this is stored, with what is known of it
 pub record IsTakenOf {B : Type 0} (counted : Option ℕ) (number : ℕ) (entry : EntryState)

@@ -3,7 +3,9 @@ use Rattle.std.specs.Prelude.{◌≡◌, ◌⊎◌, ℕ, ◌+◌, ◌<◌, ◌�
 use Rattle.feed_core.specs.Prelude.{Item}
 use Rattle.publisher_hub.specs.Hub.{hub_of}
 use Rattle.publisher_hub.specs.Sound.{IsOrdered}
-use Rattle.publisher.specs.Finding.{AreFoundIn, IsHandedIn, IsHandedWith}
+use Rattle.history.specs.declared.rule.Entry.{Entry}
+use Rattle.publisher.specs.Content.{AreSentIn, StandsIn}
+use Rattle.publisher.specs.Finding.{AreFoundIn, IsHandedIn, IsHandedWith, ends_of}
 use Rattle.publisher.specs.Handles.{SubmitterState, SubscriptionState}
 use Rattle.publisher.specs.Outcome.{AnyKnows, IsFirstAway, source_name}
 use Rattle.publisher.specs.State.{PublisherState, producer_end}
@@ -18,18 +20,16 @@ use Rattle.publisher.specs.declared.finishing.room.Room.{Room}
 pub record HasRoomFor {B : Type 0} (many : ℕ) (room : Room B) : Type 0 where
   pub no_lanes : room.lanes.items ≡ []
   pub none_held : room.held.items ≡ []
-  pub none_reclaimed : room.reclaimed.items ≡ []
   pub none_unsettled : room.unsettled.items ≡ []
   pub lanes : many ≤ vec_capacity room.lanes
   pub held : many ≤ vec_capacity room.held
-  pub reclaimed : many ≤ vec_capacity room.reclaimed
   pub unsettled : many ≤ vec_capacity room.unsettled
 
--- an outcome without lanes
+-- an outcome without lanes: not more were reclaimed than were made
 pub record IsNothing {B H : Type 0} (outcome : Outcome B H) : Type 0 where
   pub no_lanes : outcome.lanes.items ≡ []
   pub none_held : outcome.held.items ≡ []
-  pub none_reclaimed : outcome.reclaimed.items ≡ []
+  pub few_reclaimed : outcome.reclaimed ≤ outcome.made
 
 -- what a subscription accepted and dropped, by its producer's end, of a publisher that published this many items
 pub record IsCountedIn {B : Type 0} (published dropping : ℕ) (taken : Taken B) : Type 0 where
@@ -65,6 +65,12 @@ pub record AreTakenOut {B : Type 0} (subscriptions : List SubscriptionState)
       → slice_get founds k ≡ Some (Found.Both other)
       → slice_get other.producer.end.accepted n ≡ Some y → x.serial ≡ y.serial → x ≡ y
 
+-- whatever these subscriptions accepted is one of these publications
+abbrev pub AreOfLog : {B : Type 0} → List Entry → List (Found B) → Type 0
+AreOfLog {B} log founds = (k i : ℕ) (taken : Taken B) (x : Item)
+    → slice_get founds k ≡ Some (Found.Both taken)
+    → slice_get taken.producer.end.accepted i ≡ Some x → StandsIn log x
+
 -- the shares of the submitters were compared with the totals: all are there, and sum up to these; or one is missing
 abbrev pub AreAudited : List SubmitterState → ℕ → ℕ → Option (List ℕ) → Type 0
 AreAudited submitters published dropping None = (sum_by
@@ -80,9 +86,15 @@ pub record TakesBooksOut {B : Type 0} (submitters : List SubmitterState)
   pub ends : AreTakenOut subscriptions books.founds.items books.published old.hub.dropping
       books.drained
   pub published : books.published ≡ old.hub.next
-  pub made : books.made ≡ length books.founds.items
+  pub made : books.made ≡ old.census.made
+  pub reclaimed : books.reclaimed ≡ old.census.reclaimed
+  pub counted : ends_of books.founds.items + books.reclaimed ≡ books.made
   pub audited : AreAudited submitters books.published old.hub.dropping books.missing
   pub known : AnyKnows submitters → books.is_closed ≡ true
   pub closed : books.drained ≡ true → books.is_closed ≡ true
   pub room : HasRoomFor (length books.founds.items) books.room
   pub few : length books.founds.items < 4294967296
+  pub log : List Entry
+  pub long : length log ≡ books.published
+  pub sent : AreSentIn log submitters
+  pub content : AreOfLog log books.founds.items

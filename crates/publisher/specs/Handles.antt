@@ -1,5 +1,5 @@
 -- What the owners of submitters and subscriptions see of them.
-use Rattle.std.specs.Prelude.{◌≡◌, ⊤, ℕ, ℤ, true, false, Option, Some}
+use Rattle.std.specs.Prelude.{◌≡◌, ⊤, ℕ, ℤ, true, false, Option, Some, List}
 use Rattle.feed_cell.specs.Parties.{HandleState, handle_after_request}
 use Rattle.flow_rules.specs.declared.ending.Ending.{Ending}
 use Rattle.flow_rules.specs.declared.error_order.ErrorOrder.{ErrorOrder}
@@ -13,6 +13,10 @@ use Rattle.publisher.specs.Note.{known_by}
 pub record SubscriptionState : Type 0 where
   pub entry : ℕ
   pub handle : HandleState
+
+-- a controller of a subscription: its number. What was requested stands behind a lock
+pub record ControllerState : Type 0 where
+  pub entry : ℕ
 
 -- a handle with which nothing was done yet
 abbrev pub IsUnused : HandleState → Type 0
@@ -37,12 +41,13 @@ pub record PublisherView : Type 0 where
   pub order : ErrorOrder
 
 -- a submitter: its number; of which publisher's closing its note is, and what it was told of that; how many items it
--- published; and how many of its offers found a buffer full
+-- published, and which, in order; and how many of its offers found a buffer full
 pub record SubmitterState : Type 0 where
   pub source : ℕ
   pub closing : ℕ
   pub known : Option Ending
   pub published : ℕ
+  pub sent : List (List ℕ)
   pub dropping : ℕ
 
 -- a submitter after this refusal

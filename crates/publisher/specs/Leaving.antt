@@ -5,13 +5,19 @@ use Rattle.feed_cell.specs.Left.{IsLeftOf}
 use Rattle.feed_core.specs.AnsweredTurn.{Reply}
 use Rattle.feed_core.specs.Prelude.{Signal}
 use Rattle.flow_rules.specs.declared.refusal.Refusal.{Refusal}
-use Rattle.publisher.specs.Outcome.{AreGiven, HasLane, HasOwnersPart, IsFirstGap, IsAmong, Judges, StillHolds, outcome_of}
+use Rattle.publisher.specs.Finding.{ends_of}
+use Rattle.publisher.specs.Outcome.{HasLane, HasOwnersPart, IsAmong, Judges, StillHolds, outcome_of}
 use Rattle.publisher.specs.declared.finishing.close.Closed.{Closed}
 use Rattle.publisher.specs.declared.outcome.NamedLane.{NamedLane}
 use Rattle.publisher.specs.declared.outcome.Outcome.{Outcome}
 use Rattle.publisher.specs.declared.finishing.find.Found.{Found}
 use Rattle.publisher.specs.declared.finishing.find.Taken.{Taken}
 use Rattle.publisher.specs.declared.finishing.judge.Books.{Books}
+
+-- those with a number below this have a lane, but for the reclaimed ones
+abbrev pub AreGiven : {B : Type 0} → List (Found B) → ℕ → List (NamedLane B) → Type 0
+AreGiven founds many lanes = (number : ℕ) → number < many
+    → HasLane number lanes ⊎ (slice_get founds number ≡ Some Found.Reclaimed)
 
 module _ {B : Type 0} (told : B → List Signal) (replied : B → List Reply) where
   -- this is of the subscription of this number, whose two ends these are
@@ -40,20 +46,19 @@ module _ {B : Type 0} (told : B → List Signal) (replied : B → List Reply) wh
   ClosesOne number _ _ = ⊥
 
   -- the first of these that has no lane and was not reclaimed, if there is one: its handle was not handed in, or a
-  -- thread has its task still
-  abbrev pub FindsFirst : List (Found B) → ℕ → List (NamedLane B) → List ℕ → List ℕ
-      → Option (List ℕ) → Type 0
-  FindsFirst founds most lanes held reclaimed None =
-      (length lanes + length reclaimed ≡ most)
-      × (AreGiven most lanes reclaimed × (held ≡ []))
-  FindsFirst founds most lanes held reclaimed (Some name) = (number : ℕ)
-      × ((number < most)
-      × (IsFirstGap number lanes reclaimed
-      × ((slice_get founds number ≡ Some (Found.Missing name)) ⊎ IsAmong number held)))
+  -- thread has its task still. The lanes are as many as have an end, or fewer
+  abbrev pub FindsFirst : List (Found B) → ℕ → List (NamedLane B) → List ℕ → Option (List ℕ)
+      → Type 0
+  FindsFirst founds most lanes held None =
+      (length lanes ≡ ends_of founds) × (AreGiven founds most lanes × (held ≡ []))
+  FindsFirst founds most lanes held (Some name) = (number : ℕ)
+      × (((number < most) × (length lanes < ends_of founds))
+      × (AreGiven founds number lanes × ((HasLane number lanes → ⊥)
+      × ((slice_get founds number ≡ Some (Found.Missing name)) ⊎ IsAmong number held))))
 
   -- those with a number below this were closed, in order
   pub record ClosesInOrder (founds : List (Found B)) (most : ℕ) (lanes : List (NamedLane B))
-      (held reclaimed : List ℕ) (first : Option (List ℕ)) : Type 0 where
+      (held : List ℕ) (first : Option (List ℕ)) : Type 0 where
     pub each : (i : ℕ) (left : NamedLane B) → slice_get lanes i ≡ Some left
         → (taken : Taken B)
         × ((slice_get founds left.entry ≡ Some (Found.Both taken))
@@ -67,12 +72,10 @@ module _ {B : Type 0} (told : B → List Signal) (replied : B → List Reply) wh
         → (taken : Taken B)
         × ((slice_get founds number ≡ Some (Found.Both taken))
         × ((number < most) × (HasLane number lanes → ⊥)))
-    pub reclaimed_are : (number : ℕ) → IsAmong number reclaimed
-        → (slice_get founds number ≡ Some Found.Reclaimed) × (number < most)
-    pub finds : FindsFirst founds most lanes held reclaimed first
+    pub finds : FindsFirst founds most lanes held first
+    pub ends : length lanes + length held ≤ ends_of founds
     pub few_lanes : length lanes ≤ most
     pub few_held : length held ≤ most
-    pub few_reclaimed : length reclaimed ≤ most
 
   -- each subscription was closed, and what is left was judged
   pub record Concludes {H : Type 0} (books : Books B)
@@ -80,9 +83,9 @@ module _ {B : Type 0} (told : B → List Signal) (replied : B → List Reply) wh
       : Type 0 where
     pub first : Option (List ℕ)
     pub closes : ClosesInOrder books.founds.items (length books.founds.items)
-        (outcome_of result).lanes.items (outcome_of result).held.items
-        (outcome_of result).reclaimed.items first
+        (outcome_of result).lanes.items (outcome_of result).held.items first
     pub made : (outcome_of result).made ≡ books.made
+    pub reclaimed : (outcome_of result).reclaimed ≡ books.reclaimed
     pub published : (outcome_of result).published ≡ books.published
     pub drained : (outcome_of result).drained ≡ books.drained
     pub missing : (name : List ℕ) → option_or first books.missing ≡ Some name

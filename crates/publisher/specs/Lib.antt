@@ -1,5 +1,7 @@
 pub mod Blanks
+pub mod Census
 pub mod Closing
+pub mod Content
 pub mod Failing
 pub mod Finding
 pub mod Finishing
@@ -13,6 +15,7 @@ pub mod Reclaiming
 pub mod Spending
 pub mod Standing
 pub mod State
+pub mod Stats
 pub mod Submitting
 pub mod Subscribing
 pub mod Tickets

@@ -12,6 +12,8 @@ use Rattle.feed_core.specs.Prelude.{Item, Signal, How, total_after}
 use Rattle.feed_core.specs.Lane.{LaneState}
 use Rattle.feed_core.specs.LeftLane.{IsLeftLane}
 use Rattle.publisher_hub.specs.Sound.{IsOrdered}
+use Rattle.history.specs.declared.rule.Entry.{Entry}
+use Rattle.publisher.specs.Content.{AreSentIn, StandsIn}
 use Rattle.publisher.specs.Handles.{SubmitterState, SubscriptionState}
 use Rattle.publisher.specs.Finding.{IsHandedIn}
 use Rattle.publisher.specs.declared.outcome.NamedLane.{NamedLane}
@@ -58,14 +60,26 @@ AgreeOnItems lanes = (i j k n : ℕ) (one other : LaneState) (x y : Item)
     → slice_get lanes j ≡ Some other → slice_get other.accepted n ≡ Some y
     → x.serial ≡ y.serial → x ≡ y
 
--- what a publisher leaves: each subscription was a lane, and these agree
-pub record IsOutcome {B H : Type 0} (told : B → List Signal) (replied : B → List Reply) (outcome : Outcome B H) : Type 0 where
+-- whatever a lane accepted is one of these publications
+abbrev pub AcceptsOf : List Entry → List LaneState → Type 0
+AcceptsOf log lanes = (i k : ℕ) (lane : LaneState) (x : Item)
+    → slice_get lanes i ≡ Some lane → slice_get lane.accepted k ≡ Some x → StandsIn log x
+
+-- what a publisher to which these submitters sent leaves: each subscription was a lane, and these agree
+pub record IsOutcome {B H : Type 0} (told : B → List Signal) (replied : B → List Reply)
+    (submitters : List SubmitterState) (outcome : Outcome B H) : Type 0 where
   pub lanes : List LaneState
   pub as_many : length lanes ≡ length outcome.lanes.items
   pub each : (i : ℕ) (left : NamedLane B) (lane : LaneState)
       → slice_get outcome.lanes.items i ≡ Some left → slice_get lanes i ≡ Some lane
       → IsLane told replied outcome.published left lane
   pub agreed : AgreeOnItems lanes
+  -- all that was published, in its order: each submitter sent the texts of its source there, and each item that was
+  -- accepted stands there at its serial number
+  pub log : List Entry
+  pub long : length log ≡ outcome.published
+  pub sent : AreSentIn log submitters
+  pub content : AcceptsOf log lanes
   -- once the last ticket was spent, each has ended that was subscribed before the close
   pub drained : outcome.drained ≡ true → (i : ℕ) (left : NamedLane B)
       → slice_get outcome.lanes.items i ≡ Some left → left.late ≡ false → IsSome left.lane.ending
@@ -100,29 +114,14 @@ HasLane {B} number lanes =
 abbrev pub IsAmong : ℕ → List ℕ → Type 0
 IsAmong number held = (i : ℕ) × (slice_get held i ≡ Some number)
 
--- the subscriptions with a number below this have a lane, but for the reclaimed ones
-abbrev pub AreGiven : {B : Type 0} → ℕ → List (NamedLane B) → List ℕ → Type 0
-AreGiven many lanes reclaimed =
-    (number : ℕ) → number < many → HasLane number lanes ⊎ IsAmong number reclaimed
-
--- the numbers of the lanes have no gap but for the reclaimed ones: each number below how many these are together is
--- that of one of them
-abbrev pub AreNumbered : {B : Type 0} → List (NamedLane B) → List ℕ → Type 0
-AreNumbered lanes reclaimed = AreGiven (length lanes + length reclaimed) lanes reclaimed
-
--- it is the first that has no lane and was not reclaimed
-pub record IsFirstGap {B : Type 0} (number : ℕ) (lanes : List (NamedLane B)) (reclaimed : List ℕ)
-    : Type 0 where
-  pub before : AreGiven number lanes reclaimed
-  pub none : HasLane number lanes → ⊥
-  pub kept : IsAmong number reclaimed → ⊥
+-- no lane is missing: as many subscriptions as were made have one, or were reclaimed
+abbrev pub AreAllGiven : {B H : Type 0} → Outcome B H → Type 0
+AreAllGiven outcome = length outcome.lanes.items + outcome.reclaimed ≡ outcome.made
 
 -- all is there: each subscription that was made, and all submitters, whose shares sum up to what was published
 pub record IsWhole {B H : Type 0} (submitters : List SubmitterState)
     (subscriptions : List SubscriptionState) (outcome : Outcome B H) : Type 0 where
-  pub numbered : AreNumbered outcome.lanes.items outcome.reclaimed.items
-  pub made : length outcome.lanes.items + length outcome.reclaimed.items ≡ outcome.made
-  pub within : (number : ℕ) → IsHandedIn subscriptions number → number < outcome.made
+  pub made : AreAllGiven outcome
   pub none_left_out : (number : ℕ) → IsHandedIn subscriptions number
       → HasLane number outcome.lanes.items
   pub none_held : outcome.held.items ≡ []
@@ -183,10 +182,12 @@ IsFirstAway source submitters = IsAway source submitters
 abbrev pub source_name : ℕ → List ℕ
 source_name source = codes "source-" ++ decimal source
 
--- the first subscription that has no lane, of those that were made, was not handed in, or is held still
+-- fewer than were made have a lane or were reclaimed; and a subscription that has no lane was not handed in, or is
+-- held still
 abbrev pub IsLaneAway : {B H : Type 0} → List SubscriptionState → Outcome B H → Type 0
-IsLaneAway subscriptions outcome = (number : ℕ) × ((number < outcome.made)
-    × (IsFirstGap number outcome.lanes.items outcome.reclaimed.items
+IsLaneAway subscriptions outcome =
+    (length outcome.lanes.items + outcome.reclaimed < outcome.made)
+    × ((number : ℕ) × ((HasLane number outcome.lanes.items → ⊥)
     × ((IsHandedIn subscriptions number → ⊥) ⊎ IsAmong number outcome.held.items)))
 
 -- the submitter with this name is the first that was not handed in, and no lane is missing
@@ -195,7 +196,7 @@ IsSourceAway name submitters outcome = (source : ℕ)
     × ((source < MOST_SOURCES)
     × ((name ≡ source_name source)
     × (IsFirstAway source submitters
-    × (AreNumbered outcome.lanes.items outcome.reclaimed.items × (outcome.held.items ≡ [])))))
+    × (AreAllGiven outcome × (outcome.held.items ≡ [])))))
 
 -- a subscription or a submitter is missing
 abbrev pub IsMissing : {B H : Type 0} → List ℕ → List SubmitterState → List SubscriptionState
@@ -221,13 +222,10 @@ IfRefused {B} {H} refusal result Holds =
 abbrev pub HasNoLane : {B H : Type 0} → Outcome B H → Type 0
 HasNoLane outcome = (outcome.lanes.items ≡ []) × (outcome.held.items ≡ [])
 
--- the reclaimed ones were not handed in, and have no lane
-pub record AreReclaimed {B H : Type 0} (subscriptions : List SubscriptionState)
-    (outcome : Outcome B H) : Type 0 where
-  pub not_handed : (number : ℕ) → IsAmong number outcome.reclaimed.items
-      → IsHandedIn subscriptions number → ⊥
-  pub no_lane : (number : ℕ) → IsAmong number outcome.reclaimed.items
-      → HasLane number outcome.lanes.items → ⊥
+-- those that have a lane, are held or were reclaimed are not more than were made: none of them is counted twice
+abbrev pub AreReclaimed : {B H : Type 0} → Outcome B H → Type 0
+AreReclaimed outcome =
+    (length outcome.lanes.items + length outcome.held.items) + outcome.reclaimed ≤ outcome.made
 
 -- on 8 the one of this name is missing, and the rest is given
 abbrev pub LacksOne : {B H : Type 0} → List SubmitterState → List SubscriptionState → List ℕ

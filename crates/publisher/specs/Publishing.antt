@@ -1,15 +1,17 @@
 -- What a publication looks for, and what it adds to a submitter's shares; and how several are made one after the other.
-use Rattle.std.specs.Prelude.{◌≡◌, ℕ, zero, suc, ◌+◌, ◌<◌, ◌⊎◌, ℤ, pos, negsuc, Bool, true, Option, None, Some, IsSome, List, length, slice_get}
+use Rattle.std.specs.Prelude.{◌≡◌, ℕ, zero, suc, ◌+◌, ◌<◌, ◌⊎◌, ℤ, pos, negsuc, Bool, true, Option, None, Some, IsSome, List, [], ◌∷◌, drop, length, slice_get}
 use Rattle.feed_cell.specs.Offering.{DoesCall}
 use Rattle.feed_cell.specs.Parties.{ProducerState, TaskState}
 use Rattle.flow_rules.specs.declared.feed.standing.Standing.{Standing}
 use Rattle.flow_rules.specs.declared.refusal.Refusal.TheVariants.{NoMemory}
 use Rattle.publisher_hub.specs.Looking.{IsRoom, IsRoomForWaiters, LooksAtAll}
-use Rattle.publisher_hub.specs.Publishing.{Publishes, PublishesByPolicy, RefusesByPolicy, RefusesItem}
+use Rattle.publisher_hub.specs.Publishing.{PublishesByPolicy, RefusesByPolicy, RefusesItem}
+use Rattle.publisher_hub.specs.Several.{PublishesSeveral}
 use Rattle.publisher_hub.specs.declared.entry.Entry.{Entry}
 use Rattle.publisher_hub.specs.declared.hub.Hub.{Hub}
 use Rattle.publisher_hub.specs.declared.hub.publish.Unpublished.{Unpublished}
 use Rattle.publisher_hub.specs.declared.hub.publish.Unpublished.TheVariants.{Refused}
+use Rattle.publisher_hub.specs.declared.hub.several.PublishedFirst.{PublishedFirst}
 use Rattle.publisher_hub.specs.declared.policy.Published.{Published}
 use Rattle.publisher_hub.specs.declared.work.Work.{Work}
 use Rattle.publisher.specs.State.{PublisherState, producer_end}
@@ -42,28 +44,42 @@ abbrev pub loss_of : ℕ → ℕ
 loss_of zero = 0
 loss_of (suc dropped) = 1
 
--- a text was published, and those whose room was needed had room: if that was the room of all, none lost it
-abbrev pub PublishesShared : Need → ℕ → List ℕ → Hub ProducerState → Hub ProducerState
-    → List (Work TaskState) → List (Work TaskState) → Published → Type 0
-PublishesShared All source text old new due_old due_new published =
-    Publishes producer_end DoesCall source text old new due_old due_new published.lag
-    × (published.dropped ≡ 0)
-PublishesShared Waiters source text old new due_old due_new published =
-    PublishesByPolicy producer_end DoesCall source text old new due_old due_new published
+-- this many of these texts were published by this source, in their order, in these batches, the last batch first: of each
+-- as many at once as had room at all; this is the lag after the last, or 0
+abbrev pub PublishesBatches : ℕ → List (List ℕ) → List PublishedFirst → ℕ → Hub ProducerState
+    → Hub ProducerState → List (Work TaskState) → List (Work TaskState) → ℕ → Type 0
+PublishesBatches source texts [] n old new due_old due_new lag =
+    (n ≡ 0) × ((new ≡ old) × ((due_new ≡ due_old) × (lag ≡ 0)))
+PublishesBatches source texts (last ∷ batches) n old new due_old due_new lag =
+    (middle : Hub ProducerState) × ((due : List (Work TaskState)) × ((before : ℕ)
+    × ((lag_before : ℕ)
+    × (PublishesBatches source texts batches before old middle due_old due lag_before
+    × (PublishesSeveral producer_end DoesCall source (drop before texts) middle new due due_new last
+    × ((n ≡ before + last.many) × (lag ≡ last.lag)))))))
 
--- the first n of these texts were published by this source, in their order, each as a publication of its own; this is
--- the lag after the last, or 0, and this many of them at least one subscription lost
-abbrev pub PublishesFirst : Need → ℕ → List (List ℕ) → ℕ → Hub ProducerState → Hub ProducerState
+-- the first n of these texts were published by this source, in their order, each by policy; this is the lag after the
+-- last, or 0, and this many of them at least one subscription lost
+abbrev pub PublishesEach : ℕ → List (List ℕ) → ℕ → Hub ProducerState → Hub ProducerState
     → List (Work TaskState) → List (Work TaskState) → ℕ → ℕ → Type 0
-PublishesFirst need source texts zero old new due_old due_new lag lost =
+PublishesEach source texts zero old new due_old due_new lag lost =
     (new ≡ old) × ((due_new ≡ due_old) × ((lag ≡ 0) × (lost ≡ 0)))
-PublishesFirst need source texts (suc n) old new due_old due_new lag lost =
+PublishesEach source texts (suc n) old new due_old due_new lag lost =
     (middle : Hub ProducerState) × ((due : List (Work TaskState)) × ((before : ℕ)
     × ((lost_before : ℕ) × ((text : List ℕ) × ((published : Published)
     × ((slice_get texts n ≡ Some text)
-    × (PublishesFirst need source texts n old middle due_old due before lost_before
-    × (PublishesShared need source text middle new due due_new published
+    × (PublishesEach source texts n old middle due_old due before lost_before
+    × (PublishesByPolicy producer_end DoesCall source text middle new due due_new published
     × ((lag ≡ published.lag) × (lost ≡ lost_before + loss_of published.dropped))))))))))
+
+-- the first n of these texts were published by this source, in their order, each as a publication of its own: several at
+-- once if the room of all is needed, and then none is lost; else one by one
+abbrev pub PublishesFirst : Need → ℕ → List (List ℕ) → ℕ → Hub ProducerState → Hub ProducerState
+    → List (Work TaskState) → List (Work TaskState) → ℕ → ℕ → Type 0
+PublishesFirst All source texts n old new due_old due_new lag lost =
+    ((batches : List PublishedFirst)
+    × PublishesBatches source texts batches n old new due_old due_new lag) × (lost ≡ 0)
+PublishesFirst Waiters source texts n old new due_old due_new lag lost =
+    PublishesEach source texts n old new due_old due_new lag lost
 
 -- why a text was not published, if this room is needed
 abbrev pub RefusesNeeded : Need → List ℕ → Hub ProducerState → Hub ProducerState → Unpublished

@@ -1,5 +1,5 @@
 -- What becomes of a subscription that is to be reclaimed before the end of its publisher.
-use Rattle.std.specs.Prelude.{◌≡◌, ◌⊎◌, ⊤, ℕ, Bool, true, false, is_some, Option, None, Some, IsSome, option_map, List, [], ◌∷◌, slice_get}
+use Rattle.std.specs.Prelude.{◌≡◌, ◌⊎◌, ◌+◌, ⊤, ℕ, Bool, true, false, is_some, Option, None, Some, IsSome, option_map, List, [], ◌∷◌, slice_get}
 use Rattle.feed_core.specs.AnsweredTurn.{Reply}
 use Rattle.close_count.specs.Spent.{count_of_spent}
 use Rattle.close_count.specs.Ticket.{count_of_ticket}
@@ -64,7 +64,8 @@ IsKnown known taken = (taken.name ≡ known.name) × ((taken.on_full ≡ known.o
     × ((taken.since ≡ known.since)
     × ((taken.dropped ≡ known.dropped) × (taken.late ≡ known.late))))
 
--- both ends of the subscription of this number, which has ended, were taken out, with what is known of it
+-- both ends of the subscription of this number, which has ended, were taken out, with what is known of it, and it was
+-- counted as reclaimed
 pub record Reclaims {B : Type 0} (number : ℕ) (handle : HandleState) (taken : Taken B)
     (old new : PublisherState) : Type 0 where
   pub middle : PublisherState
@@ -74,6 +75,9 @@ pub record Reclaims {B : Type 0} (number : ℕ) (handle : HandleState) (taken : 
   pub handle_is : taken.handle ≡ handle
   pub over : taken.producer.end.over ≡ true
   pub counted : IsCountedIn old.hub.next old.hub.dropping taken
+  -- it is counted once, and its drops stay among those of the publisher
+  pub census : new.census ≡ record old.census { reclaimed = old.census.reclaimed + 1 }
+  pub dropping : new.hub.dropping ≡ old.hub.dropping
 
 -- a subscription of this name is refused in this way: by its name if it has not ended or a thread has its task; or
 -- because memory was refused
@@ -109,6 +113,7 @@ LooksBefore number _ old new =
 pub record RefusesReclaim (number : ℕ) (refusal : Refusal) (old new : PublisherState) : Type 0 where
   pub is : IsRefusalOfReclaim refusal
   pub looks : LooksBefore number refusal old new
+  pub census : new.census ≡ old.census
 
 -- what is left of a subscription that was reclaimed, and the lane that it was
 pub record IsReclaimed {B : Type 0} (told : B → List Signal) (replied : B → List Reply) (left : NamedLane B) : Type 0 where

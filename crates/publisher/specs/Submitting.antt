@@ -1,5 +1,5 @@
 -- What a publication answers to its submitter, and what it changes of that.
-use Rattle.std.specs.Prelude.{◌≡◌, ℕ, ℤ, ◌+◌, ◌<◌, ◌↔◌, None, IfSome, Result, Err, List, length}
+use Rattle.std.specs.Prelude.{◌≡◌, ℕ, ℤ, ◌+◌, ◌<◌, ◌↔◌, None, IfSome, Result, Err, List, [], ◌∷◌, ◌++◌, length, take}
 use Rattle.flow_rules.specs.declared.refusal.Refusal.{Refusal}
 use Rattle.flow_rules.specs.declared.refusal.Refusal.TheVariants.{Closed, LineTooLong}
 use Rattle.flow_rules.specs.declared.text.TheConstants.Text.{LONGEST}
@@ -18,31 +18,43 @@ abbrev pub RefusesLong : {A : Type 0} → Result A Refusal → SubmitterState �
 RefusesLong result old text =
     old.known ≡ None → (result ≡ Err LineTooLong) ↔ (LONGEST < length text)
 
--- an offer with this answer counts as a publication, and as a drop if it found a buffer full
-abbrev pub CountsOffer : ℤ → SubmitterState → SubmitterState → Type 0
-CountsOffer answer old new = new ≡ record old {
+-- an offer of this text with this answer counts as a publication, and as a drop if it found a buffer full
+abbrev pub CountsOffer : List ℕ → ℤ → SubmitterState → SubmitterState → Type 0
+CountsOffer text answer old new = new ≡ record old {
   published = old.published + 1;
+  sent = old.sent ++ text ∷ [];
   dropping = old.dropping + drop_of answer;
 }
 
--- a publication that this many subscriptions lost counts as a publication, and as a drop if any lost it
-abbrev pub CountsPublished : ℕ → SubmitterState → SubmitterState → Type 0
-CountsPublished dropped old new = new ≡ record old {
+-- a publication of this text that this many subscriptions lost counts as a publication, and as a drop if any lost it
+abbrev pub CountsPublished : List ℕ → ℕ → SubmitterState → SubmitterState → Type 0
+CountsPublished text dropped old new = new ≡ record old {
   published = old.published + 1;
+  sent = old.sent ++ text ∷ [];
   dropping = old.dropping + loss_of dropped;
 }
 
--- each of this many texts counts as a publication, and each of those that at least one subscription lost as a drop
-abbrev pub CountsAll : ℕ → ℕ → SubmitterState → SubmitterState → Type 0
-CountsAll many lost old new = new ≡ record old {
+-- each of these texts counts as a publication, and each of those that at least one subscription lost as a drop
+abbrev pub CountsAll : List (List ℕ) → ℕ → SubmitterState → SubmitterState → Type 0
+CountsAll texts lost old new = new ≡ record old {
+  published = old.published + length texts;
+  sent = old.sent ++ texts;
+  dropping = old.dropping + lost;
+}
+
+-- the first of these texts, this many, count in this way
+abbrev pub CountsFirst : List (List ℕ) → ℕ → ℕ → SubmitterState → SubmitterState → Type 0
+CountsFirst texts many lost old new = new ≡ record old {
   published = old.published + many;
+  sent = old.sent ++ take many texts;
   dropping = old.dropping + lost;
 }
 
 -- a list of which a text was refused: those before it count in this way, and the submitter knows what the refusal tells
 -- of the close
-abbrev pub CountsPart : PublishedPart → SubmitterState → SubmitterState → Type 0
-CountsPart part old new = new ≡ after_refusal part.refusal (record old {
+abbrev pub CountsPart : List (List ℕ) → PublishedPart → SubmitterState → SubmitterState → Type 0
+CountsPart texts part old new = new ≡ after_refusal part.refusal (record old {
   published = old.published + part.published;
+  sent = old.sent ++ take part.published texts;
   dropping = old.dropping + part.lost;
 })

@@ -1,5 +1,5 @@
 -- What a subscribing gives, and what a refused one leaves.
-use Rattle.std.specs.Prelude.{◌≡◌, ℕ, Option, Some, List, length, slice_get}
+use Rattle.std.specs.Prelude.{◌≡◌, ◌⊎◌, ℕ, Option, None, Some, List, length, slice_get}
 use Rattle.close_count.specs.declared.ticket.Ticket.{Ticket}
 use Rattle.feed_cell.specs.Offering.{DoesCall}
 use Rattle.feed_cell.specs.Parties.{IsNewTaskIn, ProducerState, TaskState, new_handle_in}
@@ -9,6 +9,7 @@ use Rattle.flow_rules.specs.declared.refusal.Refusal.{Refusal}
 use Rattle.publisher_hub.specs.Hub.{HubState, hub_of}
 use Rattle.publisher_hub.specs.Names.{IsSubscribed}
 use Rattle.publisher_hub.specs.Subscribing.{AdmitsWith, Refuses}
+use Rattle.publisher_hub.specs.Vacant.{TakesPlace}
 use Rattle.publisher_hub.specs.declared.entry.Entry.{Entry}
 use Rattle.publisher_hub.specs.declared.hub.Hub.{Hub}
 use Rattle.publisher_hub.specs.declared.policy.OnFull.{OnFull}
@@ -43,17 +44,34 @@ pub record AddsNone (old new : HubState) : Type 0 where
 
 -- what is due after a refused subscribing: the task that tells the live subscription of this name of it, if that
 -- starts one; otherwise nothing more
-abbrev pub IsDueAfter : List ℕ → Refusal → List (Work TaskState) → List (Work TaskState)
+abbrev pub IsDueAfter : List ℕ → ℕ → Refusal → List (Work TaskState) → List (Work TaskState)
     → Hub ProducerState → Hub ProducerState → Type 0
-IsDueAfter name Refusal.Duplicate before after old new =
-    Refuses producer_end DoesCall name Refusal.Duplicate before after old new
-IsDueAfter name _ before after old new = after ≡ before
+IsDueAfter name most Refusal.Duplicate before after old new =
+    Refuses producer_end DoesCall name most Refusal.Duplicate before after old new
+IsDueAfter name most _ before after old new = after ≡ before
 
--- a subscription was added to a Hub in which its name was free, under this number; if the publisher is closed, the
--- task that tells it so is due
-abbrev pub AdmitsNew : List ℕ → OnFull → ℕ → List (Work TaskState) → List (Work TaskState)
+-- a subscription was added to a Hub under this number: after all others, or in this place, if that is the number of one
+-- that was reclaimed
+abbrev pub AdmitsOne : Option ℕ → List ℕ → OnFull → ProducerState → Option Ticket → ℕ → ℕ
+    → List (Work TaskState) → List (Work TaskState) → Hub ProducerState → Hub ProducerState → Type 0
+AdmitsOne place name on_full feed ticket most number before after old new =
+    AdmitsWith producer_end DoesCall name on_full feed ticket most number before after old new
+    ⊎ ((place ≡ Some number)
+    × TakesPlace producer_end DoesCall number name on_full feed ticket most before after old new)
+
+-- the same, where it gets the number of one that was reclaimed only as long as the publisher is open
+abbrev pub AdmitsOpen : List ℕ → OnFull → ProducerState → Option Ticket → ℕ → ℕ
+    → List (Work TaskState) → List (Work TaskState) → Hub ProducerState → Hub ProducerState → Type 0
+AdmitsOpen name on_full feed ticket most number before after old new =
+    AdmitsWith producer_end DoesCall name on_full feed ticket most number before after old new
+    ⊎ ((old.ending ≡ None)
+    × TakesPlace producer_end DoesCall number name on_full feed ticket most before after old new)
+
+-- a subscription was added to a Hub in which its name was free and fewer than this many were live, under this number;
+-- if the publisher is closed, the task that tells it so is due
+abbrev pub AdmitsNew : List ℕ → OnFull → ℕ → ℕ → List (Work TaskState) → List (Work TaskState)
     → Hub ProducerState → Hub ProducerState → Type 0
-AdmitsNew name on_full number before after old new =
+AdmitsNew name on_full most number before after old new =
     (middle : Hub ProducerState) × (AddsNone (hub_of producer_end old) (hub_of producer_end middle)
     × ((feed : ProducerState) × ((ticket : Option Ticket)
-    × AdmitsWith producer_end DoesCall name on_full feed ticket number before after middle new)))
+    × AdmitsOpen name on_full feed ticket most number before after middle new)))

@@ -1,5 +1,8 @@
 -- What the submitters that were handed in have together.
 use Rattle.std.specs.Prelude.{◌≡◌, ◌⊎◌, ℕ, suc, ◌+◌, ◌<◌, ◌≤◌, Bool, true, false, Option, None, Some, List, [], ◌∷◌, length, slice_get, sum_by}
+use Rattle.history.specs.History.{is_in}
+use Rattle.history.specs.declared.rule.Entry.{Entry}
+use Rattle.publisher.specs.Content.{IsWholeIn}
 use Rattle.publisher.specs.Handles.{SubmitterState}
 use Rattle.publisher.specs.Outcome.{AnyKnows, IsAway, IsSourceThere, source_name}
 use Rattle.publisher_hub.specs.declared.hub.TheConstants.{MOST_SOURCES}
@@ -30,6 +33,17 @@ pub record AreTogether (submitters rest : List SubmitterState)
   pub away : (source : ℕ) → slice_get sources source ≡ Some false → IsAway source rest
       → IsAway source submitters
   pub knows_is : AnyKnows submitters → (knows ≡ true) ⊎ AnyKnows rest
+
+-- all of these submitters but the rest gave their passes back, and their sources are among these, which were given back:
+-- what each sent are its texts among these publications, and no two of them are one source
+pub record AreBack (log : List Entry) (submitters rest : List SubmitterState) (back : List ℕ)
+    : Type 0 where
+  pub each : (i : ℕ) (s : SubmitterState) → slice_get submitters i ≡ Some s → length rest ≤ i
+      → IsWholeIn log s
+  pub marked : (i : ℕ) (s : SubmitterState) → slice_get submitters i ≡ Some s → length rest ≤ i
+      → is_in s.source back ≡ true
+  pub apart : (i j : ℕ) (s other : SubmitterState) → slice_get submitters i ≡ Some s
+      → slice_get submitters j ≡ Some other → length rest ≤ i → i < j → s.source ≡ other.source → ⊥
 
 -- this source is missing, and each before it is there
 abbrev pub IsFirstUnmarked : List Bool → ℕ → Type 0

@@ -8,7 +8,7 @@ use crate::shared::Shared;
 use crate::state::Need;
 use async_pool::Pool;
 use crossbeam_utils::Backoff;
-use feed_cell::Task;
+use feed_cell::{Patience, Task};
 use feed_core::Seen;
 use flow_rules::{FailHandler, Listener, NoMemory};
 use publisher_hub::Work;
@@ -43,6 +43,11 @@ impl<L: Ledgers + Send, B: Listener + Send, F: FailHandler + Send> Dispatcher<L,
         })
     }
 
+    /// Makes one for one more thread, of the same publisher.
+    pub fn another(&self, alloc: Global) -> Result<Dispatcher<L, B, F>, NoMemory> {
+        Dispatcher::new(alloc, &self.shared, &self.pool)
+    }
+
     /// Schedules the started task of a subscription.
     pub fn start<R: Wait>(&mut self, rt: &R, entry: u32, task: Task<B>) {
         self.hand_in(rt, ConsumerTask::new(entry, task));
@@ -60,7 +65,7 @@ impl<L: Ledgers + Send, B: Listener + Send, F: FailHandler + Send> Dispatcher<L,
         let Some(task) = self.pool.run_one(rt) else {
             return false;
         };
-        if let Some(again) = task.turn(rt, &*self.shared, &mut self.seen) {
+        if let Some(again) = task.turn(rt, &*self.shared, &mut self.seen, Patience::Hurries) {
             self.hand_in(rt, again);
         }
         true
@@ -92,7 +97,7 @@ impl<L: Ledgers + Send, B: Listener + Send, F: FailHandler + Send> Dispatcher<L,
     fn run<R: Wait>(&mut self, rt: &R, task: ConsumerTask<L, B, F>) {
         let mut next = task;
         for _ in rt.forever() {
-            match next.turn(rt, &*self.shared, &mut self.seen) {
+            match next.turn(rt, &*self.shared, &mut self.seen, Patience::Hurries) {
                 Some(again) => next = again,
                 None => return,
             }

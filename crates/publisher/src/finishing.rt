@@ -5,7 +5,7 @@
 //! others behind the lock. The second holds the lock once, and brings the two ends of each subscription together
 //! (`find`). Subscriptions are handed in in any order, so their list is emptied from its end, and each handle laid at
 //! the place of its number; these places are gone over from the front, so that what is found is in order of
-//! subscription. The third closes each pair of ends (`close`), outside the lock since that drops what the buffers hold
+//! the numbers. The third closes each pair of ends (`close`), outside the lock since that drops what the buffers hold
 //! still, and then chooses the answer (`judge`).
 pub(crate) mod close;
 pub(crate) mod find;
@@ -55,9 +55,9 @@ impl<L: Ledgers + Send, B: Listener + Send, F: FailHandler + Send> HandedIn<L, B
         alloc: Global,
         publisher: Publisher<L, B, F>,
     ) -> Result<Outcome<B, F>, Refused<Outcome<B, F>>>
-        ensures outcome { IsOutcome B.told B.replied (outcome_of result) }
+        ensures outcome { IsOutcome B.told B.replied self.submitters.items (outcome_of result) }
         ensures handed { AreHandedIn self.subscriptions.items (outcome_of result).lanes.items }
-        ensures reclaimed { AreReclaimed self.subscriptions.items (outcome_of result) }
+        ensures reclaimed { AreReclaimed (outcome_of result) }
         ensures ok { IfOk result (LeavesAllDone self.submitters.items self.subscriptions.items) }
         ensures no_memory { IfRefused Refusal.NoMemory result HasNoLane }
         ensures held { (name : _) → IfRefused (Refusal.StillHeld name) result
@@ -78,7 +78,7 @@ impl<L: Ledgers + Send, B: Listener + Send, F: FailHandler + Send> HandedIn<L, B
 /// Nothing is closed by that: a publisher that is to tell its subscribers of the end is closed before. It doesn't wait
 /// for demand to come.
 ///
-/// One that was reclaimed before has no lane, and nothing asks for it; its number is among the `reclaimed` ones.
+/// One that was reclaimed before has no lane, and nothing asks for it; it is counted in `reclaimed`.
 ///
 /// The handler of failures, if the publisher has one, is in what is left; it hears of no failure from then on.
 ///
@@ -93,12 +93,13 @@ pub fn finish<L: Ledgers + Send, B: Listener + Send, F: FailHandler + Send, R: W
     subscriptions: Vec<Subscription<L, B, F>>,
 ) -> Result<Outcome<B, F>, Refused<Outcome<B, F>>>
 
-    // What each subscriber was told, whatever the threads did and whatever the answer.
-    ensures outcome { IsOutcome B.told B.replied (outcome_of result) }
+    // What each subscriber was told, and which of the submitters' texts that is, whatever the threads did and whatever
+    // the answer.
+    ensures outcome { IsOutcome B.told B.replied submitters.items (outcome_of result) }
 
     // Of which subscriptions.
     ensures handed { AreHandedIn subscriptions.items (outcome_of result).lanes.items }
-    ensures reclaimed { AreReclaimed subscriptions.items (outcome_of result) }
+    ensures reclaimed { AreReclaimed (outcome_of result) }
 
     // What each answer says of what is left.
     ensures ok { IfOk result (LeavesAllDone submitters.items subscriptions.items) }

@@ -6,7 +6,7 @@ use crate::awaiting::Done;
 use crate::ledgers::Ledgers;
 use crate::shared::Shared;
 use async_pool::Job;
-use feed_cell::Task;
+use feed_cell::{Patience, Task};
 use feed_core::{Seen, failed_item};
 use flow_rules::{FailHandler, Listener, NoMemory};
 use std::alloc::Global;
@@ -57,9 +57,10 @@ impl<L: Ledgers, B: Listener, F: FailHandler> ConsumerTask<L, B, F> {
         rt: &R,
         shared: &Shared<L, B, F>,
         seen: &mut Seen,
+        patience: Patience,
     ) -> Option<ConsumerTask<L, B, F>> {
         let ConsumerTask { entry, task, of: _ } = self;
-        let (done, task, how) = Done::of(task.turn(seen));
+        let (done, task, how) = Done::of(task.turn(seen, patience));
         if let Some(how) = how {
             if let Some(code) = failed_item(seen.as_slice(), how) {
                 shared.tell_failure(rt, entry, code);
@@ -89,7 +90,7 @@ impl<L: Ledgers + Send, B: Listener + Send, F: FailHandler + Send> Job for Consu
     /// Runs one turn. It is run again if another one is owed.
     fn run<R: Wait>(self, rt: &R, worker: &mut Worker<L, B, F>) -> Option<ConsumerTask<L, B, F>> {
         let Worker { shared, seen } = worker;
-        self.turn(rt, &**shared, seen)
+        self.turn(rt, &**shared, seen, Patience::Waits)
     }
 }
 

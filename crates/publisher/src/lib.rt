@@ -13,7 +13,7 @@
 //! | a publication, a subscribing, a close | whoever calls it | for the publisher's lock, behind which stand the list of subscriptions and the numbers of the publications; `submit` and `submit_all`, as long as a buffer is full; and `publish` and `publish_all`, as long as one is full whose subscription says [`OnFull::Wait`] |
 //! | a request, a cancel | whoever has the subscription | only if that starts a task, which is handed to the pool |
 //! | a look: [`is_closed`](Publisher::is_closed), [`closed_with`](Publisher::closed_with), [`requested`](Subscription::requested) | whoever has it | never |
-//! | a look: [`lag`](Subscription::lag), [`has_ended`](Subscription::has_ended), the numbers of subscribers | whoever has it | for the publisher's lock |
+//! | a look: [`lag`](Subscription::lag), [`has_ended`](Subscription::has_ended), [`stats`](Publisher::stats), the numbers of subscribers | whoever has it | for the publisher's lock |
 //! | [`wait_end`](Subscription::wait_end), [`wait_drained`](Publisher::wait_drained), [`finish`] | whoever has it | until the subscription has ended; until all have that were there at the close; until each worker has ended |
 //! | a turn, with its callbacks | a worker; a blocked submitter; or whoever started the task, if the pool takes none | for no lock. After it, if an item's callback failed, for the lock of the handler that hears of it; and if the subscription has ended or somebody waits for room, for the publisher's lock |
 //!
@@ -40,6 +40,7 @@
 #![tactic(auto)]
 
 mod awaiting;
+mod controller;
 mod dispatcher;
 mod failures;
 mod finishing;
@@ -56,6 +57,7 @@ mod subscription;
 mod watch_each;
 
 pub use async_pool::MOST_WORKERS;
+pub use controller::Controller;
 pub use feed_core::Lane;
 pub use finishing::{HandedIn, finish};
 pub use flow_rules::{
@@ -66,9 +68,11 @@ pub use ledgers::{BlankPair, Ledgers, SharedLedgers};
 pub use note::Note;
 pub use outcome::{NamedLane, Outcome};
 pub use publisher::{Publisher, PublisherOptions};
-pub use publisher_hub::{MOST_ENTRIES, MOST_LIVE, MOST_SOURCES, OnFull, Published};
+pub use publisher_hub::{
+    Figures, MOST_ENTRIES, MOST_LIVE, MOST_SOURCES, OnFull, Published, USUAL_LIVE,
+};
 pub use refused::Refused;
-pub use state::PublishedAll;
+pub use state::{PublishedAll, Stats};
 pub use submitter::{PublishedPart, Submitter, Unsent};
 pub use subscription::Subscription;
 pub use watch_each::{Look, WatchEach};

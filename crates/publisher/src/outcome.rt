@@ -12,17 +12,16 @@ use publisher_hub::OnFull;
 #[derive(Drop)]
 #[derive_where(Debug; B)]
 pub struct Outcome<B, F: FailHandler = LastFailure> {
-    /// What is left of its subscriptions, in order of subscription.
+    /// What is left of its subscriptions, in order of their numbers.
     pub lanes: Vec<NamedLane<B>>,
     /// The numbers of those subscriptions that were handed in and have no lane, since a thread is still in the middle
     /// of a turn of theirs, in order.
     pub held: Vec<u32>,
-    /// The numbers of those subscriptions that have no lane since [`reclaim`](crate::Publisher::reclaim) gave it
-    /// before, in order.
-    pub reclaimed: Vec<u32>,
+    /// How many subscriptions have no lane since [`reclaim`](crate::Publisher::reclaim) gave it before.
+    pub reclaimed: u64,
     /// How many subscriptions there ever were. After `Ok` and 9 this is the number of the lanes and the reclaimed ones
     /// together.
-    pub made: u32,
+    pub made: u64,
     /// How many items were published.
     pub published: u64,
     /// Whether the last ticket of the count was spent: the publisher was closed, and each subscription from before the
@@ -38,7 +37,7 @@ pub struct Outcome<B, F: FailHandler = LastFailure> {
 pub struct NamedLane<B> {
     /// The name that its subscriber subscribed with.
     pub name: Name,
-    /// Its number, from 0 in order of subscription.
+    /// Its number, from 0 in order of subscription; the number of one that was reclaimed goes to a later one.
     pub entry: u32,
     /// What becomes of a text that [`publish`](crate::Submitter::publish) publishes, and that finds its buffer full.
     pub on_full: OnFull,

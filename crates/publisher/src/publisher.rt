@@ -9,6 +9,7 @@ mod workers;
 ghost use Rattle.std.specs.Prelude.{◌≡◌, ◌⊎◌, [], zero, is_some, IfErr, IfOk, IfSome, IsOk, IsSome, OnErr, OnOk, None, Some};
 ghost use Rattle.flow_rules.specs.declared.refusal.Refusal.TheVariants as Refusal;
 ghost use Rattle.publisher.specs.Handles.{IsUnused, RefusesSubscribing};
+ghost use Rattle.publisher.specs.Stats.{AreStats};
 
 use crate::dispatcher::Dispatcher;
 use crate::job::ConsumerTask;
@@ -16,7 +17,7 @@ use crate::ledgers::Ledgers;
 use crate::note::Note;
 use crate::refused::Refused;
 use crate::shared::Shared;
-use crate::state::Subscribed;
+use crate::state::{Stats, Subscribed};
 use crate::submitter::Submitter;
 use crate::subscription::Subscription;
 use async_pool::Pool;
@@ -111,11 +112,26 @@ impl<L: Ledgers + Send, B: Listener + Send, F: FailHandler + Send> Publisher<L, 
         self.shared.lock(rt).is_subscribed(name)
     }
 
-    /// Subscribes a subscriber that was told nothing (`SubmissionPublisher.subscribe`).
+    /// Tells how each live subscription stands, how many subscriptions there ever were, how many of them were reclaimed,
+    /// and how many texts were published: all of one moment, since it takes the lock once. (Java's class has no such
+    /// method.)
     ///
-    /// Refused, with the subscriber back: 5 if a growth is refused; 3 if a live subscription has the name, whose
-    /// subscriber is told of it; 4 if 64 are live; 13 after the last possible subscription or ticket; and 5 if a later
-    /// growth is refused.
+    /// Refused 5 if a growth is refused.
+    pub fn stats<R: Wait>(&self, rt: &R, alloc: Global) -> Result<Stats, Refusal>
+        ensures agrees { IfOk result AreStats }
+        ensures refusals { IfErr result (λ refusal. refusal ≡ Refusal.NoMemory) }
+    {
+        Ok(self.shared.lock(rt).stats(alloc)?)
+    }
+
+    /// Subscribes a subscriber that was told nothing (`SubmissionPublisher.subscribe`). Its number is that of one that
+    /// was [reclaimed](Publisher::reclaim), if there is one that no later one has and the publisher is open; else it is
+    /// the next.
+    ///
+    /// Refused, with the subscriber back: 13 after the last possible subscription; 5 if a growth is refused; 3 if a live
+    /// subscription has the name, whose subscriber is told of it; 4 if as many are live as
+    /// [may be](crate::PublisherOptions); 13 after the last possible number or ticket; and 5 if a later growth is
+    /// refused.
     pub fn subscribe<R: Wait>(
         &self,
         rt: &R,
@@ -194,6 +210,7 @@ impl<L: Ledgers + Send, B: Listener + Send, F: FailHandler + Send> Publisher<L, 
         ensures known { IfOk result (λ submitter. submitter.known ≡ note.old.known) }
         ensures nothing { IfOk result
             (λ submitter. (submitter.published ≡ 0) × (submitter.dropping ≡ 0)) }
+        ensures unsent { IfOk result (λ submitter. submitter.sent ≡ []) }
         ensures same { note.new ≡ note.old }
         ensures refusals { IfErr result
             (λ refusal. (refusal ≡ Refusal.NoMemory) ⊎ (refusal ≡ Refusal.TooMany)) }

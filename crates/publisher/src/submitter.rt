@@ -6,7 +6,7 @@ mod several;
 
 ghost use Rattle.std.specs.Arc.{arc_value};
 ghost use Rattle.once_cell.specs.Once.{cell_name};
-ghost use Rattle.std.specs.Prelude.{◌≡◌, ◌+◌, ◌<◌, ◌≤◌, ◌↔◌, is_some, None, Err, IfErr, IfOk, IfSome, OnErr, OnOk, length};
+ghost use Rattle.std.specs.Prelude.{◌≡◌, ◌+◌, ◌<◌, ◌≤◌, ◌↔◌, [], ◌∷◌, ◌++◌, is_some, None, Err, IfErr, IfOk, IfSome, OnErr, OnOk, length};
 ghost use Rattle.flow_rules.specs.declared.refusal.Refusal.TheVariants as Refusal;
 ghost use Rattle.flow_rules.specs.declared.text.TheConstants.Text.{LONGEST};
 ghost use Rattle.publisher.specs.Handles.{IsHubRefusal, RefusesPublication, after_refusal};
@@ -64,6 +64,7 @@ impl<L: Ledgers + Send, B: Listener + Send, F: FailHandler + Send> Model for Sub
       closing = s.note.cell;
       known = s.note.known;
       published = s.own.publications.amount;
+      sent = s.own.pass.sent;
       dropping = s.own.drops.amount;
     } };
 }
@@ -83,6 +84,7 @@ impl<L: Ledgers + Send, B: Listener + Send, F: FailHandler + Send> Submitter<L, 
           closing = note.cell;
           known = note.known;
           published = own.publications.amount;
+          sent = own.pass.sent;
           dropping = own.drops.amount;
         } }
     {
@@ -103,8 +105,10 @@ impl<L: Ledgers + Send, B: Listener + Send, F: FailHandler + Send> Submitter<L, 
     pub fn submit<R: Wait>(&mut self, rt: &R, alloc: Global, text: &[u8]) -> Result<u64, Refusal>
         ensures known { RefusesKnown result self.old self.new }
         ensures long { RefusesLong result self.old text.now }
-        ensures ok { OnOk result (self.new ≡ record self.old
-            { published = self.old.published + 1 }) }
+        ensures ok { OnOk result (self.new ≡ record self.old {
+          published = self.old.published + 1;
+          sent = self.old.sent ++ text.now ∷ [];
+        }) }
         ensures unchanged { IfErr result (λ refusal. self.new ≡ after_refusal refusal self.old) }
         ensures refusals { IfErr result (λ refusal. RefusesPublication refusal self.new.known) }
     {
@@ -135,7 +139,7 @@ impl<L: Ledgers + Send, B: Listener + Send, F: FailHandler + Send> Submitter<L, 
     ) -> Result<i64, Refusal>
         ensures known { RefusesKnown result self.old self.new }
         ensures long { RefusesLong result self.old text.now }
-        ensures ok { IfOk result (λ answer. CountsOffer answer self.old self.new) }
+        ensures ok { IfOk result (λ answer. CountsOffer text.now answer self.old self.new) }
         ensures unchanged { IfErr result (λ refusal. self.new ≡ after_refusal refusal self.old) }
         ensures refusals { IfErr result (λ refusal. RefusesPublication refusal self.new.known) }
     {
@@ -155,7 +159,7 @@ impl<L: Ledgers + Send, B: Listener + Send, F: FailHandler + Send> Submitter<L, 
     ) -> Result<i64, Refusal>
         ensures known { RefusesKnown result self.old self.new }
         ensures long { RefusesLong result self.old text.now }
-        ensures ok { IfOk result (λ answer. CountsOffer answer self.old self.new) }
+        ensures ok { IfOk result (λ answer. CountsOffer text.now answer self.old self.new) }
         ensures unchanged { IfErr result (λ refusal. self.new ≡ after_refusal refusal self.old) }
         ensures refusals { IfErr result (λ refusal. RefusesPublication refusal self.new.known) }
     {
@@ -172,7 +176,7 @@ impl<L: Ledgers + Send, B: Listener + Send, F: FailHandler + Send> Submitter<L, 
     ) -> Result<i64, Refusal>
         ensures known { RefusesKnown result self.old self.new }
         ensures long { RefusesLong result self.old text.now }
-        ensures ok { IfOk result (λ answer. CountsOffer answer self.old self.new) }
+        ensures ok { IfOk result (λ answer. CountsOffer text.now answer self.old self.new) }
         ensures unchanged { IfErr result (λ refusal. self.new ≡ after_refusal refusal self.old) }
         ensures refusals { IfErr result (λ refusal. RefusesPublication refusal self.new.known) }
     {
@@ -213,8 +217,10 @@ impl<L: Ledgers + Send, B: Listener + Send, F: FailHandler + Send> Submitter<L, 
 
     /// Publishes a text, and waits as long as there is no room.
     fn submit_text<R: Wait>(&mut self, rt: &R, text: Text) -> Result<u64, Refused>
-        ensures ok { OnOk result (self.new ≡ record self.old
-            { published = self.old.published + 1 }) }
+        ensures ok { OnOk result (self.new ≡ record self.old {
+          published = self.old.published + 1;
+          sent = self.old.sent ++ text ∷ [];
+        }) }
         ensures unchanged { OnErr result (self.new ≡ self.old) }
     {
         let Submitter {
@@ -270,6 +276,7 @@ impl<L: Ledgers + Send, B: Listener + Send, F: FailHandler + Send> Submitter<L, 
     pub(crate) fn give_up(self) -> (Own<L>, bool)
         ensures source { result.0.source ≡ self.source }
         ensures published { result.0.publications.amount ≡ self.published }
+        ensures sent { result.0.pass.sent ≡ self.sent }
         ensures dropping { result.0.drops.amount ≡ self.dropping }
         ensures knows { result.1 ≡ is_some self.known }
     {

@@ -56,7 +56,8 @@ impl<L: Ledgers + Send, B: Listener + Send, F: FailHandler + Send> Subscription<
         }
     }
 
-    /// Tells the number of the subscription, from 0 in order of subscription.
+    /// Tells the number of the subscription, from 0 in order of subscription; the number of one that was reclaimed goes
+    /// to a later one.
     pub fn entry(&self) -> u32
         ensures { result ≡ self.now.entry }
     {

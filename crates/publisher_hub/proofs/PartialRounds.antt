@@ -6,6 +6,8 @@ pub mod Next
 pub mod Preparing
 pub mod Progress
 pub mod Putting
+pub mod PuttingSeveral
 pub mod Retrying
 pub mod Rooms
 pub mod Shares
+pub mod Surveying

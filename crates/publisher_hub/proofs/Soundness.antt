@@ -2,6 +2,7 @@
 pub mod Adding
 pub mod Closing
 pub mod Doubling
+pub mod Gaining
 pub mod LeavingOut
 pub mod Lending
 pub mod Looking
@@ -9,8 +10,10 @@ pub mod LookingAtAll
 pub mod LookingAtOne
 pub mod Publishing
 pub mod Reclaiming
+pub mod Refilling
 pub mod Replacing
 pub mod SameLists
 pub mod Starting
+pub mod Surveying
 pub mod TakingOut
 pub mod Tickets

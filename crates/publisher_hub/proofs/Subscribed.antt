@@ -3,3 +3,4 @@ pub mod Admission
 pub mod AfterLooks
 pub mod Ends
 pub mod Readiness
+pub mod Vacancies

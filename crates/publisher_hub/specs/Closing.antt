@@ -50,7 +50,7 @@ abbrev pub started_by_end : {T : Type 0} → ℕ → AtClose T → List (Work T)
 started_by_end number AtClose.Retired = []
 started_by_end number (AtClose.Ended start) = work_of number start
 
--- the tasks that the closes of a round started, in order of subscription
+-- the tasks that the closes of a round started, in the order of the numbers
 abbrev pub started_by_ends : {T : Type 0} → List (AtClose T) → List (Work T)
 started_by_ends answers = gather started_by_end 0 answers
 
@@ -66,7 +66,7 @@ module _ {F T : Type 0} (meaning : F → End) (does : F → Call T → F → Typ
   Closes ending AtClose.Retired old new = (old.retired ≡ true) × (new ≡ old)
   Closes ending (AtClose.Ended start) old new = Closed ending start old new
 
-  -- each live subscription was closed once, and the tasks that this started are due, in order of subscription
+  -- each live subscription was closed once, and the tasks that this started are due, in the order of the numbers
   pub record ClosesLive (ending : Ending) (xs ys : List (Entry F))
       (due_before due_after : List (Work T)) : Type 0 where
     pub answers : List (AtClose T)

@@ -28,7 +28,7 @@ abbrev pub missed_by : {T : Type 0} → ℕ → Option (Put T) → List ℕ
 missed_by number (Some (Full back)) = number ∷ []
 missed_by number _ = []
 
--- what the puts of a round gather, in order of subscription
+-- what the puts of a round gather, in the order of the numbers
 abbrev pub started : {T : Type 0} → List (Option (Put T)) → List (Work T)
 started puts = gather started_by 0 puts
 
@@ -58,7 +58,7 @@ abbrev pub lag_again_by : {T : Type 0} → ℕ → Second T → List ℕ
 lag_again_by number (Some answer) = lag_by number answer
 lag_again_by number None = []
 
--- what the second pass gathers, in order of subscription
+-- what the second pass gathers, in the order of the numbers
 abbrev pub dropped : {T : Type 0} → List (Second T) → List ℕ
 dropped seconds = gather dropped_by 0 seconds
 

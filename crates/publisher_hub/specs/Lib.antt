@@ -15,8 +15,11 @@ pub mod Policy
 pub mod Publishing
 pub mod Readiness
 pub mod Reclaiming
+pub mod Several
 pub mod Sound
+pub mod Stats
 pub mod Steps
 pub mod Subscribing
 pub mod Taking
 pub mod Tickets
+pub mod Vacant

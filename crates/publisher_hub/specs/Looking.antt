@@ -1,8 +1,9 @@
 -- What looks do to the subscriptions of a Hub.
-use Rattle.std.specs.Prelude.{◌≡◌, ◌⊎◌, ℕ, ◌<◌, ◌≤◌, Bool, true, false, ◌||◌, nat_lt, if◌then◌else◌, Option, None, Some, Result, List, [], ◌∷◌, filter, length, OnOk, OnErr, IsOk, IsErr}
+use Rattle.std.specs.Prelude.{◌≡◌, ◌⊎◌, ℕ, ◌<◌, ◌≤◌, ◌-◌, min, fold, Bool, true, false, ◌||◌, nat_lt, if◌then◌else◌, Option, None, Some, Result, List, [], ◌∷◌, filter, length, OnOk, OnErr, IsOk, IsErr}
 use Rattle.flow_rules.specs.Call.{Call}
 use Rattle.flow_rules.specs.Feed.{End, Looked, held_count, is_gone}
 use Rattle.flow_rules.specs.declared.feed.standing.Standing.{Standing}
+use Rattle.flow_rules.specs.declared.item.TheConstants.{MOST_PUBLICATIONS}
 use Rattle.flow_rules.specs.declared.refusal.NoMemory.{NoMemory}
 use Rattle.publisher_hub.specs.Becoming.{Becomes, ChangesAt}
 use Rattle.publisher_hub.specs.Entry.{EntryState}
@@ -73,11 +74,22 @@ pub record IsRoomForWaiters {F : Type 0} (room : Bool) (capacity : ℕ) (entries
   pub there : room ≡ true → full_waiters capacity entries glances ≡ []
   pub missing : room ≡ false → 0 < length (full_waiters capacity entries glances)
 
+-- how many more items the buffer of a subscription that goes on holds, by a look
+abbrev pub room_by : ℕ → ℕ → Option Standing → List ℕ
+room_by capacity number None = []
+room_by capacity number (Some standing) =
+    if standing.ended then [] else (capacity - standing.held) ∷ []
+
+-- how many more items each subscription that goes on holds, by looks, in order
+abbrev pub rooms : ℕ → List (Option Standing) → List ℕ
+rooms capacity glances = gather (room_by capacity) 0 glances
+
 -- this is what looks showed of the room of these subscriptions
 pub record ShowsRoom {F : Type 0} (room : Room) (capacity : ℕ) (entries : List (Entry F))
     (glances : List (Option Standing)) : Type 0 where
   pub all : IsRoom room.everywhere capacity glances
   pub waiters : IsRoomForWaiters room.for_waiters capacity entries glances
+  pub least : room.least ≡ fold min MOST_PUBLICATIONS (rooms capacity glances)
 
 module _ {F T : Type 0} (meaning : F → End) (does : F → Call T → F → Type 0) where
   -- an end was looked at, with this standing

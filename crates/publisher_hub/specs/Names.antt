@@ -7,7 +7,7 @@ use Rattle.publisher_hub.specs.Lists.{gather}
 abbrev pub name_by : ℕ → EntryState → List (List ℕ)
 name_by number entry = if entry.retired then [] else entry.name ∷ []
 
--- the names of those that aren't retired, in order of subscription
+-- the names of those that aren't retired, in the order of the numbers
 abbrev pub live_names : List EntryState → List (List ℕ)
 live_names entries = gather name_by 0 entries
 

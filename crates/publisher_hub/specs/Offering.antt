@@ -106,7 +106,7 @@ held_in (Some end) = held_count end ∷ []
 abbrev pub backlog_by : ℕ → EntryState → List ℕ
 backlog_by number entry = if entry.retired then [] else held_in entry.feed
 
--- how many items wait for each subscription that isn't retired, in order of subscription
+-- how many items wait for each subscription that isn't retired, in the order of the numbers
 abbrev pub backlogs : List EntryState → List ℕ
 backlogs entries = gather backlog_by 0 entries
 

@@ -1,8 +1,8 @@
 -- What a round of looks shows of all subscriptions together.
-use Rattle.std.specs.Prelude.{◌≡◌, ◌&&◌, ◌||◌, not, Bool, ◌≤◌, ◌+◌, ℕ, max, fold, true, false, Option, List, [], ◌∷◌, length}
+use Rattle.std.specs.Prelude.{◌≡◌, ◌&&◌, ◌||◌, not, Bool, ◌≤◌, ◌+◌, ℕ, max, min, fold, true, false, Option, List, [], ◌∷◌, length}
 use Rattle.flow_rules.specs.declared.feed.standing.Standing.{Standing}
 use Rattle.publisher_hub.specs.Lists.{greatest}
-use Rattle.publisher_hub.specs.Looking.{ShowsRoom, full_by, living, living_by, waiting, waiting_by}
+use Rattle.publisher_hub.specs.Looking.{ShowsRoom, full_by, living, living_by, room_by, waiting, waiting_by}
 use Rattle.publisher_hub.specs.declared.entry.Entry.{Entry}
 use Rattle.publisher_hub.specs.declared.hub.look.Overview.{Overview}
 use Rattle.publisher_hub.specs.declared.hub.room.Room.{Room}
@@ -23,6 +23,7 @@ pub record CountsRoom (capacity : ℕ) (waited : Bool) (glance : Option Standing
   pub not_full : has ≡ true → (number : ℕ) → full_by capacity number glance ≡ []
   pub everywhere : new.everywhere ≡ (old.everywhere && has)
   pub for_waiters : new.for_waiters ≡ (old.for_waiters && (has || not waited))
+  pub least : (number : ℕ) → new.least ≡ fold min old.least (room_by capacity number glance)
 
 -- what another look adds to what those before it showed, whichever subscription it was of
 pub record CountsLook (capacity : ℕ) (waited : Bool) (glance : Option Standing) (old new : Overview)

@@ -1,5 +1,5 @@
 -- What a subscribing does to a Hub, and when it is refused.
-use Rattle.std.specs.Prelude.{◌≡◌, ◌⊎◌, ℕ, ◌<◌, true, false, Option, None, Some, List, [], ◌∷◌, ◌++◌, length, slice_get, slice_set, Vec, vec_len}
+use Rattle.std.specs.Prelude.{◌≡◌, ◌⊎◌, ℕ, ◌<◌, ◌≤◌, true, false, Option, None, Some, List, [], ◌∷◌, ◌++◌, length, slice_get, slice_set, Vec, vec_len}
 use Rattle.std.specs.declared.alloc.Global.{Global}
 use Rattle.std.specs.Vec.{vec_capacity}
 use Rattle.close_count.specs.declared.ticket.Ticket.{Ticket}
@@ -17,7 +17,7 @@ use Rattle.publisher_hub.specs.Lists.{Each}
 use Rattle.publisher_hub.specs.Looking.{IsKept, PreparesAll, PreparesInPart}
 use Rattle.publisher_hub.specs.Gathering.{work_of}
 use Rattle.publisher_hub.specs.Readiness.{AreReady}
-use Rattle.publisher_hub.specs.Sound.{MOST_ENTRIES, MOST_LIVE}
+use Rattle.publisher_hub.specs.Sound.{MOST_ENTRIES}
 use Rattle.publisher_hub.specs.declared.entry.Entry.{Entry}
 use Rattle.publisher_hub.specs.declared.hub.Hub.{Hub}
 use Rattle.publisher_hub.specs.declared.policy.OnFull.{OnFull}
@@ -47,27 +47,28 @@ abbrev pub IsLiveAt : {F : Type 0} → ℕ → List (Entry F) → Type 0
 IsLiveAt {F} number entries =
     (entry : Entry F) × ((slice_get entries number ≡ Some entry) × (entry.retired ≡ false))
 
--- there is a place for another subscription
-pub record HasPlace {F : Type 0} (hub : Hub F) : Type 0 where
+-- there is a place for another subscription, if this many may be live
+pub record HasPlace {F : Type 0} (most : ℕ) (hub : Hub F) : Type 0 where
   pub entry_place : vec_len hub.entries < vec_capacity hub.entries
   pub number_place : vec_len hub.live < vec_capacity hub.live
-  pub few_live : length hub.live.items < MOST_LIVE
+  pub few_live : length hub.live.items < most
   pub few_entries : length hub.entries.items < MOST_ENTRIES
 
--- why there is no place: as many subscriptions are live as may be; else as many were ever made; else memory is refused
-abbrev pub HasNoPlace : {F : Type 0} → Refusal → Hub F → Type 0
-HasNoPlace Refusal.TooMany hub = length hub.live.items ≡ MOST_LIVE
-HasNoPlace Refusal.Exhausted hub =
-    (length hub.live.items < MOST_LIVE) × (length hub.entries.items ≡ MOST_ENTRIES)
-HasNoPlace Refusal.NoMemory hub =
-    (length hub.live.items < MOST_LIVE) × (length hub.entries.items < MOST_ENTRIES)
-HasNoPlace _ hub = ⊥
+-- why there is no place: as many subscriptions are live as may be, or more; else there are as many as may ever be; else
+-- memory is refused
+abbrev pub HasNoPlace : {F : Type 0} → ℕ → Refusal → Hub F → Type 0
+HasNoPlace most Refusal.TooMany hub = most ≤ length hub.live.items
+HasNoPlace most Refusal.Exhausted hub =
+    (length hub.live.items < most) × (length hub.entries.items ≡ MOST_ENTRIES)
+HasNoPlace most Refusal.NoMemory hub =
+    (length hub.live.items < most) × (length hub.entries.items < MOST_ENTRIES)
+HasNoPlace most _ hub = ⊥
 
--- a subscription of this name may be added to a Hub, and one task may be started
-pub record CanAdmit {F T : Type 0} (meaning : F → End) (name : List ℕ) (hub : Hub F)
+-- a subscription of this name may be added to a Hub, if this many may be live, and one task may be started
+pub record CanAdmit {F T : Type 0} (meaning : F → End) (name : List ℕ) (most : ℕ) (hub : Hub F)
     (due : Vec (Work T) Global) : Type 0 where
   pub due_place : vec_len due < vec_capacity due
-  pub place : HasPlace hub
+  pub place : HasPlace most hub
   pub ready : AreReady (hub_of meaning hub).entries
   pub unnamed : IsUnnamed name (hub_of meaning hub).entries
 
@@ -132,20 +133,22 @@ module _ {F T : Type 0} (meaning : F → End) (does : F → Call T → F → Typ
     pub doubles : DoublesAt number due_before due_after old new
 
   -- no live subscription of a Hub that was looked at has the name, and there is no place for another
-  pub record FindsNoPlace (name : List ℕ) (refusal : Refusal) (old new : Hub F) : Type 0 where
-    pub seen : IsPrepared old new
-    pub unnamed : IsUnnamed name (hub_of meaning new).entries
-    pub why : HasNoPlace refusal new
+  pub record FindsNoPlace (name : List ℕ) (most : ℕ) (refusal : Refusal) (old new : Hub F) : Type 0
+    where
+      pub seen : IsPrepared old new
+      pub unnamed : IsUnnamed name (hub_of meaning new).entries
+      pub why : HasNoPlace most refusal new
 
   -- why a subscribing is refused, and what is left then: a live subscription has the name, and is doubled; else there
   -- is no place; or memory was refused before all were looked at
-  abbrev pub Refuses : List ℕ → Refusal → List (Work T) → List (Work T) → Hub F → Hub F → Type 0
-  Refuses name Refusal.Duplicate due_before due_after old new =
+  abbrev pub Refuses : List ℕ → ℕ → Refusal → List (Work T) → List (Work T) → Hub F → Hub F → Type 0
+  Refuses name most Refusal.Duplicate due_before due_after old new =
       (middle : Hub F) × (IsPrepared old middle × DoublesOne name due_before due_after middle new)
-  Refuses name Refusal.NoMemory due_before due_after old new =
-      (IsPreparedInPart old new ⊎ FindsNoPlace name Refusal.NoMemory old new) × (due_after ≡ due_before)
-  Refuses name refusal due_before due_after old new =
-      FindsNoPlace name refusal old new × (due_after ≡ due_before)
+  Refuses name most Refusal.NoMemory due_before due_after old new =
+      (IsPreparedInPart old new ⊎ FindsNoPlace name most Refusal.NoMemory old new)
+      × (due_after ≡ due_before)
+  Refuses name most refusal due_before due_after old new =
+      FindsNoPlace name most refusal old new × (due_after ≡ due_before)
 
   -- the producer's end of a new subscription is closed at once if its Hub was
   abbrev pub ClosesNew : Option Ending → F → Option T → F → Type 0
@@ -154,13 +157,14 @@ module _ {F T : Type 0} (meaning : F → End) (does : F → Call T → F → Typ
       Feed.Ends (meaning feed) ending start (meaning after)
       × does feed (Call.Ends ending start) after
 
-  -- a subscription was added to a Hub that had been looked at, and nothing else changed
+  -- a subscription was added to a Hub that had been looked at, and in which fewer than this many were live; nothing
+  -- else changed
   pub record AdmitsWith (name : List ℕ) (on_full : OnFull) (feed : F) (ticket : Option Ticket)
-      (number : ℕ) (due_before due_after : List (Work T)) (old new : Hub F) : Type 0 where
+      (most number : ℕ) (due_before due_after : List (Work T)) (old new : Hub F) : Type 0 where
     pub middle : Hub F
     pub seen : IsPrepared old middle
     pub unnamed : IsUnnamed name (hub_of meaning middle).entries
-    pub few_live : length middle.live.items < MOST_LIVE
+    pub few_live : length middle.live.items < most
     pub is_next : number ≡ length old.entries.items
     pub few_entries : number < MOST_ENTRIES
     pub start : Option T
@@ -173,7 +177,7 @@ module _ {F T : Type 0} (meaning : F → End) (does : F → Call T → F → Typ
     pub rest : OnlySubscriptionsChange (hub_of meaning old) (hub_of meaning new)
 
   -- the same of a subscription that publications wait for
-  abbrev pub Admits : List ℕ → F → Option Ticket → ℕ → List (Work T) → List (Work T)
+  abbrev pub Admits : List ℕ → F → Option Ticket → ℕ → ℕ → List (Work T) → List (Work T)
       → Hub F → Hub F → Type 0
-  Admits name feed ticket number due_before due_after old new =
-      AdmitsWith name Wait feed ticket number due_before due_after old new
+  Admits name feed ticket most number due_before due_after old new =
+      AdmitsWith name Wait feed ticket most number due_before due_after old new

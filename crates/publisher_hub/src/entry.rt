@@ -1,6 +1,6 @@
 //! One subscription of a Hub, with each step that a call or a round makes of it. It knows neither the others nor the
 //! numbers of the Hub: a step that needs the next serial number is handed that.
-ghost use Rattle.std.specs.Prelude.{◌≡◌, ◌-◌, ◌<◌, ◌≤◌, if◌then◌else◌, IfOk, IsSome, OnErr, Option, Some, false, true};
+ghost use Rattle.std.specs.Prelude.{◌≡◌, ◌-◌, ◌<◌, ◌≤◌, length, if◌then◌else◌, IfOk, IsSome, OnErr, Option, Some, false, true};
 ghost use Rattle.std.specs.Borrow.{sem};
 ghost use Rattle.flow_rules.specs.declared.feed.standing.Standing.{Standing};
 ghost use Rattle.flow_rules.specs.declared.item.TheConstants.{MOST_PUBLICATIONS};
@@ -9,6 +9,7 @@ ghost use Rattle.publisher_hub.specs.Entry.{entry_of};
 ghost use Rattle.publisher_hub.specs.Looking.{FailsToPrepare, Glances, IsReadied, Prepares};
 ghost use Rattle.publisher_hub.specs.Offering.{PutsTo, PutsAgain};
 ghost use Rattle.publisher_hub.specs.Readiness.{IsReady};
+ghost use Rattle.publisher_hub.specs.Several.{CanPutSeveral, PutsSeveralTo};
 ghost use Rattle.publisher_hub.specs.Steps.{CanTake, HasAcceptedFew, IsHere};
 ghost use Rattle.publisher_hub.specs.Subscribing.{Doubled};
 ghost use Rattle.publisher_hub.specs.Reclaiming.{TakesEnded};
@@ -17,9 +18,10 @@ ghost use Rattle.publisher_hub.specs.Tickets.{RetiresIfEnded};
 
 use crate::policy::OnFull;
 use close_count::Ticket;
-use flow_rules::{Ending, Feed, Item, Name, NoMemory, Put, Standing};
+use flow_rules::{Ending, Feed, Item, Name, NoMemory, Put, PutAll, Standing};
 
-/// One subscription of a Hub, from its subscribing on. It stays when it has ended.
+/// One subscription of a Hub, from its subscribing on. It stays when it has ended, until another one gets
+/// its place.
 #[derive(Drop)]
 pub(crate) struct Entry<F> {
     /// The name that its subscriber subscribed with.
@@ -121,6 +123,30 @@ impl<F: Feed> Entry<F> {
                     Put::Accepted { .. } => {}
                     Put::Full(_) => self.dropped += 1,
                     Put::Gone(_) => self.retire(serial),
+                }
+                Some(answer)
+            }
+            None => unreachable!(),
+        }
+    }
+
+    /// Offers several items at once to a subscription that isn't retired, after a look that showed room for all of them.
+    /// If it takes no more items, it is retired at the next serial number, before the first of them.
+    #[must_use]
+    pub fn put_all(&mut self, items: Vec<Item>, next: u64) -> Option<PutAll<F::Task>>
+        requires some { 0 < length items.items }
+        requires can { CanPutSeveral (length items.items) (entry_of F.meaning self.old) }
+        ensures { PutsSeveralTo F.meaning F.does next items.items result self.old self.new }
+    {
+        if self.retired {
+            return None;
+        }
+        match &mut self.feed {
+            Some(feed) => {
+                let answer = feed.put_all(items);
+                match &answer {
+                    PutAll::Accepted { .. } => {}
+                    PutAll::Gone(_) => self.retire(next),
                 }
                 Some(answer)
             }

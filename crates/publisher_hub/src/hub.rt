@@ -2,6 +2,7 @@
 //! producer's end, and the numbers of its publications. It runs no subscriber, waits for nobody and takes no lock:
 //! whoever calls it sees to it that the calls come one after the other, and that the tasks they start are run.
 
+mod admit;
 mod by_policy;
 mod close;
 mod gathering;
@@ -11,6 +12,8 @@ mod prepare;
 mod publish;
 mod retire;
 mod room;
+mod several;
+mod stats;
 mod subscribe;
 
 ghost use Rattle.std.specs.Borrow.{sem};
@@ -27,12 +30,18 @@ use crate::policy::OnFull;
 use close_count::Opening;
 use flow_rules::{Ending, Feed, MOST_PUBLICATIONS, Name, NoMemory, Refusal, capacity};
 pub use publish::Unpublished;
+pub use several::PublishedFirst;
+pub use stats::Figures;
 use std::alloc::Global;
 
-/// How many live subscriptions a Hub has at most.
-pub const MOST_LIVE: usize = 64;
+/// How many live subscriptions a Hub has at most. Each call that may add one is told how many of these may be live.
+pub const MOST_LIVE: usize = 4_096;
 
-/// How many subscriptions a Hub ever makes.
+/// How many live subscriptions a Hub has at most, as a rule.
+pub const USUAL_LIVE: usize = 64;
+
+/// How many places for subscriptions a Hub has at most. A subscription keeps its place until its producer's end and its
+/// ticket were taken out and another one was put there.
 pub const MOST_ENTRIES: usize = 4_294_967_295;
 
 /// How many sources a Hub has at most: submitters, if threads publish.
@@ -60,7 +69,7 @@ pub struct Hub<F> {
     pub(crate) dropping: u64,
     /// The opening ticket, until it is closed.
     pub(crate) opening: Option<Opening>,
-    /// All subscriptions that were ever made, in order.
+    /// All subscriptions in the order of their numbers, but those whose place was given to another one.
     pub(crate) entries: Vec<Entry<F>>,
     /// The numbers of those that may be live, rising.
     pub(crate) live: Vec<u32>,

@@ -3,13 +3,13 @@
 //!
 //! ```
 //! let mut hub = Hub::new(alloc, 4)?;
-//! let mut due = Vec::new(alloc);                        // the tasks that calls start, for the caller to run
-//! hub.may_subscribe(name, &mut due)?;
-//! let entry = hub.admit(name, desk, None, &mut due)?;   // 0
-//! let source = hub.next_source()?;                      // 0
-//! let lag = hub.publish(source, text, &mut due)?;       // 1
-//! let opening = hub.end(Ending::Normal, &mut due)?;     // none was set
-//! let second = hub.next_serial();                       // 1
+//! let mut due = Vec::new(alloc);                                  // the tasks that calls start, for the caller to run
+//! hub.may_subscribe(name, USUAL_LIVE, &mut due)?;
+//! let entry = hub.admit(name, desk, None, USUAL_LIVE, &mut due)?; // 0
+//! let source = hub.next_source()?;                                // 0
+//! let lag = hub.publish(source, text, &mut due)?;                 // 1
+//! let opening = hub.end(Ending::Normal, &mut due)?;               // none was set
+//! let second = hub.next_serial();                                 // 1
 //! ```
 #![tactic(auto)]
 
@@ -20,7 +20,9 @@ mod policy;
 mod work;
 
 pub use entry::AtClose;
-pub use hub::{Hub, MOST_ENTRIES, MOST_LIVE, MOST_SOURCES, Unpublished};
+pub use hub::{
+    Figures, Hub, MOST_ENTRIES, MOST_LIVE, MOST_SOURCES, PublishedFirst, USUAL_LIVE, Unpublished,
+};
 pub use laws::lent_feeds_keep_hubs_sound;
 pub use policy::{OnFull, Published};
 pub use work::Work;

@@ -5,7 +5,7 @@
 #[must_use]
 #[derive(Debug, Drop)]
 pub struct Work<T> {
-    /// The number of the subscription, in the order in which they were made, from 0.
+    /// The number of the subscription.
     pub entry: u32,
     /// What is to be run.
     pub task: T,

@@ -1,8 +1,10 @@
 //! Tests of the public calls, one subject a file: what no clause can say.
+mod anew;
 mod batches;
 mod callbacks;
 mod closing;
 mod coming;
+mod controllers;
 mod failing;
 mod policy;
 mod reclaiming;

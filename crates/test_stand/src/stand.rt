@@ -5,7 +5,7 @@ ghost use Rattle.publisher.specs.Blanks.{AreBlanksOf};
 use flow_rules::{ErrorOrder, FailHandler, LastFailure, Listener, Name, Refusal};
 use publisher::{
     BlankPair, Ledgers, Outcome, Publisher, PublisherOptions, Refused, Submitter, Subscription,
-    finish,
+    USUAL_LIVE, finish,
 };
 use std::alloc::Global;
 use std::sync::Wait;
@@ -37,7 +37,7 @@ impl<L: Ledgers + Send + Sync + 'static, B: Listener + Send + 'static> Stand<L, 
         workers: usize,
         capacity: usize,
     ) -> Result<Stand<L, B>, Fail>
-        requires blanks { AreBlanksOf blanks L.publications L.drops }
+        requires blanks { AreBlanksOf blanks L.publications L.drops L.history }
     {
         let publisher = Publisher::new(rt, alloc, blanks, workers, capacity)?;
         let mut stand = Stand::of(alloc, publisher);
@@ -59,12 +59,13 @@ impl<
         workers: usize,
         handler: F,
     ) -> Result<Stand<L, B, F>, Fail>
-        requires blanks { AreBlanksOf blanks L.publications L.drops }
+        requires blanks { AreBlanksOf blanks L.publications L.drops L.history }
     {
         let options = PublisherOptions {
             workers,
             capacity: 8,
             order: ErrorOrder::Overtake,
+            most_live: USUAL_LIVE,
         };
         let made = Publisher::with_handler(rt, alloc, blanks, options, handler);
         let mut stand = match made {

@@ -2,4 +2,4 @@
 use Rattle.bus_example.proofs.main.Given as goal
 
 abbrev pub ghosts-run_bus : goal.ghosts-run_bus
-ghosts-run_bus g a = record { publications = a.blanks.publications.name; drops = a.blanks.drops.name }
+ghosts-run_bus g a = record { publications = a.blanks.publications.name; drops = a.blanks.drops.name; history = a.blanks.history }

@@ -2,4 +2,4 @@
 use Rattle.console.proofs.open.Given as goal
 
 abbrev pub ghosts-run_session : goal.ghosts-run_session
-ghosts-run_session g a = record { publications = a.blanks.publications.name; drops = a.blanks.drops.name }
+ghosts-run_session g a = record { publications = a.blanks.publications.name; drops = a.blanks.drops.name; history = a.blanks.history }

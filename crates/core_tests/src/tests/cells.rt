@@ -10,6 +10,7 @@ mod parties;
 mod pausing;
 mod putting;
 mod relay;
+mod several;
 
 use super::desks::has_told;
 use crate::Row;

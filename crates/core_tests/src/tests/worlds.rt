@@ -3,6 +3,7 @@ mod chance;
 mod errors;
 mod known;
 mod peeks;
+mod several;
 mod table;
 
 use feed_core::Causes;

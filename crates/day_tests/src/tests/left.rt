@@ -24,8 +24,8 @@ pub fn outcome_lines(
     for left in outcome.lanes.iter() {
         lines.push(line_of(alloc, left, amid, may_be_refused)?)?;
     }
-    if !outcome.reclaimed.is_empty() {
-        lines.push(format!(in alloc; "{} reclaimed", outcome.reclaimed.len())?)?;
+    if outcome.reclaimed > 0 {
+        lines.push(format!(in alloc; "{} reclaimed", outcome.reclaimed)?)?;
     }
     Ok(lines)
 }

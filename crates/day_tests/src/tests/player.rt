@@ -56,7 +56,7 @@ pub fn play<L: Ledgers + Send + Sync + 'static, R: Clock + Threads + Wait + Copy
     round: u64,
     day: &Day,
 ) -> Result<Told, Fail>
-    requires blanks { AreBlanksOf blanks L.publications L.drops }
+    requires blanks { AreBlanksOf blanks L.publications L.drops L.history }
 {
     let publisher: Publisher<L, Heard> = Publisher::with_options(rt, alloc, blanks, options)?;
     let mut player = new_player(alloc, publisher, round)?;

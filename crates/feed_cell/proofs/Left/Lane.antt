@@ -178,8 +178,8 @@ module _ {B : Type 0} (told : B → List Signal) (cap : ℕ) (s : State (Held B)
     room_kept =
         let sized : end.capacity ≡ cap = ap (λ z. z.capacity) end_is ∙ (c.producers id v at puts).1.sized in
         let given : c.cell.world.given ≡ length c.cell.taken = c.shows.given in
-        let above : length c.cell.log ≤ c.cell.free = c.lists.above in
-        let below : c.cell.free ≤ length c.cell.taken + cap = c.lists.below in
+        let above : length c.cell.log + length c.cell.beyond.placed ≤ c.cell.beyond.free = c.lists.above in
+        let below : c.cell.beyond.free ≤ length c.cell.taken + cap = c.lists.below in
         omega arith
 
     -- with its seat known, the handle has left

@@ -48,7 +48,7 @@ module _ {B : Type 0} (told : B → List Signal) where
         lies = c.lies;
         lodges = c.lodges;
         producers = other has_put c.cell.producer _ _ (set s.views id (with_asking v w)) from no_part
-            (mine has_put c.cell.producer _ _ s.views id v (with_asking v w) c.producers at puts (record { sized = p.sized; ordered = asked.ordered; put = p.put; seen = p.seen; places = p.places; over = p.over; closed = p.closed; doubled = p.doubled; stands = p.stands }))
+            (mine has_put c.cell.producer _ _ s.views id v (with_asking v w) c.producers at puts (record { sized = p.sized; ordered = asked.ordered; put = p.put; seen = p.seen; laid = p.laid; places = p.places; over = p.over; closed = p.closed; doubled = p.doubled; stands = p.stands }))
             refl (λ d k. k);
         handles = taken_in has_ask c.cell.handle _ _ s.views id from (with_asking v w) w no_part c.handles was asks refl
             (λ h. record { sized = p.sized; ordered = h.ordered; total = h.total; cancels = h.cancels; bad = h.bad; leaves = h.leaves; stands = h.stands });

@@ -1,5 +1,5 @@
 -- The producer's looks at head.
-use Rattle.std.proofs.Common.{◌≡◌, ℕ, ◌+◌, ◌-◌, ◌%◌, ◌<◌, ◌≤◌, ◌⊎◌, Bool, true, false, true≢false, List, length, slice_index, set, sym, refl, ap, ◌∙◌, subst, inl, inr, arith}
+use Rattle.std.proofs.Common.{◌≡◌, ℕ, ◌+◌, ◌-◌, ◌%◌, ◌<◌, ◌≤◌, ◌⊎◌, Bool, true, false, true≢false, List, length, slice_index, set, sym, refl, ap, ◌∙◌, subst, inl, inr, arith, [], ◌++◌, length-append}
 use mathlib.Core.Option as slot
 use mathlib.Core.Option.{some}
 use mathlib.Core.Logic.{dite}
@@ -15,7 +15,7 @@ use Rattle.feed_cell.proofs.Table.Places.{lies_room, stays_home}
 use Rattle.feed_cell.proofs.Table.Seats.{mine, other}
 use Rattle.feed_cell.proofs.Tasks.Stages.{lodges_else}
 use Rattle.feed_cell.proofs.Table.Tallies.{stays_same}
-use Rattle.feed_cell.specs.Cell.{Lists, Lies, LodgesAt, CellRule, AsProducer}
+use Rattle.feed_cell.specs.Cell.{Beyond, Lists, Lies, LodgesAt, CellRule, AsProducer}
 use Rattle.feed_cell.specs.Control.{MARK, marked}
 use Rattle.feed_cell.specs.ProducerSteps.{FindsRoom, FindsHead, after_look}
 use Rattle.feed_cell.specs.Seats.{SeatOf}
@@ -28,14 +28,14 @@ use Rattle.feed_cell.proofs.Words.FourWords.{head_at, head_loaded}
 
 module _ {B : Type 0} (told : B → List Signal) (cap : ℕ) where
   -- the rule after a look, whatever slot it takes
-  room_kept : (s : State (Held B) View) (c : CellRule told cap s) (id : ℕ) (v w : View) (free : ℕ) (homes : List (slot.Option (Held B)))
+  room_kept : (s : State (Held B) View) (c : CellRule told cap s) (id : ℕ) (v w : View) (beyond : Beyond) (homes : List (slot.Option (Held B)))
       → get_elem? s.views id ≡ some v → IsProducer v → MayBegin c.cell.world.producer
-      → has_ask w ≡ false → has_run w ≡ false → ShowsSame v w → Lists cap c.cell.log c.cell.taken c.cell.item free → Lies cap c.cell.log (length c.cell.taken) (length c.cell.taken + length c.cell.item) free homes
+      → has_ask w ≡ false → has_run w ≡ false → ShowsSame v w → Lists cap c.cell.log c.cell.taken c.cell.item beyond → Lies cap (c.cell.log ++ beyond.placed) (length c.cell.taken) (length c.cell.taken + length c.cell.item) beyond.free homes
       → (c.cell.away ≡ false → LodgesAt told cap c.cell.world.runner c.cell.taken c.cell.world.own c.cell.answers homes)
-      → AsProducer cap c.cell.answers.order c.cell.log c.cell.world.given free (is_over c.cell.world.runner) c.cell.flags.closing c.cell.flags.state (shown_room (has_room c.cell.world)) w
+      → AsProducer cap c.cell.answers.order c.cell.log c.cell.world.given beyond (is_over c.cell.world.runner) c.cell.flags.closing c.cell.flags.state (shown_room (has_room c.cell.world)) w
       → CellRule told cap (record { words = set s.words (place cap Word.Head) (slice_index s.words (place cap Word.Head)); homes = homes; views = set s.views id w })
-  room_kept s c id v w free homes at is may asks runs same lists lies lodges knows = record {
-    cell = record c.cell { world = after Room c.cell.world; free = free };
+  room_kept s c id v w beyond homes at is may asks runs same lists lies lodges knows = record {
+    cell = record c.cell { world = after Room c.cell.world; beyond = beyond };
     reached = reached_more Room id v w c.reached may at (inl is.0) same (stays_same c.cell.world.runner);
     lists = lists;
     shows = record { sized = c.shows.sized; accepted = c.shows.accepted; given = c.shows.given; none_out = c.shows.none_out; started = c.shows.started; new = c.shows.new; causes = c.shows.causes; home = c.shows.home; settled = c.shows.settled };
@@ -87,29 +87,40 @@ module _ {B : Type 0} (told : B → List Signal) (cap : ℕ) where
     by false e = refl
 
 module _ {B : Type 0} (told : B → List Signal) (cap : ℕ) (s : State (Held B) View) (c : CellRule told cap s) (id : ℕ) (v : View) (more : List (ℕ × Held B)) (at : get_elem? s.views id ≡ some v)
-    (is : IsProducer v) (none_out : v.places ≡ 0) (begins : MayBegin v.producing) where
+    (is : IsProducer v) (none_out : v.places ≡ 0) (none_placed : v.placed ≡ []) (begins : MayBegin v.producing) where
   abbrev looked : Producing → ℕ → View
   looked producing places = after_look v c.cell.world.given (is_over c.cell.world.runner) producing places
 
-  knows : (p : Producing) (places free : ℕ) → shown_room (has_room c.cell.world) ≡ p → free ≡ length c.cell.log + places
-      → AsProducer cap c.cell.answers.order c.cell.log c.cell.world.given free (is_over c.cell.world.runner) c.cell.flags.closing c.cell.flags.state (shown_room (has_room c.cell.world)) (looked p places)
-  knows p places free shown is_free =
+  knows : (p : Producing) (places : ℕ) (beyond : Beyond) → shown_room (has_room c.cell.world) ≡ p → v.placed ≡ beyond.placed
+      → beyond.free ≡ length c.cell.log + length beyond.placed + places
+      → AsProducer cap c.cell.answers.order c.cell.log c.cell.world.given beyond (is_over c.cell.world.runner) c.cell.flags.closing c.cell.flags.state (shown_room (has_room c.cell.world)) (looked p places)
+  knows p places beyond shown laid is_free =
       let k = (c.producers id v at is.0).1 in
-      record { sized = k.sized; ordered = k.ordered; put = k.put; seen = omega arith; places = is_free; over = λ e. e; closed = k.closed; doubled = k.doubled; stands = sym shown }
+      record { sized = k.sized; ordered = k.ordered; put = k.put; seen = omega arith; laid = laid; places = is_free; over = λ e. e; closed = k.closed; doubled = k.doubled; stands = sym shown }
 
   may : MayBegin c.cell.world.producer
   may = subst MayBegin (c.producers id v at is.0).1.stands begins
 
-  free_is : c.cell.free ≡ length c.cell.log
-  free_is = (c.producers id v at is.0).1.places ∙ ap (λ (m : ℕ). length c.cell.log + m) none_out ∙ (omega arith)
+  -- nothing lies beyond tail
+  none_laid : length c.cell.beyond.placed ≡ 0
+  none_laid = ap length (sym (c.producers id v at is.0).1.laid ∙ none_placed)
 
-  slot_is : length v.put % v.capacity ≡ length c.cell.log % cap
-  slot_is = let k = (c.producers id v at is.0).1 in ap (λ (l : List Item). length l % v.capacity) k.put ∙ ap (λ (m : ℕ). length c.cell.log % m) k.sized
+  laid_is : length (c.cell.log ++ c.cell.beyond.placed) ≡ length c.cell.log
+  laid_is = let none = none_laid in let longer : length (c.cell.log ++ c.cell.beyond.placed) ≡ length c.cell.log + length c.cell.beyond.placed = length-append c.cell.log c.cell.beyond.placed in omega arith
+
+  free_is : c.cell.beyond.free ≡ length (c.cell.log ++ c.cell.beyond.placed)
+  free_is = let places = (c.producers id v at is.0).1.places in let none = none_laid in let laid = laid_is in omega arith
+
+  slot_is : length v.put % v.capacity ≡ length (c.cell.log ++ c.cell.beyond.placed) % cap
+  slot_is = let k = (c.producers id v at is.0).1 in ap (λ (l : List Item). length l % v.capacity) k.put ∙ ap (λ (m : ℕ). length c.cell.log % m) k.sized ∙ ap (λ (m : ℕ). m % cap) (sym laid_is)
 
   -- no slot is taken
   stays : (p : Producing) → shown_room (has_room c.cell.world) ≡ p
       → CellRule told cap (record { words = set s.words (place cap Word.Head) (slice_index s.words (place cap Word.Head)); homes = s.homes; views = set s.views id (looked p 0) })
-  stays p shown = room_kept told cap s c id v (looked p 0) c.cell.free s.homes at is may is.1 is.2 (refl, refl, refl) c.lists c.lies c.lodges (knows p 0 c.cell.free shown (free_is ∙ omega arith))
+  stays p shown =
+      let k = (c.producers id v at is.0).1 in
+      let places = k.places in
+      room_kept told cap s c id v (looked p 0) c.cell.beyond s.homes at is may is.1 is.2 (refl, refl, refl) c.lists c.lies c.lodges (knows p 0 c.cell.beyond shown k.laid (omega arith))
 
   -- the next slot is
   takes_place : length c.cell.log < length c.cell.taken + cap → shown_room (has_room c.cell.world) ≡ HasRoom
@@ -117,12 +128,16 @@ module _ {B : Type 0} (told : B → List Signal) (cap : ℕ) (s : State (Held B)
   takes_place room shown =
       let within : length c.cell.taken + length c.cell.item ≤ length c.cell.log = c.lists.within in
       let l = c.lists in
-      room_kept told cap s c id v (looked HasRoom 1) (length c.cell.log + 1) (set s.homes (length v.put % v.capacity) slot.none) at is may is.1 is.2 (refl, refl, refl)
+      let k = (c.producers id v at is.0).1 in
+      let none = none_laid in
+      let laid = laid_is in
+      let beyond : Beyond = record { placed = c.cell.beyond.placed; free = length (c.cell.log ++ c.cell.beyond.placed) + 1 } in
+      room_kept told cap s c id v (looked HasRoom 1) beyond (set s.homes (length v.put % v.capacity) slot.none) at is may is.1 is.2 (refl, refl, refl)
       (record { sized = l.sized; begins = l.begins; one_out = l.one_out; within = l.within; above = omega arith; below = omega arith })
-      (lies_room cap c.cell.log s.homes (length c.cell.taken) (length c.cell.taken + length c.cell.item) (length v.put % v.capacity) l.sized (omega arith) (omega arith) room slot_is
-      (subst (λ (m : ℕ). Lies cap c.cell.log (length c.cell.taken) (length c.cell.taken + length c.cell.item) m s.homes) free_is c.lies))
-      (λ e. lodges_else told cap c.cell.world.runner c.cell.taken c.cell.world.own c.cell.answers s.homes (set s.homes (length v.put % v.capacity) slot.none) (λ x at. stays_home cap c.cell.log s.homes (length v.put % v.capacity) (length c.cell.log) slot.none x l.sized slot_is at) (c.lodges e))
-      (knows HasRoom 1 (length c.cell.log + 1) shown refl)
+      (lies_room cap (c.cell.log ++ c.cell.beyond.placed) s.homes (length c.cell.taken) (length c.cell.taken + length c.cell.item) (length v.put % v.capacity) l.sized (omega arith) (omega arith) (omega arith) slot_is
+      (subst (λ (m : ℕ). Lies cap (c.cell.log ++ c.cell.beyond.placed) (length c.cell.taken) (length c.cell.taken + length c.cell.item) m s.homes) free_is c.lies))
+      (λ e. lodges_else told cap c.cell.world.runner c.cell.taken c.cell.world.own c.cell.answers s.homes (set s.homes (length v.put % v.capacity) slot.none) (λ x at. stays_home cap (c.cell.log ++ c.cell.beyond.placed) s.homes (length v.put % v.capacity) (length (c.cell.log ++ c.cell.beyond.placed)) slot.none x l.sized slot_is at) (c.lodges e))
+      (knows HasRoom 1 beyond shown k.laid (omega arith))
 
   abbrev Outcome : Type 0
   Outcome = (w : View) × (a : Act (Held B)) × Valid s.homes more a × CellRule told cap (stepped s (place cap Word.Head) (slice_index s.words (place cap Word.Head)) id more w a) × FindsRoom (v, more) (slice_index s.words (place cap Word.Head)) (w, carried_after more a)
@@ -150,7 +165,7 @@ module _ {B : Type 0} (told : B → List Signal) (cap : ℕ) (s : State (Held B)
       (λ room. (
         looked HasRoom 1,
         takes (length v.put % v.capacity) Held.Empty,
-        ap (λ (j : ℕ). get_elem? s.homes j) slot_is ∙ c.lies.places (length c.cell.log) (let free : c.cell.free ≡ length c.cell.log = free_is in omega arith) room,
+        ap (λ (j : ℕ). get_elem? s.homes j) slot_is ∙ c.lies.places (length (c.cell.log ++ c.cell.beyond.placed)) (let free = free_is in omega arith) (let laid = laid_is in omega arith),
         takes_place room (room_there told cap c.cell.world e (omega arith) below),
         record { head = c.cell.world.given; ended = is_over c.cell.world.runner; found_is = f.found_is; small = f.small; grows = f.grows; put = f.put; fits = f.fits; stays = f.stays; gone = λ ends. absurd (true≢false (sym ends ∙ e)); full = λ _ all. absurd (omega arith); room = λ _ _. refl; sized = refl; ordered = refl },
       ))
@@ -181,11 +196,11 @@ module _ {B : Type 0} (told : B → List Signal) (cap : ℕ) (s : State (Held B)
 
 module _ {B : Type 0} (told : B → List Signal) where
   -- a load of head takes the next slot out if it is free
-  pub rooms : (cap n id : ℕ) (me : SeatOf B) → IsProducer me.0 → me.0.places ≡ 0 → MayBegin me.0.producing
+  pub rooms : (cap n id : ℕ) (me : SeatOf B) → IsProducer me.0 → me.0.places ≡ 0 → me.0.placed ≡ [] → MayBegin me.0.producing
       → Allows (CellRule told cap) n id me (place cap Word.Head) (λ n. n) (FindsRoom me)
-  rooms cap n id me is none_out begins s c wide at small = decides told cap s c id me.0 me.1 at is none_out begins (is_over c.cell.world.runner) refl
+  rooms cap n id me is none_out none_placed begins s c wide at small = decides told cap s c id me.0 me.1 at is none_out none_placed begins (is_over c.cell.world.runner) refl
 
   -- a load of head
-  pub stands : (cap n id : ℕ) (me : SeatOf B) → IsProducer me.0 → me.0.places ≡ 0 → MayBegin me.0.producing
+  pub stands : (cap n id : ℕ) (me : SeatOf B) → IsProducer me.0 → me.0.places ≡ 0 → me.0.placed ≡ [] → MayBegin me.0.producing
       → Allows (CellRule told cap) n id me (place cap Word.Head) (λ n. n) (FindsHead me)
-  stands cap n id me is none_out begins s c wide at small = stand_here told cap s c id me.0 me.1 at is none_out begins
+  stands cap n id me is none_out none_placed begins s c wide at small = stand_here told cap s c id me.0 me.1 at is none_out none_placed begins

@@ -22,7 +22,7 @@ module _ {B : Type 0} (told : B → List Signal) (cap : ℕ) where
   -- the rule after a task was handed over, whichever side does it
   hand_kept : (s : Table.State (Held B) View) (c : CellRule told cap s) (id : ℕ) (v left : View) (producer : Producing) (handle : Requesting) → c.cell.world.runner ≡ Coming → v.capacity ≡ cap → v.order ≡ c.cell.answers.order → has_run left ≡ false
       → IsReachedBy (set s.views id left ++ running_handed v ∷ []) (record c.cell.world { producer = producer; handle = handle; runner = Ready }) → (c.cell.left ≡ true → handle ≡ Idle)
-      → Only has_put c.cell.producer (AsProducer cap c.cell.answers.order c.cell.log c.cell.world.given c.cell.free false c.cell.flags.closing c.cell.flags.state producer) (set s.views id left)
+      → Only has_put c.cell.producer (AsProducer cap c.cell.answers.order c.cell.log c.cell.world.given c.cell.beyond false c.cell.flags.closing c.cell.flags.state producer) (set s.views id left)
       → Only has_ask c.cell.handle (AsHandle cap c.cell.answers.order c.cell.world.asked c.cell.flags.cancel c.cell.flags.argument c.cell.left handle) (set s.views id left)
       → CellRule told cap (record { words = s.words; homes = s.homes; views = set s.views id left ++ running_handed v ∷ [] })
   hand_kept s c id v left producer handle coming sized ordered runs reached settled producers handles =
@@ -53,7 +53,7 @@ module _ {B : Type 0} (told : B → List Signal) (cap : ℕ) where
       let coming : p.runner ≡ Coming = (reached_lawful c.reached).coming.1 (inl hands) in
       hand_kept s c id v (handed v) Free p.handle coming k.sized k.ordered is.2
       (reached_with (running_handed v) (reached_hand (Hand Producer) id v (handed v) c.reached hands at (inl is.0) refl refl refl coming refl) refl refl refl) c.shows.settled
-      (mine has_put c.cell.producer _ _ s.views id v (handed v) c.producers at is.0 (record { sized = k.sized; ordered = k.ordered; put = k.put; seen = k.seen; places = k.places; over = λ e. (let never : true ≡ false = sym (k.over e) ∙ ap is_over coming in cc); closed = k.closed; doubled = k.doubled; stands = refl }))
+      (mine has_put c.cell.producer _ _ s.views id v (handed v) c.producers at is.0 (record { sized = k.sized; ordered = k.ordered; put = k.put; seen = k.seen; laid = k.laid; places = k.places; over = λ e. (let never : true ≡ false = sym (k.over e) ∙ ap is_over coming in cc); closed = k.closed; doubled = k.doubled; stands = refl }))
       (other has_ask c.cell.handle _ _ s.views id (handed v) c.handles is.1 (λ d h. h))
 
   -- by the handle
@@ -65,7 +65,7 @@ module _ {B : Type 0} (told : B → List Signal) (cap : ℕ) where
       let coming : p.runner ≡ Coming = (reached_lawful c.reached).coming.1 (inr hands) in
       hand_kept s c id v (handed v) p.producer Idle coming k.sized k.ordered is.2
       (reached_with (running_handed v) (reached_hand (Hand Handle) id v (handed v) c.reached hands at (inr (inl is.1)) refl refl refl coming refl) refl refl refl) (λ _. refl)
-      (other has_put c.cell.producer _ _ s.views id (handed v) c.producers is.0 (λ d o. subst (λ (r : Runner). AsProducer cap c.cell.answers.order c.cell.log p.given c.cell.free (is_over r) c.cell.flags.closing c.cell.flags.state p.producer d) coming o))
+      (other has_put c.cell.producer _ _ s.views id (handed v) c.producers is.0 (λ d o. subst (λ (r : Runner). AsProducer cap c.cell.answers.order c.cell.log p.given c.cell.beyond (is_over r) c.cell.flags.closing c.cell.flags.state p.producer d) coming o))
       (mine has_ask c.cell.handle _ _ s.views id v (handed v) c.handles at is.1 (record { sized = k.sized; ordered = k.ordered; total = k.total; cancels = k.cancels; bad = k.bad; leaves = k.leaves; stands = refl }))
 
   -- by either

@@ -10,7 +10,7 @@ use Rattle.feed_cell.proofs.Words.ControlWord.{reads_or, adds}
 use Rattle.feed_cell.proofs.Table.Seats.{mine, other}
 use Rattle.feed_cell.proofs.Tasks.Stages.{starts, lodges_started}
 use Rattle.feed_cell.proofs.Table.Tallies.{stays_started}
-use Rattle.feed_cell.specs.Cell.{Only, CellRule, AsProducer, AsHandle, words_by}
+use Rattle.feed_cell.specs.Cell.{Beyond, Only, CellRule, AsProducer, AsHandle, words_by}
 use Rattle.feed_cell.specs.Control.{Flags, number, Reads, signal_of, both, marked}
 use Rattle.feed_cell.specs.Outlooks.{IsReachedBy}
 use Rattle.feed_cell.specs.Seats.{SeatOf}
@@ -44,7 +44,7 @@ module _ {B : Type 0} (told : B → List Signal) (cap : ℕ) where
   signal_kept : (s : State (Held B) View) (c : CellRule told cap s) (cause : Option Cause) (mask : ℕ) (producer : Producing) (handle : Requesting) (id : ℕ) (w : View) → Reads mask (signal_of cause) → (c.cell.flags.closing ≡ None) ⊎ ((signal_of cause).closing ≡ None)
       → IsReachedBy (set s.views id w) (record c.cell.world { causes = joined cause c.cell.world.causes; active = true; producer = producer; handle = handle; runner = started c.cell.world.runner })
       → (c.cell.left ≡ true → handle ≡ Idle) → has_run w ≡ false
-      → Only has_put c.cell.producer (AsProducer cap c.cell.answers.order c.cell.log c.cell.world.given c.cell.free (is_over (started c.cell.world.runner)) (both (signal_of cause) c.cell.flags).closing (both (signal_of cause) c.cell.flags).state producer) (set s.views id w)
+      → Only has_put c.cell.producer (AsProducer cap c.cell.answers.order c.cell.log c.cell.world.given c.cell.beyond (is_over (started c.cell.world.runner)) (both (signal_of cause) c.cell.flags).closing (both (signal_of cause) c.cell.flags).state producer) (set s.views id w)
       → Only has_ask c.cell.handle (AsHandle cap c.cell.answers.order c.cell.world.asked (both (signal_of cause) c.cell.flags).cancel (both (signal_of cause) c.cell.flags).argument c.cell.left handle) (set s.views id w)
       → CellRule told cap (record { words = set s.words (place cap Word.Control) (bit_or (slice_index s.words (place cap Word.Control)) mask); homes = s.homes; views = set s.views id w })
   signal_kept s c cause mask producer handle id w sets one reached settled runs producers handles =
@@ -81,13 +81,13 @@ sent_stays (Some Doubled) b v = (refl, refl, refl, refl, (refl, refl, refl), ref
 sent_stays (Some (Closing ending)) b v = (refl, refl, refl, refl, (refl, refl, refl), refl)
 
 -- what the producer knows after a signal of its own
-sent_knows : (cap : ℕ) (order : ErrorOrder) (log : List Item) (given free : ℕ) (over : Bool) (f : Flags) (before : Producing) (b : Bool) (closing : Option Ending) (cause : Option Cause) (v : View) → ProducerMay cause before closing → AsProducer cap order log given free over f.closing f.state before v
-    → AsProducer cap order log given free over (both (signal_of cause) f).closing (both (signal_of cause) f).state (producing_after b) (sent cause b v)
-sent_knows cap order log given free over f before b closing None v may k = record { sized = k.sized; ordered = k.ordered; put = k.put; seen = k.seen; places = k.places; over = k.over; closed = k.closed; doubled = k.doubled; stands = refl }
-sent_knows cap order log given free over f before b closing (Some Cancel) v may k = absurd may
-sent_knows cap order log given free over f before b closing (Some Argument) v may k = absurd may
-sent_knows cap order log given free over f before b closing (Some Doubled) v may k = record { sized = k.sized; ordered = k.ordered; put = k.put; seen = k.seen; places = k.places; over = k.over; closed = k.closed; doubled = refl; stands = refl }
-sent_knows cap order log given free over f before b closing (Some (Closing ending)) v may k = record { sized = k.sized; ordered = k.ordered; put = k.put; seen = k.seen; places = k.places; over = k.over; closed = refl; doubled = k.doubled; stands = refl }
+sent_knows : (cap : ℕ) (order : ErrorOrder) (log : List Item) (given : ℕ) (beyond : Beyond) (over : Bool) (f : Flags) (before : Producing) (b : Bool) (closing : Option Ending) (cause : Option Cause) (v : View) → ProducerMay cause before closing → AsProducer cap order log given beyond over f.closing f.state before v
+    → AsProducer cap order log given beyond over (both (signal_of cause) f).closing (both (signal_of cause) f).state (producing_after b) (sent cause b v)
+sent_knows cap order log given beyond over f before b closing None v may k = record { sized = k.sized; ordered = k.ordered; put = k.put; seen = k.seen; laid = k.laid; places = k.places; over = k.over; closed = k.closed; doubled = k.doubled; stands = refl }
+sent_knows cap order log given beyond over f before b closing (Some Cancel) v may k = absurd may
+sent_knows cap order log given beyond over f before b closing (Some Argument) v may k = absurd may
+sent_knows cap order log given beyond over f before b closing (Some Doubled) v may k = record { sized = k.sized; ordered = k.ordered; put = k.put; seen = k.seen; laid = k.laid; places = k.places; over = k.over; closed = k.closed; doubled = refl; stands = refl }
+sent_knows cap order log given beyond over f before b closing (Some (Closing ending)) v may k = record { sized = k.sized; ordered = k.ordered; put = k.put; seen = k.seen; laid = k.laid; places = k.places; over = k.over; closed = refl; doubled = k.doubled; stands = refl }
 
 -- what the handle knows after it
 handle_knows : (cap : ℕ) (order : ErrorOrder) (asked : ℕ) (f : Flags) (left : Bool) (handle : Requesting) (p : Producing) (closing : Option Ending) (cause : Option Cause) (d : View) → ProducerMay cause p closing → AsHandle cap order asked f.cancel f.argument left handle d
@@ -107,13 +107,13 @@ sent_handle_knows cap order asked f left before b (Some Doubled) v may k = absur
 sent_handle_knows cap order asked f left before b (Some (Closing ending)) v may k = absurd may
 
 -- what the producer knows after it
-producer_knows : (cap : ℕ) (order : ErrorOrder) (log : List Item) (given free : ℕ) (over : Bool) (f : Flags) (p : Producing) (h : Requesting) (cause : Option Cause) (d : View) → HandleMay cause h → AsProducer cap order log given free over f.closing f.state p d
-    → AsProducer cap order log given free over (both (signal_of cause) f).closing (both (signal_of cause) f).state p d
-producer_knows cap order log given free over f p h None d may k = k
-producer_knows cap order log given free over f p h (Some Cancel) d may k = k
-producer_knows cap order log given free over f p h (Some Argument) d may k = k
-producer_knows cap order log given free over f p h (Some Doubled) d may k = absurd may
-producer_knows cap order log given free over f p h (Some (Closing ending)) d may k = absurd may
+producer_knows : (cap : ℕ) (order : ErrorOrder) (log : List Item) (given : ℕ) (beyond : Beyond) (over : Bool) (f : Flags) (p : Producing) (h : Requesting) (cause : Option Cause) (d : View) → HandleMay cause h → AsProducer cap order log given beyond over f.closing f.state p d
+    → AsProducer cap order log given beyond over (both (signal_of cause) f).closing (both (signal_of cause) f).state p d
+producer_knows cap order log given beyond over f p h None d may k = k
+producer_knows cap order log given beyond over f p h (Some Cancel) d may k = k
+producer_knows cap order log given beyond over f p h (Some Argument) d may k = k
+producer_knows cap order log given beyond over f p h (Some Doubled) d may k = absurd may
+producer_knows cap order log given beyond over f p h (Some (Closing ending)) d may k = absurd may
 
 module _ {B : Type 0} (told : B → List Signal) where
   -- the mark of the task, in the word that is found
@@ -141,8 +141,8 @@ module _ {B : Type 0} (told : B → List Signal) where
         signal_kept told cap s c cause mask (producing_after before) p.handle id w sets (one_closing cause p.producer c.cell.flags.closing here)
             (reached_more (Event.Signal Producer cause) id v w c.reached there at (inl is.0) stays.4 (stays_started p.runner)) c.shows.settled (stays.2 ∙ is.2)
             (mine has_put c.cell.producer _ _ s.views id v w c.producers at is.0
-            (sent_knows cap c.cell.answers.order c.cell.log p.given c.cell.free (is_over (started p.runner)) c.cell.flags p.producer before c.cell.flags.closing cause v here
-            (subst (λ b. AsProducer cap c.cell.answers.order c.cell.log p.given c.cell.free b c.cell.flags.closing c.cell.flags.state p.producer v) (sym st.over) k)))
+            (sent_knows cap c.cell.answers.order c.cell.log p.given c.cell.beyond (is_over (started p.runner)) c.cell.flags p.producer before c.cell.flags.closing cause v here
+            (subst (λ b. AsProducer cap c.cell.answers.order c.cell.log p.given c.cell.beyond b c.cell.flags.closing c.cell.flags.state p.producer v) (sym st.over) k)))
             (other has_ask c.cell.handle _ _ s.views id w c.handles (stays.1 ∙ is.1) (λ d k. handle_knows cap c.cell.answers.order p.asked c.cell.flags c.cell.left p.handle p.producer c.cell.flags.closing cause d here k)),
         record { started = before; found_is = mark_found c; signalled = refl; sized = stays.3; ordered = stays.5 },
       )
@@ -165,8 +165,8 @@ module _ {B : Type 0} (told : B → List Signal) where
         tt,
         signal_kept told cap s c cause mask p.producer (requesting_after before) id w sets (inr (no_closing cause p.handle here))
             (reached_more (Event.Signal Handle cause) id v w c.reached here at (inr (inl is.1)) stays.4 (stays_started p.runner)) (λ e. absurd (true≢false (sym e ∙ sym k.leaves ∙ stays_on))) (stays.2 ∙ is.2)
-            (other has_put c.cell.producer _ _ s.views id w c.producers (stays.0 ∙ is.0) (λ d o. producer_knows cap c.cell.answers.order c.cell.log p.given c.cell.free (is_over (started p.runner)) c.cell.flags p.producer p.handle cause d here
-            (subst (λ b. AsProducer cap c.cell.answers.order c.cell.log p.given c.cell.free b c.cell.flags.closing c.cell.flags.state p.producer d) (sym st.over) o)))
+            (other has_put c.cell.producer _ _ s.views id w c.producers (stays.0 ∙ is.0) (λ d o. producer_knows cap c.cell.answers.order c.cell.log p.given c.cell.beyond (is_over (started p.runner)) c.cell.flags p.producer p.handle cause d here
+            (subst (λ b. AsProducer cap c.cell.answers.order c.cell.log p.given c.cell.beyond b c.cell.flags.closing c.cell.flags.state p.producer d) (sym st.over) o)))
             (mine has_ask c.cell.handle _ _ s.views id v w c.handles at is.1 (sent_handle_knows cap c.cell.answers.order p.asked c.cell.flags c.cell.left p.handle before cause v here k)),
         record { started = before; found_is = mark_found c; signalled = refl; sized = stays.3; ordered = stays.5 },
       )

@@ -1,6 +1,6 @@
 -- How a subscription's table starts, how its maker's seat becomes three, and how the first task takes its subscriber
 -- with it.
-use Rattle.std.proofs.Common.{◌≡◌, ℕ, ◌+◌, ◌%◌, ◌<◌, ◌≤◌, true, false, List, [], ◌∷◌, length, map, replicate, set, None, sym, refl, ap, ◌∙◌, subst, mod-lt, min, arith, inl, inr}
+use Rattle.std.proofs.Common.{◌≡◌, ℕ, ◌+◌, ◌%◌, ◌<◌, ◌≤◌, true, false, List, [], ◌∷◌, length, map, replicate, set, None, sym, refl, ap, ◌∙◌, subst, mod-lt, min, arith, inl, inr, ◌++◌}
 use Rattle.std.proofs.lemmas.List.{length-map, length-replicate}
 use mathlib.Core.Option.{some, none, some-ne-none}
 use lib.ListN.{get_elem?}
@@ -49,7 +49,7 @@ module _ {B : Type 0} (told : B → List Signal) where
           log = [];
           taken = [];
           item = [];
-          free = 0;
+          beyond = record { placed = []; free = 0 };
           control = 1;
           flags = record { run = true; active = false; cancel = false; argument = false; state = false; closing = None };
           answers = no_causes_in order;
@@ -70,7 +70,7 @@ module _ {B : Type 0} (told : B → List Signal) where
           places = λ k from to. home (k % cap) (let low : k % cap < cap = mod-lt k sized in omega arith);
         };
         lodges = λ _. home cap (omega arith);
-        producers = alone has_put (AsProducer cap order [] 0 0 false None false Free) (first_view cap order) (record { sized = refl; ordered = refl; put = refl; seen = omega arith; places = refl; over = λ e. cc; closed = refl; doubled = refl; stands = refl });
+        producers = alone has_put (AsProducer cap order [] 0 (record { placed = []; free = 0 }) false None false Free) (first_view cap order) (record { sized = refl; ordered = refl; put = refl; seen = omega arith; laid = refl; places = refl; over = λ e. cc; closed = refl; doubled = refl; stands = refl });
         handles = alone has_ask (AsHandle cap order 0 false false false Idle) (first_view cap order) (record { sized = refl; ordered = refl; total = refl; cancels = refl; bad = refl; leaves = refl; stands = refl });
         runners = alone has_run (AsRunner cap Fresh false 1 false [] [] 0 (no_causes_in order) 0 0) (first_view cap order)
             (record { sized = refl; ordered = refl; seated = refl; stands = refl; out = refl; knows = λ e. cc; fresh = λ _. record { taken_is = refl; own_is = refl; answers_are = refl }; item_is = refl; latest = λ e. cc; saw_put = omega arith; saw_asked = omega arith });
@@ -93,7 +93,7 @@ module _ {B : Type 0} (told : B → List Signal) where
         lies = c.lies;
         lodges = c.lodges;
         producers = added has_put c.cell.producer _ (set s.views id (without_running v)) (running_alone v)
-            (mine has_put c.cell.producer _ _ s.views id v (without_running v) c.producers at puts (record { sized = p.sized; ordered = p.ordered; put = p.put; seen = p.seen; places = p.places; over = p.over; closed = p.closed; doubled = p.doubled; stands = p.stands })) refl;
+            (mine has_put c.cell.producer _ _ s.views id v (without_running v) c.producers at puts (record { sized = p.sized; ordered = p.ordered; put = p.put; seen = p.seen; laid = p.laid; places = p.places; over = p.over; closed = p.closed; doubled = p.doubled; stands = p.stands })) refl;
         handles = added has_ask c.cell.handle _ (set s.views id (without_running v)) (running_alone v)
             (mine has_ask c.cell.handle _ _ s.views id v (without_running v) c.handles at asks (record { sized = h.sized; ordered = h.ordered; total = h.total; cancels = h.cancels; bad = h.bad; leaves = h.leaves; stands = h.stands })) refl;
         runners = moved has_run c.cell.runner _ _ s.views id v (without_running v) (running_alone v) c.runners at runs refl
@@ -116,7 +116,7 @@ module _ {B : Type 0} (told : B → List Signal) where
         lies = c.lies;
         lodges = c.lodges;
         producers = added has_put c.cell.producer _ (set s.views id (without_asking v)) (asking_alone v)
-            (mine has_put c.cell.producer _ _ s.views id v (without_asking v) c.producers at puts (record { sized = p.sized; ordered = p.ordered; put = p.put; seen = p.seen; places = p.places; over = p.over; closed = p.closed; doubled = p.doubled; stands = p.stands })) refl;
+            (mine has_put c.cell.producer _ _ s.views id v (without_asking v) c.producers at puts (record { sized = p.sized; ordered = p.ordered; put = p.put; seen = p.seen; laid = p.laid; places = p.places; over = p.over; closed = p.closed; doubled = p.doubled; stands = p.stands })) refl;
         handles = moved has_ask c.cell.handle _ _ s.views id v (without_asking v) (asking_alone v) c.handles at asks refl
             (record { sized = h.sized; ordered = h.ordered; total = h.total; cancels = h.cancels; bad = h.bad; leaves = h.leaves; stands = h.stands });
         runners = added has_run c.cell.runner _ (set s.views id (without_asking v)) (asking_alone v)
@@ -143,8 +143,8 @@ module _ {B : Type 0} (told : B → List Signal) where
           shows = record { sized = c.shows.sized; accepted = c.shows.accepted; given = c.shows.given; none_out = c.shows.none_out; started = c.shows.started; new = c.shows.new; causes = c.shows.causes; home = λ e. (let h = k.seated in cc); settled = c.shows.settled };
           reads = c.reads;
           words = control_loaded _ _ _ _ _ _ c.words;
-          lies = subst (λ (j : ℕ). Lies cap c.cell.log (length c.cell.taken) (length c.cell.taken + length c.cell.item) c.cell.free (set s.homes j none)) (sym k.sized)
-              (lies_guest cap c.cell.log s.homes (length c.cell.taken) (length c.cell.taken + length c.cell.item) c.cell.free none c.lists.sized c.lies);
+          lies = subst (λ (j : ℕ). Lies cap (c.cell.log ++ c.cell.beyond.placed) (length c.cell.taken) (length c.cell.taken + length c.cell.item) c.cell.beyond.free (set s.homes j none)) (sym k.sized)
+              (lies_guest cap (c.cell.log ++ c.cell.beyond.placed) s.homes (length c.cell.taken) (length c.cell.taken + length c.cell.item) c.cell.beyond.free none c.lists.sized c.lies);
           lodges = λ e. cc;
           producers = other has_put c.cell.producer _ _ s.views id w c.producers is.0 (λ d p. p);
           handles = other has_ask c.cell.handle _ _ s.views id w c.handles is.1 (λ d h. h);
@@ -177,7 +177,7 @@ module _ {B : Type 0} (told : B → List Signal) where
       → (me.0.capacity ≡ capacity) × IsProducerOf 0 None me
   producer_first capacity order maker left me made left_is me_is =
       let is : me ≡ (without_asking (without_running (first_view capacity order)), []) = me_is ∙ ap (λ (m : SeatOf B). (without_asking m.0, m.1)) left_is ∙ ap (λ (m : SeatOf B). (without_asking (without_running m.0), m.1)) made in
-      (ap (λ (m : SeatOf B). m.0.capacity) is, subst (λ (m : SeatOf B). IsProducerOf 0 None m) (sym is) (record { may = record { is = (refl, refl, refl); none_out = refl; begins = inl refl }; no_slot = refl; closed = refl; counted = refl }))
+      (ap (λ (m : SeatOf B). m.0.capacity) is, subst (λ (m : SeatOf B). IsProducerOf 0 None m) (sym is) (record { may = record { is = (refl, refl, refl); none_out = refl; none_placed = refl; begins = inl refl }; no_slot = refl; closed = refl; counted = refl }))
 
   -- the handle
   pub handle_first : (capacity : ℕ) (order : ErrorOrder) (maker left me : SeatOf B) → maker ≡ (first_view capacity order, [])

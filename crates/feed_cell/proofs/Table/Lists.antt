@@ -1,5 +1,5 @@
 -- Lists read by the number of an element.
-use Rattle.std.proofs.Common.{◌≡◌, ℕ, zero, suc, ◌<◌, ◌⊎◌, List, [], ◌∷◌, ◌++◌, length, take, drop, get_or, replicate, refl, sym, ap, ap₂, inl, inr, ⊎_elim, arith}
+use Rattle.std.proofs.Common.{◌≡◌, ℕ, zero, suc, ◌<◌, ◌⊎◌, List, [], ◌∷◌, ◌++◌, length, take, drop, get_or, replicate, refl, sym, ap, ap₂, inl, inr, ⊎_elim, arith, set}
 use mathlib.Core.Option.{some, some-injective, some-ne-none}
 use lib.ListN.{get_elem?}
 
@@ -16,6 +16,18 @@ module _ {A : Type 0} where
   at_end [] x y (suc k) at = absurd (some-ne-none y (sym at))
   at_end (z ∷ zs) x y zero at = inl at
   at_end (z ∷ zs) x y (suc k) at = ⊎_elim (λ old. inl old) (λ new. inr (ap suc new.0, new.1)) (at_end zs x y k at)
+
+  -- what is read of a list is read of one with more behind it
+  pub at_begin : (l m : List A) (k : ℕ) (x : A) → get_elem? l k ≡ some x → get_elem? (l ++ m) k ≡ some x
+  at_begin [] m k x at = absurd (some-ne-none x (sym at))
+  at_begin (y ∷ ys) m zero x at = at
+  at_begin (y ∷ ys) m (suc k) x at = at_begin ys m k x at
+
+  -- to set an element to what it is changes nothing
+  pub set_same : (l : List A) (k : ℕ) (x : A) → get_elem? l k ≡ some x → set l k x ≡ l
+  set_same [] k x at = absurd (some-ne-none x (sym at))
+  set_same (y ∷ ys) zero x at = ap (λ z. z ∷ ys) (sym (some-injective y x at))
+  set_same (y ∷ ys) (suc k) x at = ap (λ l. y ∷ l) (set_same ys k x at)
 
   -- one element more of the beginning
   pub take_one_more : (l : List A) (k : ℕ) (x : A) → get_elem? l k ≡ some x → take (suc k) l ≡ take k l ++ x ∷ []

@@ -1,5 +1,5 @@
 -- What became of the task, by the seats that ran it, after each step.
-use Rattle.std.proofs.Common.{◌≡◌, ℕ, zero, suc, ◌+◌, true, false, None, List, [], ◌∷◌, ◌++◌, set, refl, sym, ap, ◌∙◌, subst, inl, ⊎_elim, arith}
+use Rattle.std.proofs.Common.{◌≡◌, ℕ, zero, suc, ◌+◌, true, false, None, List, [], ◌∷◌, ◌++◌, set, refl, sym, ap, ◌∙◌, subst, inl, ⊎_elim, arith, ◌≤◌, ◌<◌}
 use mathlib.Core.Option.{some, some-injective, some-ne-none}
 use lib.ListN.{get_elem?}
 use Rattle.atomic_table.proofs.Lists.{at_set}
@@ -11,10 +11,10 @@ use Rattle.feed_core.specs.World.Runs.{nothing, world_of, made, cut_after}
 use Rattle.feed_core.specs.World.Kept.{IsKeptParts}
 use Rattle.feed_core.specs.World.Lawful.{IsLawful}
 use Rattle.feed_core.proofs.Interleavings.Reaching as Reaching
-use Rattle.feed_cell.proofs.Table.Lists.{at_end}
-use Rattle.feed_cell.proofs.Table.Tallies.{Stays, none_on, unmissed, unhanded, shown_count-set, shown_count-append, leads_more}
+use Rattle.feed_cell.proofs.Table.Lists.{at_end, set_same}
+use Rattle.feed_cell.proofs.Table.Tallies.{Stays, stays_same, none_on, unmissed, unhanded, shown_count-set, shown_count-append, leads_more}
 use Rattle.feed_cell.specs.Outlooks.{one_rest, rest_between, miss_between, hand_between, rest_in, rest_of, misses_of, starts_of, shown_count, HasPart, IsReachedBy}
-use Rattle.feed_cell.specs.Types.{Event, Make, Rest, End, Runner, Coming, Ready, Over, Parts}
+use Rattle.feed_cell.specs.Types.{Event, Make, Put, PutMore, Rest, End, HasRoom, HasPut, Runner, Coming, Ready, Over, Parts}
 use Rattle.feed_cell.specs.Views.{first_view}
 use Rattle.feed_cell.specs.declared.cell.View.{View}
 
@@ -152,6 +152,31 @@ reached_too {w} {views} id v new r at part same =
     reached_by r (omega arith) (omega arith) (omega arith)
     (λ j d how there shows. ⊎_elim (λ here. goes_unended new d how goes here.1 shows) (λ else. r.ends j d how else.1 shows) (at_set views id j new d there))
     (λ j d there has. ⊎_elim (λ here. sym (ap (λ (x : View). x.outlook) here.1) ∙ goes) (λ else. r.goes j d else.1 has) (at_set views id j new d there))
+
+-- an event that no seat shows
+reached_unshown : (event : Event) {w : Parts} {views : List View} (id : ℕ) (v : View) → IsReachedBy views w → IsPossible event w
+    → get_elem? views id ≡ some v → HasPart v → Stays w.runner (after event w).runner → IsReachedBy views (after event w)
+reached_unshown event {w} {views} id v r may at part stays =
+    subst (λ (l : List View). IsReachedBy l (after event w)) (set_same views id v at) (reached_more event id v v r may at part (refl, refl, refl) stays)
+
+-- what there is after this many items were put
+abbrev pub with_put : ℕ → Parts → Parts
+with_put n w = record w { accepted = w.accepted + n; producer = HasPut }
+
+-- one store of tail by several more is a put, and as many more as are left
+puts_unshown : (m : ℕ) {w : Parts} {views : List View} (id : ℕ) (v : View) → IsReachedBy views w → w.producer ≡ HasRoom → w.causes.closing ≡ None
+    → w.given ≤ w.accepted → w.accepted + m < w.given + w.capacity → get_elem? views id ≡ some v → HasPart v → IsReachedBy views (with_put (m + 1) w)
+puts_unshown zero {w} id v r room open_now below within at part = reached_unshown Put id v r (room, open_now) at part (stays_same w.runner)
+puts_unshown (suc m) {w} {views} id v r room open_now below within at part =
+    let before = puts_unshown m id v r room open_now below (omega arith) at part in
+    subst (λ (n : ℕ). IsReachedBy views (record w { accepted = n; producer = HasPut })) (omega arith)
+    (reached_unshown PutMore id v before (refl, open_now, omega arith) at part (stays_same w.runner))
+
+pub reached_puts : (m : ℕ) {w : Parts} {views : List View} (id : ℕ) (v new : View) → IsReachedBy views w → w.producer ≡ HasRoom
+    → w.causes.closing ≡ None → w.accepted + m < w.given + w.capacity → get_elem? views id ≡ some v → HasPart v → ShowsSame v new
+    → IsReachedBy (set views id new) (with_put (m + 1) w)
+reached_puts m id v new r room open_now within at part same =
+    reached_too id v new (puts_unshown m id v r room open_now (Reaching.reached_kept (record { events = r.events; cut = r.cut; leads = r.leads })).taken within at part) at part same
 
 -- a seat takes in what another shows, and that shows nothing any more
 pub reached_joined : {w : Parts} {views : List View} (id from : ℕ) (v both h spent : View) → IsReachedBy views w

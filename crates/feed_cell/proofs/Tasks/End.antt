@@ -1,5 +1,5 @@
 -- The task's end of the subscription.
-use Rattle.std.proofs.Common.{◌≡◌, ℕ, ◌+◌, Bool, true, false, List, [], ◌∷◌, length, set, Option, Some, None, sym, refl, ap, ◌∙◌, subst, arith, inr, ⊎_elim}
+use Rattle.std.proofs.Common.{◌≡◌, ℕ, ◌+◌, Bool, true, false, List, [], ◌∷◌, length, set, Option, Some, None, sym, refl, ap, ◌∙◌, subst, arith, inr, ⊎_elim, ◌++◌}
 use mathlib.Core.Option.{some}
 use Rattle.atomic_table.specs.Table.{gives, Allows}
 use Rattle.feed_core.specs.AnsweredTurn.{Reply}
@@ -119,10 +119,10 @@ module _ {B : Type 0} (told : B → List Signal) where
           shows = record { sized = c.shows.sized; accepted = c.shows.accepted; given = c.shows.given; none_out = λ _. item_is; started = c.shows.started ∙ seat.runs; new = c.shows.new; causes = causes_there; home = λ _. refl; settled = c.shows.settled };
           reads = c.reads;
           words = head_stored _ _ _ _ _ _ c.words new ∙ ap (λ (m : ℕ). words_by cap m p.accepted (marked c.cell.left p.asked) c.cell.control) (new_is ∙ ap (λ (m : ℕ). m + MARK) same);
-          lies = subst (λ (j : ℕ). Lies cap c.cell.log (length c.cell.taken) (length c.cell.taken + length c.cell.item) c.cell.free (set s.homes j (some (Held.Guest g)))) (sym k.sized)
-              (lies_guest cap c.cell.log s.homes (length c.cell.taken) (length c.cell.taken + length c.cell.item) c.cell.free (some (Held.Guest g)) c.lists.sized c.lies);
+          lies = subst (λ (j : ℕ). Lies cap (c.cell.log ++ c.cell.beyond.placed) (length c.cell.taken) (length c.cell.taken + length c.cell.item) c.cell.beyond.free (set s.homes j (some (Held.Guest g)))) (sym k.sized)
+              (lies_guest cap (c.cell.log ++ c.cell.beyond.placed) s.homes (length c.cell.taken) (length c.cell.taken + length c.cell.item) c.cell.beyond.free (some (Held.Guest g)) c.lists.sized c.lies);
           lodges = λ _. record { guest = g; at = changed s.homes v.capacity cap (some (Held.Guest g)) (sym k.sized) (let wide = c.lies.wide in let sized : v.capacity ≡ cap = k.sized in omega arith); given_is = given_is ∙ ap length know.taken_is; own_is = own_is ∙ know.own_is; answers_are = refl; how_is = how_is; told_is = subst (λ (l : List Item). IsToldAtEnd how l (told g.subscriber)) know.taken_is told_is };
-          producers = other has_put c.cell.producer _ _ s.views id w c.producers is.0 (λ d o. record { sized = o.sized; ordered = o.ordered ∙ order_there; put = o.put; seen = o.seen; places = o.places; over = λ _. refl; closed = o.closed; doubled = o.doubled; stands = o.stands });
+          producers = other has_put c.cell.producer _ _ s.views id w c.producers is.0 (λ d o. record { sized = o.sized; ordered = o.ordered ∙ order_there; put = o.put; seen = o.seen; laid = o.laid; places = o.places; over = λ _. refl; closed = o.closed; doubled = o.doubled; stands = o.stands });
           handles = other has_ask c.cell.handle _ _ s.views id w c.handles is.1
               (λ d h. record { sized = h.sized; ordered = h.ordered ∙ order_there; total = h.total; cancels = h.cancels; bad = h.bad; leaves = h.leaves; stands = h.stands });
           runners = spent has_run c.cell.runner _ _ s.views id v w c.runners at is.2 refl;

@@ -1,5 +1,5 @@
 -- The task's looks and peeks at control.
-use Rattle.std.proofs.Common.{◌≡◌, ℕ, zero, suc, pos, negsuc, ◌+◌, ◌≤◌, Bool, true, false, List, [], ◌∷◌, length, slice_index, set, bit_and, sym, refl, ap, ap₂, ◌∙◌, subst, inl, inr, arith}
+use Rattle.std.proofs.Common.{◌≡◌, ℕ, zero, suc, pos, negsuc, ◌+◌, ◌≤◌, Bool, true, false, List, [], ◌∷◌, length, slice_index, set, bit_and, sym, refl, ap, ap₂, ◌∙◌, subst, inl, inr, arith, ◌++◌}
 use mathlib.Core.Option as slot
 use mathlib.Core.Option.{some, none}
 use lib.ListN.{get_elem?}
@@ -70,7 +70,7 @@ answered_order (Answer.Request (negsuc n)) answers = refl
 module _ {B : Type 0} (told : B → List Signal) (cap : ℕ) where
   -- the rule after a look or a peek that left this word, with its subscriber or for the first time
   look_kept : (s : State (Held B) View) (c : CellRule told cap s) (id : ℕ) (v w : View) (active : Bool) (word own : ℕ) (answers : Causes) (homes : List (slot.Option (Held B))) → c.cell.answers.order ≡ answers.order → get_elem? s.views id ≡ some v → IsRunner v → has_put w ≡ false → has_ask w ≡ false
-      → c.cell.item ≡ [] → Reads word (record c.cell.flags { active = active }) → IsReachedBy (set s.views id w) (looked_with active own (causes_of c.cell.flags answers) c.cell.world) → Lies cap c.cell.log (length c.cell.taken) (length c.cell.taken + length c.cell.item) c.cell.free homes
+      → c.cell.item ≡ [] → Reads word (record c.cell.flags { active = active }) → IsReachedBy (set s.views id w) (looked_with active own (causes_of c.cell.flags answers) c.cell.world) → Lies cap (c.cell.log ++ c.cell.beyond.placed) (length c.cell.taken) (length c.cell.taken + length c.cell.item) c.cell.beyond.free homes
       → AsRunner cap (Looked (causes_of c.cell.flags answers)) active word true c.cell.taken c.cell.item own answers c.cell.world.known_put c.cell.world.known_asked w
       → CellRule told cap (record { words = set s.words (place cap Word.Control) word; homes = homes; views = set s.views id w })
   look_kept s c id v w active word own answers homes same_order at is puts asks none_out reads reached lies knows =
@@ -92,7 +92,7 @@ module _ {B : Type 0} (told : B → List Signal) (cap : ℕ) where
         words = control_stored _ _ _ _ _ _ c.words word ∙ ap (λ b. words_by cap (marked b p.given) p.accepted (marked c.cell.left p.asked) word) seat.over;
         lies = lies;
         lodges = λ e. cc;
-        producers = other has_put c.cell.producer _ _ s.views id w c.producers puts (λ d o. subst (λ (order : ErrorOrder). AsProducer cap order c.cell.log p.given c.cell.free false c.cell.flags.closing c.cell.flags.state p.producer d) same_order (subst (λ b. AsProducer cap c.cell.answers.order c.cell.log p.given c.cell.free b c.cell.flags.closing c.cell.flags.state p.producer d) seat.over o));
+        producers = other has_put c.cell.producer _ _ s.views id w c.producers puts (λ d o. subst (λ (order : ErrorOrder). AsProducer cap order c.cell.log p.given c.cell.beyond false c.cell.flags.closing c.cell.flags.state p.producer d) same_order (subst (λ b. AsProducer cap c.cell.answers.order c.cell.log p.given c.cell.beyond b c.cell.flags.closing c.cell.flags.state p.producer d) seat.over o));
         handles = other has_ask c.cell.handle _ _ s.views id w c.handles asks
             (λ d h. record { sized = h.sized; ordered = h.ordered ∙ same_order; total = h.total; cancels = h.cancels; bad = h.bad; leaves = h.leaves; stands = h.stands });
         runners = mine has_run c.cell.runner _ _ s.views id v w c.runners at is.2 knows;
@@ -180,8 +180,8 @@ module _ {B : Type 0} (told : B → List Signal) where
         takes v.capacity (Held.Guest g),
         ap (λ (j : ℕ). get_elem? s.homes j) k.sized ∙ lodge.at,
         look_kept told cap s c id v w p.active word g.own g.answers (set s.homes v.capacity none) same_order at is is.0 is.1 none_out reads reached
-            (subst (λ (j : ℕ). Lies cap c.cell.log (length c.cell.taken) (length c.cell.taken + length c.cell.item) c.cell.free (set s.homes j none)) (sym k.sized)
-            (lies_guest cap c.cell.log s.homes (length c.cell.taken) (length c.cell.taken + length c.cell.item) c.cell.free none c.lists.sized c.lies))
+            (subst (λ (j : ℕ). Lies cap (c.cell.log ++ c.cell.beyond.placed) (length c.cell.taken) (length c.cell.taken + length c.cell.item) c.cell.beyond.free (set s.homes j none)) (sym k.sized)
+            (lies_guest cap (c.cell.log ++ c.cell.beyond.placed) s.homes (length c.cell.taken) (length c.cell.taken + length c.cell.item) c.cell.beyond.free none c.lists.sized c.lies))
             (record { sized = k.sized; ordered = k.ordered ∙ same_order; seated = refl; stands = refl; out = refl; knows = λ _. record { taken_is = refl; own_is = refl; answers_are = refl }; fresh = λ e. cc; item_is = k.item_is; latest = λ _ _. refl; saw_put = k.saw_put; saw_asked = k.saw_asked }),
         record { flags = record c.cell.flags { active = p.active }; reads = reads; started = c.shows.started ∙ (seated p.runner k.seated).runs; guest = g; taken = c.cell.taken; told_is = lodge.told_is; given = lodge.given_is; how = lodge.how_is; few = few_taken told cap s c refl; ordered = sym (k.ordered ∙ same_order); looked = refl },
       )

@@ -1,5 +1,5 @@
 -- What a task that has its subscriber with it keeps in every step.
-use Rattle.std.proofs.Common.{◌≡◌, ℕ, ◌+◌, true, false, List, [], length, set, sym, ap, ◌∙◌, subst}
+use Rattle.std.proofs.Common.{◌≡◌, ℕ, ◌+◌, true, false, List, [], length, set, sym, ap, ◌∙◌, subst, ◌++◌}
 use mathlib.Core.Option as slot
 use mathlib.Core.Option.{some}
 use lib.ListN.{get_elem?}
@@ -25,7 +25,7 @@ module _ {B : Type 0} (told : B → List Signal) (cap : ℕ) where
   -- the rule after a step that moves the task and an item
   pub move_kept : (s : State (Held B) View) (c : CellRule told cap s) (id : ℕ) (v w : View) (stage : Runner) (known_put known_asked : ℕ) (item : List Item) (words : List ℕ) (homes : List (slot.Option (Held B))) → get_elem? s.views id ≡ some v → IsRunner v
       → has_put w ≡ false → has_ask w ≡ false → has_seat stage ≡ true → IsReachedBy (set s.views id w) (record c.cell.world { runner = stage; known_put = known_put; known_asked = known_asked }) → (may_hold stage ≡ false → item ≡ [])
-      → Lists cap c.cell.log c.cell.taken item c.cell.free → Lies cap c.cell.log (length c.cell.taken) (length c.cell.taken + length item) c.cell.free homes
+      → Lists cap c.cell.log c.cell.taken item c.cell.beyond → Lies cap (c.cell.log ++ c.cell.beyond.placed) (length c.cell.taken) (length c.cell.taken + length item) c.cell.beyond.free homes
       → words ≡ words_by cap (marked (is_over c.cell.world.runner) c.cell.world.given) c.cell.world.accepted (marked c.cell.left c.cell.world.asked) c.cell.control
       → AsRunner cap stage c.cell.world.active c.cell.control true c.cell.taken item c.cell.world.own c.cell.answers known_put known_asked w
       → CellRule told cap (record { words = words; homes = homes; views = set s.views id w })
@@ -44,7 +44,7 @@ module _ {B : Type 0} (told : B → List Signal) (cap : ℕ) where
         words = words_are ∙ ap (λ b. words_by cap (marked b p.given) p.accepted (marked c.cell.left p.asked) c.cell.control) over;
         lies = lies;
         lodges = λ e. cc;
-        producers = other has_put c.cell.producer _ _ s.views id w c.producers puts (λ d o. subst (λ b. AsProducer cap c.cell.answers.order c.cell.log p.given c.cell.free b c.cell.flags.closing c.cell.flags.state p.producer d) over o);
+        producers = other has_put c.cell.producer _ _ s.views id w c.producers puts (λ d o. subst (λ b. AsProducer cap c.cell.answers.order c.cell.log p.given c.cell.beyond b c.cell.flags.closing c.cell.flags.state p.producer d) over o);
         handles = other has_ask c.cell.handle _ _ s.views id w c.handles asks (λ d h. h);
         runners = mine has_run c.cell.runner _ _ s.views id v w c.runners at is.2 knows;
       }

@@ -1,5 +1,5 @@
 -- The task's rest.
-use Rattle.std.proofs.Common.{◌≡◌, ℕ, ◌+◌, ◌<◌, ◌==◌, Bool, true, false, List, [], ◌∷◌, length, slice_index, set, bit_and, None, sym, refl, ap, ◌∙◌, subst, arith, inr}
+use Rattle.std.proofs.Common.{◌≡◌, ℕ, ◌+◌, ◌<◌, ◌==◌, Bool, true, false, List, [], ◌∷◌, length, slice_index, set, bit_and, None, sym, refl, ap, ◌∙◌, subst, arith, inr, ◌++◌}
 use mathlib.Core.Option.{some}
 use lib.ListN.{get_elem?}
 use prog.Atomic.{either}
@@ -74,10 +74,10 @@ module _ {B : Type 0} (told : B → List Signal) (replied : B → List Reply) (c
           shows = record { sized = c.shows.sized; accepted = c.shows.accepted; given = c.shows.given; none_out = λ _. item_is; started = refl; new = c.shows.new; causes = c.shows.causes; home = λ _. refl; settled = c.shows.settled };
           reads = subst (λ (m : ℕ). Reads m (record c.cell.flags { run = false })) (ap (λ (m : ℕ). bit_and m RESTING) (sym look_here) ∙ sym new_is) (reads_rest (subst (λ (m : ℕ). m < 18446744073709551616) found_is small) c.reads);
           words = control_stored _ _ _ _ _ _ c.words new ∙ ap (λ b. words_by cap (marked b p.given) p.accepted (marked c.cell.left p.asked) new) seat.over;
-          lies = subst (λ (j : ℕ). Lies cap c.cell.log (length c.cell.taken) (length c.cell.taken + length c.cell.item) c.cell.free (set s.homes j (some (Held.Guest g)))) (sym k.sized)
-              (lies_guest cap c.cell.log s.homes (length c.cell.taken) (length c.cell.taken + length c.cell.item) c.cell.free (some (Held.Guest g)) c.lists.sized c.lies);
+          lies = subst (λ (j : ℕ). Lies cap (c.cell.log ++ c.cell.beyond.placed) (length c.cell.taken) (length c.cell.taken + length c.cell.item) c.cell.beyond.free (set s.homes j (some (Held.Guest g)))) (sym k.sized)
+              (lies_guest cap (c.cell.log ++ c.cell.beyond.placed) s.homes (length c.cell.taken) (length c.cell.taken + length c.cell.item) c.cell.beyond.free (some (Held.Guest g)) c.lists.sized c.lies);
           lodges = λ _. record { guest = g; at = changed s.homes v.capacity cap (some (Held.Guest g)) (sym k.sized) (let wide = c.lies.wide in let sized : v.capacity ≡ cap = k.sized in omega arith); given_is = given_is ∙ ap length know.taken_is; own_is = own_is ∙ know.own_is; answers_are = answers_are ∙ know.answers_are; how_is = how_is; told_is = told_is ∙ ap greeted know.taken_is };
-          producers = other has_put c.cell.producer _ _ s.views id w c.producers is.0 (λ d o. subst (λ b. AsProducer cap c.cell.answers.order c.cell.log p.given c.cell.free b c.cell.flags.closing c.cell.flags.state p.producer d) seat.over o);
+          producers = other has_put c.cell.producer _ _ s.views id w c.producers is.0 (λ d o. subst (λ b. AsProducer cap c.cell.answers.order c.cell.log p.given c.cell.beyond b c.cell.flags.closing c.cell.flags.state p.producer d) seat.over o);
           handles = other has_ask c.cell.handle _ _ s.views id w c.handles is.1 (λ d h. h);
           runners = spent has_run c.cell.runner _ _ s.views id v w c.runners at is.2 refl;
         },

@@ -1,5 +1,5 @@
 -- The task's loads of tail and asked.
-use Rattle.std.proofs.Common.{◌≡◌, ℕ, ◌+◌, ◌%◌, ◌≤◌, true, List, [], ◌∷◌, ◌++◌, length, take, slice_index, set, sym, refl, ap, ◌∙◌, subst, append-nil, add-one, length-take-le, arith, inr}
+use Rattle.std.proofs.Common.{◌≡◌, ℕ, ◌+◌, ◌%◌, ◌≤◌, true, List, [], ◌∷◌, ◌++◌, length, take, slice_index, set, sym, refl, ap, ◌∙◌, subst, append-nil, add-one, length-take-le, arith, inr, length-append}
 use mathlib.Core.Option as slot
 use mathlib.Core.Option.{some, none}
 use mathlib.Core.Logic.{dite}
@@ -9,7 +9,7 @@ use Rattle.atomic_table.specs.Table.{keeps, takes, gives, Allows}
 use Rattle.feed_core.specs.Prelude.{Item, Signal, total_after}
 use Rattle.feed_core.specs.World.Table.{MaySee, MayMeasure, is_started, is_over, seeing, measuring, total_of}
 use Rattle.feed_cell.specs.Types.{See, Measure, Runner, Ready, Looked, Saw, Measured}
-use Rattle.feed_cell.proofs.Table.Lists.{there, take_one_more, parted}
+use Rattle.feed_cell.proofs.Table.Lists.{at_begin, there, take_one_more, parted}
 use Rattle.feed_cell.proofs.Tasks.Move.{knows_too, move_kept}
 use Rattle.feed_cell.proofs.Table.Outlooks.{ShowsSame, reached_more, reached_kept}
 use Rattle.feed_cell.proofs.Table.Places.{lies_out, lies_back}
@@ -53,9 +53,10 @@ module _ {B : Type 0} (told : B → List Signal) where
       let none_is : length c.cell.item ≡ 0 = ap length item_is in
       let accepted : p.accepted ≡ length c.cell.log = c.shows.accepted in
       let within : length c.cell.taken + length c.cell.item ≤ length c.cell.log = c.lists.within in
-      let above : length c.cell.log ≤ c.cell.free = c.lists.above in
-      let below : c.cell.free ≤ length c.cell.taken + cap = c.lists.below in
-      let lies : Lies cap c.cell.log (length c.cell.taken) (length c.cell.taken) c.cell.free s.homes = lies_at cap c.cell.log (length c.cell.taken) (length c.cell.taken + length c.cell.item) (length c.cell.taken) c.cell.free s.homes (omega arith) c.lies in
+      let above : length c.cell.log + length c.cell.beyond.placed ≤ c.cell.beyond.free = c.lists.above in
+      let below : c.cell.beyond.free ≤ length c.cell.taken + cap = c.lists.below in
+      let laid : length (c.cell.log ++ c.cell.beyond.placed) ≡ length c.cell.log + length c.cell.beyond.placed = length-append c.cell.log c.cell.beyond.placed in
+      let lies : Lies cap (c.cell.log ++ c.cell.beyond.placed) (length c.cell.taken) (length c.cell.taken) c.cell.beyond.free s.homes = lies_at cap (c.cell.log ++ c.cell.beyond.placed) (length c.cell.taken) (length c.cell.taken + length c.cell.item) (length c.cell.taken) c.cell.beyond.free s.homes (omega arith) c.lies in
       dite (dec_lt (length c.cell.taken) (length c.cell.log))
       (λ more.
       let next = there c.cell.log (length c.cell.taken) more in
@@ -63,7 +64,7 @@ module _ {B : Type 0} (told : B → List Signal) where
       let w : View = record v { runner = seeing found v.runner; item = x ∷ []; known_put = found } in (
         w,
         takes (length v.taken % v.capacity) (Held.Item x),
-        ap (λ (j : ℕ). get_elem? s.homes j) slot_is ∙ lies.items (length c.cell.taken) x (omega arith) next.1,
+        ap (λ (j : ℕ). get_elem? s.homes j) slot_is ∙ lies.items (length c.cell.taken) x (omega arith) (at_begin c.cell.log c.cell.beyond.placed (length c.cell.taken) x next.1),
         move_kept told cap s c id v w (Saw may.0 p.accepted) p.accepted p.known_asked (x ∷ []) _ (set s.homes (length v.taken % v.capacity) none) at is is.0 is.1 refl (reached w (refl, refl, refl)) (λ e. cc)
             (record {
               sized = c.lists.sized;
@@ -74,7 +75,7 @@ module _ {B : Type 0} (told : B → List Signal) where
               above = above;
               below = below;
             })
-            (lies_out cap c.cell.log s.homes (length c.cell.taken) c.cell.free (length v.taken % v.capacity) c.lists.sized (omega arith) (omega arith) slot_is lies)
+            (lies_out cap (c.cell.log ++ c.cell.beyond.placed) s.homes (length c.cell.taken) c.cell.beyond.free (length v.taken % v.capacity) c.lists.sized (omega arith) (omega arith) slot_is lies)
             words_are
             (record { sized = k.sized; ordered = k.ordered; seated = refl; stands = stands; out = out; knows = λ _. knows_too c.cell.taken p.own c.cell.answers v w refl refl refl know; fresh = λ e. cc; item_is = refl; latest = λ _ quiet. k.latest (ap has_looked stage) quiet; saw_put = omega arith; saw_asked = k.saw_asked }),
         record { put = omega arith; waits = λ _. (x, refl); empty = λ none_there. absurd (omega arith); sized = refl },
@@ -139,8 +140,9 @@ module _ {B : Type 0} (told : B → List Signal) where
       let item_is : c.cell.item ≡ x ∷ [] = sym k.item_is ∙ one in
       let one_is : length c.cell.item ≡ 1 = ap length item_is in
       let within : length c.cell.taken + length c.cell.item ≤ length c.cell.log = c.lists.within in
-      let above : length c.cell.log ≤ c.cell.free = c.lists.above in
-      let below : c.cell.free ≤ length c.cell.taken + cap = c.lists.below in
+      let above : length c.cell.log + length c.cell.beyond.placed ≤ c.cell.beyond.free = c.lists.above in
+      let below : c.cell.beyond.free ≤ length c.cell.taken + cap = c.lists.below in
+      let laid : length (c.cell.log ++ c.cell.beyond.placed) ≡ length c.cell.log + length c.cell.beyond.placed = length-append c.cell.log c.cell.beyond.placed in
       dite (dec_lt (length v.taken) (total_after p.asked v.own))
       (λ wanted.
       let w : View = record v { runner = measuring (total_after p.asked v.own) v.runner; requested = p.asked } in (
@@ -162,9 +164,9 @@ module _ {B : Type 0} (told : B → List Signal) where
         tt,
         move_kept told cap s c id v w (Measured may.0 may.1 (total_of p)) p.known_put p.asked [] _ (set s.homes i (some (Held.Item x))) at is is.0 is.1 refl (reached w (refl, refl, refl)) (λ _. refl)
             (record { sized = c.lists.sized; begins = append-nil c.cell.taken ∙ parts.0 ∙ ap (λ (m : ℕ). take m c.cell.log) (omega arith); one_out = omega arith; within = omega arith; above = above; below = below })
-            (lies_at cap c.cell.log (length c.cell.taken) (length c.cell.taken) (length c.cell.taken + 0) c.cell.free _ (omega arith)
-            (lies_back cap c.cell.log s.homes (length c.cell.taken) c.cell.free i x c.lists.sized (omega arith) (omega arith) slot_is (next.1 ∙ ap (λ (y : Item). some y) (sym parts.1))
-            (lies_at cap c.cell.log (length c.cell.taken) (length c.cell.taken + length c.cell.item) (length c.cell.taken + 1) c.cell.free s.homes (omega arith) c.lies)))
+            (lies_at cap (c.cell.log ++ c.cell.beyond.placed) (length c.cell.taken) (length c.cell.taken) (length c.cell.taken + 0) c.cell.beyond.free _ (omega arith)
+            (lies_back cap (c.cell.log ++ c.cell.beyond.placed) s.homes (length c.cell.taken) c.cell.beyond.free i x c.lists.sized (omega arith) (omega arith) slot_is (at_begin c.cell.log c.cell.beyond.placed (length c.cell.taken) x (next.1 ∙ ap (λ (y : Item). some y) (sym parts.1)))
+            (lies_at cap (c.cell.log ++ c.cell.beyond.placed) (length c.cell.taken) (length c.cell.taken + length c.cell.item) (length c.cell.taken + 1) c.cell.beyond.free s.homes (omega arith) c.lies)))
             words_are
             (record { sized = k.sized; ordered = k.ordered; seated = refl; stands = stands; out = out; knows = λ _. knows_too c.cell.taken p.own c.cell.answers v w refl refl refl know; fresh = λ e. cc; item_is = refl; latest = λ _ quiet. k.latest (ap has_looked stage) quiet; saw_put = k.saw_put; saw_asked = omega arith }),
         record { asked = p.asked; left = c.cell.left; found_is = asked_at _ _ _ _ _ _ c.words; bounded = kept.asked_bounded; met = omega arith; wanted = λ e. absurd (omega (arith, met)); enough = λ _. refl; sized = refl },

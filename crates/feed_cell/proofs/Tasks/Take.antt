@@ -39,8 +39,9 @@ module _ {B : Type 0} (told : B → List Signal) where
       let item_is : v.item ≡ c.cell.item = k.item_is in
       let one_is : length c.cell.item ≡ 1 = ap length (sym item_is ∙ one) in
       let within : length c.cell.taken + length c.cell.item ≤ length c.cell.log = c.lists.within in
-      let above : length c.cell.log ≤ c.cell.free = c.lists.above in
-      let below : c.cell.free ≤ length c.cell.taken + cap = c.lists.below in
+      let above : length c.cell.log + length c.cell.beyond.placed ≤ c.cell.beyond.free = c.lists.above in
+      let below : c.cell.beyond.free ≤ length c.cell.taken + cap = c.lists.below in
+      let laid : length (c.cell.log ++ c.cell.beyond.placed) ≡ length c.cell.log + length c.cell.beyond.placed = length-append c.cell.log c.cell.beyond.placed in
       let taken : List Item = c.cell.taken ++ c.cell.item in
       let longer : length taken ≡ length c.cell.taken + 1 = length-append c.cell.taken c.cell.item ∙ ap (λ (m : ℕ). length c.cell.taken + m) one_is in
       let w : View = record v { taken = v.taken ++ v.item; item = []; grants = v.grants ++ grants_by v.requested v.own v.runner; runner = Taken } in
@@ -63,13 +64,13 @@ module _ {B : Type 0} (told : B → List Signal) where
           shows = record { sized = c.shows.sized; accepted = c.shows.accepted; given = omega arith; none_out = λ _. refl; started = c.shows.started ∙ seat.runs; new = c.shows.new; causes = c.shows.causes; home = λ e. cc; settled = c.shows.settled };
           reads = c.reads;
           words = head_stored _ _ _ _ _ _ c.words new ∙ ap (λ (m : ℕ). words_by cap m p.accepted (marked c.cell.left p.asked) c.cell.control) (omega arith);
-          lies = subst (λ (m : ℕ). Lies cap c.cell.log m (m + 0) c.cell.free (set s.homes i (some Held.Empty))) (sym longer)
-              (lies_at cap c.cell.log (length c.cell.taken + 1) (length c.cell.taken + 1) (length c.cell.taken + 1 + 0) c.cell.free _ (omega arith)
-              (lies_taken cap c.cell.log s.homes (length c.cell.taken) c.cell.free i c.lists.sized (omega arith) (omega arith) slot_is (lies_at cap c.cell.log (length c.cell.taken) (length c.cell.taken + length c.cell.item) (length c.cell.taken + 1) c.cell.free s.homes (omega arith) c.lies)));
+          lies = subst (λ (m : ℕ). Lies cap (c.cell.log ++ c.cell.beyond.placed) m (m + 0) c.cell.beyond.free (set s.homes i (some Held.Empty))) (sym longer)
+              (lies_at cap (c.cell.log ++ c.cell.beyond.placed) (length c.cell.taken + 1) (length c.cell.taken + 1) (length c.cell.taken + 1 + 0) c.cell.beyond.free _ (omega arith)
+              (lies_taken cap (c.cell.log ++ c.cell.beyond.placed) s.homes (length c.cell.taken) c.cell.beyond.free i c.lists.sized (omega arith) (omega arith) slot_is (lies_at cap (c.cell.log ++ c.cell.beyond.placed) (length c.cell.taken) (length c.cell.taken + length c.cell.item) (length c.cell.taken + 1) c.cell.beyond.free s.homes (omega arith) c.lies)));
           lodges = λ e. cc;
           producers = other has_put c.cell.producer _ _ s.views id w c.producers is.0 (λ d o. (
               let seen : d.seen ≤ p.given = o.seen in
-              record { sized = o.sized; ordered = o.ordered; put = o.put; seen = omega arith; places = o.places; over = λ e. (let never : true ≡ false = sym (o.over e) ∙ seat.over in cc); closed = o.closed; doubled = o.doubled; stands = o.stands }));
+              record { sized = o.sized; ordered = o.ordered; put = o.put; seen = omega arith; laid = o.laid; places = o.places; over = λ e. (let never : true ≡ false = sym (o.over e) ∙ seat.over in cc); closed = o.closed; doubled = o.doubled; stands = o.stands }));
           handles = other has_ask c.cell.handle _ _ s.views id w c.handles is.1 (λ d h. h);
           runners = mine has_run c.cell.runner _ _ s.views id v w c.runners at is.2
               (record { sized = k.sized; ordered = k.ordered; seated = refl; stands = refl; out = out; knows = λ _. knows; fresh = λ e. cc; item_is = refl; latest = λ e. cc; saw_put = k.saw_put; saw_asked = k.saw_asked });

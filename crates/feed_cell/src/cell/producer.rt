@@ -3,12 +3,12 @@
 mod plays;
 pub mod steps;
 
-use self::steps::{Found, find_room, place, see_standing, signal_end};
+use self::steps::{Found, find_room, place, place_all, see_standing, signal_end};
 use super::seated::Seated;
 use super::signal::{signal, signal_more, start};
 use super::task::Task;
 use super::{MARK, STATE, SharedTable};
-use flow_rules::{Ending, Feed, Item, Listener, NoMemory, Put, Standing};
+use flow_rules::{Ending, Feed, Item, Listener, NoMemory, Put, PutAll, Standing};
 use std::fmt;
 use std::marker::Model;
 use std::sync::Arc;
@@ -83,6 +83,25 @@ impl<B: Listener> Feed for Producer<B> {
         Put::Accepted {
             lag: held + 1,
             start: start(&self.party, &mut self.spare, task),
+        }
+    }
+
+    fn put_all(&mut self, items: Vec<Item>) -> PutAll<Task<B>> {
+        if self.closing.is_some() {
+            return PutAll::Gone(items);
+        }
+        let held = match find_room(&mut self.party, self.tail) {
+            Found::Ended => return PutAll::Gone(items),
+            Found::Full => unreachable!(),
+            Found::Room(held) => held,
+        };
+        let many = items.len() as u64;
+        place_all(&mut self.party, self.tail, items);
+        let seat = signal_more(&mut self.party);
+        self.tail += many;
+        PutAll::Accepted {
+            lag: held + many,
+            start: start(&self.party, &mut self.spare, seat),
         }
     }
 

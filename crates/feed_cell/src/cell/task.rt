@@ -6,7 +6,7 @@ mod looks;
 pub mod plays;
 mod steps;
 pub mod turns;
-mod waits;
+pub mod waits;
 
 use super::CellSeat;
 use super::seated::Seated;

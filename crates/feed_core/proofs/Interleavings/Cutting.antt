@@ -3,7 +3,7 @@ use Rattle.std.proofs.Common.{◌≡◌, ℕ, zero, suc, ℤ, pos, negsuc, ◌+�
 use Rattle.std.specs.Prelude.{IsSome}
 use Rattle.feed_core.specs.Prelude.{Answer, How}
 use Rattle.feed_core.specs.Cause.{stops, no_causes_in}
-use Rattle.feed_core.specs.World.Types.{Producer, Handle, Cause, Event, Make, Room, Put, See, Take, TakeKnown, Ask, Signal, Hand, Look, Peek, Measure, Rest, End, Runner, Nobody, Coming, Fresh, Ready, Looked, Saw, Measured, Taken, Over, Parts}
+use Rattle.feed_core.specs.World.Types.{Producer, Handle, Cause, Event, Make, Room, Put, PutMore, See, Take, TakeKnown, Ask, Signal, Hand, Look, Peek, Measure, Rest, End, Runner, Nobody, Coming, Fresh, Ready, Looked, Saw, Measured, Taken, Over, Parts}
 use Rattle.feed_core.specs.World.Table.{IsPossible, joined, requested, answered, started, seeing, resting_after, after}
 use Rattle.feed_core.specs.World.Runs.{given_before, cut_where, cut_by, cut_after}
 use Rattle.feed_core.specs.World.Kept.{IsCut, IsCutAt, may_follow, one_where}
@@ -74,6 +74,7 @@ pub cut_kept : (event : Event) (w : Parts) (cut : ℕ) → IsPossible event w �
 cut_kept (Make n order) w cut may c = absurd may
 cut_kept Room w cut may c = record { stopped = c.stopped; few = c.few }
 cut_kept Put w cut may c = record { stopped = c.stopped; few = c.few }
+cut_kept PutMore w cut may c = record { stopped = c.stopped; few = c.few }
 cut_kept See w cut may c =
     let few = c.few in
     let before : may_follow w.runner ≡ 0 = ap may_follow may.1 ∙ ap one_where may.2 in
@@ -137,6 +138,7 @@ new_cut : (event : Event) (w : Parts) → IsCutAt (cut_by event w) (after event 
 new_cut (Make n order) w = tt
 new_cut Room w = tt
 new_cut Put w = tt
+new_cut PutMore w = tt
 new_cut See w = tt
 new_cut Take w = tt
 new_cut TakeKnown w = tt
@@ -169,6 +171,7 @@ adds_stop event w may none stopped = by event may stopped where
   by (Make n order) may some = absurd may
   by Room may some = absurd (never some)
   by Put may some = absurd (never some)
+  by PutMore may some = absurd (never some)
   by See may some = absurd (never some)
   by Take may some = absurd (never some)
   by TakeKnown may some = absurd (never some)

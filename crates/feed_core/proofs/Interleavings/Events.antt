@@ -2,14 +2,14 @@
 use Rattle.std.proofs.Common.{ℕ, refl, arith}
 use Rattle.feed_core.specs.Prelude.{ErrorOrder}
 use Rattle.feed_core.specs.LaneCalls.{IsCapacity}
-use Rattle.feed_core.specs.World.Types.{Producer, Handle, Event, Make, Room, Put, See, Take, TakeKnown, Ask, Signal, Hand, Look, Peek, Measure, Rest, End, Parts}
+use Rattle.feed_core.specs.World.Types.{Producer, Handle, Event, Make, Room, Put, PutMore, See, Take, TakeKnown, Ask, Signal, Hand, Look, Peek, Measure, Rest, End, Parts}
 use Rattle.feed_core.specs.World.Table.{IsPossible, after}
 use Rattle.feed_core.specs.World.Runs.{made}
 use Rattle.feed_core.specs.World.Kept.{IsKeptParts}
 use Rattle.feed_core.proofs.Interleavings.Asking.{ask_kept}
 use Rattle.feed_core.proofs.Interleavings.Ending.{end_kept}
 use Rattle.feed_core.proofs.Interleavings.Handing.{producer_hand_kept, handle_hand_kept}
-use Rattle.feed_core.proofs.Interleavings.Putting.{room_kept, put_kept}
+use Rattle.feed_core.proofs.Interleavings.Putting.{room_kept, put_kept, put_more_kept}
 use Rattle.feed_core.proofs.Interleavings.Resting.{rest_kept}
 use Rattle.feed_core.proofs.Interleavings.Running.{look_kept, peek_kept, see_kept, measure_kept, take_kept, take_known_kept}
 use Rattle.feed_core.proofs.Interleavings.Signalling.{producer_signal_kept, handle_signal_kept}
@@ -36,6 +36,7 @@ pub event_kept : (event : Event) (w : Parts) → IsKeptParts w → IsPossible ev
 event_kept (Make n order) w k may = absurd may
 event_kept Room w k may = room_kept w k may
 event_kept Put w k may = put_kept w k may
+event_kept PutMore w k may = put_more_kept w k may
 event_kept See w k may = see_kept w k may
 event_kept Take w k may = take_kept w k may
 event_kept TakeKnown w k may = take_known_kept w k may

@@ -1,8 +1,8 @@
 -- The producer looks for room, and puts an item.
-use Rattle.std.proofs.Common.{◌≡◌, ◌+◌, ◌-◌, ◌<◌, ◌≤◌, Bool, true, false, ◌&&◌, not, refl, sym, ap, ◌∙◌, arith, inl, inr}
+use Rattle.std.proofs.Common.{◌≡◌, ◌+◌, ◌-◌, ◌<◌, ◌≤◌, Bool, true, false, ◌&&◌, not, refl, sym, ap, ◌∙◌, None, arith, inl, inr}
 use Rattle.std.specs.Prelude.{nat_lt}
 use Rattle.std.proofs.lemmas.Bool.Decides.{nat_tests}
-use Rattle.feed_core.specs.World.Types.{Room, Put, Producing, Free, HasRoom, HasPut, Parts}
+use Rattle.feed_core.specs.World.Types.{Room, Put, PutMore, Producing, Free, HasRoom, HasPut, Parts}
 use Rattle.feed_core.specs.World.Table.{is_over, MayBegin, IsPossible, has_room, shown_room, after}
 use Rattle.feed_core.specs.World.Kept.{IsKeptParts, producer_hands}
 use Rattle.feed_core.proofs.Interleavings.Causing.{within_same, unclosed_waits}
@@ -71,10 +71,11 @@ room_kept w k may =
       stage = stage_kept grows w.runner (λ e. (stage_at k e).quiet) k.stage;
     }
 
-pub put_kept : (w : Parts) → IsKeptParts w → IsPossible Put w → IsKeptParts (after Put w)
-put_kept w k may =
-    let room = k.roomy may.0 in let idle : producer_hands w.producer ≡ 0 = ap producer_hands may.0 in let handed = k.handed in
-    let taken = k.taken in let known = k.known_put in
+-- one item more is put, by a producer that has no task to hand over
+one_kept : (w : Parts) → IsKeptParts w → w.causes.closing ≡ None → w.accepted < w.given + w.capacity → producer_hands w.producer ≡ 0
+    → IsKeptParts (after Put w)
+one_kept w k unclosed room idle =
+    let handed = k.handed in let taken = k.taken in let known = k.known_put in
     let grows : Grows w (after Put w) = record {
       given = refl;
       accepted = omega arith;
@@ -83,7 +84,7 @@ put_kept w k may =
       quiet = λ e. (e, refl);
       put = λ e never. absurd (never refl);
       asked = λ e never. (never, refl);
-      closed = λ some. absurd (unclosed_waits w.causes may.1 some);
+      closed = λ some. absurd (unclosed_waits w.causes unclosed some);
     } in
     record {
       sized = k.sized;
@@ -100,3 +101,9 @@ put_kept w k may =
       known_asked = k.known_asked;
       stage = stage_kept grows w.runner (λ e. (stage_at k e).quiet) k.stage;
     }
+
+pub put_kept : (w : Parts) → IsKeptParts w → IsPossible Put w → IsKeptParts (after Put w)
+put_kept w k may = one_kept w k may.1 (k.roomy may.0) (ap producer_hands may.0)
+
+pub put_more_kept : (w : Parts) → IsKeptParts w → IsPossible PutMore w → IsKeptParts (after PutMore w)
+put_more_kept w k may = let taken = k.taken in let room = may.2 in one_kept w k may.1 (omega arith) (ap producer_hands may.0)

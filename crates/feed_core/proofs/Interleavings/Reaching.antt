@@ -2,7 +2,7 @@
 use Rattle.std.proofs.Common.{◌≡◌, ℕ, ◌↔◌, Bool, true, false, refl, sym, subst, Option, Some, None, List, [], ◌∷◌, ◌++◌, inl, inr}
 use Rattle.feed_core.specs.Prelude.{ErrorOrder}
 use Rattle.feed_core.specs.LaneCalls.{IsCapacity}
-use Rattle.feed_core.specs.World.Types.{Event, Make, Room, Put, See, Take, TakeKnown, Ask, Signal, Hand, Look, Peek, Measure, Rest, End, Parts}
+use Rattle.feed_core.specs.World.Types.{Event, Make, Room, Put, PutMore, See, Take, TakeKnown, Ask, Signal, Hand, Look, Peek, Measure, Rest, End, Parts}
 use Rattle.feed_core.specs.World.Table.{IsPossible, after}
 use Rattle.feed_core.specs.World.Runs.{WorldState, nothing, world_of, made, IsPossibleIn, cut_after, next_of, Steps, Leads, IsReached}
 use Rattle.feed_core.specs.World.Kept.{IsKeptParts, IsKeptIn}
@@ -17,6 +17,7 @@ next_kept event (Some w) cut k may = (event_kept event w k.0 may, cut_at_kept ev
 next_kept (Make n order) None cut k may = (made_kept n order may, tt)
 next_kept Room None cut k may = absurd may
 next_kept Put None cut k may = absurd may
+next_kept PutMore None cut k may = absurd may
 next_kept See None cut k may = absurd may
 next_kept Take None cut k may = absurd may
 next_kept TakeKnown None cut k may = absurd may

@@ -1,25 +1,28 @@
 -- The calls of a subscription keep its lane sound.
-use Rattle.std.proofs.Common.{◌≡◌, ℕ, zero, suc, ℤ, pos, negsuc, ◌≤◌, Bool, true, [], ◌∷◌, ◌++◌, ap, sym, ◌∙◌, append_assoc, length-append, arith, refl, None}
+use Rattle.std.proofs.Common.{◌≡◌, ℕ, zero, suc, ℤ, pos, negsuc, ◌≤◌, Bool, true, [], ◌∷◌, ◌++◌, ap, sym, ◌∙◌, append_assoc, length-append, arith, refl, None, List}
 use Rattle.feed_core.specs.Prelude.{Item, Ending, items_of, total_after}
 use Rattle.feed_core.specs.Lane.{LaneState}
-use Rattle.feed_core.specs.LaneCalls.{lane_with_item, lane_with_closing, lane_with_duplicate, lane_with_bad_request, lane_with_cancel, lane_with_request}
+use Rattle.feed_core.specs.LaneCalls.{lane_with_item, lane_with_items, lane_with_closing, lane_with_duplicate, lane_with_bad_request, lane_with_cancel, lane_with_request}
 use Rattle.feed_core.specs.Sound.{IsSoundLane}
 use Rattle.feed_core.proofs.Desks.Steps.{no_cause}
 
 -- a lane that has not ended stays sound when one more item is accepted
-pub sound_lane_with_item : (lane : LaneState) (item : Item) → IsSoundLane lane → lane.how ≡ None → IsSoundLane (lane_with_item item lane)
-sound_lane_with_item lane item sound unended =
-    let grown = length-append lane.accepted (item ∷ []) in
+pub sound_lane_with_items : (lane : LaneState) (items : List Item) → IsSoundLane lane → lane.how ≡ None → IsSoundLane (lane_with_items items lane)
+sound_lane_with_items lane items sound unended =
+    let grown = length-append lane.accepted items in
     let counts = sound.counts in
     let taken = counts.taken in
     record {
       told_is = sound.told_is;
-      in_order = (sound.in_order.0 ++ item ∷ [], sym (append_assoc (items_of lane.told) sound.in_order.0 (item ∷ [])) ∙ ap (λ items. items ++ item ∷ []) sound.in_order.1);
+      in_order = (sound.in_order.0 ++ items, sym (append_assoc (items_of lane.told) sound.in_order.0 items) ∙ ap (λ l. l ++ items) sound.in_order.1);
       counts = record { tells = counts.tells; loses = counts.loses; taken = omega (arith, grown); requested = counts.requested };
-      cause = no_cause (lane_with_item item lane) unended;
+      cause = no_cause (lane_with_items items lane) unended;
       unfailed = sound.unfailed;
       remembered = sound.remembered;
     }
+
+pub sound_lane_with_item : (lane : LaneState) (item : Item) → IsSoundLane lane → lane.how ≡ None → IsSoundLane (lane_with_item item lane)
+sound_lane_with_item lane item sound unended = sound_lane_with_items lane (item ∷ []) sound unended
 
 -- a lane stays sound when another total is asked, which is not below what was given
 pub sound_asked : (lane : LaneState) (asked : ℕ) → IsSoundLane lane → lane.given ≤ asked → IsSoundLane (record lane { asked = asked })

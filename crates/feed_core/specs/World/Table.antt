@@ -2,7 +2,7 @@
 use Rattle.std.specs.Prelude.{◌≡◌, ℕ, zero, suc, ℤ, pos, negsuc, ◌+◌, ◌-◌, ◌<◌, ◌≤◌, ◌⊎◌, nat_lt, Bool, true, false, ◌&&◌, not, Option, None, Some}
 use Rattle.feed_core.specs.Prelude.{Answer, Ending, How, total_after}
 use Rattle.feed_core.specs.Cause.{stops, closes, with_cause_of}
-use Rattle.feed_core.specs.World.Types.{Causes, Producer, Handle, Cause, Cancel, Argument, State, Closing, Event, Make, Room, Put, See, Take, TakeKnown, Ask, Signal, Hand, Look, Peek, Measure, Rest, End, Producing, Free, HasRoom, HasPut, Hands, Requesting, Idle, HasAsked, HandsOver, Runner, Nobody, Coming, Fresh, Ready, Looked, Saw, Measured, Taken, Over, Parts}
+use Rattle.feed_core.specs.World.Types.{Causes, Producer, Handle, Cause, Cancel, Argument, State, Closing, Event, Make, Room, Put, PutMore, See, Take, TakeKnown, Ask, Signal, Hand, Look, Peek, Measure, Rest, End, Producing, Free, HasRoom, HasPut, Hands, Requesting, Idle, HasAsked, HandsOver, Runner, Nobody, Coming, Fresh, Ready, Looked, Saw, Measured, Taken, Over, Parts}
 
 -- all that was requested, by the handle and by the answers of callbacks (`Flow.Subscription.request`, Java SE 17)
 abbrev pub total_of : Parts → ℕ
@@ -21,6 +21,10 @@ is_over _ = false
 -- the producer is not in the middle of a put or of a hand-over
 abbrev pub MayBegin : Producing → Type 0
 MayBegin producer = (producer ≡ Free) ⊎ (producer ≡ HasRoom)
+
+-- when the producer may put one item more, before it signals: there is room for it, and the subscription was not closed
+abbrev pub MayPutMore : Parts → Type 0
+MayPutMore w = (w.producer ≡ HasPut) × (w.causes.closing ≡ None) × (w.accepted - w.given < w.capacity)
 
 -- when the producer may signal: an item after its put, a second subscribing, and a closing if none was before
 abbrev pub ProducerMay : Option Cause → Producing → Option Ending → Type 0
@@ -103,6 +107,7 @@ abbrev pub IsPossible : Event → Parts → Type 0
 IsPossible (Make _ _) w = ⊥
 IsPossible Room w = MayBegin w.producer
 IsPossible Put w = (w.producer ≡ HasRoom) × (w.causes.closing ≡ None)
+IsPossible PutMore w = MayPutMore w
 IsPossible See w = MaySee w.runner
 IsPossible Take w = MayTake w.given w.runner
 IsPossible TakeKnown w = MayTakeKnown w
@@ -191,6 +196,7 @@ abbrev pub after : Event → Parts → Parts
 after (Make _ _) w = w
 after Room w = record w { producer = shown_room (has_room w) }
 after Put w = record w { accepted = w.accepted + 1; producer = HasPut }
+after PutMore w = record w { accepted = w.accepted + 1; producer = HasPut }
 after See w = record w { runner = seeing w.accepted w.runner; known_put = w.accepted }
 after Take w = record w { given = w.given + 1; runner = Taken }
 after TakeKnown w = record w { given = w.given + 1; runner = Taken }

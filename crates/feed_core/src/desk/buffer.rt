@@ -1,6 +1,6 @@
 //! The buffer of a subscription. Its room is made when it is made, and no call changes it.
-ghost use Rattle.std.specs.Prelude.{◌≡◌, ◌<◌, ◌≤◌, ◌∷◌, [], length, IfOk};
-ghost use Rattle.feed_core.specs.Buffer.{buffer_with};
+ghost use Rattle.std.specs.Prelude.{◌≡◌, ◌<◌, ◌≤◌, ◌+◌, ◌∷◌, [], length, IfOk};
+ghost use Rattle.feed_core.specs.Buffer.{buffer_with, buffer_with_all};
 
 use flow_rules::{Item, NoMemory};
 use std::alloc::Global;
@@ -38,6 +38,16 @@ impl Buffer {
         ensures { self.new ≡ buffer_with item self.old }
     {
         self.items.push_back_reserved(item);
+    }
+
+    /// Puts items at the back, in their order.
+    pub fn put_all(&mut self, items: Vec<Item>)
+        requires { length self.old.items + length items.items ≤ self.old.room }
+        ensures { self.new ≡ buffer_with_all items.items self.old }
+    {
+        for one in items {
+            self.items.push_back_reserved(one);
+        }
     }
 
     /// Takes the first item.

@@ -7,7 +7,9 @@ ghost use Rattle.flow_rules.specs.Amount.{amount_of};
 
 use super::Desk;
 use crate::cause::Causes;
-use flow_rules::{Amount, Demand, Ending, Feed, How, Item, Listener, NoMemory, Put, Standing};
+use flow_rules::{
+    Amount, Demand, Ending, Feed, How, Item, Listener, NoMemory, Put, PutAll, Standing,
+};
 use std::mem;
 
 impl<B: Listener> Feed for Desk<B> {
@@ -41,6 +43,23 @@ impl<B: Listener> Feed for Desk<B> {
             lag: standing.held + 1,
             start: signal(&mut self.started),
         }
+    }
+
+    fn put_all(&mut self, items: Vec<Item>) -> PutAll<()> {
+        let is_closed = self.causes.closing.is_some();
+        if is_closed {
+            return PutAll::Gone(items);
+        }
+        let stands = see_standing(self.how, self.accepted - self.given, &mut self.looks);
+        if stands.ended {
+            return PutAll::Gone(items);
+        }
+        let many = items.len() as u64;
+        self.held.put_all(items);
+        self.accepted += many;
+        let start = signal(&mut self.started);
+        let lag = stands.held + many;
+        PutAll::Accepted { lag, start }
     }
 
     fn end(&mut self, ending: Ending) -> Option<()> {

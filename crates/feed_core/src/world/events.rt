@@ -32,6 +32,9 @@ pub enum Event {
     Room,
     /// The producer stores how many items were put, one more than before.
     Put,
+    /// The producer, which has put and not signalled yet, stores how many items were put, one more than before. A store
+    /// of several more at once is a put and as many of these as are left.
+    PutMore,
     /// The runner loads how many items were put.
     See,
     /// The runner stores how many items were taken, one more than before.

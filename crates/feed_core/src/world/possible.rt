@@ -1,7 +1,7 @@
 //! When an event is possible: the first half of the table, in code.
 ghost use Rattle.std.specs.Prelude.{◌≡◌, ◌↔◌, true};
 ghost use Rattle.feed_core.specs.LaneCalls.{IsCapacity};
-ghost use Rattle.feed_core.specs.World.Table.{IsPossible, MayBegin, ProducerMay, HandleMay, MayLook, MaySee, MayMeasure, MayTake, MayTakeKnown, MayRest, MayEnd, IsAnswered, IsStop};
+ghost use Rattle.feed_core.specs.World.Table.{IsPossible, MayBegin, MayPutMore, ProducerMay, HandleMay, MayLook, MaySee, MayMeasure, MayTake, MayTakeKnown, MayRest, MayEnd, IsAnswered, IsStop};
 
 use super::events::{Cause, Event, Side};
 use super::parts::{Parts, Producing, Requesting, Runner};
@@ -26,6 +26,7 @@ impl Parts {
             Event::Make(_, _) => false,
             Event::Room => may_begin(self.producer),
             Event::Put => self.producer == Producing::HasRoom && self.causes.closing.is_none(),
+            Event::PutMore => may_put_more(self),
             Event::Ask(n) => self.handle == Requesting::Idle && n >= 1,
             Event::Signal(Side::Producer, cause) => {
                 producer_may(cause, self.producer, self.causes.closing)
@@ -49,6 +50,15 @@ fn may_begin(producer: Producing) -> bool
     ensures { (result ≡ true) ↔ MayBegin producer }
 {
     matches!(producer, Producing::Free | Producing::HasRoom)
+}
+
+/// Whether the producer may put one item more before it signals.
+fn may_put_more(parts: &Parts) -> bool
+    ensures { (result ≡ true) ↔ MayPutMore parts.now }
+{
+    parts.producer == Producing::HasPut
+        && parts.causes.closing.is_none()
+        && parts.accepted.saturating_sub(parts.given) < parts.capacity as u64
 }
 
 /// Whether the producer may signal this.

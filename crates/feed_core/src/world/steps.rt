@@ -30,7 +30,7 @@ impl Parts {
         match event {
             Event::Make(_, _) => {}
             Event::Room => self.producer = self.look_for_room(),
-            Event::Put => {
+            Event::Put | Event::PutMore => {
                 self.accepted += 1;
                 self.producer = Producing::HasPut;
             }

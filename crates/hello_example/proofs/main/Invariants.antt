@@ -2,4 +2,4 @@
 use Rattle.hello_example.proofs.main.Given as goal
 
 abbrev pub ghosts-hello : goal.ghosts-hello
-ghosts-hello g a = record { publications = a.blanks.publications.name; drops = a.blanks.drops.name }
+ghosts-hello g a = record { publications = a.blanks.publications.name; drops = a.blanks.drops.name; history = a.blanks.history }

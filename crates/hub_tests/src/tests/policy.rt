@@ -14,7 +14,8 @@ use std::test::Fail;
 
 // Two of each kind at rest: all get the item. Then nobody does, since two are full that are waited for. Once these are gone, only the
 // others are full, and lose all.
-const TWO_OF_EACH: [Row<'static>; 21] = [
+const TWO_OF_EACH: [Row<'static>; 25] = [
+    Row::Asks(Ask::Figures(&[])),
     Row::Adds(b'a', Wait),
     Row::Adds(b'b', Drop),
     Row::Adds(b'c', Wait),
@@ -23,6 +24,12 @@ const TWO_OF_EACH: [Row<'static>; 21] = [
     Row::Publishes(Ok((1, 0))),
     Row::HasRoom(false),
     Row::Publishes(Err(Why::Full)),
+    Row::Asks(Ask::Figures(&[
+        (b'a', Wait, [1, 1, 0]),
+        (b'b', Drop, [1, 1, 0]),
+        (b'c', Wait, [1, 1, 0]),
+        (b'd', Drop, [1, 1, 0]),
+    ])),
     Row::Asks(Ask::Dropped(1, Some(0))),
     Row::Asks(Ask::TakesFeed(0, true)),
     Row::Publishes(Err(Why::Full)),
@@ -30,11 +37,13 @@ const TWO_OF_EACH: [Row<'static>; 21] = [
     Row::HasRoom(true),
     Row::Publishes(Ok((0, 2))),
     Row::Publishes(Ok((0, 2))),
+    Row::Asks(Ask::Figures(&[(b'b', Drop, [1, 1, 2]), (b'd', Drop, [1, 1, 2])])),
     Row::Asks(Ask::Dropped(0, Some(0))),
     Row::Asks(Ask::Dropped(1, Some(2))),
     Row::Asks(Ask::Dropped(3, Some(2))),
     Row::Asks(Ask::Offers(Ok(-2))),
     Row::Asks(Ask::Ends(false)),
+    Row::Asks(Ask::Figures(&[(b'b', Drop, [1, 1, 3]), (b'd', Drop, [1, 1, 3])])),
     Row::Publishes(Err(Why::Closed(Ending::Normal))),
 ];
 
@@ -91,7 +100,7 @@ fn hub_at(alloc: Global, serial: u64) -> Result<Trial<Desk<Collector>>, Refusal>
 }
 
 // The place of the first row that a Hub does not answer as the row says.
-fn first_wrong(
+pub(super) fn first_wrong(
     trial: &mut Trial<Desk<Collector>>,
     rows: &[Row<'_>],
 ) -> Result<Option<usize>, Refusal>

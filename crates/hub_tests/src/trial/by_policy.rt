@@ -6,7 +6,7 @@ ghost use Rattle.publisher_hub.specs.Sound.{IsSound};
 use super::{Ask, Trial, Why, name_of, text_of};
 use feed_core::Desk;
 use flow_rules::{Collector, Refusal, capacity};
-use publisher_hub::{OnFull, Published, Unpublished};
+use publisher_hub::{OnFull, Published, USUAL_LIVE, Unpublished};
 
 /// A call, and what it has to answer.
 #[derive(Clone, Copy)]
@@ -49,8 +49,14 @@ impl Trial<Desk<Collector>> {
             Err((refused, _)) => return Err(refused.into()),
         };
         let ticket = self.hub.add_ticket()?;
-        self.hub
-            .admit_with(name_of(letter)?, on_full, desk, ticket, &mut self.due)?;
+        self.hub.admit_with(
+            name_of(letter)?,
+            on_full,
+            desk,
+            ticket,
+            USUAL_LIVE,
+            &mut self.due,
+        )?;
         Ok(true)
     }
 

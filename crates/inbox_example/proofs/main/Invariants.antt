@@ -2,4 +2,4 @@
 use Rattle.inbox_example.proofs.main.Given as goal
 
 abbrev pub ghosts-run : goal.ghosts-run
-ghosts-run g a = record { publications = a.blanks.publications.name; drops = a.blanks.drops.name }
+ghosts-run g a = record { publications = a.blanks.publications.name; drops = a.blanks.drops.name; history = a.blanks.history }

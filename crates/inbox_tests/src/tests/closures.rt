@@ -19,7 +19,7 @@ fn end_of<
     B: Listener + Send + 'static,
     R: Threads + Wait + Copy + Send + Sync + 'static,
 >(rt: R, alloc: Global, blanks: BlankPair, listener: B) -> Result<Option<How>, Fail>
-    requires blanks { AreBlanksOf blanks L.publications L.drops }
+    requires blanks { AreBlanksOf blanks L.publications L.drops L.history }
     requires untold { B.told listener ≡ [] }
     requires unheard { B.replied listener ≡ [] }
 {
@@ -60,7 +60,7 @@ fn a_closure_is_called_with_each_item(rt: HostRuntime) -> Result<(), Fail> {
         }
     })?;
     let listener = Watching::new(WatchEach::new(look));
-    let blanks = BlankPair::new();
+    let blanks = BlankPair::new(rt.alloc())?;
     let ending = end_of::<Brand, _, _>(rt, alloc, blanks, listener)?;
     assert!(rt; ending == Some(How::Cancelled), "{ending:?}");
     assert!(rt; counted.load(SeqCst) == 6);

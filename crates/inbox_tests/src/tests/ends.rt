@@ -58,7 +58,7 @@ fn take_after_ends<
     L: Ledgers + Send + Sync + 'static,
     R: Threads + Wait + Copy + Send + Sync + 'static,
 >(rt: R, alloc: Global, blanks: BlankPair) -> Result<String, Fail>
-    requires blanks { AreBlanksOf blanks L.publications L.drops }
+    requires blanks { AreBlanksOf blanks L.publications L.drops L.history }
 {
     let mut stand: Stand<L, Watching<Inlet<R>>> = Stand::new(rt, alloc, blanks, 1, 4)?;
     let told = two_after_ends(&rt, &mut stand);
@@ -89,7 +89,7 @@ fn two_after_ends<L: Ledgers + Send + Sync + 'static, R: Wait + Copy + Send + 's
 
 #[test]
 fn an_inbox_is_told_of_an_error_and_of_its_cancel(rt: HostRuntime) -> Result<(), Fail> {
-    let blanks = BlankPair::new();
+    let blanks = BlankPair::new(rt.alloc())?;
     let told = take_after_ends::<Brand, _>(rt, rt.alloc(), blanks)?;
     let wanted = "true false Some(Cancelled); \
         None false Some(Errored(Published(7))) Some(Published(7))";
@@ -136,7 +136,7 @@ fn take_beside<
     L: Ledgers + Send + Sync + 'static,
     R: Threads + Wait + Copy + Send + Sync + 'static,
 >(rt: R, alloc: Global, blanks: BlankPair, items: i64) -> Result<String, Fail>
-    requires blanks { AreBlanksOf blanks L.publications L.drops }
+    requires blanks { AreBlanksOf blanks L.publications L.drops L.history }
 {
     let mut stand: Stand<L, Watching<Inlet<R>>> = Stand::new(rt, alloc, blanks, 1, 8)?;
     let found = find_beside(&rt, &mut stand, items);
@@ -171,7 +171,7 @@ fn an_end_finds_its_place_though_all_are_taken(rt: HostRuntime) -> Result<(), Fa
         (3, "2 taken, Some(Failed(4)) true"),
         (5, "2 taken, Some(Failed(4)) true"),
     ] {
-        let blanks = BlankPair::new();
+        let blanks = BlankPair::new(rt.alloc())?;
         let told = take_beside::<Brand, _>(rt, rt.alloc(), blanks, items)?;
         assert!(rt; told.as_str() == wanted, "{items}: {told}");
     }

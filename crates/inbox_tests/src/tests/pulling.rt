@@ -51,7 +51,7 @@ fn take_while_sent<
     L: Ledgers + Send + Sync + 'static,
     R: Threads + Wait + Copy + Send + Sync + 'static,
 >(rt: R, alloc: Global, blanks: BlankPair, batch: u32) -> Result<String, Fail>
-    requires blanks { AreBlanksOf blanks L.publications L.drops }
+    requires blanks { AreBlanksOf blanks L.publications L.drops L.history }
 {
     let mut stand: Stand<L, Watching<Inlet<R>>> = Stand::new(rt, alloc, blanks, 2, 4)?;
     let told = take_beside_sender(&rt, &mut stand, batch);
@@ -104,7 +104,7 @@ fn a_thread_takes_each_item_in_its_order(rt: HostRuntime) -> Result<(), Fail> {
         (3, "200 taken, 3 ahead, Some(Completed)"),
         (64, "200 taken, 56 ahead, Some(Completed)"),
     ] {
-        let blanks = BlankPair::new();
+        let blanks = BlankPair::new(rt.alloc())?;
         let told = take_while_sent::<Brand, _>(rt, rt.alloc(), blanks, batch)?;
         assert!(rt; told.as_str() == wanted, "{told}");
     }

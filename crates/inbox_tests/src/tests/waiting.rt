@@ -92,7 +92,7 @@ fn take_together<
     L: Ledgers + Send + Sync + 'static,
     R: Threads + Wait + Copy + Send + Sync + 'static,
 >(rt: R, alloc: Global, blanks: BlankPair) -> Result<String, Fail>
-    requires blanks { AreBlanksOf blanks L.publications L.drops }
+    requires blanks { AreBlanksOf blanks L.publications L.drops L.history }
 {
     let mut stand: Stand<L, Watching<Inlet<R>>> = Stand::new(rt, alloc, blanks, 1, 4)?;
     let told = take_in_turns(&rt, &mut stand);
@@ -152,7 +152,7 @@ fn give_back<L: Ledgers + Send + Sync + 'static, R: Wait + Copy + Send + 'static
 
 #[test]
 fn each_of_several_threads_takes_all(rt: HostRuntime) -> Result<(), Fail> {
-    let blanks = BlankPair::new();
+    let blanks = BlankPair::new(rt.alloc())?;
     let told = take_together::<Brand, _>(rt, rt.alloc(), blanks)?;
     let wanted = "50 Some(Completed);50 Some(Completed);50 Some(Completed);";
     assert!(rt; told.as_str() == wanted, "{told}");

@@ -19,7 +19,7 @@ use Rattle.lines_demo.specs.Script.Obeying.{closing_result, state_after_closing,
 use Rattle.lines_demo.specs.Script.Playing.{Replies}
 use Rattle.lines_demo.specs.Script.Session.{IsScriptEntry, IsScriptHub, IsSession, numbers_of, state_of, subscription_of}
 use Rattle.lines_demo.specs.Script.State.{SessionState, SubscriptionState}
-use Rattle.lines_demo.specs.Script.Subscribing.{MOST_LIVE}
+use Rattle.lines_demo.specs.Script.Subscribing.{USUAL_LIVE}
 use Rattle.lines_demo.specs.Script.Waking.{is_live, newly_woken}
 use Rattle.lines_demo.specs.declared.script.session.Session.TheInside.{Inside}
 use Rattle.lines_demo.proofs.Sessions.Answered.{IsAnswered, answered}
@@ -180,5 +180,5 @@ module _ {B : Type 0} (session : Inside B) (new : Hub DeskState) (ending : Endin
       (λ refusals. closing_reached ending state refusals is.reached)
 
   -- and there is room for whom it wakes
-  pub closed_room : session.beginning.is_over ≡ true → length session.woken + length due ≤ MOST_LIVE
+  pub closed_room : session.beginning.is_over ≡ true → length session.woken + length due ≤ USUAL_LIVE
   closed_room begun = room_for new_state session.woken due (closed begun).session.reached refl

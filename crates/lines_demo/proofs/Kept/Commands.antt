@@ -10,7 +10,7 @@ use Rattle.lines_demo.specs.Prelude.{Item, Ending, ErrorOrder, AfterItems, Refus
 use Rattle.commands.specs.Word.{is_word}
 use Rattle.lines_demo.specs.Script.State.{SubscriptionState, SessionState, CommandResult, refused_result, unchanged_result, result_unless_no_memory}
 use Rattle.lines_demo.specs.Script.Waking.{is_live, owes_turn, with_subscriptions}
-use Rattle.lines_demo.specs.Script.Subscribing.{MOST_LIVE, new_subscription, is_live_as, is_subscribed, subscription_after_duplicate, subscribing_refusal, subscribing_unless, duplicate_result, sub_result}
+use Rattle.lines_demo.specs.Script.Subscribing.{USUAL_LIVE, new_subscription, is_live_as, is_subscribed, subscription_after_duplicate, subscribing_refusal, subscribing_unless, duplicate_result, sub_result}
 use Rattle.lines_demo.specs.Script.Publishing.{next_item, subscription_after_offer, state_after_publication, publication_refusal, refusal_or_wait, submit_refusal, publication_unless, publication_result, is_full, offered_reply, retried_reply, submitted_reply}
 use Rattle.lines_demo.specs.Script.Obeying.{cap_result, late_state, late_result, begun_state, desk_after_act, is_known, subscriptions_after_act, act_result, subscription_after_closing, state_after_closing, closing_result, command_result}
 use Rattle.lines_demo.specs.Script.Kept.{IsKept, IsLawful, IsReachable}
@@ -29,7 +29,7 @@ use Rattle.lines_demo.proofs.Woken.Lists.{wakes_with, owes_map, owes_append}
 -- a call that keeps each subscription and forgets nobody's turn
 lawful_with : (texts : ℕ → List ℕ) (state : SessionState) (now : List SubscriptionState) → (state.beginning.is_over ≡ false → now ≡ [])
     → WakesWhoOwes state → All (IsKept texts state.serial state.beginning.order state.closing) now
-    → ((number : ℕ) → owes_turn state.subscriptions number ≡ true → owes_turn now number ≡ true) → count_by is_live now ≤ MOST_LIVE → ((name : List ℕ) → count_by (is_live_as name) now ≤ 1) → IsLawful texts (with_subscriptions now state)
+    → ((number : ℕ) → owes_turn state.subscriptions number ≡ true → owes_turn now number ≡ true) → count_by is_live now ≤ USUAL_LIVE → ((name : List ℕ) → count_by (is_live_as name) now ≤ 1) → IsLawful texts (with_subscriptions now state)
 lawful_with texts state now none woken kept owed few names = record { subscriptions = kept; none_yet = none; woken = wakes_with state now woken owed; few = few; names = names }
 
 -- a test keeps it if both of its answers do
@@ -84,7 +84,7 @@ acts_owe name act (s ∷ later) k owed = by (is_known name later) (is_word s.nam
 
 subscribing_reached : (state : SessionState) (refusals : List Bool) (name : List ℕ) (number : ℕ) (why : Option Refusal)
     → state.beginning.is_over ≡ true → is_subscribed name state.subscriptions ≡ false
-    → (why ≡ None → count_by is_live state.subscriptions < MOST_LIVE)
+    → (why ≡ None → count_by is_live state.subscriptions < USUAL_LIVE)
     → IsReachable state → IsReachable (subscribing_unless why state refusals name number).state
 subscribing_reached state refusals name number (Some refusal) begun free room is = is
 subscribing_reached state refusals name number None begun free room is =
@@ -106,7 +106,7 @@ duplicate_reached state refusals name is =
           (All-map (IsKept texts state.serial state.beginning.order state.closing) change state.subscriptions
           (All-weaker (IsKept texts state.serial state.beginning.order state.closing) (λ s. IsKept texts state.serial state.beginning.order state.closing (change s)) (one texts) state.subscriptions lawful.subscriptions))
           (owes_map change (duplicate_owes name) state.subscriptions)
-          (subst (λ n. n ≤ MOST_LIVE) (sym (live_map change (duplicate_live name) state.subscriptions)) lawful.few)
+          (subst (λ n. n ≤ USUAL_LIVE) (sym (live_map change (duplicate_live name) state.subscriptions)) lawful.few)
           (one_map change state.subscriptions (λ other s. duplicate_named other name s) lawful.names),
     ) where
       one : (texts : ℕ → List ℕ) (s : SubscriptionState) → IsKept texts state.serial state.beginning.order state.closing s
@@ -143,7 +143,7 @@ published_reached state text unclosed is =
       lawful_with more (record state { serial = state.serial + 1 }) (map change state.subscriptions) (λ unread. ap (map change) (lawful.none_yet unread)) lawful.woken
           (subst (λ closing. All (IsKept more (state.serial + 1) state.beginning.order closing) (map change state.subscriptions)) (sym unclosed) kept)
           (owes_map change (offer_owes (next_item state text)) state.subscriptions)
-          (subst (λ n. n ≤ MOST_LIVE) (sym (live_map change (offer_live (next_item state text)) state.subscriptions)) lawful.few)
+          (subst (λ n. n ≤ USUAL_LIVE) (sym (live_map change (offer_live (next_item state text)) state.subscriptions)) lawful.few)
           (one_map change state.subscriptions (λ name s. offer_named name (next_item state text) s) lawful.names),
     )
 
@@ -201,7 +201,7 @@ act_reached state refusals name act is =
       lawful_with texts state (subscriptions_after_act name act state.subscriptions) (λ unread. ap (subscriptions_after_act name act) (lawful.none_yet unread)) lawful.woken
           (acts_kept texts state.serial state.beginning.order state.closing name act state.subscriptions lawful.subscriptions)
           (acts_owe name act state.subscriptions)
-          (subst (λ n. n ≤ MOST_LIVE) (sym (acts_live name act state.subscriptions)) lawful.few)
+          (subst (λ n. n ≤ USUAL_LIVE) (sym (acts_live name act state.subscriptions)) lawful.few)
           (one_act name act state.subscriptions lawful.names),
     )
     is
@@ -225,7 +225,7 @@ closing_reached ending state refusals is = by state.closing refl where
             (All-map (IsKept is.0 state.serial state.beginning.order (Some ending)) change state.subscriptions
             (All-weaker (IsKept is.0 state.serial state.beginning.order None) (λ s. IsKept is.0 state.serial state.beginning.order (Some ending) (change s)) (kept_closing is.0 state.serial state.beginning.order ending) state.subscriptions (open_kept e)))
             (owes_map change (closing_owes ending) state.subscriptions)
-            (subst (λ n. n ≤ MOST_LIVE) (sym (live_map change (closing_live ending) state.subscriptions)) is.1.few)
+            (subst (λ n. n ≤ USUAL_LIVE) (sym (live_map change (closing_live ending) state.subscriptions)) is.1.few)
             (one_map change state.subscriptions (λ name s. closing_named name ending s) is.1.names),
       ))
 

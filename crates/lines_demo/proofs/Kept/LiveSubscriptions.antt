@@ -9,7 +9,7 @@ use Rattle.lines_demo.specs.Prelude.{Item, Ending, Refusal, is_gone, lag_of}
 use Rattle.commands.specs.Word.{is_word}
 use Rattle.lines_demo.specs.Script.State.{SubscriptionState, SessionState}
 use Rattle.lines_demo.specs.Script.Waking.{is_live}
-use Rattle.lines_demo.specs.Script.Subscribing.{MOST_LIVE, MOST_ENTRIES, is_live_as, subscription_after_duplicate, subscribing_refusal}
+use Rattle.lines_demo.specs.Script.Subscribing.{USUAL_LIVE, MOST_ENTRIES, is_live_as, subscription_after_duplicate, subscribing_refusal}
 use Rattle.lines_demo.specs.Script.Publishing.{subscription_after_offer}
 use Rattle.lines_demo.specs.Script.Obeying.{desk_after_act, is_known, subscriptions_after_act, subscription_after_closing}
 use Rattle.lines_demo.specs.Script.Laws.{FewAreLive}
@@ -75,19 +75,19 @@ acts_live name act (s ∷ later) = by (is_known name later) (is_word s.name name
   by false false same = refl
 
 -- fewer are live than may be if nobody is refused for that
-pub room_for_one : (state : SessionState) → subscribing_refusal state ≡ None → count_by is_live state.subscriptions < MOST_LIVE
-room_for_one state allowed = by (nat_le MOST_LIVE (count_by is_live state.subscriptions)) refl allowed where
-  by : (full : Bool) → nat_le MOST_LIVE (count_by is_live state.subscriptions) ≡ full
+pub room_for_one : (state : SessionState) → subscribing_refusal state ≡ None → count_by is_live state.subscriptions < USUAL_LIVE
+room_for_one state allowed = by (nat_le USUAL_LIVE (count_by is_live state.subscriptions)) refl allowed where
+  by : (full : Bool) → nat_le USUAL_LIVE (count_by is_live state.subscriptions) ≡ full
       → (if full then Some Refusal.TooMany
       else (if nat_le MOST_ENTRIES (length state.subscriptions) then Some Refusal.Exhausted
       else (if state.stock == 0 then Some Refusal.TooMany else None))) ≡ None
-      → count_by is_live state.subscriptions < MOST_LIVE
+      → count_by is_live state.subscriptions < USUAL_LIVE
   by true e allowed = cc
   by false e allowed = grind (arith, nat_tests)
 
 -- then one more is as many as may be at most
-pub live_push : (subscriptions : List SubscriptionState) (new : SubscriptionState) → count_by is_live subscriptions < MOST_LIVE
-    → count_by is_live (subscriptions ++ new ∷ []) ≤ MOST_LIVE
+pub live_push : (subscriptions : List SubscriptionState) (new : SubscriptionState) → count_by is_live subscriptions < USUAL_LIVE
+    → count_by is_live (subscriptions ++ new ∷ []) ≤ USUAL_LIVE
 live_push subscriptions new few =
     let most : bit (is_live new) ≤ 1 = at_most_one (is_live new) in
     let both : count_by is_live (subscriptions ++ new ∷ []) ≡ count_by is_live subscriptions + count_by is_live (new ∷ []) =
@@ -98,7 +98,7 @@ live_push subscriptions new few =
 -- no more are live after a turn of a live one
 pub live_after_turn : (state : SessionState) (number : ℕ) (s after : SubscriptionState) → number < length state.subscriptions
     → get_or state.subscriptions number s ≡ s → s.desk.lane.how ≡ None
-    → FewAreLive state → count_by is_live (set state.subscriptions number after) ≤ MOST_LIVE
+    → FewAreLive state → count_by is_live (set state.subscriptions number after) ≤ USUAL_LIVE
 live_after_turn state number s after within here live few =
     let one : SubscriptionState → ℕ = λ t. bit (is_live t) in
     let sums : count_by is_live (set state.subscriptions number after) + bit (is_live s) ≡ count_by is_live state.subscriptions + bit (is_live after) =

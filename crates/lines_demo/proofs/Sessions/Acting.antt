@@ -11,7 +11,7 @@ use Rattle.lines_demo.specs.Script.Obeying.{act_result, desk_after_act, subscrip
 use Rattle.lines_demo.specs.Script.Playing.{IsLatest, Replies}
 use Rattle.lines_demo.specs.Script.Session.{IsScriptHub, IsSession, state_of, subscription_of}
 use Rattle.lines_demo.specs.Script.State.{SessionState, SubscriptionState}
-use Rattle.lines_demo.specs.Script.Subscribing.{MOST_LIVE}
+use Rattle.lines_demo.specs.Script.Subscribing.{USUAL_LIVE}
 use Rattle.lines_demo.specs.Script.Waking.{newly_woken, with_subscriptions}
 use Rattle.commands.specs.declared.reply.Reply.TheVariants.{Done}
 use Rattle.lines_demo.specs.declared.script.session.acting.Act.{Act}
@@ -94,7 +94,7 @@ module _ {B : Type 0} (session : Inside B) (new : Hub DeskState) (name : List �
       (λ refusals. act_reached state refusals name act is.reached)
 
   -- and there is room for it to be woken
-  pub acted_room : is_started ≡ true → length session.woken < MOST_LIVE
+  pub acted_room : is_started ≡ true → length session.woken < USUAL_LIVE
   acted_room some =
       let one : Work Unit = record { entry = k; task = tt } in
       let room = room_for new_state session.woken (one ∷ []) acted.session.reached (ap (λ b. woken_with session.woken k b) (sym some)) in

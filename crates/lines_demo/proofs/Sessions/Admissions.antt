@@ -1,5 +1,5 @@
 -- What a script sees if a subscription is added to its publisher, and when none may be.
-use Rattle.std.proofs.Common.{rules, ◌≡◌, ◌==◌, ◌⊎◌, inl, inr, ℕ, zero, suc, pos, ◌-◌, ◌<◌, true, false, nat_le, Option, None, Some, List, [], ◌∷◌, ◌++◌, length, map, refl, sym, ap, subst, ◌∙◌, arith}
+use Rattle.std.proofs.Common.{rules, ◌≡◌, ◌==◌, ◌⊎◌, inl, inr, ℕ, zero, suc, pos, ◌-◌, ◌<◌, ◌≤◌, true, false, nat_le, Option, None, Some, List, [], ◌∷◌, ◌++◌, length, map, refl, sym, ap, subst, ◌∙◌, arith}
 use Rattle.std.specs.Prelude.{slice_get, count_by, IsSome, ◌↔◌}
 use Rattle.std.proofs.lemmas.Bool.Decides.{nat_tests}
 use Rattle.std.proofs.lemmas.List.{length-map, map-append}
@@ -17,7 +17,7 @@ use Rattle.publisher_hub.proofs.AnswerLists.Updates.{get_grown}
 use Rattle.lines_demo.specs.Prelude.{DeskState, Ending, ErrorOrder, Refusal, owes, desk_after_demand, desk_after_request, desk_without_looks}
 use Rattle.lines_demo.specs.Script.Session.{AreScriptEntries, IsScriptEntry, IsScriptHub, state_of, subscription_of}
 use Rattle.lines_demo.specs.Script.State.{SessionState}
-use Rattle.lines_demo.specs.Script.Subscribing.{MOST_LIVE, MOST_ENTRIES, desk_at_start, desk_at_subscribing, new_subscription, state_after_subscribing, subscribing_refusal}
+use Rattle.lines_demo.specs.Script.Subscribing.{USUAL_LIVE, MOST_ENTRIES, desk_at_start, desk_at_subscribing, new_subscription, state_after_subscribing, subscribing_refusal}
 use Rattle.lines_demo.specs.Script.Waking.{is_live, newly_woken}
 use Rattle.lines_demo.proofs.Sessions.SeenPublishers.{CameAsFar, script_publisher, seen_same}
 use Rattle.lines_demo.proofs.Sessions.States.{state_of_is}
@@ -27,34 +27,34 @@ use Rattle.lines_demo.specs.declared.script.session.beginning.Beginning.{Beginni
 -- ---- who may subscribe
 
 -- as many are live as may be
-pub refused_full : (state : SessionState) → count_by is_live state.subscriptions ≡ MOST_LIVE
+pub refused_full : (state : SessionState) → USUAL_LIVE ≤ count_by is_live state.subscriptions
     → subscribing_refusal state ≡ Some Refusal.TooMany
 refused_full state full =
-    let test : nat_le MOST_LIVE (count_by is_live state.subscriptions) ≡ true = grind (arith, nat_tests) in
+    let test : nat_le USUAL_LIVE (count_by is_live state.subscriptions) ≡ true = grind (arith, nat_tests) in
     rw test refl
 
 -- as many were made as may be
-pub refused_exhausted : (state : SessionState) → count_by is_live state.subscriptions < MOST_LIVE
+pub refused_exhausted : (state : SessionState) → count_by is_live state.subscriptions < USUAL_LIVE
     → length state.subscriptions ≡ MOST_ENTRIES → subscribing_refusal state ≡ Some Refusal.Exhausted
 refused_exhausted state few many =
-    let test : nat_le MOST_LIVE (count_by is_live state.subscriptions) ≡ false = grind (arith, nat_tests) in
+    let test : nat_le USUAL_LIVE (count_by is_live state.subscriptions) ≡ false = grind (arith, nat_tests) in
     let made : nat_le MOST_ENTRIES (length state.subscriptions) ≡ true = grind (arith, nat_tests) in
     rw (test, made) refl
 
 -- no subscriber is left
-pub refused_stock : (state : SessionState) → count_by is_live state.subscriptions < MOST_LIVE → length state.subscriptions < MOST_ENTRIES
+pub refused_stock : (state : SessionState) → count_by is_live state.subscriptions < USUAL_LIVE → length state.subscriptions < MOST_ENTRIES
     → state.stock ≡ 0 → subscribing_refusal state ≡ Some Refusal.TooMany
 refused_stock state few made none =
-    let test : nat_le MOST_LIVE (count_by is_live state.subscriptions) ≡ false = grind (arith, nat_tests) in
+    let test : nat_le USUAL_LIVE (count_by is_live state.subscriptions) ≡ false = grind (arith, nat_tests) in
     let room : nat_le MOST_ENTRIES (length state.subscriptions) ≡ false = grind (arith, nat_tests) in
     let empty : (state.stock == 0) ≡ true = grind (arith, nat_tests) in
     rw (test, room, empty) refl
 
 -- the next one may subscribe
-pub may_subscribe : (state : SessionState) → count_by is_live state.subscriptions < MOST_LIVE → length state.subscriptions < MOST_ENTRIES
+pub may_subscribe : (state : SessionState) → count_by is_live state.subscriptions < USUAL_LIVE → length state.subscriptions < MOST_ENTRIES
     → 0 < state.stock → subscribing_refusal state ≡ None
 may_subscribe state few made some =
-    let test : nat_le MOST_LIVE (count_by is_live state.subscriptions) ≡ false = grind (arith, nat_tests) in
+    let test : nat_le USUAL_LIVE (count_by is_live state.subscriptions) ≡ false = grind (arith, nat_tests) in
     let room : nat_le MOST_ENTRIES (length state.subscriptions) ≡ false = grind (arith, nat_tests) in
     let left : (state.stock == 0) ≡ false = grind (arith, nat_tests) in
     rw (test, room, left) refl
@@ -93,7 +93,7 @@ new_desk (Some ending) order capacity number feed after start is closes =
           cc
 
 module _ (old new : Hub DeskState) (beginning : Beginning) (name : List ℕ) (number entry : ℕ) (feed : DeskState) (due : List (Work Unit)) (is : IsScriptHub old) (requested : feed ≡ desk_after_demand number (desk_at_start beginning.order old.capacity))
-    (admits : Admits end_of DoesCall name feed None entry [] due old new) where
+    (admits : Admits end_of DoesCall name feed None USUAL_LIVE entry [] due old new) where
   -- a script sees the same of the others
   seen_entries : map subscription_of admits.middle.entries.items ≡ map subscription_of old.entries.items
   seen_entries = (seen_same old admits.middle is admits.seen).same

@@ -15,7 +15,7 @@ use Rattle.lines_demo.specs.Script.Publishing.{next_item, state_after_publicatio
 use Rattle.lines_demo.specs.Script.Session.{IsSession, numbers_of, state_of, subscription_of}
 use Rattle.lines_demo.specs.Script.State.{SubscriptionState, SessionState}
 use Rattle.commands.specs.declared.reply.Reply.TheVariants.{Refused, Submitted}
-use Rattle.lines_demo.specs.Script.Subscribing.{MOST_LIVE}
+use Rattle.lines_demo.specs.Script.Subscribing.{USUAL_LIVE}
 use Rattle.lines_demo.proofs.HubCalls.Offers.{HubOffered, HubPublished, OfferRefused}
 use Rattle.lines_demo.proofs.HubCalls.Submits.{HubSubmitted, SubmitRefused, greatest_lag_few}
 use Rattle.lines_demo.proofs.Kept.Commands.{published_reached, unclosed_if}
@@ -36,7 +36,7 @@ module _ (old new : Hub DeskState) (stock : ℕ) (woken : List ℕ) (beginning :
         session_at new stock (woken ++ numbers_of due) beginning (state_after_publication text (state_of old stock woken beginning)) published.script (published.after stock woken beginning) published_is_reached begun
 
     -- whom it wakes has room among the woken
-    pub published_room : length woken + length due ≤ MOST_LIVE
+    pub published_room : length woken + length due ≤ USUAL_LIVE
     published_room =
         room_for (state_after_publication text (state_of old stock woken beginning)) woken due published_is_reached (ap (λ (s : SessionState). s.woken) (published.after stock woken beginning))
 

@@ -9,7 +9,7 @@ use Rattle.lines_demo.specs.Prelude.{DeskState}
 use Rattle.lines_demo.specs.Script.Session.{numbers_of, state_of, subscription_of}
 use Rattle.lines_demo.specs.Script.Kept.{IsReachable}
 use Rattle.lines_demo.specs.Script.State.{SessionState}
-use Rattle.lines_demo.specs.Script.Subscribing.{MOST_LIVE}
+use Rattle.lines_demo.specs.Script.Subscribing.{USUAL_LIVE}
 use Rattle.lines_demo.proofs.Woken.Few.{few_woken}
 use Rattle.lines_demo.proofs.Scripts.Laws.{reached_few, reached_wakes}
 use Rattle.lines_demo.specs.declared.script.session.beginning.Beginning.{Beginning}
@@ -46,7 +46,7 @@ no_value (Some x) none = cc
 
 -- whom a call starts has room among the woken
 pub room_for : (state : SessionState) (woken : List ℕ) (due : List (Work Unit)) → IsReachable state
-    → woken ++ numbers_of due ≡ state.woken → length woken + length due ≤ MOST_LIVE
+    → woken ++ numbers_of due ≡ state.woken → length woken + length due ≤ USUAL_LIVE
 room_for state woken due is same =
     let few = few_woken state (reached_wakes state is) in
     let live = reached_few state is in

@@ -15,7 +15,7 @@ use Rattle.lines_demo.specs.Script.Kept.{IsReachable}
 use Rattle.lines_demo.specs.Script.Playing.{Replies}
 use Rattle.lines_demo.specs.Script.Session.{IsScriptHub, IsSession, numbers_of, state_of, subscription_of}
 use Rattle.lines_demo.specs.Script.State.{SubscriptionState, SessionState}
-use Rattle.lines_demo.specs.Script.Subscribing.{MOST_LIVE, MOST_ENTRIES, desk_at_start, is_subscribed, state_after_subscribing, sub_result}
+use Rattle.lines_demo.specs.Script.Subscribing.{USUAL_LIVE, MOST_ENTRIES, desk_at_start, is_subscribed, state_after_subscribing, sub_result}
 use Rattle.lines_demo.specs.Script.Waking.{is_live}
 use Rattle.commands.specs.declared.reply.Reply.{Reply}
 use Rattle.commands.specs.declared.reply.Reply.TheVariants.{Name, Refused}
@@ -92,7 +92,7 @@ module _ (old : Hub DeskState) (stock : ℕ) (woken : List ℕ) (beginning : Beg
 
   -- whatever the refusal, it is answered, and leaves what the definition says
   pub refused : (new : Hub DeskState) (due : List (Work Unit)) (refusal : Refusal) → IsSound (hub_of end_of new)
-      → Refuses end_of DoesCall name refusal [] due old new
+      → Refuses end_of DoesCall name USUAL_LIVE refusal [] due old new
       → AnswersSub start name number (Refused refusal) new stock (woken ++ numbers_of due)
   refused new due Refusal.Duplicate sound (middle, (seen, tells)) =
       let replies = sub_duplicate start name number (told_subscribed old middle new name due is.publisher seen tells) in
@@ -104,11 +104,11 @@ module _ (old : Hub DeskState) (stock : ℕ) (woken : List ℕ) (beginning : Beg
   refused new due Refusal.NoMemory sound (inr finds, none) =
       unseen new due Refusal.NoMemory (seen_session new finds.seen sound) none (sub_no_memory start name number)
   refused new due Refusal.TooMany sound (finds, none) =
-      let full : count_by is_live start.subscriptions ≡ MOST_LIVE = sym (seen_count old new is.publisher finds.seen) ∙ finds.why in
+      let full : USUAL_LIVE ≤ count_by is_live start.subscriptions = subst (λ n. USUAL_LIVE ≤ n) (seen_count old new is.publisher finds.seen) finds.why in
       unseen new due Refusal.TooMany (seen_session new finds.seen sound) none
       (sub_against start name number Refusal.TooMany (seen_unnamed old new name is.publisher finds.seen finds.unnamed) (refused_full start full))
   refused new due Refusal.Exhausted sound (finds, none) =
-      let few : count_by is_live start.subscriptions < MOST_LIVE = subst (λ n. n < MOST_LIVE) (seen_count old new is.publisher finds.seen) finds.why.0 in
+      let few : count_by is_live start.subscriptions < USUAL_LIVE = subst (λ n. n < USUAL_LIVE) (seen_count old new is.publisher finds.seen) finds.why.0 in
       let made : length start.subscriptions ≡ MOST_ENTRIES = sym (seen_made new finds.seen) ∙ finds.why.1 in
       unseen new due Refusal.Exhausted (seen_session new finds.seen sound) none
       (sub_against start name number Refusal.Exhausted (seen_unnamed old new name is.publisher finds.seen finds.unnamed) (refused_exhausted start few made))
@@ -124,21 +124,21 @@ module _ (old : Hub DeskState) (stock : ℕ) (woken : List ℕ) (beginning : Beg
 
   -- ---- the publisher allows it
 
-  module _ (new : Hub DeskState) (due : Vec (Work Unit) Global) (seen : IsPrepared end_of DoesCall old new) (can : CanAdmit end_of name new due) (sound : IsSound (hub_of end_of new)) where
+  module _ (new : Hub DeskState) (due : Vec (Work Unit) Global) (seen : IsPrepared end_of DoesCall old new) (can : CanAdmit end_of name USUAL_LIVE new due) (sound : IsSound (hub_of end_of new)) where
     -- nobody live has the name
     free : is_subscribed name start.subscriptions ≡ false
     free = seen_unnamed old new name is.publisher seen can.unnamed
 
     -- fewer are live than may be
-    few : count_by is_live start.subscriptions < MOST_LIVE
-    few = subst (λ n. n < MOST_LIVE) (seen_count old new is.publisher seen) can.place.few_live
+    few : count_by is_live start.subscriptions < USUAL_LIVE
+    few = subst (λ n. n < USUAL_LIVE) (seen_count old new is.publisher seen) can.place.few_live
 
     -- fewer were made than may be
     made : length start.subscriptions < MOST_ENTRIES
     made = subst (λ n. n < MOST_ENTRIES) (seen_made new seen) can.place.few_entries
 
     -- fewer are woken than may be live
-    pub few_are_woken : length woken < MOST_LIVE
+    pub few_are_woken : length woken < USUAL_LIVE
     few_are_woken = let woken_few = few_woken start is.reached.1.woken in let live_few = few in omega (arith, woken_few, live_few)
 
     -- nobody is left who could subscribe
@@ -158,7 +158,7 @@ module _ (old : Hub DeskState) (stock : ℕ) (woken : List ℕ) (beginning : Beg
     -- the next one subscribes
     pub admitted : (after : Hub DeskState) (entry : ℕ) (feed : DeskState) (started : List (Work Unit)) → 0 < stock
         → feed ≡ desk_after_demand number (desk_at_start beginning.order new.capacity)
-        → Admits end_of DoesCall name feed None entry [] started new after → IsSound (hub_of end_of after)
+        → Admits end_of DoesCall name feed None USUAL_LIVE entry [] started new after → IsSound (hub_of end_of after)
         → AnswersSub start name number (Name name) after (stock - 1) (woken ++ entry ∷ [])
     admitted after entry feed started some requested admits sound_after =
         let publisher = (seen_session new seen sound).session.publisher in
@@ -172,11 +172,11 @@ module _ (old : Hub DeskState) (stock : ℕ) (woken : List ℕ) (beginning : Beg
     -- nothing is due then
     pub admitted_starts_nothing : (after : Hub DeskState) (entry : ℕ) (feed : DeskState) (started : List (Work Unit))
         → feed ≡ desk_after_demand number (desk_at_start beginning.order new.capacity)
-        → Admits end_of DoesCall name feed None entry [] started new after → started ≡ []
+        → Admits end_of DoesCall name feed None USUAL_LIVE entry [] started new after → started ≡ []
     admitted_starts_nothing after entry feed started requested admits = admitted_due new after beginning name number entry feed started (seen_session new seen sound).session.publisher requested admits
 
 -- there is room for all whom it woke
 pub room_after : (old : SessionState) (name : List ℕ) (number : ℕ) (reply : Reply) (hub : Hub DeskState) (stock : ℕ) (woken : List ℕ) (due : List (Work Unit)) → AnswersSub old name number reply hub stock (woken ++ numbers_of due)
-    → length woken + length due ≤ MOST_LIVE
+    → length woken + length due ≤ USUAL_LIVE
 room_after old name number reply hub stock woken due answer =
     room_for (state_of hub stock (woken ++ numbers_of due) old.beginning) woken due answer.session.reached refl

@@ -8,7 +8,7 @@ use Rattle.lines_demo.specs.Script.Kept.{IsLawful, IsReachable}
 use Rattle.lines_demo.specs.Script.Laws.{places_of}
 use Rattle.lines_demo.specs.Script.Playing.{MakesTurn}
 use Rattle.lines_demo.specs.Script.State.{SubscriptionState, SessionState, LineResult}
-use Rattle.lines_demo.specs.Script.Subscribing.{MOST_LIVE}
+use Rattle.lines_demo.specs.Script.Subscribing.{USUAL_LIVE}
 use Rattle.lines_demo.specs.Script.Waking.{is_live, has_woken, owes_turn}
 use Rattle.lines_demo.proofs.Woken.Few.{few_woken, owes_within}
 use Rattle.lines_demo.proofs.Kept.Turns.{first_turn_lawful, woken_owes}
@@ -41,10 +41,10 @@ first_stands state number rest s is woken here = slice_get-get_or state.subscrip
 
 -- there is room for it to be woken again
 pub room_again : (state : SessionState) (number : ℕ) (rest : List ℕ) → IsReachable state → state.woken ≡ number ∷ rest
-    → length rest < MOST_LIVE
+    → length rest < USUAL_LIVE
 room_again state number rest is woken =
     let few = few_woken state is.1.woken in
-    let live : count_by is_live state.subscriptions ≤ MOST_LIVE = is.1.few in
+    let live : count_by is_live state.subscriptions ≤ USUAL_LIVE = is.1.few in
     let long : length state.woken ≡ length (number ∷ rest) = ap length woken in
     omega (arith, long)
 

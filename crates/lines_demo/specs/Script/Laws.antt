@@ -3,7 +3,7 @@ use Rattle.std.specs.Prelude.{◌≡◌, ℕ, ◌+◌, ◌<◌, ◌≤◌, ◌==
 use Rattle.lines_demo.specs.Prelude.{AfterItems, Item, How, Published, LaneState, IsFlow, IsSettled, items_of}
 use Rattle.lines_demo.specs.Script.Answering.{script_result}
 use Rattle.lines_demo.specs.Script.State.{SubscriptionState, SessionState}
-use Rattle.lines_demo.specs.Script.Subscribing.{MOST_LIVE, is_live_as}
+use Rattle.lines_demo.specs.Script.Subscribing.{USUAL_LIVE, is_live_as}
 use Rattle.lines_demo.specs.Script.Waking.{is_live, owes_turn}
 
 -- where a script stands at its end
@@ -48,7 +48,7 @@ WakesWhoOwes state = (number : ℕ)
 
 -- at most as many subscriptions are live as may be
 abbrev pub FewAreLive : SessionState → Type 0
-FewAreLive state = count_by is_live state.subscriptions ≤ MOST_LIVE
+FewAreLive state = count_by is_live state.subscriptions ≤ USUAL_LIVE
 
 -- at most one live subscription has a name
 abbrev pub OneLiveOfName : SessionState → Type 0

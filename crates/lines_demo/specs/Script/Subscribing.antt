@@ -8,7 +8,7 @@ use Rattle.commands.specs.Word.{is_word}
 use Rattle.lines_demo.specs.Script.State.{SubscriptionState, SessionState, CommandResult, refused_result, result_unless_no_memory}
 use Rattle.lines_demo.specs.Script.Waking.{is_live, with_subscriptions}
 use Rattle.commands.specs.declared.reply.Reply.TheVariants.{Name, Refused}
-pub use Rattle.publisher_hub.specs.declared.hub.TheConstants.{MOST_ENTRIES, MOST_LIVE}
+pub use Rattle.publisher_hub.specs.declared.hub.TheConstants.{MOST_ENTRIES, USUAL_LIVE}
 
 -- what the publisher has of a new subscription, which is told a closing error in this order: its first turn is owed,
 -- and its subscriber is steady
@@ -70,7 +70,7 @@ state_after_duplicate name state =
 -- left
 abbrev pub subscribing_refusal : SessionState → Option Refusal
 subscribing_refusal state =
-    if nat_le MOST_LIVE (count_by is_live state.subscriptions) then Some Refusal.TooMany
+    if nat_le USUAL_LIVE (count_by is_live state.subscriptions) then Some Refusal.TooMany
     else (if nat_le MOST_ENTRIES (length state.subscriptions) then Some Refusal.Exhausted
     else (if state.stock == 0 then Some Refusal.TooMany else None))
 

@@ -4,7 +4,7 @@ use Rattle.std.specs.List.{before_first, after_first, list_any}
 use Rattle.clap.specs.Matches.{first_value, found_of, matched_of, raw_values}
 use Rattle.clap.specs.declared.parser.matches.ArgMatches.{ArgMatches}
 use Rattle.async_pool.specs.declared.crew.TheConstants.{MOST_WORKERS}
-use Rattle.publisher_hub.specs.declared.hub.TheConstants.{MOST_LIVE}
+use Rattle.publisher_hub.specs.declared.hub.TheConstants.{USUAL_LIVE}
 use Rattle.commands.specs.Number.{spelled_code, spelled_digits, spelled_number}
 use Rattle.lines_demo.specs.Prelude.{Refusal}
 use Rattle.commands.specs.Word.{is_word, spelled_name}
@@ -96,7 +96,7 @@ checked_plan workers capacity subscribers fail =
     if is_worker_count workers then
     (if capacity == 0 then Err Refusal.BadCapacity
     else (if has_twice subscribers then Err Refusal.Duplicate
-    else (if nat_lt MOST_LIVE (length subscribers) then Err Refusal.TooMany
+    else (if nat_lt USUAL_LIVE (length subscribers) then Err Refusal.TooMany
     else (if is_unknown fail subscribers then Err Refusal.Unknown
     else Ok (record {
       workers = workers;

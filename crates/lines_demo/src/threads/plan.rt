@@ -8,7 +8,7 @@ use async_pool::MOST_WORKERS;
 use clap::ArgMatches;
 use commands::{parse_code, parse_digits, parse_number, split_at_byte};
 use flow_rules::{Name, Refusal, capacity};
-use publisher_hub::MOST_LIVE;
+use publisher_hub::USUAL_LIVE;
 use std::alloc::Global;
 use std::marker::Model;
 
@@ -142,7 +142,7 @@ impl Plan {
         if stands_twice(&subscribers) {
             return Err(Refusal::Duplicate);
         }
-        if subscribers.len() > MOST_LIVE {
+        if subscribers.len() > USUAL_LIVE {
             return Err(Refusal::TooMany);
         }
         if is_unknown(&fail, &subscribers) {

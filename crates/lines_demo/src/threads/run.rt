@@ -1,7 +1,8 @@
 //! A run: a publisher, its subscribers, and the sources of its lines.
-ghost use Rattle.std.specs.Prelude.{◌≡◌, ◌⊎◌, [], All, IfOk, IfErr, IfSome};
+ghost use Rattle.std.specs.Prelude.{◌≡◌, ◌⊎◌, [], All, IfOk, IfErr, IfSome, List};
 ghost use Rattle.lines_demo.specs.Threads.Input.{input_of};
 ghost use Rattle.lines_demo.specs.Threads.Run.{StopsFor};
+ghost use Rattle.publisher.specs.Handles.{SubmitterState};
 ghost use Rattle.publisher.specs.Outcome.{IsOutcome, outcome_of};
 ghost use Rattle.publisher.specs.Blanks.{AreBlanksOf};
 
@@ -11,7 +12,7 @@ use super::plan::{NamedDemand, Plan};
 use super::report::write_report;
 use super::sending::send_lines;
 use crate::reader::read_whole;
-use flow_rules::{ErrorOrder, FailHandler, Refusal, Shown, Subscriber};
+use flow_rules::{FailHandler, NoMemory, Refusal, Shown, Subscriber};
 use publisher::{
     BlankPair, Ledgers, Outcome, Publisher, PublisherOptions, Refused, Submitter, Subscription,
     finish,
@@ -48,6 +49,10 @@ pub fn run_lines<R: Threads + Wait + Copy + Send + Sync + 'static, I: Read, W: W
 {
     let bytes = read_whole(alloc, reader)?;
     let input = Input::read(alloc, plan, bytes.as_slice())?;
+    let blanks = match BlankPair::new(alloc) {
+        Ok(blanks) => blanks,
+        Err(NoMemory) => return Err(Refusal::NoMemory.into()),
+    };
     report_lines::<Brand, Box<dyn Subscriber>, Box<dyn FailHandler + Send>, R, W>(
         rt,
         alloc,
@@ -56,7 +61,7 @@ pub fn run_lines<R: Threads + Wait + Copy + Send + Sync + 'static, I: Read, W: W
         writer,
         subscribers,
         handler,
-        BlankPair::new(),
+        blanks,
     )
 }
 
@@ -77,7 +82,7 @@ fn report_lines<
     handler: F,
     blanks: BlankPair,
 ) -> Result<u8, LinesFault>
-    requires blanks { AreBlanksOf blanks L.publications L.drops }
+    requires blanks { AreBlanksOf blanks L.publications L.drops L.history }
     requires untold { All (λ s. S.told s ≡ []) subscribers.items }
     ensures { IfOk result (λ status. (status ≡ 0) ⊎ (status ≡ 3)) }
 {
@@ -112,14 +117,15 @@ fn publish_lines<
     handler: F,
     blanks: BlankPair,
 ) -> Result<Outcome<Shown<S>, F>, Refusal>
-    requires blanks { AreBlanksOf blanks L.publications L.drops }
+    requires blanks { AreBlanksOf blanks L.publications L.drops L.history }
     requires untold { All (λ s. S.told s ≡ []) subscribers.items }
-    ensures { IfOk result (λ outcome. IsOutcome (λ shown. S.told shown.subscriber) (λ shown. shown.replied) outcome) }
+    ensures { IfOk result (λ outcome. (submitters : List SubmitterState)
+        × IsOutcome (λ shown. S.told shown.subscriber) (λ shown. shown.replied) submitters outcome) }
 {
     let options = PublisherOptions {
         workers: plan.workers(),
         capacity: plan.capacity(),
-        order: ErrorOrder::Overtake,
+        ..PublisherOptions::default()
     };
     let publisher: Publisher<L, Shown<S>, F> = match Publisher::with_handler(
         rt, alloc, blanks, options, handler,

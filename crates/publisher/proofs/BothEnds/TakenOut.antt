@@ -1,6 +1,6 @@
 -- What was taken out of a sound Hub at the end of its publisher.
-use Rattle.std.proofs.Common.{◌≡◌, ◌⊎◌, inl, inr, ℕ, ◌<◌, ◌||◌, not, is_some, Bool, true, false, Option, None, Some, List, [], length, map, option_map, refl, sym, ap, subst, ◌∙◌, arith}
-use Rattle.std.specs.Prelude.{IsSome, slice_get}
+use Rattle.std.proofs.Common.{◌≡◌, ◌⊎◌, inl, inr, ℕ, ◌+◌, ◌<◌, ◌||◌, not, is_some, Bool, true, false, Option, None, Some, List, [], length, map, option_map, refl, sym, ap, subst, ◌∙◌, arith, rules}
+use Rattle.std.specs.Prelude.{IsSome, slice_get, ◌==◌}
 use Rattle.std.proofs.lemmas.List.{length-map}
 use Rattle.std.proofs.lemmas.Option.{slice_get_within}
 use Rattle.close_count.specs.declared.spent.Spent.{Spent}
@@ -17,7 +17,7 @@ use Rattle.publisher_hub.specs.declared.hub.Hub.{Hub}
 use Rattle.publisher_hub.proofs.PartialRounds.Next.{get_before_map}
 use Rattle.publisher_hub.proofs.AnswerLists.Places.{there}
 use Rattle.publisher.specs.Finding.{AreFoundIn, ArePlaced, FindsAll, IsSameOrLeft, IsTakenOf}
-use Rattle.publisher.specs.Finishing.{AreAudited, AreTakenOut, IsCountedIn}
+use Rattle.publisher.specs.Finishing.{AreAudited, AreOfLog, AreTakenOut, IsCountedIn}
 use Rattle.publisher.specs.Handles.{SubmitterState, SubscriptionState}
 use Rattle.publisher.specs.Outcome.{AnyKnows}
 use Rattle.publisher.specs.State.{IsState, Sums, producer_end}
@@ -26,13 +26,19 @@ use Rattle.publisher.specs.Together.{AreTogether, Audits}
 use Rattle.publisher.specs.declared.finishing.find.Found.{Found}
 use Rattle.publisher.specs.declared.finishing.find.Taken.{Taken}
 use Rattle.publisher.proofs.SoundStates.KeptStates.{state_stays, stays_by}
-use Rattle.publisher.proofs.Tickets.Ticketed.{AllKeep, KeepsTicket, keeps_over, keeps_same}
+use Rattle.publisher.proofs.Tickets.Ticketed.{AllKeep, KeepsEntry, keeps_over, keeps_same}
 
--- if nothing is gone and each has a place
-pub is_there : (gone all : Bool) → (gone || not all) ≡ false → (gone ≡ false) × (all ≡ true)
-is_there true all is = cc
-is_there false true is = (refl, refl)
-is_there false false is = cc
+-- if nothing is gone, each has a place and the count is right
+pub is_there : (gone all whole : Bool) → ((gone || not all) || not whole) ≡ false
+    → (gone ≡ false) × ((all ≡ true) × (whole ≡ true))
+is_there true all whole is = cc
+is_there false true true is = (refl, (refl, refl))
+is_there false true false is = cc
+is_there false false whole is = cc
+
+-- the count of those that have an end is right if this test says so
+pub is_counted : (ends left reclaimed made : ℕ) → (ends == left) ≡ true → left + reclaimed ≡ made → ends + reclaimed ≡ made
+is_counted ends left reclaimed made same sum = let is : ends ≡ left = search rules in omega arith
 
 -- one that was closed, or goes on by the last look at it, took part to the end
 took_part : (next : ℕ) (entry : EntryState) (e : End) (counted : ℕ)
@@ -87,6 +93,10 @@ module _ {B : Type 0} (hub : HubState) (counted : Option ℕ) (sums : Sums) (fou
   accepted_by k taken i x at on =
       let it = stored k taken at in
       record { number = k; place = i; entry = it.0; feed = taken.producer.end; stands = it.1.0; end_of = it.1.1.producer; item = on }
+
+  -- whatever they accepted is one of the publications
+  pub are_of_log : AreOfLog sums.log founds
+  are_of_log k i taken x at on = is.logged.content x (accepted_by k taken i x at on)
 
   -- one that is not late and has no ticket has ended
   ended_in : ((k : ℕ) (entry : EntryState) → slice_get hub.entries k ≡ Some entry → IsOver entry ⊎ IsLate counted k)
@@ -182,15 +192,16 @@ all_left xs ys each = record {
   each = λ k x y at on.
       let old = get_before_map (entry_of producer_end) xs k x at in
       let new = get_before_map (entry_of producer_end) ys k y on in
-      subst (λ (entry : EntryState). KeepsTicket entry y) old.1.1
-      (subst (λ (entry : EntryState). KeepsTicket (entry_of producer_end old.0) entry) new.1.1
+      subst (λ (entry : EntryState). KeepsEntry entry y) old.1.1
+      (subst (λ (entry : EntryState). KeepsEntry (entry_of producer_end old.0) entry) new.1.1
       (by old.0 new.0 (each.each k old.0 new.0 old.1.0 new.1.0)));
 } where
-  by : (old new : Entry ProducerState) → IsSameOrLeft old new → KeepsTicket (entry_of producer_end old) (entry_of producer_end new)
-  by old new (inl same) = subst (λ (e : Entry ProducerState). KeepsTicket (entry_of producer_end old)
+  by : (old new : Entry ProducerState) → IsSameOrLeft old new → KeepsEntry (entry_of producer_end old) (entry_of producer_end new)
+  by old new (inl same) = subst (λ (e : Entry ProducerState). KeepsEntry (entry_of producer_end old)
       (entry_of producer_end e)) (sym same) (keeps_same (entry_of producer_end old))
   by old new (inr left) = keeps_over (entry_of producer_end old) (entry_of producer_end new) left.0.1
       (λ e at. let no : None ≡ Some e = sym (ap (option_map producer_end) left.0.0) ∙ at in cc) left.1
+      (λ f at. let no : None ≡ Some f = sym (ap (option_map producer_end) left.0.0) ∙ at in cc)
 
 pub state_found : {B : Type 0} (old new : Hub ProducerState) (counted : Option ℕ)
     (handles : List (Option HandleState)) (founds : List (Found B)) (gone : Bool) (was : HubState) (sums : Sums)

@@ -1,5 +1,5 @@
 -- How a publisher's end is concluded: the lanes, and the answer.
-use Rattle.std.proofs.Common.{◌≡◌, ◌⊎◌, inl, inr, ℕ, ◌+◌, ◌<◌, ◌||◌, ◌&&◌, is_none, Bool, true, false, Option, None, Some, Result, Ok, Err, List, [], length, refl, sym, ap, subst, ◌∙◌, arith}
+use Rattle.std.proofs.Common.{◌≡◌, ◌⊎◌, inl, inr, ℕ, ◌+◌, ◌≤◌, ◌||◌, ◌&&◌, is_none, Bool, true, false, Option, None, Some, Result, Ok, Err, List, [], length, refl, sym, ap, subst, ◌∙◌, arith}
 use Rattle.feed_core.specs.AnsweredTurn.{Reply}
 use Rattle.std.specs.Prelude.{IsSome, slice_get}
 use Rattle.std.specs.Option.{option_or}
@@ -8,11 +8,13 @@ use Rattle.feed_cell.specs.Parties.{HandleState}
 use Rattle.feed_core.specs.Prelude.{How, Signal}
 use Rattle.flow_rules.specs.declared.refusal.Refusal.{Refusal}
 use Rattle.publisher_hub.proofs.AnswerLists.Places.{there}
-use Rattle.publisher.specs.Finding.{IsHandedIn}
-use Rattle.publisher.specs.Finishing.{AreAudited, AreTakenOut, IsNothing}
+use Rattle.publisher.specs.Finding.{IsHandedIn, ends_of}
+use Rattle.history.specs.declared.rule.Entry.{Entry}
+use Rattle.publisher.specs.Content.{ArePublished, AreSentIn}
+use Rattle.publisher.specs.Finishing.{AreAudited, AreOfLog, AreTakenOut, IsNothing}
 use Rattle.publisher.specs.Handles.{SubmitterState, SubscriptionState}
 use Rattle.publisher.specs.Leaving.{ClosesInOrder, Concludes, FindsFirst}
-use Rattle.publisher.specs.Outcome.{AnyKnows, AreDone, AreGiven, AreHandedIn, AreNumbered, AreReclaimed, Finishes, HasLane, IsAmong, IsMissing, IsOutcome, IsRestGiven, IsWhole, Judges, NamesUndone, is_undone, outcome_of}
+use Rattle.publisher.specs.Outcome.{AnyKnows, AreDone, AreHandedIn, AreReclaimed, Finishes, HasLane, IsAmong, IsMissing, IsOutcome, IsRestGiven, IsWhole, Judges, NamesUndone, is_undone, outcome_of}
 use Rattle.publisher.specs.declared.outcome.NamedLane.{NamedLane}
 use Rattle.publisher.specs.declared.outcome.Outcome.{Outcome}
 use Rattle.publisher.specs.declared.finishing.find.Found.{Found}
@@ -83,8 +85,8 @@ module _ {B H : Type 0} (told : B → List Signal) (replied : B → List Reply) 
     (subscriptions : List SubscriptionState) (founds : List (Found B)) (dropping : ℕ) (drained : Bool)
     (outcome : Outcome B H) (first missing : Option (List ℕ))
     (out : AreTakenOut subscriptions founds outcome.published dropping drained) (same : outcome.drained ≡ drained)
-    (made : outcome.made ≡ length founds) (closes : ClosesInOrder told replied founds (length founds)
-    outcome.lanes.items outcome.held.items outcome.reclaimed.items first)
+    (counted : ends_of founds + outcome.reclaimed ≡ outcome.made) (closes : ClosesInOrder told replied founds (length founds)
+    outcome.lanes.items outcome.held.items first)
     (audited : AreAudited submitters outcome.published dropping missing) where
   -- one whose two ends were there was handed in
   both_handed : (number : ℕ) (taken : Taken B) → slice_get founds number ≡ Some (Found.Both taken) → IsHandedIn subscriptions number
@@ -110,20 +112,9 @@ module _ {B H : Type 0} (told : B → List Signal) (replied : B → List Reply) 
     );
   }
 
-  -- a reclaimed one was not handed in, and has no lane
-  pub are_reclaimed : AreReclaimed subscriptions outcome
-  are_reclaimed = record {
-    not_handed = λ number is handed. out.reclaimed number (closes.reclaimed_are number is).0 handed;
-    no_lane = λ number is lane.
-        let both = closes.each lane.0 lane.1 lane.2.0 in
-        let no : Some Found.Reclaimed ≡ Some (Found.Both both.0) = sym (closes.reclaimed_are number is).0
-        ∙ ap (slice_get founds) (sym lane.2.1) ∙ both.1.0 in cc;
-  }
-
-  -- all that there are are given
-  numbered : length outcome.lanes.items + length outcome.reclaimed.items ≡ length founds
-      → AreGiven (length founds) outcome.lanes.items outcome.reclaimed.items → AreNumbered outcome.lanes.items outcome.reclaimed.items
-  numbered many given = λ number less. given number (omega arith)
+  -- none was counted twice
+  pub are_reclaimed : AreReclaimed outcome
+  are_reclaimed = let few = closes.ends in omega arith
 
   -- each that was handed in has its lane, or is held
   pub rest_given : IsRestGiven subscriptions outcome
@@ -148,15 +139,15 @@ module _ {B H : Type 0} (told : B → List Signal) (replied : B → List Reply) 
     away number it (inr is_held) = inr is_held
 
     by : (f m : Option (List ℕ)) → option_or f m ≡ Some name
-        → FindsFirst told replied founds (length founds) outcome.lanes.items outcome.held.items
-        outcome.reclaimed.items f → AreAudited submitters outcome.published dropping m → IsMissing name submitters subscriptions outcome
+        → FindsFirst told replied founds (length founds) outcome.lanes.items outcome.held.items f
+        → AreAudited submitters outcome.published dropping m → IsMissing name submitters subscriptions outcome
     by (Some it) m e finds audit = inl (
-      finds.0,
-      (subst (λ n. finds.0 < n) (sym made) finds.1.0, (finds.1.1.0, away finds.0 it finds.1.1.1)),
+      let few = finds.1.0.1 in omega arith,
+      (finds.0, (finds.1.1.1.0, away finds.0 it finds.1.1.1.1)),
     )
     by None (Some it) e finds audit = inr (
       audit.0,
-      (audit.1.0, (sym (same_Some it name e) ∙ audit.1.1.0, (audit.1.1.1, (numbered finds.0 finds.1.0, finds.1.1)))),
+      (audit.1.0, (sym (same_Some it name e) ∙ audit.1.1.0, (audit.1.1.1, (let sum = finds.0 in omega arith, finds.1.1)))),
     )
     by None None e finds audit = cc
 
@@ -171,14 +162,12 @@ module _ {B H : Type 0} (told : B → List Signal) (replied : B → List Reply) 
     given none number (inr is_held) = absurd (held_none number none is_held)
 
     by : (f m : Option (List ℕ)) → option_or f m ≡ None
-        → FindsFirst told replied founds (length founds) outcome.lanes.items outcome.held.items
-        outcome.reclaimed.items f → AreAudited submitters outcome.published dropping m → IsWhole submitters subscriptions outcome
+        → FindsFirst told replied founds (length founds) outcome.lanes.items outcome.held.items f
+        → AreAudited submitters outcome.published dropping m → IsWhole submitters subscriptions outcome
     by (Some it) m e finds audit = cc
     by None (Some it) e finds audit = cc
     by None None e finds audit = record {
-      numbered = numbered finds.0 finds.1.0;
-      made = finds.0 ∙ sym made;
-      within = λ number handed. subst (λ n. number < n) (sym made) (out.within number handed);
+      made = let sum = finds.0 in omega arith;
       none_left_out = λ number handed. given finds.1.1 number (rest_given.given number handed);
       none_held = finds.1.1;
       published = sym audit.0;
@@ -191,10 +180,10 @@ module _ {B H : Type 0} (told : B → List Signal) (replied : B → List Reply) 
 module _ {B H : Type 0} (told : B → List Signal) (replied : B → List Reply) (submitters : List SubmitterState)
     (subscriptions : List SubscriptionState) (books : Books B) (dropping : ℕ) (result : Result (Outcome B H) (Refusal × Outcome B H))
     (ends : AreTakenOut subscriptions books.founds.items books.published dropping books.drained)
-    (made : books.made ≡ length books.founds.items)
+    (counted : ends_of books.founds.items + books.reclaimed ≡ books.made)
     (audited : AreAudited submitters books.published dropping books.missing) (concludes : Concludes told replied books result) where
-  made_is : (outcome_of result).made ≡ length books.founds.items
-  made_is = concludes.made ∙ made
+  counted_is : ends_of books.founds.items + (outcome_of result).reclaimed ≡ (outcome_of result).made
+  counted_is = let made = concludes.made in let reclaimed = concludes.reclaimed in omega arith
 
   out : AreTakenOut subscriptions books.founds.items (outcome_of result).published dropping books.drained
   out = subst (λ n. AreTakenOut subscriptions books.founds.items n dropping books.drained) (sym concludes.published) ends
@@ -202,17 +191,18 @@ module _ {B H : Type 0} (told : B → List Signal) (replied : B → List Reply) 
   audit : AreAudited submitters (outcome_of result).published dropping books.missing
   audit = subst (λ n. AreAudited submitters n dropping books.missing) (sym concludes.published) audited
 
-  pub outcome_is : IsOutcome told replied (outcome_of result)
-  outcome_is = is_outcome told replied subscriptions books.founds.items dropping books.drained (outcome_of result)
-      concludes.first out concludes.drained concludes.closes
+  pub outcome_is : (log : List Entry) → length log ≡ books.published → AreSentIn log submitters → AreOfLog log books.founds.items
+      → IsOutcome told replied submitters (outcome_of result)
+  outcome_is log long sent of_log = is_outcome told replied subscriptions books.founds.items dropping books.drained (outcome_of result)
+      concludes.first out concludes.drained concludes.closes submitters log (long ∙ sym concludes.published) sent of_log
 
   pub handed_is : AreHandedIn subscriptions (outcome_of result).lanes.items
   handed_is = are_handed_in told replied submitters subscriptions books.founds.items dropping books.drained
-      (outcome_of result) concludes.first books.missing out concludes.drained made_is concludes.closes audit
+      (outcome_of result) concludes.first books.missing out concludes.drained counted_is concludes.closes audit
 
-  pub reclaimed_is : AreReclaimed subscriptions (outcome_of result)
+  pub reclaimed_is : AreReclaimed (outcome_of result)
   reclaimed_is = are_reclaimed told replied submitters subscriptions books.founds.items dropping books.drained
-      (outcome_of result) concludes.first books.missing out concludes.drained made_is concludes.closes audit
+      (outcome_of result) concludes.first books.missing out concludes.drained counted_is concludes.closes audit
 
   pub finishes_is : (AnyKnows submitters → books.is_closed ≡ true) → (books.drained ≡ true → books.is_closed ≡ true)
       → Finishes submitters subscriptions result
@@ -230,45 +220,46 @@ module _ {B H : Type 0} (told : B → List Signal) (replied : B → List Reply) 
     by (Some name) e =
         let held = concludes.missing name e in
         missing name result held.0 (is_missing_of told replied submitters subscriptions books.founds.items dropping
-        books.drained (outcome_of result) concludes.first books.missing out concludes.drained made_is concludes.closes audit name e)
+        books.drained (outcome_of result) concludes.first books.missing out concludes.drained counted_is concludes.closes audit name e)
         (rest_given told replied submitters subscriptions books.founds.items dropping books.drained
-        (outcome_of result) concludes.first books.missing out concludes.drained made_is concludes.closes audit) held.1
+        (outcome_of result) concludes.first books.missing out concludes.drained counted_is concludes.closes audit) held.1
     by None e = finishes submitters subscriptions (outcome_of result) books.is_closed result (concludes.judged e)
         (is_whole_of told replied submitters subscriptions books.founds.items dropping books.drained
-        (outcome_of result) concludes.first books.missing out concludes.drained made_is concludes.closes audit e)
+        (outcome_of result) concludes.first books.missing out concludes.drained counted_is concludes.closes audit e)
         knows (λ last. closed (sym concludes.drained ∙ last))
 
 -- an outcome without lanes
-pub nothing_is : {B H : Type 0} (told : B → List Signal) (replied : B → List Reply) (outcome : Outcome B H)
-    → IsNothing outcome → IsOutcome told replied outcome
-nothing_is told replied outcome none = record {
+pub nothing_is : {B H : Type 0} (told : B → List Signal) (replied : B → List Reply) (submitters : List SubmitterState)
+    (outcome : Outcome B H) → IsNothing outcome → ArePublished submitters outcome.published → IsOutcome told replied submitters outcome
+nothing_is told replied submitters outcome none sent = record {
   lanes = [];
   as_many = sym (ap length none.no_lanes);
   each = λ i left lane at on. cc;
   agreed = λ i j k n one other x y at. cc;
+  log = sent.log;
+  long = sent.long;
+  sent = sent.sent;
+  content = λ i k one x at. cc;
   drained = λ last i left at. let no : None ≡ Some left = sym (ap (λ lanes. slice_get lanes i) none.no_lanes) ∙ at in cc;
   late = λ i left at. let no : None ≡ Some left = sym (ap (λ lanes. slice_get lanes i) none.no_lanes) ∙ at in cc;
 }
 
-pub nothing_reclaimed : {B H : Type 0} (subscriptions : List SubscriptionState) (outcome : Outcome B H)
-    → IsNothing outcome → AreReclaimed subscriptions outcome
-nothing_reclaimed subscriptions outcome none =
-    record { not_handed = λ number is handed. never number is; no_lane = λ number is lane. never number is } where
-      never : (number : ℕ) → IsAmong number outcome.reclaimed.items → ⊥
-      never number is = let no : None ≡ Some number = sym (ap (λ held. slice_get held is.0) none.none_reclaimed) ∙ is.1 in cc
+pub few_of_none : (lanes held reclaimed made : ℕ) → lanes ≡ 0 → held ≡ 0 → reclaimed ≤ made → (lanes + held) + reclaimed ≤ made
+few_of_none lanes held reclaimed made no_lanes none_held few = omega arith
 
 -- the answers of what was closed
 module _ {B H : Type 0} (told : B → List Signal) (replied : B → List Reply) (books : Books B)
     (first : Option (List ℕ)) (outcome : Outcome B H)
     (closes : ClosesInOrder told replied books.founds.items (length books.founds.items) outcome.lanes.items
-    outcome.held.items outcome.reclaimed.items first)
-    (made : outcome.made ≡ books.made) (published : outcome.published ≡ books.published) (drained : outcome.drained ≡ books.drained) where
+    outcome.held.items first)
+    (made : outcome.made ≡ books.made) (reclaimed : outcome.reclaimed ≡ books.reclaimed) (published : outcome.published ≡ books.published) (drained : outcome.drained ≡ books.drained) where
   pub concludes_held : (name : List ℕ) → option_or first books.missing ≡ Some name
       → Concludes told replied books (Err (Refusal.StillHeld name, outcome))
   concludes_held name is = record {
     first = first;
     closes = closes;
     made = made;
+    reclaimed = reclaimed;
     published = published;
     drained = drained;
     missing = λ other e. (outcome, ap (λ (n : List ℕ). Err (Refusal.StillHeld n, outcome)) (same_Some name other (sym is ∙ e)));
@@ -282,8 +273,9 @@ module _ {B H : Type 0} (told : B → List Signal) (replied : B → List Reply) 
       record {
         first = first;
         closes = subst (λ (o : Outcome B H). ClosesInOrder told replied books.founds.items (length books.founds.items)
-            o.lanes.items o.held.items o.reclaimed.items first) (sym same) closes;
+            o.lanes.items o.held.items first) (sym same) closes;
         made = ap (λ (o : Outcome B H). o.made) same ∙ made;
+        reclaimed = ap (λ (o : Outcome B H). o.reclaimed) same ∙ reclaimed;
         published = ap (λ (o : Outcome B H). o.published) same ∙ published;
         drained = ap (λ (o : Outcome B H). o.drained) same ∙ drained;
         missing = λ other e. let never : None ≡ Some other = sym is ∙ e in cc;

@@ -7,8 +7,10 @@ use Rattle.feed_core.specs.Prelude.{Signal, Subscribed, Next, Complete, How}
 use Rattle.feed_core.specs.Lane.{LaneState, IsSettled, IsSettledAs}
 use Rattle.feed_core.proofs.Turns.Loop.{last_contained}
 use Rattle.publisher_hub.proofs.AnswerLists.Places.{there}
-use Rattle.publisher.specs.Finishing.{AreTakenOut, IsCountedIn}
-use Rattle.publisher.specs.Handles.{SubscriptionState}
+use Rattle.history.specs.declared.rule.Entry.{Entry}
+use Rattle.publisher.specs.Content.{AreSentIn}
+use Rattle.publisher.specs.Finishing.{AreOfLog, AreTakenOut, IsCountedIn}
+use Rattle.publisher.specs.Handles.{SubmitterState, SubscriptionState}
 use Rattle.publisher.specs.Leaving.{ClosesInOrder, IsLaneOfTaken}
 use Rattle.publisher.specs.Outcome.{IsLane, IsOutcome, TookPart}
 use Rattle.publisher.specs.declared.outcome.NamedLane.{NamedLane}
@@ -84,8 +86,7 @@ module _ {B : Type 0} (told : B → List Signal) (replied : B → List Reply) (p
 module _ {B H : Type 0} (told : B → List Signal) (replied : B → List Reply) (subscriptions : List SubscriptionState)
     (founds : List (Found B)) (dropping : ℕ) (drained : Bool) (outcome : Outcome B H) (first : Option (List ℕ))
     (out : AreTakenOut subscriptions founds outcome.published dropping drained) (same : outcome.drained ≡ drained)
-    (closes : ClosesInOrder told replied founds (length founds) outcome.lanes.items outcome.held.items
-    outcome.reclaimed.items first) where
+    (closes : ClosesInOrder told replied founds (length founds) outcome.lanes.items outcome.held.items first) where
   lane_at : (i : ℕ) (left : NamedLane B) → slice_get outcome.lanes.items i ≡ Some left → (lane : LaneState)
       × HasLaneState told replied outcome.published founds left lane
   lane_at i left at =
@@ -128,8 +129,10 @@ module _ {B H : Type 0} (told : B → List Signal) (replied : B → List Reply) 
       let more = lanes_of lefts (λ i it on. at (suc i) it on) in
       (here.0 ∷ more.0, lanes_more left lefts here.0 more.0 here.1 more.1)
 
-  pub is_outcome : IsOutcome told replied outcome
-  is_outcome =
+  -- of what was published
+  pub is_outcome : (submitters : List SubmitterState) (log : List Entry) → length log ≡ outcome.published
+      → AreSentIn log submitters → AreOfLog log founds → IsOutcome told replied submitters outcome
+  is_outcome submitters log long sent of_log =
       let all = lanes_of outcome.lanes.items lane_at in
       record {
         lanes = all.0;
@@ -143,6 +146,13 @@ module _ {B H : Type 0} (told : B → List Signal) (replied : B → List Reply) 
             out.agreed left.0.entry other_left.0.entry k n here.taken there.taken x y here.stands
             (sym (ap (λ l. slice_get l k) here.accepted) ∙ on) there.stands
             (sym (ap (λ l. slice_get l n) there.accepted) ∙ on_other) is_one;
+        log = log;
+        long = long;
+        sent = sent;
+        content = λ i k one x at on.
+            let left = there outcome.lanes.items i (subst (λ m. i < m) all.1.as_many (slice_get_within all.0 i one at)) in
+            let here = all.1.each i left.0 one left.1 at in
+            of_log left.0.entry k here.taken x here.stands (sym (ap (λ l. slice_get l k) here.accepted) ∙ on);
         drained = λ last i left at on_time.
             let it = closes.each i left at in
             it.1.1.1.of.lane.over (out.ended (sym same ∙ last) left.entry it.0 it.1.0 (sym it.1.1.1.of.late ∙ on_time));

@@ -52,6 +52,12 @@ together_none submitters sources long none = record {
   knows_is = λ knows. inr knows;
 }
 
+-- the last of the rest stands where it stood
+pub stands_last : (submitters rest : List SubmitterState) (s : SubmitterState) (published dropping parts drop_parts : ℕ)
+    (sources : List Bool) (knows : Bool) → AreTogether submitters (rest ++ s ∷ []) published dropping parts drop_parts sources knows
+    → slice_get submitters (length rest) ≡ Some s
+stands_last submitters rest s published dropping parts drop_parts sources knows are = are.kept (length rest) s (get_last rest s)
+
 module _ (submitters rest : List SubmitterState) (s : SubmitterState) (published dropping parts drop_parts : ℕ)
     (sources : List Bool) (knows : Bool)
     (are : AreTogether submitters (rest ++ s ∷ []) published dropping parts drop_parts sources knows) where

@@ -24,27 +24,36 @@ use Rattle.publisher.specs.State.{IsState, Sums, producer_end}
 use Rattle.publisher.specs.Tickets.{IsOfCount}
 use Rattle.publisher.proofs.SoundStates.GrownStates.{state_with_last}
 use Rattle.publisher.proofs.SoundStates.KeptStates.{Stays, state_stays, stays_by, tickets_stay}
-use Rattle.publisher.proofs.Tickets.Ticketed.{AllKeep, KeepsTicket, all_but_one, all_same, keeps_ended, keeps_over, keeps_same, of_count_after}
+use Rattle.publisher.proofs.Tickets.Ticketed.{AllKeep, KeepsEntry, all_but_one, all_same, keeps_ended, keeps_over, keeps_same, of_count_after}
 
 -- a subscription that was asked for its ticket has it still, or has ended
 asked_keeps : (next : ℕ) (glance : Option Standing) (ticket : Option Ticket) (before after : Entry ProducerState)
     → RetiresIfEnded producer_end DoesCall next glance ticket before after
-    → KeepsTicket (entry_of producer_end before) (entry_of producer_end after)
+    → KeepsEntry (entry_of producer_end before) (entry_of producer_end after)
 asked_keeps next None ticket before after left =
-    subst (λ (e : Entry ProducerState). KeepsTicket (entry_of producer_end before) (entry_of producer_end e))
+    subst (λ (e : Entry ProducerState). KeepsEntry (entry_of producer_end before) (entry_of producer_end e))
     (sym left.1.1) (keeps_same (entry_of producer_end before))
 asked_keeps next (Some standing) ticket before after hands = by standing.ended refl where
-  by : (ended : Bool) → standing.ended ≡ ended → KeepsTicket (entry_of producer_end before) (entry_of producer_end after)
+  accepted : (producer_end hands.after).accepted ≡ (producer_end hands.before).accepted
+  accepted = ap (λ (e : End). e.accepted) hands.stands.look.rest
+
+  by : (ended : Bool) → standing.ended ≡ ended → KeepsEntry (entry_of producer_end before) (entry_of producer_end after)
   by true ended = keeps_over (entry_of producer_end before) (entry_of producer_end after)
       (ap (λ (e : Entry ProducerState). e.ticket) (hands.ended ended))
       (λ e at. subst (λ (end : End). end.over ≡ true)
       (same_some (sym (ap (λ (e : Entry ProducerState). option_map producer_end e.feed) (hands.ended ended))
       ∙ at)) (sym hands.stands.ended ∙ ended)) (ap (λ (e : Entry ProducerState). e.since) (hands.ended ended))
+      (λ f at. (
+        producer_end hands.before,
+        ap (option_map producer_end) hands.was,
+        ap (λ (e : End). e.accepted)
+            (same_some (sym at ∙ ap (λ (e : Entry ProducerState). option_map producer_end e.feed) (hands.ended ended))) ∙ accepted,
+      ))
   by false on = keeps_ended (entry_of producer_end before) (entry_of producer_end after) (producer_end hands.before)
       (producer_end hands.after) (ap (option_map producer_end) hands.was)
       (ap (λ (e : Entry ProducerState). option_map producer_end e.feed) (hands.stays on))
       (ap (λ (e : Entry ProducerState). e.ticket) (hands.stays on))
-      (ap (λ (e : Entry ProducerState). e.since) (hands.stays on)) hands.stands.look.over
+      (ap (λ (e : Entry ProducerState). e.since) (hands.stays on)) hands.stands.look.over accepted
 
 module _ (old new : Hub ProducerState) (number : ℕ) (ticket : Option Ticket)
     (asks : RetiresIfEndedAt producer_end DoesCall number ticket old new) where

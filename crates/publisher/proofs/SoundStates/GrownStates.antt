@@ -1,7 +1,6 @@
--- What stands behind a publisher's lock after a publication, a close, or one more submitter or subscription.
-use Rattle.std.proofs.Common.{◌≡◌, ℕ, zero, suc, ◌+◌, true, Option, None, Some, Result, Ok, Err, List, length, map, refl, sym, ap, subst, ◌∙◌, arith}
+-- What stands behind a publisher's lock after a publication, a close, or one more submitter.
+use Rattle.std.proofs.Common.{◌≡◌, ℕ, zero, suc, ◌+◌, true, Option, None, Some, Result, Ok, Err, List, [], length, map, refl, sym, ap, subst, ◌∙◌, arith}
 use Rattle.std.specs.Prelude.{IfOk, IsSome, OnErr, OnOk, slice_get}
-use Rattle.std.proofs.lemmas.List.{length-map, length-append}
 use Rattle.close_count.specs.Count.{CountId}
 use Rattle.close_count.specs.Opening.{count_of_opening}
 use Rattle.close_count.specs.Spent.{count_of_spent}
@@ -11,8 +10,7 @@ use Rattle.close_count.specs.declared.ticket.Ticket.{Ticket}
 use Rattle.flow_rules.specs.declared.ending.Ending.{Ending}
 use Rattle.flow_rules.specs.declared.item.Item.{Item}
 use Rattle.flow_rules.specs.declared.refusal.Refusal.{Refusal}
-use Rattle.feed_cell.specs.Parties.{ProducerState, TaskState}
-use Rattle.feed_cell.specs.Offering.{DoesCall}
+use Rattle.feed_cell.specs.Parties.{ProducerState}
 use Rattle.feed_core.specs.LaneCalls.{IsCapacity}
 use Rattle.publisher_hub.specs.Closing.{IsClosedLooking}
 use Rattle.publisher_hub.specs.Entry.{entry_of}
@@ -20,19 +18,17 @@ use Rattle.publisher_hub.specs.Hub.{HubState, Progress, hub_at_start, hub_of}
 use Rattle.publisher_hub.specs.Offering.{ReachesAll}
 use Rattle.publisher_hub.specs.OpeningTicket.{AddsTicket}
 use Rattle.publisher_hub.specs.Publishing.{dropping_after, offer_answer}
-use Rattle.publisher_hub.specs.Sound.{IsSound}
-use Rattle.publisher_hub.specs.Subscribing.{AdmitsWith}
+use Rattle.publisher_hub.specs.Sound.{IsAccepted, IsSound}
 use Rattle.publisher_hub.specs.declared.hub.Hub.{Hub}
-use Rattle.publisher_hub.specs.declared.policy.OnFull.{OnFull}
-use Rattle.publisher_hub.specs.declared.work.Work.{Work}
 use Rattle.publisher_hub.proofs.PartialRounds.Progress.{same_some}
+use Rattle.history.specs.History.{Kept}
 use Rattle.publisher.specs.Publishing.{drop_of, loss_of}
 use Rattle.publisher.specs.Spending.{last_after}
 use Rattle.publisher.specs.State.{IsCountedAtClose, IsState, PARTS, Sums, producer_end}
-use Rattle.publisher.specs.Tickets.{AreOfOneCount, IsOfCount, IsTicketFor}
-use Rattle.publisher.proofs.Tickets.Admitted.{tickets_admitted}
+use Rattle.publisher.specs.Tickets.{AreOfOneCount, IsOfCount}
+use Rattle.publisher.proofs.SoundStates.Histories.{Writes, logged_at_start, logged_offered, logged_still, logged_with_source}
 use Rattle.publisher.proofs.SoundStates.KeptStates.{Stays, counted_stays, stays_looked}
-use Rattle.publisher.proofs.Tickets.Ticketed.{AllKeep, all_closed, all_offered, all_same, all_then, of_count_after, of_count_counted, of_count_still}
+use Rattle.publisher.proofs.Tickets.Ticketed.{AllKeep, accepted_still, all_closed, all_offered, all_same, all_then, all_tickets, of_count_after, of_count_counted, of_count_still}
 
 is_open : (ending : Option Ending) → ending ≡ None → IsSome ending → ⊥
 is_open None none some = cc
@@ -43,10 +39,11 @@ is_none None none some = cc
 is_none (Some many) none some = cc
 
 -- a publication: the totals grow as the Hub's numbers do
-pub state_offered : (v w : HubState) (x : Item) (sums : Sums) (published dropping : ℕ) → IsState v sums → IsSound w → ReachesAll x v w
-    → published ≡ sums.published + 1 → dropping ≡ w.progress.dropping
-    → IsState w (record sums { published = published; dropping = dropping })
-state_offered v w x sums published dropping is sound offers one_more drops = record {
+pub state_offered : (v w : HubState) (x : Item) (sums : Sums) (published dropping : ℕ) (history : Kept) (source : ℕ) (text : List ℕ)
+    → IsState v sums → IsSound w → ReachesAll x v w → published ≡ sums.published + 1 → dropping ≡ w.progress.dropping
+    → x.source ≡ source → x.text ≡ text → Writes sums.log sums.made source text history
+    → IsState w (record sums { published = published; dropping = dropping; log = history.log; made = history.made })
+state_offered v w x sums published dropping history source text is sound offers one_more drops from words writes = record {
   sound = sound;
   sized = subst IsCapacity (sym (ap (λ (h : HubState). h.progress.capacity) offers.rest)) is.sized;
   opened = λ none. subst IsSome (sym (ap (λ (h : HubState). h.opening) offers.rest))
@@ -68,6 +65,7 @@ state_offered v w x sums published dropping is sound offers one_more drops = rec
         (λ counted. absurd (is_none sums.counted (is.counted_is.unclosed offers.next.unclosed) counted))
         (all_offered x v.entries w.entries offers.entries),
   );
+  logged = logged_offered v w x sums.log sums.made history source text is.logged offers from words writes;
 }
 
 -- the answer to an offer tells whether any dropped
@@ -96,14 +94,17 @@ module _ (count : CountId) (v w : HubState) (ending : Ending) (counted : Option 
   pub as_long_closed : length w.entries ≡ length v.entries
   as_long_closed = closing.closed.entries.as_long ∙ before.keep.as_long
 
+  pub all_closed_keep : AllKeep v.entries w.entries
+  all_closed_keep = all_then v.entries closing.middle.entries w.entries before.keep
+      (all_closed ending closing.middle.entries w.entries closing.closed.entries)
+
   pub tickets_closed : IsOfCount count w (Some (length v.entries)) last
   tickets_closed = of_count_counted count w (length v.entries) last (sym as_long_closed)
       (of_count_still count v w None last (subst (λ c. IsOfCount count v c last) (close.unclosed unclosed) is)
       (λ opening held. let no : None ≡ Some opening = sym (ap (λ (h : HubState). h.opening) closing.closed.rest) ∙ held in cc)
       (λ was. absurd (is_open v.progress.ending unclosed was))
       (λ some. cc)
-      (all_then v.entries closing.middle.entries w.entries before.keep
-      (all_closed ending closing.middle.entries w.entries closing.closed.entries)))
+      (all_tickets v.entries w.entries all_closed_keep))
 
 state_closed_looking : (v w : HubState) (ending : Ending) (sums : Sums) → IsState v sums → IsSound w
     → IsClosedLooking ending v w → IsState w (record sums { counted = Some (length v.entries) })
@@ -131,14 +132,27 @@ state_closed_looking v w ending sums is sound closing =
         closed = λ _. (length v.entries, (refl, omega arith));
       };
       tickets = (is.tickets.0, tickets_closed is.tickets.0 v w ending sums.counted sums.last is.tickets.1 is.counted_is closing);
+      logged = logged_still v w sums.log sums.made is.logged (ap (λ (h : HubState). h.progress.next) closed.rest
+          ∙ ap (λ (p : Progress). p.next) before.progress) (ap (λ (h : HubState). h.sources) closed.rest ∙ before.sources)
+          (accepted_still v.entries w.entries
+          (all_closed_keep is.tickets.0 v w ending sums.counted sums.last is.tickets.1 is.counted_is closing));
     }
 
 -- one more submitter, with its parts of the ledgers
-pub state_with_source : (v w : HubState) (sums : Sums) (source parts amount drop_parts drop_amount : ℕ)
+pub state_with_source : (v w : HubState) (sums : Sums) (source parts amount drop_parts drop_amount : ℕ) (history : Kept)
     → IsState v sums → IsSound w → w ≡ record v { sources = source + 1 } → source ≡ v.sources
     → parts + 1 ≡ sums.parts → amount + 0 ≡ sums.amount → drop_parts + 1 ≡ sums.drop_parts → drop_amount + 0 ≡ sums.drop_amount
-    → IsState w (record sums { parts = parts; amount = amount; drop_parts = drop_parts; drop_amount = drop_amount; sources = source + 1 })
-state_with_source v w sums source parts amount drop_parts drop_amount is sound rest next a b c d = record {
+    → history.log ≡ sums.log → history.made ≡ sums.made + 1
+    → IsState w (record sums {
+      parts = parts;
+      amount = amount;
+      drop_parts = drop_parts;
+      drop_amount = drop_amount;
+      sources = source + 1;
+      log = history.log;
+      made = history.made;
+    })
+state_with_source v w sums source parts amount drop_parts drop_amount history is sound rest next a b c d log made = record {
   sound = sound;
   sized = subst IsCapacity (sym (ap (λ (h : HubState). h.progress.capacity) rest)) is.sized;
   opened = λ none. subst IsSome (sym (ap (λ (h : HubState). h.opening) rest))
@@ -159,13 +173,16 @@ state_with_source v w sums source parts amount drop_parts drop_amount is sound r
         (λ opening held. is.tickets.1.opening opening (sym (ap (λ (h : HubState). h.opening) rest) ∙ held))
         (λ closed. subst IsSome (sym (ap (λ (h : HubState). h.progress.ending) rest)) closed)
         (λ _. ap (λ (h : HubState). h.progress.next) rest)
-        (subst (λ entries. AllKeep v.entries entries) (sym (ap (λ (h : HubState). h.entries) rest)) (all_same v.entries)),
+        (all_tickets v.entries w.entries
+        (subst (λ entries. AllKeep v.entries entries) (sym (ap (λ (h : HubState). h.entries) rest)) (all_same v.entries))),
   );
+  logged = logged_with_source v w sums.log sums.made history source is.logged rest next log made;
 }
 
 -- a new publisher
-pub state_at_start : (capacity : ℕ) (opening : Opening) (w : HubState) (parts drop_parts : ℕ)
+pub state_at_start : (capacity : ℕ) (opening : Opening) (w : HubState) (parts drop_parts : ℕ) (history : Kept)
     → w ≡ record (hub_at_start capacity 0) { opening = Some opening } → IsSound w → IsCapacity capacity → parts ≡ PARTS → drop_parts ≡ PARTS
+    → history ≡ record { log = []; made = 0; back = [] }
     → IsState w (record {
       published = 0;
       dropping = 0;
@@ -178,8 +195,10 @@ pub state_at_start : (capacity : ℕ) (opening : Opening) (w : HubState) (parts 
       entries = 0;
       counted = None;
       last = None;
+      log = history.log;
+      made = history.made;
     })
-state_at_start capacity opening w parts drop_parts start sound sized some_parts some_drop_parts = record {
+state_at_start capacity opening w parts drop_parts history start sound sized some_parts some_drop_parts none = record {
   sound = sound;
   sized = subst IsCapacity (sym (ap (λ (h : HubState). h.progress.capacity) start)) sized;
   opened = λ none. subst IsSome (sym (ap (λ (h : HubState). h.opening) start)) refl;
@@ -204,49 +223,7 @@ state_at_start capacity opening w parts drop_parts start sound sized some_parts 
       closed = λ none. cc;
     },
   );
-}
-
--- one more subscription
-pub state_admitted : (name : List ℕ) (on_full : OnFull) (feed : ProducerState) (ticket : Option Ticket) (number : ℕ)
-    (due_before due_after : List (Work TaskState)) (old new : Hub ProducerState) (sums : Sums)
-    → IsState (hub_of producer_end old) sums → IsSound (hub_of producer_end new) → IsTicketFor old ticket
-    → AdmitsWith producer_end DoesCall name on_full feed ticket number due_before due_after old new
-    → IsState (hub_of producer_end new) (record sums { entries = number + 1 })
-state_admitted name on_full feed ticket number due_before due_after old new sums is sound for_it admits = record {
-  sound = sound;
-  sized = subst IsCapacity (sym (ap (λ (h : HubState). h.progress.capacity) admits.rest)) is.sized;
-  opened = λ none. subst IsSome (sym (ap (λ (h : HubState). h.opening) admits.rest))
-      (is.opened (sym (ap (λ (h : HubState). h.progress.ending) admits.rest) ∙ none));
-  published_is = is.published_is ∙ sym (ap (λ (h : HubState). h.progress.next) admits.rest);
-  dropping_is = is.dropping_is ∙ sym (ap (λ (h : HubState). h.progress.dropping) admits.rest);
-  parts_are = is.parts_are;
-  none_published = is.none_published;
-  drop_parts_are = is.drop_parts_are;
-  none_dropped = is.none_dropped;
-  sources_are = is.sources_are ∙ sym (ap (λ (h : HubState). h.sources) admits.rest);
-  entries_are =
-      let seen : length admits.middle.entries.items ≡ length old.entries.items =
-      sym (length-map admits.middle.entries.items (entry_of producer_end)) ∙ admits.seen.kept.as_long
-      ∙ length-map old.entries.items (entry_of producer_end) in
-      let added = length-map new.entries.items (entry_of producer_end) ∙ ap length admits.entries
-      ∙ length-append admits.middle.entries.items _ in
-      let first = admits.is_next in
-      omega arith;
-  counted_is = record {
-    unclosed = λ none. is.counted_is.unclosed (sym (ap (λ (h : HubState). h.progress.ending) admits.rest) ∙ none);
-    closed = λ some.
-        let before = is.counted_is.closed (subst IsSome (ap (λ (h : HubState). h.progress.ending) admits.rest) some) in
-        let seen : length admits.middle.entries.items ≡ length (hub_of producer_end old).entries =
-        sym (length-map admits.middle.entries.items (entry_of producer_end)) ∙ admits.seen.kept.as_long in
-        let added = length-map new.entries.items (entry_of producer_end) ∙ ap length admits.entries
-        ∙ length-append admits.middle.entries.items _ in
-        (before.0, (before.1.0, let few = before.1.1 in omega arith));
-  };
-  tickets = (
-    is.tickets.0,
-    tickets_admitted name on_full feed ticket number due_before due_after old new is.tickets.0
-        sums.counted sums.last is.tickets.1 is.counted_is for_it admits,
-  );
+  logged = logged_at_start capacity opening w history start none;
 }
 
 -- what is left of the last ticket, once that was spent
@@ -266,6 +243,7 @@ state_with_last v sums last is tickets = record {
   entries_are = is.entries_are;
   counted_is = is.counted_is;
   tickets = tickets;
+  logged = is.logged;
 }
 
 is_none_opening : (opening : Option Opening) → opening ≡ None → IsSome opening → ⊥
@@ -346,9 +324,13 @@ state_ticketed old new sums is sound rest opened same_count = record {
     of_count_still is.tickets.0 (hub_of producer_end old) (hub_of producer_end new) sums.counted sums.last is.tickets.1 same_count
         (λ closed. subst IsSome (sym (ap (λ (h : Hub ProducerState). h.ending) rest)) closed)
         (λ _. ap (λ (h : Hub ProducerState). h.next) rest)
+        (all_tickets (hub_of producer_end old).entries (hub_of producer_end new).entries
         (subst (λ entries. AllKeep (hub_of producer_end old).entries entries)
-        (sym (ap (λ (h : Hub ProducerState). (hub_of producer_end h).entries) rest)) (all_same (hub_of producer_end old).entries)),
+        (sym (ap (λ (h : Hub ProducerState). (hub_of producer_end h).entries) rest)) (all_same (hub_of producer_end old).entries))),
   );
+  logged = logged_still (hub_of producer_end old) (hub_of producer_end new) sums.log sums.made is.logged
+      (ap (λ (h : Hub ProducerState). h.next) rest) (ap (λ (h : Hub ProducerState). h.sources) rest)
+      (λ x at. subst (λ entries. IsAccepted entries x) (ap (λ (h : Hub ProducerState). (hub_of producer_end h).entries) rest) at);
 }
 
 pub on_ok_all : {T E : Type 0} {P : Type 0} (r : Result T E) → P → OnOk r P

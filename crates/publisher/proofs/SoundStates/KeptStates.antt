@@ -24,7 +24,8 @@ use Rattle.publisher_hub.proofs.Soundness.LookingAtOne.{one_is_looked_at}
 use Rattle.publisher_hub.proofs.Soundness.Doubling.{was_doubled}
 use Rattle.publisher.specs.State.{IsCountedAtClose, IsState, Sums, producer_end}
 use Rattle.publisher.specs.Tickets.{IsOfCount}
-use Rattle.publisher.proofs.Tickets.Ticketed.{AllKeep, all_looked, all_then, of_count_still, one_told}
+use Rattle.publisher.proofs.SoundStates.Histories.{logged_still}
+use Rattle.publisher.proofs.Tickets.Ticketed.{AllKeep, accepted_still, all_looked, all_then, all_tickets, of_count_still, one_told}
 
 -- what a Hub's calls leave that neither publish nor add nor close
 pub record Stays (v w : HubState) : Type 0 where
@@ -78,7 +79,7 @@ pub tickets_stay : (count : CountId) (v w : HubState) (counted : Option ℕ) (la
 tickets_stay count v w counted last is stays =
     of_count_still count v w counted last is (λ opening held. is.opening opening (sym stays.opening ∙ held))
     (λ closed. subst IsSome (sym (ap (λ (p : Progress). p.ending) stays.progress)) closed)
-    (λ _. ap (λ (p : Progress). p.next) stays.progress) stays.keep
+    (λ _. ap (λ (p : Progress). p.next) stays.progress) (all_tickets v.entries w.entries stays.keep)
 
 -- how many there were before the close is known still
 pub counted_stays : (v w : HubState) (counted : Option ℕ) → IsCountedAtClose v counted
@@ -104,6 +105,8 @@ state_stays v w sums is sound stays = record {
   entries_are = is.entries_are ∙ sym stays.keep.as_long;
   counted_is = counted_stays v w sums.counted is.counted_is (ap (λ (p : Progress). p.ending) stays.progress) stays.keep.as_long;
   tickets = (is.tickets.0, tickets_stay is.tickets.0 v w sums.counted sums.last is.tickets.1 stays);
+  logged = logged_still v w sums.log sums.made is.logged (ap (λ (p : Progress). p.next) stays.progress) stays.sources
+      (accepted_still v.entries w.entries stays.keep);
 }
 
 pub state_all_looked : (old new : Hub ProducerState) (glances : List (Option Standing)) (sums : Sums)
@@ -123,7 +126,7 @@ keep_told due_before due_after number old new tells = subst (λ entries. AllKeep
     (was_doubled producer_end DoesCall tells.start tells.before tells.after tells.doubled))
 
 -- a subscribing that is refused: a live subscription is told of it; or all were looked at, or some
-module _ (name : List ℕ) (due_before due_after : List (Work TaskState)) (old new : Hub ProducerState) where
+module _ (name : List ℕ) (most : ℕ) (due_before due_after : List (Work TaskState)) (old new : Hub ProducerState) where
   abbrev IsDuplicate : Type 0
   IsDuplicate = (middle : Hub ProducerState)
       × (IsPrepared producer_end DoesCall old middle × DoublesOne producer_end DoesCall name due_before due_after middle new)
@@ -131,14 +134,14 @@ module _ (name : List ℕ) (due_before due_after : List (Work TaskState)) (old n
   abbrev pub IsLookedThrough : Type 0
   IsLookedThrough = IsDuplicate ⊎ (IsPreparedInPart producer_end DoesCall old new ⊎ IsPrepared producer_end DoesCall old new)
 
-  no_place : (refusal : Refusal) → FindsNoPlace producer_end DoesCall name refusal old new → IsLookedThrough
+  no_place : (refusal : Refusal) → FindsNoPlace producer_end DoesCall name most refusal old new → IsLookedThrough
   no_place refusal finds = inr (inr finds.seen)
 
-  in_part : IsPreparedInPart producer_end DoesCall old new ⊎ FindsNoPlace producer_end DoesCall name Refusal.NoMemory old new → IsLookedThrough
+  in_part : IsPreparedInPart producer_end DoesCall old new ⊎ FindsNoPlace producer_end DoesCall name most Refusal.NoMemory old new → IsLookedThrough
   in_part (inl seen) = inr (inl seen)
   in_part (inr finds) = no_place Refusal.NoMemory finds
 
-  pub looked_through : (refusal : Refusal) → Refuses producer_end DoesCall name refusal due_before due_after old new → IsLookedThrough
+  pub looked_through : (refusal : Refusal) → Refuses producer_end DoesCall name most refusal due_before due_after old new → IsLookedThrough
   looked_through Refusal.Duplicate refuses = inl refuses
   looked_through Refusal.NoMemory refuses = in_part refuses.0
   looked_through Refusal.BadCapacity refuses = no_place Refusal.BadCapacity refuses.0
@@ -165,7 +168,7 @@ module _ (name : List ℕ) (due_before due_after : List (Work TaskState)) (old n
       (record { rest = seen.rest; entries = seen.kept })
   stays_looked_through (inr (inr seen)) = stays_seen (hub_of producer_end old) (hub_of producer_end new) seen.rest seen.kept
 
-  pub stays_refused : (refusal : Refusal) → Refuses producer_end DoesCall name refusal due_before due_after old new
+  pub stays_refused : (refusal : Refusal) → Refuses producer_end DoesCall name most refusal due_before due_after old new
       → Stays (hub_of producer_end old) (hub_of producer_end new)
   stays_refused refusal refuses = stays_looked_through (looked_through refusal refuses)
 

@@ -1,5 +1,5 @@
 -- What stands behind a publisher's lock once a subscription that has ended was taken out.
-use Rattle.std.proofs.Common.{◌≡◌, ◌⊎◌, inl, inr, ℕ, Bool, true, false, is_some, Option, None, Some, option_map, List, map, length, refl, sym, ap, subst, ◌∙◌, arith}
+use Rattle.std.proofs.Common.{◌≡◌, ◌⊎◌, inl, inr, ℕ, ◌+◌, Bool, true, false, is_some, Option, None, Some, option_map, List, map, length, refl, sym, ap, subst, ◌∙◌, arith}
 use Rattle.std.specs.Prelude.{IsSome, slice_get}
 use Rattle.std.proofs.lemmas.List.{map-set}
 use Rattle.close_count.specs.Count.{CountId}
@@ -20,6 +20,7 @@ use Rattle.publisher_hub.specs.Sound.{IsSound}
 use Rattle.publisher_hub.specs.declared.entry.Entry.{Entry}
 use Rattle.publisher_hub.specs.declared.hub.Hub.{Hub}
 use Rattle.publisher_hub.proofs.PartialRounds.Next.{get_before_map, get_mapped}
+use Rattle.publisher.specs.Census.{CensusState}
 use Rattle.publisher.specs.Finding.{IsTakenOf}
 use Rattle.publisher.specs.Finishing.{IsCountedIn}
 use Rattle.publisher.specs.Reclaiming.{IsSpent, Knows, LooksTwice, NamesOne, Reclaims, RefusesReclaim, ShowsEnd, TakesEnd}
@@ -33,14 +34,14 @@ use Rattle.publisher.proofs.BothEnds.FindingRounds.{read_of}
 use Rattle.publisher.proofs.SoundStates.GrownStates.{state_with_last}
 use Rattle.publisher.proofs.SoundStates.KeptStates.{Stays, state_stays, stays_left, tickets_stay}
 use Rattle.publisher.proofs.BothEnds.TakenOut.{counted_of}
-use Rattle.publisher.proofs.Tickets.Ticketed.{AllKeep, KeepsTicket, all_but_one, all_same, keeps_ended, keeps_over, keeps_same, of_count_after}
+use Rattle.publisher.proofs.Tickets.Ticketed.{AllKeep, KeepsEntry, all_but_one, all_same, keeps_ended, keeps_over, keeps_same, of_count_after}
 
 -- a subscription that was looked at has its ticket still, or its producer's end was taken out
 ended_keeps : (next : ℕ) (glance : Option Standing) (taken : Option (ProducerState × Option Ticket))
     (before after : Entry ProducerState) → TakesEnded producer_end DoesCall next glance taken before after
-    → KeepsTicket (entry_of producer_end before) (entry_of producer_end after)
+    → KeepsEntry (entry_of producer_end before) (entry_of producer_end after)
 ended_keeps next None None before after left =
-    subst (λ (e : Entry ProducerState). KeepsTicket (entry_of producer_end before) (entry_of producer_end e))
+    subst (λ (e : Entry ProducerState). KeepsEntry (entry_of producer_end before) (entry_of producer_end e))
     (sym left.1) (keeps_same (entry_of producer_end before))
 ended_keeps next None (Some both) before after never = elim never [ ]
 ended_keeps next (Some standing) None before after on =
@@ -48,10 +49,12 @@ ended_keeps next (Some standing) None before after on =
     (producer_end on.after) (ap (option_map producer_end) on.was)
     (ap (λ (e : Entry ProducerState). option_map producer_end e.feed) on.now)
     (ap (λ (e : Entry ProducerState). e.ticket) on.now) (ap (λ (e : Entry ProducerState). e.since) on.now) on.stands.look.over
+    (ap (λ (e : End). e.accepted) on.stands.look.rest)
 ended_keeps next (Some standing) (Some (feed, ticket)) before after both =
     keeps_over (entry_of producer_end before) (entry_of producer_end after) (ap (λ (e : Entry ProducerState). e.ticket) both.now)
     (λ e at. let no : None ≡ Some e = sym (ap (λ (it : Entry ProducerState). option_map producer_end it.feed)
     both.now) ∙ at in cc) (ap (λ (e : Entry ProducerState). e.since) both.now)
+    (λ f at. let no : None ≡ Some f = sym (ap (λ (it : Entry ProducerState). option_map producer_end it.feed) both.now) ∙ at in cc)
 
 module _ (old new : Hub ProducerState) (number : ℕ) (taken : Option (ProducerState × Option Ticket))
     (takes : TakesEndedAt producer_end DoesCall number taken old new) where
@@ -156,6 +159,19 @@ looked_counted published dropping taken later same look over is =
       by (inl on) = let no : true ≡ false = sym over ∙ on in cc
       by (inr some) = inr (subst IsSome (ap (λ (e : End). e.closing) look.rest) some)
 
+-- it was taken out, whatever is counted then
+takes_still : (number : ℕ) (producer : Option ProducerState) (old new : PublisherState) (census : CensusState)
+    → TakesEnd number producer old new → TakesEnd number producer old (record new { census = census })
+takes_still number producer old new census ends = record {
+  ticket = ends.ticket;
+  takes = ends.takes;
+  spent = by ends.ticket ends.spent;
+  counted = ends.counted;
+} where
+  by : (ticket : Option Ticket) → IsSpent ticket old new → IsSpent ticket old (record new { census = census })
+  by None spent = spent
+  by (Some ticket) spent = spent
+
 -- what is taken out of a sound publisher has ended, and counts what was published while it took part
 module _ {B : Type 0} (number : ℕ) (known : Known) (handle : HandleState) (producer : ProducerState) (taken : Taken B)
     (middle new : PublisherState) (sums : Sums) (is : IsState (hub_of producer_end middle.hub) sums)
@@ -214,15 +230,18 @@ module _ {B : Type 0} (number : ℕ) (known : Known) (handle : HandleState) (pro
       (counted_of (hub_of producer_end middle.hub) middle.counted sums number (entry_of producer_end knows.entry)
       earlier is same (get_mapped (entry_of producer_end) middle.hub.entries.items number knows.entry knows.stands) of)
 
-  -- so it is reclaimed
-  pub reclaims_of : (old : PublisherState) → ShowsEnd number true old middle → Reclaims number handle taken old new
-  reclaims_of old shows =
+  -- so it is reclaimed, and counted
+  pub reclaims_of : (old : PublisherState) (census : CensusState) → ShowsEnd number true old middle → new.census ≡ middle.census
+      → census ≡ record new.census { reclaimed = new.census.reclaimed + 1 }
+      → Reclaims number handle taken old (record new { census = census })
+  reclaims_of old census shows kept counts =
       let next = ap (λ (h : HubState). h.progress.next) shows.looks.rest in
       let dropping = ap (λ (h : HubState). h.progress.dropping) shows.looks.rest in
       record {
         middle = middle;
         looks = shows;
-        takes = subst (λ (p : ProducerState). TakesEnd number (Some p) middle new) (sym (ap (λ (t : Taken B). t.producer) taken_is)) ends;
+        takes = takes_still number (Some taken.producer) middle new census
+            (subst (λ (p : ProducerState). TakesEnd number (Some p) middle new) (sym (ap (λ (t : Taken B). t.producer) taken_is)) ends);
         known = (
           known,
           (
@@ -240,6 +259,9 @@ module _ {B : Type 0} (number : ℕ) (known : Known) (handle : HandleState) (pro
         over = over_is;
         counted = subst (λ n. IsCountedIn n old.hub.dropping taken) next
             (subst (λ n. IsCountedIn middle.hub.next n taken) dropping counted_is);
+        census = counts ∙ ap (λ (c : CensusState). record c { reclaimed = c.reclaimed + 1 })
+            (kept ∙ ap (λ (s : PublisherState). s.census) shows.rest);
+        dropping = ap (λ (h : HubState). h.progress.dropping) ends.takes.rest ∙ dropping;
       }
 
 -- what holds of a state as it is stored holds of it as it is seen
@@ -258,8 +280,16 @@ shows_end number answer ended old new same looks rest =
 -- one that goes on by a look is refused by its name
 module _ (number : ℕ) (name : List ℕ) (old new : PublisherState) where
   pub refuses_living : (refusal : Refusal) → NamesOne name refusal → ShowsEnd number false old new → RefusesReclaim number refusal old new
-  refuses_living Refusal.NoMemory names shows = record { is = (name, tt); looks = inl (false, shows) }
-  refuses_living (Refusal.Unsettled list) names shows = record { is = (name, names); looks = inl shows }
+  refuses_living Refusal.NoMemory names shows = record {
+    is = (name, tt);
+    looks = inl (false, shows);
+    census = ap (λ (s : PublisherState). s.census) shows.rest;
+  }
+  refuses_living (Refusal.Unsettled list) names shows = record {
+    is = (name, names);
+    looks = inl shows;
+    census = ap (λ (s : PublisherState). s.census) shows.rest;
+  }
   refuses_living Refusal.BadCapacity names shows = absurd names
   refuses_living (Refusal.Closed ending) names shows = absurd names
   refuses_living Refusal.Duplicate names shows = absurd names
@@ -272,20 +302,21 @@ module _ (number : ℕ) (name : List ℕ) (old new : PublisherState) where
   refuses_living Refusal.BadCommand names shows = absurd names
   refuses_living Refusal.Exhausted names shows = absurd names
 
-  pub refuses_later : (refusal : Refusal) → NamesOne name refusal → LooksTwice number old new → RefusesReclaim number refusal old new
-  refuses_later Refusal.NoMemory names looks = record { is = (name, tt); looks = inr looks }
-  refuses_later (Refusal.Unsettled list) names looks = record { is = (name, names); looks = inr looks }
-  refuses_later Refusal.BadCapacity names looks = absurd names
-  refuses_later (Refusal.Closed ending) names looks = absurd names
-  refuses_later Refusal.Duplicate names looks = absurd names
-  refuses_later Refusal.TooMany names looks = absurd names
-  refuses_later Refusal.LineTooLong names looks = absurd names
-  refuses_later Refusal.BadWorkers names looks = absurd names
-  refuses_later (Refusal.StillHeld other) names looks = absurd names
-  refuses_later Refusal.Unknown names looks = absurd names
-  refuses_later Refusal.WouldWait names looks = absurd names
-  refuses_later Refusal.BadCommand names looks = absurd names
-  refuses_later Refusal.Exhausted names looks = absurd names
+  pub refuses_later : (refusal : Refusal) → NamesOne name refusal → LooksTwice number old new
+      → new.census ≡ old.census → RefusesReclaim number refusal old new
+  refuses_later Refusal.NoMemory names looks same = record { is = (name, tt); looks = inr looks; census = same }
+  refuses_later (Refusal.Unsettled list) names looks same = record { is = (name, names); looks = inr looks; census = same }
+  refuses_later Refusal.BadCapacity names looks same = absurd names
+  refuses_later (Refusal.Closed ending) names looks same = absurd names
+  refuses_later Refusal.Duplicate names looks same = absurd names
+  refuses_later Refusal.TooMany names looks same = absurd names
+  refuses_later Refusal.LineTooLong names looks same = absurd names
+  refuses_later Refusal.BadWorkers names looks same = absurd names
+  refuses_later (Refusal.StillHeld other) names looks same = absurd names
+  refuses_later Refusal.Unknown names looks same = absurd names
+  refuses_later Refusal.WouldWait names looks same = absurd names
+  refuses_later Refusal.BadCommand names looks same = absurd names
+  refuses_later Refusal.Exhausted names looks same = absurd names
 
 -- what became of the ticket that came out
 pub spent_of : (ticket : Option Ticket) (came : Ticket) (spent : Spent) (closed : Bool) (old new : PublisherState)

@@ -63,8 +63,8 @@ tell_takes_none due_before due_after number old new tells = subst (λ entries. T
     (entry_of producer_end tells.after) (get_mapped (entry_of producer_end) old.entries.items number tells.before tells.there)
     (was_doubled producer_end DoesCall tells.start tells.before tells.after tells.doubled))
 
-module _ (name : List ℕ) (due_before due_after : List (Work TaskState)) (old new : Hub ProducerState) where
-  looked_through_takes_none : IsLookedThrough name due_before due_after old new
+module _ (name : List ℕ) (most : ℕ) (due_before due_after : List (Work TaskState)) (old new : Hub ProducerState) where
+  looked_through_takes_none : IsLookedThrough name most due_before due_after old new
       → TakesNoName (hub_of producer_end old).entries (hub_of producer_end new).entries
   looked_through_takes_none (inl told) other is =
       let middle = told.0 in
@@ -79,11 +79,11 @@ module _ (name : List ℕ) (due_before due_after : List (Work TaskState)) (old n
 
   -- a refused subscribing adds none
   pub refused_adds_none : (refusal : Refusal)
-      → Refuses producer_end DoesCall name refusal due_before due_after old new
+      → Refuses producer_end DoesCall name most refusal due_before due_after old new
       → AddsNone (hub_of producer_end old) (hub_of producer_end new)
-  refused_adds_none refusal refuses = let stays = stays_refused name due_before due_after old new refusal refuses in record {
+  refused_adds_none refusal refuses = let stays = stays_refused name most due_before due_after old new refusal refuses in record {
     as_many = stays.keep.as_long;
-    names = looked_through_takes_none (looked_through name due_before due_after old new refusal refuses);
+    names = looked_through_takes_none (looked_through name most due_before due_after old new refusal refuses);
     progress = stays.progress;
     sources = stays.sources;
   }

@@ -35,39 +35,39 @@ ticket_refused (Ok ticket) opening why = record {}
 ticket_refused (Err refusal) opening why = no_ticket refusal opening why
 
 -- what is due after a refusal of the Hub
-pub due_refused : (name : List ℕ) (refusal : Refusal) (before after : List (Work TaskState))
-    (old new : Hub ProducerState) → Refuses producer_end DoesCall name refusal before after old new
-    → IsDueAfter name refusal before after old new
-due_refused name Refusal.Duplicate before after old new is = is
-due_refused name Refusal.NoMemory before after old new is = is.1
-due_refused name Refusal.BadCapacity before after old new is = is.1
-due_refused name (Refusal.Closed ending) before after old new is = is.1
-due_refused name Refusal.TooMany before after old new is = is.1
-due_refused name Refusal.LineTooLong before after old new is = is.1
-due_refused name Refusal.BadWorkers before after old new is = is.1
-due_refused name (Refusal.StillHeld other) before after old new is = is.1
-due_refused name (Refusal.Unsettled names) before after old new is = is.1
-due_refused name Refusal.Unknown before after old new is = is.1
-due_refused name Refusal.WouldWait before after old new is = is.1
-due_refused name Refusal.BadCommand before after old new is = is.1
-due_refused name Refusal.Exhausted before after old new is = is.1
+pub due_refused : (name : List ℕ) (most : ℕ) (refusal : Refusal) (before after : List (Work TaskState))
+    (old new : Hub ProducerState) → Refuses producer_end DoesCall name most refusal before after old new
+    → IsDueAfter name most refusal before after old new
+due_refused name most Refusal.Duplicate before after old new is = is
+due_refused name most Refusal.NoMemory before after old new is = is.1
+due_refused name most Refusal.BadCapacity before after old new is = is.1
+due_refused name most (Refusal.Closed ending) before after old new is = is.1
+due_refused name most Refusal.TooMany before after old new is = is.1
+due_refused name most Refusal.LineTooLong before after old new is = is.1
+due_refused name most Refusal.BadWorkers before after old new is = is.1
+due_refused name most (Refusal.StillHeld other) before after old new is = is.1
+due_refused name most (Refusal.Unsettled names) before after old new is = is.1
+due_refused name most Refusal.Unknown before after old new is = is.1
+due_refused name most Refusal.WouldWait before after old new is = is.1
+due_refused name most Refusal.BadCommand before after old new is = is.1
+due_refused name most Refusal.Exhausted before after old new is = is.1
 
 -- and after one of a ticket
-pub due_unticketed : (name : List ℕ) (result : Result (Option Ticket) Refusal) (opening : Option Opening)
+pub due_unticketed : (name : List ℕ) (most : ℕ) (result : Result (Option Ticket) Refusal) (opening : Option Opening)
     (before after : List (Work TaskState)) (old new : Hub ProducerState)
     → IfErr result (λ refusal. RefusesTicket refusal opening) → after ≡ before
-    → IfErr result (λ refusal. IsDueAfter name refusal before after old new)
-due_unticketed name (Ok ticket) opening before after old new why same = record {}
-due_unticketed name (Err Refusal.Exhausted) opening before after old new why same = same
-due_unticketed name (Err Refusal.NoMemory) opening before after old new why same = same
-due_unticketed name (Err Refusal.Duplicate) opening before after old new why same = elim why [ ]
-due_unticketed name (Err Refusal.TooMany) opening before after old new why same = same
-due_unticketed name (Err Refusal.BadCapacity) opening before after old new why same = same
-due_unticketed name (Err (Refusal.Closed ending)) opening before after old new why same = same
-due_unticketed name (Err Refusal.LineTooLong) opening before after old new why same = same
-due_unticketed name (Err Refusal.BadWorkers) opening before after old new why same = same
-due_unticketed name (Err (Refusal.StillHeld other)) opening before after old new why same = same
-due_unticketed name (Err (Refusal.Unsettled names)) opening before after old new why same = same
-due_unticketed name (Err Refusal.Unknown) opening before after old new why same = same
-due_unticketed name (Err Refusal.WouldWait) opening before after old new why same = same
-due_unticketed name (Err Refusal.BadCommand) opening before after old new why same = same
+    → IfErr result (λ refusal. IsDueAfter name most refusal before after old new)
+due_unticketed name most (Ok ticket) opening before after old new why same = record {}
+due_unticketed name most (Err Refusal.Exhausted) opening before after old new why same = same
+due_unticketed name most (Err Refusal.NoMemory) opening before after old new why same = same
+due_unticketed name most (Err Refusal.Duplicate) opening before after old new why same = elim why [ ]
+due_unticketed name most (Err Refusal.TooMany) opening before after old new why same = same
+due_unticketed name most (Err Refusal.BadCapacity) opening before after old new why same = same
+due_unticketed name most (Err (Refusal.Closed ending)) opening before after old new why same = same
+due_unticketed name most (Err Refusal.LineTooLong) opening before after old new why same = same
+due_unticketed name most (Err Refusal.BadWorkers) opening before after old new why same = same
+due_unticketed name most (Err (Refusal.StillHeld other)) opening before after old new why same = same
+due_unticketed name most (Err (Refusal.Unsettled names)) opening before after old new why same = same
+due_unticketed name most (Err Refusal.Unknown) opening before after old new why same = same
+due_unticketed name most (Err Refusal.WouldWait) opening before after old new why same = same
+due_unticketed name most (Err Refusal.BadCommand) opening before after old new why same = same

@@ -17,8 +17,6 @@ pub struct Left<B> {
     pub lanes: Vec<NamedLane<B>>,
     /// The numbers of those that a thread holds still.
     pub held: Vec<u32>,
-    /// The numbers of those that were reclaimed.
-    pub reclaimed: Vec<u32>,
     /// The name of the first that has no lane and was not reclaimed.
     pub first: Option<Name>,
 }
@@ -28,15 +26,13 @@ pub fn close_all<B: Listener>(
     founds: Vec<Found<B>>,
     mut lanes: Vec<NamedLane<B>>,
     mut held: Vec<u32>,
-    mut reclaimed: Vec<u32>,
 ) -> Left<B>
-    requires empty { (lanes.items ≡ []) × ((held.items ≡ []) × (reclaimed.items ≡ [])) }
+    requires empty { (lanes.items ≡ []) × (held.items ≡ []) }
     requires room { (length founds.items ≤ vec_capacity lanes)
-        × ((length founds.items ≤ vec_capacity held)
-        × (length founds.items ≤ vec_capacity reclaimed)) }
+        × (length founds.items ≤ vec_capacity held) }
     requires few { length founds.items < 4294967296 }
     ensures { ClosesInOrder B.told B.replied founds.items (length founds.items)
-        result.lanes.items result.held.items result.reclaimed.items result.first }
+        result.lanes.items result.held.items result.first }
 {
     let mut first = None;
     let mut number = 0;
@@ -48,16 +44,11 @@ pub fn close_all<B: Listener>(
                 first = first.or(Some(name));
             }
             Closed::Missing(name) => first = first.or(Some(name)),
-            Closed::Reclaimed => reclaimed.push_reserved(number),
+            Closed::Reclaimed => {}
         }
         number += 1;
     }
-    Left {
-        lanes,
-        held,
-        reclaimed,
-        first,
-    }
+    Left { lanes, held, first }
 }
 
 /// What becomes of a subscription that is closed.

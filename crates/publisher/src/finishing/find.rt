@@ -5,7 +5,7 @@
 ghost use Rattle.std.specs.Prelude.{◌≡◌, ◌<◌, ◌≤◌, ◌↔◌, [], length, None, Some, slice_get, slice_set, true, vec_capacity};
 ghost use Rattle.publisher_hub.specs.Hub.{hub_of};
 ghost use Rattle.publisher_hub.specs.Sound.{IsSound};
-ghost use Rattle.publisher.specs.Finding.{AreNone, ArePlaced, FindsAll, FindsOne, is_reclaimed};
+ghost use Rattle.publisher.specs.Finding.{AreNone, ArePlaced, FindsAll, FindsOne, ends_of, is_reclaimed};
 ghost use Rattle.publisher.specs.State.{producer_end};
 ghost use Rattle.publisher.specs.Tickets.{IsLate};
 
@@ -111,6 +111,19 @@ pub fn find_all<B: Listener>(
         founds.push_reserved(found);
     }
     gone
+}
+
+/// Counts those of which an end is there: the others were reclaimed.
+pub fn count_ends<B: Listener>(founds: &[Found<B>]) -> u64
+    ensures { result ≡ ends_of founds.now }
+{
+    let mut ends = 0;
+    for found in founds {
+        if !found.is_reclaimed() {
+            ends += 1;
+        }
+    }
+    ends
 }
 
 /// Takes the handle of this place, if it is there.

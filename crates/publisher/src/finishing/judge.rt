@@ -16,12 +16,13 @@ use flow_rules::{FailHandler, Listener, Name, Refusal};
 /// What stood behind the lock of a publisher at its end.
 #[derive(Drop)]
 pub struct Books<B: Listener> {
-    /// What was found of each subscription, in order.
+    /// What was found at each number, in order.
     pub founds: Vec<Found<B>>,
     /// The room for what is left of them.
     pub room: Room<B>,
-    /// How many subscriptions there ever were.
-    pub made: u32,
+    /// How many subscriptions there ever were, and how many of them were reclaimed.
+    pub made: u64,
+    pub reclaimed: u64,
     /// How many items were published.
     pub published: u64,
     /// Whether the last ticket was spent.
@@ -46,6 +47,7 @@ impl<B: Listener> Books<B> {
             founds,
             room,
             made,
+            reclaimed,
             published,
             drained,
             is_closed,
@@ -54,15 +56,9 @@ impl<B: Listener> Books<B> {
         let Room {
             lanes,
             held,
-            reclaimed,
             unsettled,
         } = room;
-        let Left {
-            lanes,
-            held,
-            reclaimed,
-            first,
-        } = close_all(founds, lanes, held, reclaimed);
+        let Left { lanes, held, first } = close_all(founds, lanes, held);
         let outcome = Outcome {
             lanes,
             held,

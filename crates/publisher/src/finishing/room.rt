@@ -18,8 +18,6 @@ pub struct Room<B: Listener> {
     pub lanes: Vec<NamedLane<B>>,
     /// For the numbers of those that a thread still holds.
     pub held: Vec<u32>,
-    /// For the numbers of those that were reclaimed.
-    pub reclaimed: Vec<u32>,
     /// For the names of those that run or have not ended.
     pub unsettled: Vec<Name>,
 }
@@ -47,7 +45,6 @@ pub fn new_places<B: Listener>(alloc: Global, entries: usize) -> Result<Places<B
         room: Room {
             lanes: Vec::with_capacity(alloc, entries)?,
             held: Vec::with_capacity(alloc, entries)?,
-            reclaimed: Vec::with_capacity(alloc, entries)?,
             unsettled: Vec::with_capacity(alloc, entries)?,
         },
     })

@@ -1,13 +1,14 @@
 //! How a publisher is made, by its options.
 //!
 //! How the threads of its workers are started stands in `workers`, and what they do in `job`.
-ghost use Rattle.std.specs.Prelude.{◌≡◌, ◌↔◌, ◌⊎◌, true, Err, IfErr, IfOk};
+ghost use Rattle.std.specs.Prelude.{◌≡◌, ◌↔◌, ◌⊎◌, ◌<◌, true, Err, IfErr, IfOk};
 ghost use Rattle.flow_rules.specs.declared.refusal.Refusal.TheVariants as Refusal;
 ghost use Rattle.async_pool.specs.Crew.{IsWorkerCount};
 ghost use Rattle.feed_core.specs.Prelude.{Overtake};
 ghost use Rattle.flow_rules.specs.Capacity.{capacity_of};
 ghost use Rattle.publisher.specs.Blanks.{AreBlanksOf};
-ghost use Rattle.publisher.specs.Making.{RefusesCapacity, RefusesMaking, RefusesWorkers};
+ghost use Rattle.publisher.specs.Making.{RefusesCapacity, RefusesMaking, RefusesMakingWith, RefusesMostOf, RefusesWorkers};
+ghost use Rattle.publisher_hub.specs.declared.hub.TheConstants.{MOST_LIVE};
 
 use super::Publisher;
 use crate::awaiting::Awaiting;
@@ -18,12 +19,13 @@ use crate::state::{State, StateLock};
 use async_pool::{MOST_WORKERS, Pool};
 use flow_rules::{ErrorOrder, FailHandler, Listener, NoMemory, Refusal};
 use once_cell::race::OnceBox;
+use publisher_hub::USUAL_LIVE;
 use std::alloc::Global;
 use std::sync::{Arc, Mutex, Wait};
 use std::thread::Threads;
 
-/// How many workers a publisher has, how many items each of its buffers holds, and when its subscribers are told a
-/// closing error.
+/// How many workers a publisher has, how many items each of its buffers holds, when its subscribers are told a closing
+/// error, and how many of its subscriptions may be live.
 #[derive(Clone, Copy, Debug, PartialEq, Eq)]
 pub struct PublisherOptions {
     /// The worker threads that run the turns of the subscriptions, from 1 to 8.
@@ -33,6 +35,8 @@ pub struct PublisherOptions {
     pub capacity: usize,
     /// Whether a closing error overtakes the items that wait, or waits for them.
     pub order: ErrorOrder,
+    /// How many subscriptions may be live at once, at most [`MOST_LIVE`]. Each publication goes through all that are.
+    pub most_live: usize,
 }
 
 impl PublisherOptions {
@@ -44,22 +48,28 @@ impl PublisherOptions {
 }
 
 impl Default for PublisherOptions {
-    /// Gives two workers, and buffers of 256 items, which a closing error overtakes.
+    /// Gives two workers, buffers of 256 items, which a closing error overtakes, and 64 live subscriptions.
     fn default() -> PublisherOptions
-        ensures { result ≡ record { workers = 2; capacity = 256; order = Overtake } }
+        ensures { result ≡ record {
+          workers = 2;
+          capacity = 256;
+          order = Overtake;
+          most_live = 64;
+        } }
     {
         PublisherOptions {
             workers: PublisherOptions::DEFAULT_WORKERS,
             capacity: PublisherOptions::DEFAULT_CAPACITY,
             order: ErrorOrder::Overtake,
+            most_live: USUAL_LIVE,
         }
     }
 }
 
 impl<L: Ledgers + Send + Sync + 'static, B: Listener + Send + 'static> Publisher<L, B> {
     /// Makes a publisher without subscriptions, whose buffers have the capacity that is enforced if this one is asked
-    /// for, and whose turns this many workers run, each a thread of its own. A closing error overtakes the items. The
-    /// blanks are those of its ledgers.
+    /// for, and whose turns this many workers run, each a thread of its own. A closing error overtakes the items, and
+    /// [`USUAL_LIVE`] subscriptions may be live. The blanks are those of its ledgers.
     ///
     /// Refused 7 for any other number of workers than 1 to [`MOST_WORKERS`], then 1 if the capacity is 0, and then 5
     /// if a growth is refused or a thread can't be started; those that were started have ended then.
@@ -70,7 +80,7 @@ impl<L: Ledgers + Send + Sync + 'static, B: Listener + Send + 'static> Publisher
         workers: usize,
         capacity: usize,
     ) -> Result<Publisher<L, B>, Refusal>
-        requires blanks { AreBlanksOf blanks L.publications L.drops }
+        requires blanks { AreBlanksOf blanks L.publications L.drops L.history }
         ensures bad_workers { RefusesWorkers result workers }
         ensures bad_capacity { RefusesCapacity result workers capacity }
         ensures refusals { IfErr result (λ refusal. RefusesMaking refusal) }
@@ -83,22 +93,25 @@ impl<L: Ledgers + Send + Sync + 'static, B: Listener + Send + 'static> Publisher
             workers,
             capacity,
             order,
+            most_live: USUAL_LIVE,
         };
         Publisher::make(rt, alloc, blanks, options)
     }
 
-    /// Does what [`new`](Publisher::new) does, with both numbers by their names, and with the order of a closing error
-    /// and the items. It is refused in the same way.
+    /// Does what [`new`](Publisher::new) does, with both numbers by their names, with the order of a closing error and
+    /// the items, and with how many subscriptions may be live. It is refused in the same way, and, after a capacity of
+    /// 0, 4 if more than [`MOST_LIVE`] may be live.
     pub fn with_options<R: Threads + Wait + Copy + Send + 'static>(
         rt: R,
         alloc: Global,
         blanks: BlankPair,
         options: PublisherOptions,
     ) -> Result<Publisher<L, B>, Refusal>
-        requires blanks { AreBlanksOf blanks L.publications L.drops }
+        requires blanks { AreBlanksOf blanks L.publications L.drops L.history }
         ensures bad_workers { RefusesWorkers result options.workers }
         ensures bad_capacity { RefusesCapacity result options.workers options.capacity }
-        ensures refusals { IfErr result (λ refusal. RefusesMaking refusal) }
+        ensures too_many { RefusesMostOf result options.workers options.capacity options.most_live }
+        ensures refusals { IfErr result (λ refusal. RefusesMakingWith refusal) }
         ensures order { IfOk result (λ publisher. publisher.order ≡ options.order) }
         ensures capacity { IfOk result
             (λ publisher. publisher.capacity ≡ capacity_of options.capacity) }
@@ -120,7 +133,7 @@ impl<
     /// Whoever ran the turn calls it, while a lock of the handler's own is held and no other. A handler that calls
     /// `submit` may wait for ever.
     ///
-    /// Refused as [`new`](Publisher::new) is, with the handler back.
+    /// Refused as [`with_options`](Publisher::with_options) is, with the handler back.
     pub fn with_handler<R: Threads + Wait + Copy + Send + 'static>(
         rt: R,
         alloc: Global,
@@ -128,12 +141,14 @@ impl<
         options: PublisherOptions,
         handler: F,
     ) -> Result<Publisher<L, B, F>, Refused<F>>
-        requires blanks { AreBlanksOf blanks L.publications L.drops }
+        requires blanks { AreBlanksOf blanks L.publications L.drops L.history }
         ensures bad_workers { (result ≡ Err (Refusal.BadWorkers, handler)) ↔
             (¬ IsWorkerCount options.workers) }
         ensures bad_capacity { IsWorkerCount options.workers
             → (result ≡ Err (Refusal.BadCapacity, handler)) ↔ (options.capacity ≡ 0) }
-        ensures refusals { IfErr result (λ refused. RefusesMaking refused.0) }
+        ensures too_many { IsWorkerCount options.workers → 0 < options.capacity
+            → (result ≡ Err (Refusal.TooMany, handler)) ↔ (MOST_LIVE < options.most_live) }
+        ensures refusals { IfErr result (λ refused. RefusesMakingWith refused.0) }
         ensures order { IfOk result (λ publisher. publisher.order ≡ options.order) }
         ensures capacity { IfOk result
             (λ publisher. publisher.capacity ≡ capacity_of options.capacity) }
@@ -158,10 +173,11 @@ impl<
         blanks: BlankPair,
         options: PublisherOptions,
     ) -> Result<Publisher<L, B, F>, Refusal>
-        requires blanks { AreBlanksOf blanks L.publications L.drops }
+        requires blanks { AreBlanksOf blanks L.publications L.drops L.history }
         ensures bad_workers { RefusesWorkers result options.workers }
         ensures bad_capacity { RefusesCapacity result options.workers options.capacity }
-        ensures refusals { IfErr result (λ refusal. RefusesMaking refusal) }
+        ensures too_many { RefusesMostOf result options.workers options.capacity options.most_live }
+        ensures refusals { IfErr result (λ refusal. RefusesMakingWith refusal) }
         ensures order { IfOk result (λ publisher. publisher.order ≡ options.order) }
         ensures capacity { IfOk result
             (λ publisher. publisher.capacity ≡ capacity_of options.capacity) }
@@ -170,11 +186,12 @@ impl<
             workers,
             capacity,
             order,
+            most_live,
         } = options;
         if !is_worker_count(workers) {
             return Err(Refusal::BadWorkers);
         }
-        let state = State::new(alloc, capacity, blanks)?;
+        let state = State::new(alloc, capacity, most_live, blanks)?;
         let publisher = Publisher::with(alloc, state, workers, order)?;
         for worker in 0..workers {
             if publisher.start(rt, alloc, worker).is_err() {

@@ -22,8 +22,8 @@ use std::sync::Wait;
 
 impl<L: Ledgers + Send, B: Listener + Send, F: FailHandler + Send> Publisher<L, B, F> {
     /// Gives what is left of a subscription that has ended, with its subscriber, as [`finish`](crate::finish) would,
-    /// and frees the rest (Reactive Streams 1.0, rule 3.13). What is kept of it are the numbers of its entry. It takes
-    /// constant time, and waits for the publisher's lock.
+    /// and frees the rest (Reactive Streams 1.0, rule 3.13). Nothing is kept of it once a later subscription has its
+    /// number. It waits for the publisher's lock.
     ///
     /// Refused, with the subscription back: 9 if it has not ended, by its name; 8 if the thread that ended it has not
     /// yet let go of its task, which is a matter of a few instructions; and 5 if the memory for the list of that one

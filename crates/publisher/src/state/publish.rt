@@ -4,23 +4,24 @@
 //! refusal of the Hub comes as a value that is made here alone, so whoever learns from it how the publisher is closed
 //! can't have made that up.
 mod by_policy;
+mod several;
 
-ghost use Rattle.std.specs.Prelude.{◌≡◌, ◌+◌, ◌≤◌, IfErr, IfOk, OnErr, OnOk, is_none, length};
+ghost use Rattle.std.specs.Prelude.{◌≡◌, ◌+◌, ◌≤◌, [], ◌∷◌, ◌++◌, IfErr, IfOk, OnErr, OnOk, is_none, length, take};
 ghost use Rattle.feed_cell.specs.Offering.{DoesCall};
 ghost use Rattle.publisher_hub.specs.Publishing.{OffersItem, Publishes, RefusesItem, RefusesOffer};
 ghost use Rattle.publisher_hub.specs.declared.hub.publish.Unpublished.TheVariants as Unpublished;
 ghost use Rattle.publisher.specs.Handles.{IsHubRefusal};
-ghost use Rattle.publisher.specs.Publishing.{PublishesFirst, PublishesShared, RefusesShared, StopsAt, drop_of, loss_of};
+ghost use Rattle.publisher.specs.Publishing.{PublishesFirst, StopsAt, drop_of};
 ghost use Rattle.publisher.specs.State.{producer_end};
 ghost use Rattle.publisher.specs.declared.state.look.Need.TheVariants as Need;
 
 use super::{Need, Own, State};
 use crate::ledgers::Ledgers;
-use by_policy::loss;
 use feed_cell::Task;
-use flow_rules::{DropHandler, Listener, NoMemory, Refusal, Text};
-use publisher_hub::{Published, Unpublished, Work};
+use flow_rules::{DropHandler, Listener, Refusal, Text};
+use publisher_hub::{Unpublished, Work};
 use std::marker::Model;
+use std::snapshot::Snapshot;
 use std::sync::ledger::{Book, Ledger, Share};
 
 /// A refusal of the Hub. Only a publication that the Hub refused gives one.
@@ -102,7 +103,7 @@ pub struct Stopped {
 
 impl<L: Ledgers, B: Listener> State<L, B> {
     /// Publishes a text to all live subscriptions at once, if all have room. Only then the submitter's share rises, by
-    /// one.
+    /// one, and the text is the last that it sent.
     pub fn publish(
         &mut self,
         own: &mut Own<L>,
@@ -117,21 +118,30 @@ impl<L: Ledgers, B: Listener> State<L, B> {
         ensures one_more { OnOk result
             (own.new.publications.amount ≡ own.old.publications.amount + 1) }
         ensures none { OnErr result (own.new.publications.amount ≡ own.old.publications.amount) }
+        ensures sent { OnOk result (own.new.pass.sent ≡ own.old.pass.sent ++ text ∷ []) }
+        ensures none_sent { OnErr result (own.new.pass.sent ≡ own.old.pass.sent) }
         ensures source { own.new.source ≡ own.old.source }
         ensures drops { own.new.drops.amount ≡ own.old.drops.amount }
     {
-        let State { hub, published, .. } = self;
+        let State {
+            hub,
+            published,
+            history,
+            ..
+        } = self;
+        let said = Snapshot::of(&text);
         let lag = match hub.publish(own.source, text, due) {
             Ok(lag) => lag,
             Err(why) => return Err(NotPublished(why)),
         };
         published.add(&mut own.publications, 1);
+        history.write(&mut own.pass, said);
         Ok(lag)
     }
 
-    /// Publishes texts in order, up to one that is not published: each as [`publish`](State::publish) does if the room
-    /// of all is needed, and else as [`publish_by_policy`](State::publish_by_policy) does. The answer has the lag after
-    /// the last, or 0 if there is no text.
+    /// Publishes texts in order, up to one that is not published: several at once if the room of all is needed, and else
+    /// one by one, as [`publish_by_policy`](State::publish_by_policy) does. The answer has the lag after the last, or 0
+    /// if there is no text.
     pub fn publish_all(
         &mut self,
         own: &mut Own<L>,
@@ -156,61 +166,14 @@ impl<L: Ledgers, B: Listener> State<L, B> {
         ensures few_before { IfErr result (λ stopped. stopped.lost ≤ stopped.published) }
         ensures none_lost { need ≡ Need.All → IfOk result (λ all. all.lost ≡ 0) }
         ensures none_lost_before { need ≡ Need.All → IfErr result (λ stopped. stopped.lost ≡ 0) }
+        ensures sent { OnOk result (own.new.pass.sent ≡ own.old.pass.sent ++ texts.now) }
+        ensures sent_before { IfErr result (λ stopped. own.new.pass.sent
+            ≡ own.old.pass.sent ++ take stopped.published texts.now) }
         ensures source { own.new.source ≡ own.old.source }
     {
-        let mut lag = 0;
-        let mut lost = 0;
-        for (published, text) in texts.iter().enumerate() {
-            match self.publish_shared(own, text, need, due) {
-                Ok(one) => {
-                    lag = one.lag;
-                    lost += loss(one.dropped) as usize;
-                }
-                Err(why) => {
-                    return Err(Stopped {
-                        published,
-                        lost,
-                        why,
-                    });
-                }
-            }
-        }
-        Ok(PublishedAll { lag, lost })
-    }
-
-    /// Publishes a share of a text, if those subscriptions have room whose room is needed.
-    fn publish_shared(
-        &mut self,
-        own: &mut Own<L>,
-        text: &Text,
-        need: Need,
-        due: &mut Vec<Work<Task<B>>>,
-    ) -> Result<Published, NotPublished>
-        ensures ok { IfOk result (λ published. PublishesShared need own.old.source text.now
-            self.old.hub self.new.hub due.old.items due.new.items published) }
-        ensures refusals { IfErr result (RefusesShared need text.now self.old self.new) }
-        ensures nothing_due { OnErr result (due.new.items ≡ due.old.items) }
-        ensures one_more { OnOk result
-            (own.new.publications.amount ≡ own.old.publications.amount + 1) }
-        ensures none { OnErr result (own.new.publications.amount ≡ own.old.publications.amount) }
-        ensures lost { IfOk result (λ published.
-            own.new.drops.amount ≡ own.old.drops.amount + loss_of published.dropped) }
-        ensures none_lost { OnErr result (own.new.drops.amount ≡ own.old.drops.amount) }
-        ensures waited { need ≡ Need.All → IfOk result (λ published. published.dropped ≡ 0) }
-        ensures source { own.new.source ≡ own.old.source }
-    {
-        let text = match text.share() {
-            Ok(text) => text,
-            Err(NoMemory) => {
-                return Err(NotPublished(Unpublished::Refused(Refusal::NoMemory)));
-            }
-        };
         match need {
-            Need::All => match self.publish(own, text, due) {
-                Ok(lag) => Ok(Published { lag, dropped: 0 }),
-                Err(why) => Err(why),
-            },
-            Need::Waiters => self.publish_by_policy(own, text, due),
+            Need::All => self.publish_in_batches(own, texts, due),
+            Need::Waiters => self.publish_each(own, texts, due),
         }
     }
 
@@ -233,19 +196,24 @@ impl<L: Ledgers, B: Listener> State<L, B> {
         ensures dropped { IfOk result
             (λ answer. own.new.drops.amount ≡ own.old.drops.amount + drop_of answer) }
         ensures none_dropped { OnErr result (own.new.drops.amount ≡ own.old.drops.amount) }
+        ensures sent { OnOk result (own.new.pass.sent ≡ own.old.pass.sent ++ text ∷ []) }
+        ensures none_sent { OnErr result (own.new.pass.sent ≡ own.old.pass.sent) }
         ensures source { own.new.source ≡ own.old.source }
     {
         let State {
             hub,
             published,
             dropping,
+            history,
             ..
         } = self;
+        let said = Snapshot::of(&text);
         let answer = match hub.offer_with(own.source, text, handler, due) {
             Ok(answer) => answer,
             Err(refusal) => return Err(Refused(refusal)),
         };
         published.add(&mut own.publications, 1);
+        history.write(&mut own.pass, said);
         count_drop(dropping, &mut own.drops, answer);
         Ok(answer)
     }

@@ -1,31 +1,38 @@
 //! The submitters of a publisher: their numbers and names, and their shares of what was published.
 //!
-//! Each has one part of two ledgers, which sum up publications and drops. Whether all are there, and what they have
-//! together, is found at the end of the publisher alone; what one of them publishes stands in `publish`.
-ghost use Rattle.std.specs.Prelude.{◌≡◌, ◌+◌, ◌<◌, ◌≤◌, ◌↔◌, ◌++◌, ◌||◌, [], false, is_some, IfErr, IfOk, IsErr, OnErr, None, Some, codes, decimal, length, slice_set, true};
+//! Each has one part of two ledgers, which sum up publications and drops, and a pass of the history, which knows what it
+//! sent. Whether all are there, and what they have together, is found at the end of the publisher alone; what one of them
+//! publishes stands in `publish`.
+ghost use Rattle.std.specs.Prelude.{◌≡◌, ◌+◌, ◌<◌, ◌≤◌, ◌↔◌, ◌∷◌, ◌++◌, ◌||◌, [], false, is_some, IfErr, IfOk, IsErr, OnErr, None, Some, codes, decimal, length, slice_set, true};
 ghost use Rattle.flow_rules.specs.Name.{is_name, is_name_byte};
 ghost use Rattle.flow_rules.specs.declared.refusal.Refusal.TheVariants as Refusal;
+ghost use Rattle.history.specs.History.{is_in, texts_of};
+ghost use Rattle.publisher.specs.Content.{AreSentIn};
 ghost use Rattle.publisher.specs.declared.state.TheConstants.{PARTS};
 ghost use Rattle.publisher_hub.specs.declared.hub.TheConstants.{MOST_SOURCES};
 ghost use Rattle.publisher.specs.Together.{AreTogether, Audits, FindsMissing, marks};
 
 use super::{PARTS, State};
-use crate::ledgers::{Drops, Ledgers, Publications};
+use crate::ledgers::{Drops, Ledgers, Pages, Publications};
 use crate::submitter::Submitter;
 use flow_rules::{FailHandler, Listener, Name, Refusal};
+use history::{History, Pass};
 use publisher_hub::MOST_SOURCES;
 use std::sync::ledger::{Book, Ledger, Share};
 
-/// What a submitter owns: its number, and one part of each ledger, which sum up how many items it published and how
-/// many of its offers found a buffer full.
+/// What a submitter owns: its number; one part of each ledger, which sum up how many items it published and how many of
+/// its offers found a buffer full; and its pass, which knows what it published.
 #[derive(Drop)]
 pub struct Own<L: Ledgers> {
     pub source: u32,
     pub publications: Share<Publications<L>>,
     pub drops: Share<Drops<L>>,
+    pub pass: Pass<Pages<L>>,
     ghost few: { source < MOST_SOURCES },
     ghost one: { publications.parts ≡ 1 },
     ghost one_of_drops: { drops.parts ≡ 1 },
+    ghost numbered: { pass.source ≡ source },
+    ghost many: { length pass.sent ≡ publications.amount },
 }
 
 impl<L: Ledgers, B: Listener> State<L, B> {
@@ -33,6 +40,7 @@ impl<L: Ledgers, B: Listener> State<L, B> {
     pub fn next_source(&mut self) -> Result<Own<L>, Refusal>
         ensures next { IfOk result (λ own. own.source ≡ self.old.hub.sources) }
         ensures new { IfOk result (λ own. (own.publications.amount ≡ 0) × (own.drops.amount ≡ 0)) }
+        ensures unsent { IfOk result (λ own. own.pass.sent ≡ []) }
         ensures counted { IfOk result (λ own. self.new ≡ record self.old {
           hub = record self.old.hub { sources = own.source + 1 };
         }) }
@@ -46,6 +54,7 @@ impl<L: Ledgers, B: Listener> State<L, B> {
             source,
             publications: self.rest.split_off(1, 0),
             drops: self.rest_of_drops.split_off(1, 0),
+            pass: self.history.make_source(),
         })
     }
 }
@@ -62,8 +71,8 @@ pub(super) struct Together<L: Ledgers> {
 }
 
 impl<L: Ledgers> Together<L> {
-    /// Takes in what one more of them owns.
-    fn take_in(&mut self, own: Own<L>, knows: bool)
+    /// Takes in what one more of them owns, whose pass the history takes back.
+    fn take_in(&mut self, own: Own<L>, knows: bool, history: &mut History<Pages<L>>)
         ensures publications { self.new.publications.amount
             ≡ self.old.publications.amount + own.publications.amount }
         ensures drops { self.new.drops.amount ≡ self.old.drops.amount + own.drops.amount }
@@ -71,12 +80,19 @@ impl<L: Ledgers> Together<L> {
         ensures drop_parts { self.new.drops.parts ≡ self.old.drops.parts + 1 }
         ensures sources { self.new.sources ≡ slice_set self.old.sources own.source true }
         ensures knows { self.new.knows ≡ (self.old.knows || knows) }
+        ensures texts { own.pass.sent ≡ texts_of own.source history.old.log }
+        ensures many { length own.pass.sent ≡ own.publications.amount }
+        ensures first { is_in own.source history.old.back ≡ false }
+        ensures back { history.new
+            ≡ record history.old { back = own.source ∷ history.old.back } }
     {
         let Own {
             source,
             publications,
             drops,
+            pass,
         } = own;
+        history.take_back(pass);
         self.publications.merge(publications);
         self.drops.merge(drops);
         self.sources[source as usize] = true;
@@ -84,30 +100,35 @@ impl<L: Ledgers> Together<L> {
     }
 }
 
-impl<L: Ledgers + Send, B: Listener + Send> State<L, B> {
-    /// Puts together what these submitters have.
-    pub(super) fn put_together<F: FailHandler + Send>(
-        &mut self,
-        mut submitters: Vec<Submitter<L, B, F>>,
-    ) -> Together<L>
-        ensures together { AreTogether submitters.items [] result.publications.amount
-            result.drops.amount result.publications.parts result.drops.parts result.sources
-            result.knows }
-        ensures same { self.new ≡ self.old }
-    {
-        let mut together = Together {
-            publications: self.rest.empty(),
-            drops: self.rest_of_drops.empty(),
-            sources: [false; MOST_SOURCES],
-            knows: false,
-        };
-        while let Some(submitter) = submitters.pop() {
-            let (own, knows) = submitter.give_up();
-            together.take_in(own, knows);
-        }
-        together
+/// Puts together what these submitters have, whose passes the history takes back.
+pub(super) fn put_together<L: Ledgers + Send, B: Listener + Send, F: FailHandler + Send>(
+    rest: &mut Share<Publications<L>>,
+    rest_of_drops: &mut Share<Drops<L>>,
+    history: &mut History<Pages<L>>,
+    mut submitters: Vec<Submitter<L, B, F>>,
+) -> Together<L>
+    ensures together { AreTogether submitters.items [] result.publications.amount
+        result.drops.amount result.publications.parts result.drops.parts result.sources
+        result.knows }
+    ensures sent { AreSentIn history.old.log submitters.items }
+    ensures log { history.new.log ≡ history.old.log }
+    ensures made { history.new.made ≡ history.old.made }
+    ensures same { (rest.new ≡ rest.old) × (rest_of_drops.new ≡ rest_of_drops.old) }
+{
+    let mut together = Together {
+        publications: rest.empty(),
+        drops: rest_of_drops.empty(),
+        sources: [false; MOST_SOURCES],
+        knows: false,
+    };
+    while let Some(submitter) = submitters.pop() {
+        let (own, knows) = submitter.give_up();
+        together.take_in(own, knows, history);
     }
+    together
+}
 
+impl<L: Ledgers + Send, B: Listener + Send> State<L, B> {
     /// Compares what submitters have together with the totals. The answer is the name of the first one that is
     /// missing, as `source-3`.
     pub(super) fn audit(&mut self, together: Together<L>) -> Option<Name>

@@ -1,18 +1,15 @@
 //! Subscribing: the place and the ticket of a new subscription, and what its owner gets.
 //!
 //! What is asked of the subscriptions that are there stands in `look`.
-ghost use Rattle.std.specs.Prelude.{◌≡◌, ◌↔◌, [], true, IfErr, IfOk, List, OnErr, OnOk, Option, length};
-ghost use Rattle.feed_cell.specs.Offering.{DoesCall};
-ghost use Rattle.flow_rules.specs.declared.feed.standing.Standing.{Standing};
+ghost use Rattle.std.specs.Prelude.{◌≡◌, ◌+◌, ◌<◌, ◌≤◌, [], IfErr, IfOk, IsSome, List, None, OnErr, OnOk, Option};
 ghost use Rattle.publisher_hub.specs.Adding.{IsFresh};
 ghost use Rattle.publisher_hub.specs.Hub.{hub_of};
-ghost use Rattle.publisher_hub.specs.Lists.{greatest};
-ghost use Rattle.publisher_hub.specs.Looking.{LooksAtAll, living, waiting};
-ghost use Rattle.publisher_hub.specs.Names.{IsSubscribed};
-ghost use Rattle.publisher_hub.specs.Subscribing.{AdmitsWith, CanAdmit};
+ghost use Rattle.publisher_hub.specs.Sound.{IsSound};
+ghost use Rattle.publisher_hub.specs.Subscribing.{CanAdmit};
+ghost use Rattle.publisher_hub.specs.declared.hub.TheConstants.{MOST_LIVE};
 ghost use Rattle.publisher.specs.Handles.{RefusesSubscribing};
 ghost use Rattle.publisher.specs.State.{producer_end};
-ghost use Rattle.publisher.specs.Subscribing.{AddsNone, AdmitsNew, IsDueAfter, IsSubscription};
+ghost use Rattle.publisher.specs.Subscribing.{AddsNone, AdmitsNew, AdmitsOne, AdmitsOpen, IsDueAfter, IsSubscription};
 ghost use Rattle.publisher.specs.Tickets.{IsTicketFor};
 
 use super::State;
@@ -20,7 +17,7 @@ use crate::ledgers::Ledgers;
 use close_count::Ticket;
 use feed_cell::{Cell, Handle, Producer, Task};
 use flow_rules::{ErrorOrder, Listener, Name, Refusal};
-use publisher_hub::{OnFull, Work};
+use publisher_hub::{Hub, OnFull, Work};
 use std::alloc::Global;
 
 /// What the owner of a new subscription gets.
@@ -56,11 +53,17 @@ impl<L: Ledgers, B: Listener> State<L, B> {
         ensures back { IfErr result (λ refused. refused.1 ≡ subscriber) }
         ensures adds_none { OnErr result
             (AddsNone (hub_of producer_end self.old.hub) (hub_of producer_end self.new.hub)) }
-        ensures due { IfErr result (λ refused. IsDueAfter name refused.0
+        ensures due { IfErr result (λ refused. IsDueAfter name self.old.census.most refused.0
             due.old.items due.new.items self.old.hub self.new.hub) }
-        ensures admits { IfOk result (λ subscribed. AdmitsNew name on_full subscribed.entry
-            due.old.items due.new.items self.old.hub self.new.hub) }
+        ensures admits { IfOk result (λ subscribed. AdmitsNew name on_full self.old.census.most
+            subscribed.entry due.old.items due.new.items self.old.hub self.new.hub) }
+        ensures counted { OnOk result
+            (self.new.census ≡ record self.old.census { made = self.old.census.made + 1 }) }
+        ensures uncounted { OnErr result (self.new.census ≡ self.old.census) }
     {
+        if let Err(refusal) = self.census.make_room(self.entries) {
+            return Err((refusal, subscriber));
+        }
         let ticket = match self.reserve(name, due) {
             Ok(ticket) => ticket,
             Err(refusal) => return Err((refusal, subscriber)),
@@ -87,20 +90,23 @@ impl<L: Ledgers, B: Listener> State<L, B> {
         name: Name,
         due: &mut Vec<Work<Task<B>>>,
     ) -> Result<Option<Ticket>, Refusal>
-        ensures can { OnOk result (CanAdmit producer_end name self.new.hub due.new) }
+        ensures can { OnOk result
+            (CanAdmit producer_end name self.old.census.most self.new.hub due.new) }
         ensures ticket { IfOk result (λ ticket. IsTicketFor self.new.hub ticket) }
         ensures refusals { IfErr result (λ refusal. RefusesSubscribing refusal) }
         ensures adds_none { AddsNone
             (hub_of producer_end self.old.hub) (hub_of producer_end self.new.hub) }
-        ensures due { IfErr result (λ refusal. IsDueAfter name refusal
+        ensures due { IfErr result (λ refusal. IsDueAfter name self.old.census.most refusal
             due.old.items due.new.items self.old.hub self.new.hub) }
         ensures nothing_due { OnOk result (due.new.items ≡ due.old.items) }
+        ensures census { self.new.census ≡ self.old.census }
     {
-        self.hub.may_subscribe(name, due)?;
+        self.hub.may_subscribe(name, self.census.most_live(), due)?;
         self.hub.add_ticket()
     }
 
-    /// Adds a subscription that may be added. The answer is its number.
+    /// Adds a subscription that may be added. The answer is its number, which is that of one that was reclaimed, if
+    /// there is one.
     fn admit(
         &mut self,
         name: Name,
@@ -109,19 +115,73 @@ impl<L: Ledgers, B: Listener> State<L, B> {
         ticket: Option<Ticket>,
         due: &mut Vec<Work<Task<B>>>,
     ) -> u32
-        requires can { CanAdmit producer_end name self.old.hub due.old }
+        requires can { CanAdmit producer_end name self.old.census.most self.old.hub due.old }
         requires ticket { IsTicketFor self.old.hub ticket }
         requires fresh { IsFresh self.old.hub.capacity (producer_end producer) }
-        ensures admits { AdmitsWith producer_end DoesCall name on_full producer ticket result
+        requires countable { self.old.census.made < 18446744073709551615 }
+        ensures admits { AdmitsOpen name on_full producer ticket self.old.census.most result
             due.old.items due.new.items self.old.hub self.new.hub }
+        ensures counted { self.new.census
+            ≡ record self.old.census { made = self.old.census.made + 1 } }
     {
-        let entry = self
-            .hub
-            .admit_with(name, on_full, producer, ticket, due)
-            .unwrap();
-        self.entries = entry + 1;
+        let most = self.census.most_live();
+        let place = self.take_vacant();
+        let hub = &mut self.hub;
+        let entry = put(hub, place, name, on_full, producer, ticket, most, due);
+        self.entries = places_with(self.entries, entry);
+        self.census.add();
         entry
     }
+
+    /// Gives the number of a subscription that was reclaimed, if there is one that no later one has. After the close
+    /// there is none: the numbers from then on are those of late ones.
+    fn take_vacant(&mut self) -> Option<u32>
+        ensures same { self.new ≡ self.old }
+        ensures unclosed { IsSome result → self.new.hub.ending ≡ None }
+    {
+        if self.hub.ending().is_some() {
+            return None;
+        }
+        self.census.take_vacant()
+    }
+}
+
+/// Adds a subscription that may be added, in this place if it is vacant, and else after all others.
+fn put<B: Listener>(
+    hub: &mut Hub<Producer<B>>,
+    place: Option<u32>,
+    name: Name,
+    on_full: OnFull,
+    producer: Producer<B>,
+    ticket: Option<Ticket>,
+    most: usize,
+    due: &mut Vec<Work<Task<B>>>,
+) -> u32
+    requires sound { IsSound (hub_of producer_end hub.old) }
+    requires few { most ≤ MOST_LIVE }
+    requires can { CanAdmit producer_end name most hub.old due.old }
+    requires fresh { IsFresh hub.old.capacity (producer_end producer) }
+    ensures admits { AdmitsOne place name on_full producer ticket most result
+        due.old.items due.new.items hub.old hub.new }
+    ensures sound { IsSound (hub_of producer_end hub.new) }
+{
+    match place {
+        Some(place) => hub
+            .admit_at(place, name, on_full, producer, ticket, most, due)
+            .unwrap(),
+        None => hub
+            .admit_with(name, on_full, producer, ticket, most, due)
+            .unwrap(),
+    }
+}
+
+/// Tells how many places there are, once a subscription of this number was added.
+fn places_with(places: u32, number: u32) -> u32
+    requires { number < 4294967295 }
+    ensures within { number < places → result ≡ places }
+    ensures last { number ≡ places → result ≡ number + 1 }
+{
+    if number < places { places } else { number + 1 }
 }
 
 /// Spends a ticket that no subscription got. It was made while the publisher was open, so it isn't the last: the

@@ -1,13 +1,15 @@
 //! What is taken out from behind the lock: one subscription that has ended, or all at the end of the publisher.
 //!
 //! Only the two ends of subscriptions come out. They are closed outside the lock, by whoever took them out.
-ghost use Rattle.std.specs.Prelude.{◌≡◌, IfErr, IfOk, IfSome};
+ghost use Rattle.std.specs.Prelude.{◌≡◌, ◌<◌, IfErr, IfOk, IfSome, IsSome};
+ghost use Rattle.publisher.specs.Content.{ArePublished};
 ghost use Rattle.publisher.specs.Finishing.{IsNothing, TakesBooksOut};
 ghost use Rattle.publisher.specs.Reclaiming.{Knows, NamesOne, Reclaims, RefusesReclaim, TakesEnd};
 
 use super::State;
 use super::close::{compare_tickets, keep_last};
-use crate::finishing::find::{Taken, find_all, is_late, place_all};
+use super::sources::put_together;
+use crate::finishing::find::{Taken, count_ends, find_all, is_late, place_all};
 use crate::finishing::judge::Books;
 use crate::finishing::room::{Places, new_places};
 use crate::ledgers::Ledgers;
@@ -64,7 +66,8 @@ impl<L: Ledgers, B: Listener> State<L, B> {
     ///
     /// Refused, with the handle back: 9 if a look shows that it has not ended, by its name; 8 if a thread has its task
     /// still; and 5 if the memory for the list of that one name is refused, or if no subscription has the number.
-    /// Nothing has changed then but by looks.
+    /// Nothing has changed then but by looks. If it is given, one more was reclaimed, and a later one may have its
+    /// number.
     pub fn reclaim(
         &mut self,
         alloc: Global,
@@ -91,15 +94,23 @@ impl<L: Ledgers, B: Listener> State<L, B> {
             return Err((Refusal::StillHeld(known.name), handle));
         }
         match self.take_end(entry) {
-            Some(producer) => Ok(known.with(producer, handle)),
+            Some(producer) => {
+                self.census.reclaim(entry);
+                Ok(known.with(producer, handle))
+            }
             None => Err((unsettled(alloc, known.name), handle)),
         }
     }
 
-    /// Gives what is known of the subscription of this number, if there is one.
+    /// Gives what is known of the subscription of this number, if there is one, and not all were reclaimed.
     fn known(&self, entry: u32) -> Option<Known>
-        ensures { IfSome result (Knows self.now entry) }
+        ensures known { IfSome result (Knows self.now entry) }
+        ensures unreclaimed { IsSome result
+            → self.now.census.reclaimed < self.now.census.made }
     {
+        if self.census.unreclaimed() == 0 {
+            return None;
+        }
         Some(Known {
             name: self.hub.name_of(entry)?,
             on_full: self.hub.on_full(entry)?,
@@ -112,7 +123,8 @@ impl<L: Ledgers, B: Listener> State<L, B> {
     /// Looks at the subscription of this number. If that shows that it has ended, its producer's end is taken out, its
     /// number is none of those that may be live, and its ticket is spent.
     fn take_end(&mut self, entry: u32) -> Option<Producer<B>>
-        ensures { TakesEnd entry result self.old self.new }
+        ensures takes { TakesEnd entry result self.old self.new }
+        ensures census { self.new.census ≡ self.old.census }
     {
         let (producer, ticket) = self.hub.take_ended(entry)?;
         if let Some(ticket) = ticket {
@@ -135,7 +147,15 @@ impl<L: Ledgers + Send, B: Listener + Send> State<L, B> {
         ensures ok { IfOk result
             (λ books. TakesBooksOut submitters.items subscriptions.items self.old books) }
         ensures nothing { IfErr result (λ outcome. IsNothing outcome) }
+        ensures sent { IfErr result
+            (λ outcome. ArePublished submitters.items outcome.published) }
     {
+        let together = put_together(
+            &mut self.rest,
+            &mut self.rest_of_drops,
+            &mut self.history,
+            submitters,
+        );
         let Ok(
             Places {
                 mut handles,
@@ -149,18 +169,19 @@ impl<L: Ledgers + Send, B: Listener + Send> State<L, B> {
         let all = place_all(&mut handles, subscriptions);
         compare_tickets(&mut self.hub, &mut self.last, self.entries);
         let gone = find_all(&mut self.hub, self.counted, &mut handles, &mut founds);
-        // Each subscription of this publisher has its place, and one that is reclaimed is given up by its owner.
-        if gone | !all {
+        // Each subscription of this publisher has its place, one that is reclaimed is given up by its owner, and the
+        // others have their ends here.
+        let whole = count_ends(&founds) == self.census.unreclaimed();
+        if gone | !all | !whole {
             return Err(self.nothing(alloc));
         }
-        let made = self.entries;
-        let together = self.put_together(submitters);
         let is_closed = together.knows | self.hub.ending().is_some();
         let missing = self.audit(together);
         Ok(Books {
             founds,
             room,
-            made,
+            made: self.census.made(),
+            reclaimed: self.census.reclaimed(),
             published: self.hub.next_serial(),
             drained: self.last.is_some(),
             is_closed,
@@ -170,15 +191,16 @@ impl<L: Ledgers + Send, B: Listener + Send> State<L, B> {
 
     /// Makes an outcome without lanes and without a handler.
     fn nothing<F: FailHandler>(&self, alloc: Global) -> Outcome<B, F>
-        ensures { IsNothing result }
+        ensures nothing { IsNothing result }
+        ensures published { result.published ≡ self.now.hub.next }
     {
         let published = self.hub.next_serial();
         let drained = self.last.is_some();
         Outcome {
             lanes: Vec::new(alloc),
             held: Vec::new(alloc),
-            reclaimed: Vec::new(alloc),
-            made: self.entries,
+            reclaimed: self.census.reclaimed(),
+            made: self.census.made(),
             published,
             drained,
             handler: None,

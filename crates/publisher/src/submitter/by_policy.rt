@@ -31,7 +31,7 @@ impl<L: Ledgers + Send, B: Listener + Send, F: FailHandler + Send> Submitter<L, 
         ensures known { RefusesKnown result self.old self.new }
         ensures long { RefusesLong result self.old text.now }
         ensures ok { IfOk result
-            (λ published. CountsPublished published.dropped self.old self.new) }
+            (λ published. CountsPublished text.now published.dropped self.old self.new) }
         ensures unchanged { IfErr result (λ refusal. self.new ≡ after_refusal refusal self.old) }
         ensures refusals { IfErr result (λ refusal. RefusesPublication refusal self.new.known) }
     {
@@ -45,7 +45,7 @@ impl<L: Ledgers + Send, B: Listener + Send, F: FailHandler + Send> Submitter<L, 
     /// Publishes a text, and waits as long as there is no room at those that are waited for.
     fn publish_text<R: Wait>(&mut self, rt: &R, text: Text) -> Result<Published, Refused>
         ensures ok { IfOk result
-            (λ published. CountsPublished published.dropped self.old self.new) }
+            (λ published. CountsPublished text published.dropped self.old self.new) }
         ensures unchanged { OnErr result (self.new ≡ self.old) }
     {
         let Submitter {

@@ -2,10 +2,10 @@
 //!
 //! It is `submit`, or `publish`, in all but how often it takes the lock. How the texts are published behind it stands
 //! in `state`.
-ghost use Rattle.std.specs.Prelude.{◌≡◌, ◌+◌, ◌<◌, ◌≤◌, None, Err, IfErr, IfOk, IfSome, OnOk, length};
+ghost use Rattle.std.specs.Prelude.{◌≡◌, ◌+◌, ◌<◌, ◌≤◌, ◌++◌, None, Err, IfErr, IfOk, IfSome, OnOk, length, take};
 ghost use Rattle.flow_rules.specs.declared.refusal.Refusal.TheVariants as Refusal;
 ghost use Rattle.publisher.specs.Handles.{IsHubRefusal, RefusesPublication, after_refusal};
-ghost use Rattle.publisher.specs.Submitting.{CountsAll, CountsPart};
+ghost use Rattle.publisher.specs.Submitting.{CountsAll, CountsFirst, CountsPart};
 ghost use Rattle.publisher.specs.declared.state.look.Need.TheVariants as Need;
 
 use super::Submitter;
@@ -68,10 +68,15 @@ impl<L: Ledgers + Send, B: Listener + Send, F: FailHandler + Send> Submitter<L, 
           published = 0;
           refusal = Refusal.Closed ending;
         })) × (self.new ≡ self.old)) }
-        ensures ok { OnOk result (self.new ≡ record self.old
-            { published = self.old.published + length texts.now }) }
+        ensures ok { OnOk result (self.new ≡ record self.old {
+          published = self.old.published + length texts.now;
+          sent = self.old.sent ++ texts.now;
+        }) }
         ensures partly { IfErr result (λ unsent. self.new ≡ after_refusal unsent.refusal
-            (record self.old { published = self.old.published + unsent.published })) }
+            (record self.old {
+              published = self.old.published + unsent.published;
+              sent = self.old.sent ++ take unsent.published texts.now;
+            })) }
         ensures less { self.old.known ≡ None
             → IfErr result (λ unsent. unsent.published < length texts.now) }
         ensures reasons { IfErr result (λ unsent. IsHubRefusal unsent.refusal) }
@@ -111,9 +116,9 @@ impl<L: Ledgers + Send, B: Listener + Send, F: FailHandler + Send> Submitter<L, 
           refusal = Refusal.Closed ending;
         })) × (self.new ≡ self.old)) }
         ensures ok { IfOk result
-            (λ all. CountsAll (length texts.now) all.lost self.old self.new) }
+            (λ all. CountsAll texts.now all.lost self.old self.new) }
         ensures few { IfOk result (λ all. all.lost ≤ length texts.now) }
-        ensures partly { IfErr result (λ part. CountsPart part self.old self.new) }
+        ensures partly { IfErr result (λ part. CountsPart texts.now part self.old self.new) }
         ensures less { self.old.known ≡ None
             → IfErr result (λ part. part.published < length texts.now) }
         ensures few_before { IfErr result (λ part. part.lost ≤ part.published) }
@@ -138,9 +143,9 @@ impl<L: Ledgers + Send, B: Listener + Send, F: FailHandler + Send> Submitter<L, 
           refusal = Refusal.Closed ending;
         })) × (self.new ≡ self.old)) }
         ensures ok { IfOk result
-            (λ all. CountsAll (length texts.now) all.lost self.old self.new) }
+            (λ all. CountsAll texts.now all.lost self.old self.new) }
         ensures few { IfOk result (λ all. all.lost ≤ length texts.now) }
-        ensures partly { IfErr result (λ part. CountsPart part self.old self.new) }
+        ensures partly { IfErr result (λ part. CountsPart texts.now part self.old self.new) }
         ensures less { self.old.known ≡ None
             → IfErr result (λ part. part.published < length texts.now) }
         ensures few_before { IfErr result (λ part. part.lost ≤ part.published) }
@@ -181,10 +186,10 @@ impl<L: Ledgers + Send, B: Listener + Send, F: FailHandler + Send> Submitter<L, 
         need: Need,
     ) -> Result<PublishedAll, Halted>
         ensures ok { IfOk result
-            (λ all. CountsAll (length texts.now) all.lost self.old self.new) }
+            (λ all. CountsAll texts.now all.lost self.old self.new) }
         ensures few { IfOk result (λ all. all.lost ≤ length texts.now) }
         ensures partly { IfErr result
-            (λ halted. CountsAll halted.published halted.lost self.old self.new) }
+            (λ halted. CountsFirst texts.now halted.published halted.lost self.old self.new) }
         ensures less { IfErr result (λ halted. halted.published < length texts.now) }
         ensures few_before { IfErr result (λ halted. halted.lost ≤ halted.published) }
         ensures none_lost { need ≡ Need.All → IfOk result (λ all. all.lost ≡ 0) }

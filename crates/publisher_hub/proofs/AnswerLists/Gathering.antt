@@ -16,7 +16,7 @@ gather_nothing each (answer ∷ answers) place none =
     ∙ gather_nothing each answers (suc place) (λ i a at. subst (λ p. each p a ≡ []) (omega arith) (none (suc i) a at))
 
 -- two lists, one after the other, are empty only if both are
-both_empty : {C : Type 0} (xs ys : List C) → xs ++ ys ≡ [] → (xs ≡ []) × (ys ≡ [])
+pub both_empty : {C : Type 0} (xs ys : List C) → xs ++ ys ≡ [] → (xs ≡ []) × (ys ≡ [])
 both_empty [] ys e = (refl, e)
 both_empty (x ∷ xs) ys e = cc
 

@@ -6,8 +6,9 @@ use Rattle.std.proofs.lemmas.List.Sums.{fold-append}
 use Rattle.flow_rules.specs.Call.{Call}
 use Rattle.flow_rules.specs.Feed.{End}
 use Rattle.flow_rules.specs.declared.feed.standing.Standing.{Standing}
+use Rattle.flow_rules.specs.declared.item.TheConstants.{MOST_PUBLICATIONS}
 use Rattle.publisher_hub.specs.Lists.{greatest}
-use Rattle.publisher_hub.specs.Looking.{Glances, full, full_by, living, living_by, waiting, waiting_by}
+use Rattle.publisher_hub.specs.Looking.{Glances, full, full_by, living, living_by, room_by, rooms, waiting, waiting_by}
 use Rattle.publisher_hub.specs.Overview.{CountsLook, Shows}
 use Rattle.publisher_hub.specs.Policy.{waits}
 use Rattle.publisher_hub.specs.Sound.{AreNumbers}
@@ -24,7 +25,7 @@ module _ {F T : Type 0} (meaning : F → End) (does : F → Call T → F → Typ
     pub few : overview.living ≤ n
 
   -- at first nothing is done
-  pub looking_none : (xs : List (Entry F)) → IsLooking 0 (record { living = 0; most_waiting = 0; room = record { everywhere = true; for_waiters = true } }) xs xs
+  pub looking_none : (xs : List (Entry F)) → IsLooking 0 (record { living = 0; most_waiting = 0; room = record { everywhere = true; for_waiters = true; least = MOST_PUBLICATIONS } }) xs xs
   looking_none xs = record {
     glances = replicate (length xs) None;
     upto = upto_none (Glances meaning does next) None live xs;
@@ -49,7 +50,7 @@ module _ {F T : Type 0} (meaning : F → End) (does : F → Call T → F → Typ
           ∙ sym (length-append (living so_far.glances) (living_by k glance)) ∙ sym (ap length lives);
       most_waiting = counts.most_waiting k ∙ ap (λ m. fold max m (waiting_by k glance)) so_far.shows.most_waiting
           ∙ sym (fold-append max 0 (waiting so_far.glances) (waiting_by k glance)) ∙ sym (ap greatest waits);
-      room = room_next capacity k old.room new.room xs x glance so_far.glances (set so_far.glances k glance) at is_full counts.room so_far.shows.room;
+      room = room_next capacity k old.room new.room xs x glance so_far.glances (set so_far.glances k glance) at is_full more counts.room so_far.shows.room;
     };
     few = let few = so_far.few in let few' = counts.few in omega arith;
   } where
@@ -64,3 +65,7 @@ module _ {F T : Type 0} (meaning : F → End) (does : F → Call T → F → Typ
     is_full : full capacity (set so_far.glances k glance) ≡ full capacity so_far.glances ++ full_by capacity k glance
     is_full =
         gather_next (full_by capacity) (Glances meaning does next) None live n k so_far.glances xs ys glance (λ p. refl) numbers number so_far.upto
+
+    more : rooms capacity (set so_far.glances k glance) ≡ rooms capacity so_far.glances ++ room_by capacity k glance
+    more =
+        gather_next (room_by capacity) (Glances meaning does next) None live n k so_far.glances xs ys glance (λ p. refl) numbers number so_far.upto

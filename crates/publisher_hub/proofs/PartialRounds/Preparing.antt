@@ -6,8 +6,9 @@ use Rattle.std.proofs.lemmas.Option.{slice_get-get_or, slice_get_within}
 use Rattle.flow_rules.specs.Call.{Call}
 use Rattle.flow_rules.specs.Feed.{End}
 use Rattle.flow_rules.specs.declared.feed.standing.Standing.{Standing}
+use Rattle.flow_rules.specs.declared.item.TheConstants.{MOST_PUBLICATIONS}
 use Rattle.publisher_hub.specs.Lists.{Each}
-use Rattle.publisher_hub.specs.Looking.{FailsToPrepare, MayPrepare, Prepares, ShowsRoom, full, full_by}
+use Rattle.publisher_hub.specs.Looking.{FailsToPrepare, MayPrepare, Prepares, ShowsRoom, full, full_by, room_by, rooms}
 use Rattle.publisher_hub.specs.Overview.{CountsRoom}
 use Rattle.publisher_hub.specs.Policy.{waits}
 use Rattle.publisher_hub.specs.Sound.{AreNumbers}
@@ -23,7 +24,7 @@ module _ {F T : Type 0} (meaning : F → End) (does : F → Call T → F → Typ
     pub shows : ShowsRoom room capacity xs glances
 
   -- at first nothing is done
-  pub preparing_none : (xs : List (Entry F)) → IsPreparing 0 (record { everywhere = true; for_waiters = true }) xs xs
+  pub preparing_none : (xs : List (Entry F)) → IsPreparing 0 (record { everywhere = true; for_waiters = true; least = MOST_PUBLICATIONS }) xs xs
   preparing_none xs = record {
     glances = replicate (length xs) None;
     upto = upto_none (Prepares meaning does next) None live xs;
@@ -39,11 +40,15 @@ module _ {F T : Type 0} (meaning : F → End) (does : F → Call T → F → Typ
   preparing_next n k room after xs ys glance x y numbers number at became counts so_far = record {
     glances = set so_far.glances k glance;
     upto = upto_next (Prepares meaning does next) None live n k so_far.glances xs ys glance x y numbers number at became so_far.upto;
-    shows = room_next capacity k room after xs x glance so_far.glances (set so_far.glances k glance) at gathered counts so_far.shows;
+    shows = room_next capacity k room after xs x glance so_far.glances (set so_far.glances k glance) at gathered more counts so_far.shows;
   } where
     gathered : full capacity (set so_far.glances k glance) ≡ full capacity so_far.glances ++ full_by capacity k glance
     gathered =
         gather_next (full_by capacity) (Prepares meaning does next) None live n k so_far.glances xs ys glance (λ p. refl) numbers number so_far.upto
+
+    more : rooms capacity (set so_far.glances k glance) ≡ rooms capacity so_far.glances ++ room_by capacity k glance
+    more =
+        gather_next (room_by capacity) (Prepares meaning does next) None live n k so_far.glances xs ys glance (λ p. refl) numbers number so_far.upto
 
   -- if a subscription can't be prepared, some were looked at
   pub stopped : (n k : ℕ) (room : Room) (xs ys : List (Entry F)) (x y : Entry F) → AreNumbers live (length xs) → slice_get live n ≡ Some k

@@ -1,10 +1,12 @@
 -- What looks show of room, as far as a round has come.
-use Rattle.std.proofs.Common.{◌≡◌, ◌&&◌, ◌||◌, not, cond, ℕ, ◌+◌, ◌<◌, Bool, true, false, Option, None, Some, List, [], ◌∷◌, ◌++◌, filter, length, replicate, refl, ap, sym, subst, ◌∙◌, arith}
-use Rattle.std.specs.Prelude.{slice_get}
+use Rattle.std.proofs.Common.{◌≡◌, ◌&&◌, ◌||◌, not, cond, ℕ, ◌<◌, Bool, true, false, Option, None, Some, List, [], ◌∷◌, ◌++◌, filter, length, replicate, refl, ap, sym, subst, ◌∙◌, arith}
+use Rattle.std.specs.Prelude.{fold, min, slice_get}
 use Rattle.std.proofs.lemmas.List.{append-nil, length-append}
 use Rattle.std.proofs.lemmas.List.Elements.{filter-append}
+use Rattle.std.proofs.lemmas.List.Sums.{fold-append}
 use Rattle.flow_rules.specs.declared.feed.standing.Standing.{Standing}
-use Rattle.publisher_hub.specs.Looking.{IsRoom, IsRoomForWaiters, ShowsRoom, full, full_by, full_waiters}
+use Rattle.flow_rules.specs.declared.item.TheConstants.{MOST_PUBLICATIONS}
+use Rattle.publisher_hub.specs.Looking.{IsRoom, IsRoomForWaiters, ShowsRoom, full, full_by, full_waiters, room_by, rooms}
 use Rattle.publisher_hub.specs.Overview.{CountsRoom}
 use Rattle.publisher_hub.specs.Policy.{is_waited_for, waits}
 use Rattle.publisher_hub.specs.declared.entry.Entry.{Entry}
@@ -26,10 +28,11 @@ module _ (p : ℕ → Bool) (ns : List ℕ) (k : ℕ) where
 
 -- before any look there is room
 pub room_none : {F : Type 0} (capacity : ℕ) (xs : List (Entry F))
-    → ShowsRoom (record { everywhere = true; for_waiters = true }) capacity xs (replicate (length xs) None)
+    → ShowsRoom (record { everywhere = true; for_waiters = true; least = MOST_PUBLICATIONS }) capacity xs (replicate (length xs) None)
 room_none capacity xs = record {
   all = record { there = λ _. none; missing = λ e. cc };
   waiters = record { there = λ _. ap (filter (is_waited_for xs)) none; missing = λ e. cc };
+  least = sym (ap (λ ns. fold min MOST_PUBLICATIONS ns) (gather_none (room_by capacity) None (length xs) (λ p. refl)));
 } where
   none : full capacity (replicate (length xs) None) ≡ []
   none = gather_none (full_by capacity) None (length xs) (λ p. refl)
@@ -37,12 +40,16 @@ room_none capacity xs = record {
 -- one more look
 pub room_next : {F : Type 0} (capacity k : ℕ) (room after : Room) (xs : List (Entry F)) (x : Entry F) (glance : Option Standing) (glances later : List (Option Standing))
     → slice_get xs k ≡ Some x → full capacity later ≡ full capacity glances ++ full_by capacity k glance
+    → rooms capacity later ≡ rooms capacity glances ++ room_by capacity k glance
     → CountsRoom capacity (waits x.on_full) glance room after → ShowsRoom room capacity xs glances → ShowsRoom after capacity xs later
-room_next capacity k room after xs x glance glances later at gathered counts shows = record {
+room_next capacity k room after xs x glance glances later at gathered more counts shows = record {
   all = subst (λ r. IsRoom r capacity later) (sym counts.everywhere)
       (everywhere room.everywhere counts.has shows.all counts.full counts.not_full);
   waiters = subst (λ r. IsRoomForWaiters r capacity xs later) (sym counts.for_waiters)
       (for_waiters room.for_waiters counts.has (waits x.on_full) shows.waiters waited counts.full counts.not_full);
+  least = counts.least k ∙ ap (λ n. fold min n (room_by capacity k glance)) shows.least
+      ∙ sym (fold-append min MOST_PUBLICATIONS (rooms capacity glances) (room_by capacity k glance))
+      ∙ sym (ap (λ ns. fold min MOST_PUBLICATIONS ns) more);
 } where
   waited : is_waited_for xs k ≡ waits x.on_full
   waited = rw at refl

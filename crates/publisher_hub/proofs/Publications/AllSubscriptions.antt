@@ -72,7 +72,7 @@ module _ {F T : Type 0} (meaning : F → End) (does : F → Call T → F → Typ
       }
 
   -- what was prepared holds at most as many items as the look showed
-  held_prepared : (standing : Standing) (answer : Result Unit NoMemory) (next : ℕ) (old seen ready : Entry F) (f : F)
+  pub held_prepared : (standing : Standing) (answer : Result Unit NoMemory) (next : ℕ) (old seen ready : Entry F) (f : F)
       → standing.ended ≡ false → Rattle.publisher_hub.specs.Looking.Sees meaning does next standing old seen
       → IsReadied meaning does answer seen ready → ready.feed ≡ Some f
       → (held_count (meaning f) ≡ standing.held) × ((e : End) → (entry_of meaning old).feed ≡ Some e → (meaning f).capacity ≡ e.capacity)

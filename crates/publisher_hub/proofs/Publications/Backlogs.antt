@@ -23,7 +23,7 @@ use Rattle.publisher_hub.proofs.PartialRounds.Next.{get_before_map}
 use Rattle.publisher_hub.proofs.PartialRounds.Progress.{same_some}
 
 -- a retired subscription has no backlog
-retired_has_none : (k : ℕ) (entry : EntryState) → entry.retired ≡ true → backlog_by k entry ≡ []
+pub retired_has_none : (k : ℕ) (entry : EntryState) → entry.retired ≡ true → backlog_by k entry ≡ []
 retired_has_none k entry retired = ap (λ is. if is then [] else held_in entry.feed) retired
 
 module _ {F T : Type 0} (meaning : F → End) (does : F → Call T → F → Type 0) (x : Item) where

@@ -18,7 +18,7 @@ use Rattle.publisher_hub.proofs.AnswerLists.Updates.{get_grown}
 use Rattle.publisher_hub.proofs.Soundness.Looking.{same_end}
 
 -- nothing stands in an empty list
-none_in : {X : Type 0} (xs : List X) (i : ℕ) (x : X) → xs ≡ [] → slice_get xs i ≡ Some x → ⊥
+pub none_in : {X : Type 0} (xs : List X) (i : ℕ) (x : X) → xs ≡ [] → slice_get xs i ≡ Some x → ⊥
 none_in xs i x empty at = let e : slice_get [] i ≡ Some x = subst (λ l. slice_get l i ≡ Some x) empty at in cc
 
 -- what stands at the end of a list with another element
@@ -33,7 +33,7 @@ get_first (first ∷ xs) x y zero at = at
 get_first (first ∷ xs) x y (suc i) at = get_first xs x y i at
 
 -- a new subscription has accepted and dropped nothing since it was subscribed
-entry_added : (p : Progress) (name : List ℕ) (on_full : OnFull) (e : End) (ticket : Option Ticket) → e.accepted ≡ [] → e.capacity ≡ p.capacity
+pub entry_added : (p : Progress) (name : List ℕ) (on_full : OnFull) (e : End) (ticket : Option Ticket) → e.accepted ≡ [] → e.capacity ≡ p.capacity
     → (p.ending ≡ None → e.closing ≡ None) → IsEntry p (new_entry p name on_full e ticket)
 entry_added p name on_full e ticket empty capacity unclosed = record {
   here = λ _. cc;
@@ -51,7 +51,7 @@ entry_added p name on_full e ticket empty capacity unclosed = record {
 }
 
 -- what is accepted with a new subscription was accepted before
-accepted_before : (entries : List EntryState) (entry : EntryState) (e : End) (x : Item) → entry.feed ≡ Some e → e.accepted ≡ []
+pub accepted_before : (entries : List EntryState) (entry : EntryState) (e : End) (x : Item) → entry.feed ≡ Some e → e.accepted ≡ []
     → IsAccepted (entries ++ entry ∷ []) x → IsAccepted entries x
 accepted_before entries entry e x feed empty is = by (get_grown entries entry is.number is.entry is.stands) where
   by : (slice_get entries is.number ≡ Some is.entry) ⊎ ((is.number ≡ length entries) × (entry ≡ is.entry)) → IsAccepted entries x
@@ -116,7 +116,7 @@ sound_added hub name on_full e ticket empty capacity unclosed few_live few_entri
 
 -- the same of what is stored
 pub sound_grown : {F : Type 0} (meaning : F → End) (hub : Hub F) (entries : List (Entry F)) (live : List ℕ) (name : List ℕ) (on_full : OnFull) (feed : F) (ticket : Option Ticket) → (meaning feed).accepted ≡ []
-    → (meaning feed).capacity ≡ hub.capacity → (hub.ending ≡ None → (meaning feed).closing ≡ None) → HasPlace hub
+    → (meaning feed).capacity ≡ hub.capacity → (hub.ending ≡ None → (meaning feed).closing ≡ None) → HasPlace MOST_LIVE hub
     → entries ≡ hub.entries.items ++ first_entry_with name on_full hub.next feed ticket ∷ []
     → live ≡ hub.live.items ++ length hub.entries.items ∷ [] → IsSound (hub_of meaning hub)
     → IsSound (record (hub_of meaning hub) { entries = map (entry_of meaning) entries; live = live })

@@ -19,7 +19,7 @@ RetiresNoLess R = (old new : EntryState) → R old new → new.retired ≡ false
 
 module _ (R : EntryState → EntryState → Type 0) (xs ys : List EntryState) (each : Each R xs ys) where
   -- an item that is accepted was accepted before
-  accepted_before : KeepsLists R → (x : Item) → IsAccepted ys x → IsAccepted xs x
+  pub accepted_before : KeepsLists R → (x : Item) → IsAccepted ys x → IsAccepted xs x
   accepted_before keeps x is =
       let stood = stood_at R xs ys is.number is.entry each is.stands in
       let before = keeps stood.entry is.entry is.feed stood.became is.end_of in

@@ -88,10 +88,10 @@ module _ {F T : Type 0} (meaning : F → End) (does : F → Call T → F → Typ
       (ap (λ (e : Entry F). e.name) same ∙ named.1.1)
 
   -- a place that was there is there still after looks
-  pub still_place : (old new : Hub F) → IsPrepared meaning does old new → vec_capacity new.entries ≡ vec_capacity old.entries
+  pub still_place : (most : ℕ) (old new : Hub F) → IsPrepared meaning does old new → vec_capacity new.entries ≡ vec_capacity old.entries
       → vec_capacity new.live ≡ vec_capacity old.live
-      → HasPlace old → HasPlace new
-  still_place old new seen entries live place =
+      → HasPlace most old → HasPlace most new
+  still_place most old new seen entries live place =
       let entries_before : vec_len old.entries ≡ length old.entries.items = old.entries.ok.0 in
       let entries_after : vec_len new.entries ≡ length new.entries.items = new.entries.ok.0 in
       let live_before : vec_len old.live ≡ length old.live.items = old.live.ok.0 in
@@ -134,17 +134,17 @@ module _ {F T : Type 0} (meaning : F → End) (does : F → Call T → F → Typ
   })
 
   -- with a place, a subscription of a name that no live subscription has may be added
-  pub can_admit : (name : List ℕ) (result : Result Unit Refusal) (middle new : Hub F) (due : Vec (Work T) Global)
-      → OnOk result (HasPlace new) → vec_len due < vec_capacity due
+  pub can_admit : (name : List ℕ) (most : ℕ) (result : Result Unit Refusal) (middle new : Hub F) (due : Vec (Work T) Global)
+      → OnOk result (HasPlace most new) → vec_len due < vec_capacity due
       → AreReady (hub_of meaning middle).entries → IsUnnamed name (hub_of meaning middle).entries
-      → hub_of meaning new ≡ hub_of meaning middle → OnOk result (CanAdmit meaning name new due)
-  can_admit name (Ok x) middle new due place room ready unnamed same = record {
+      → hub_of meaning new ≡ hub_of meaning middle → OnOk result (CanAdmit meaning name most new due)
+  can_admit name most (Ok x) middle new due place room ready unnamed same = record {
     due_place = room;
     place = place;
     ready = subst (λ (hub : HubState). AreReady hub.entries) (sym same) ready;
     unnamed = subst (λ (hub : HubState). IsUnnamed name hub.entries) (sym same) unnamed;
   }
-  can_admit name (Err e) middle new due place room ready unnamed same = _
+  can_admit name most (Err e) middle new due place room ready unnamed same = _
 
 -- what holds anyway holds on Ok
 pub on_ok : {A E : Type 0} (r : Result A E) (P : Type 0) → P → OnOk r P
@@ -152,15 +152,15 @@ on_ok (Ok x) P p = p
 on_ok (Err e) P p = _
 
 -- if no place is found, a subscribing is refused
-pub refused_place : {F T : Type 0} (meaning : F → End) (does : F → Call T → F → Type 0) (name : List ℕ) (result : Result Unit Refusal) (due_before due_after : List (Work T)) (old new : Hub F)
+pub refused_place : {F T : Type 0} (meaning : F → End) (does : F → Call T → F → Type 0) (name : List ℕ) (most : ℕ) (result : Result Unit Refusal) (due_before due_after : List (Work T)) (old new : Hub F)
     → IsPrepared meaning does old new → IsUnnamed name (hub_of meaning new).entries → due_after ≡ due_before
-    → IfErr result (λ refusal. HasNoPlace refusal new)
-    → IfErr result (λ refusal. Refuses meaning does name refusal due_before due_after old new)
-refused_place meaning does name (Ok x) due_before due_after old new seen unnamed due why = _
-refused_place meaning does name (Err Refusal.TooMany) due_before due_after old new seen unnamed due why =
+    → IfErr result (λ refusal. HasNoPlace most refusal new)
+    → IfErr result (λ refusal. Refuses meaning does name most refusal due_before due_after old new)
+refused_place meaning does name most (Ok x) due_before due_after old new seen unnamed due why = _
+refused_place meaning does name most (Err Refusal.TooMany) due_before due_after old new seen unnamed due why =
     (record { seen = seen; unnamed = unnamed; why = why }, due)
-refused_place meaning does name (Err Refusal.Exhausted) due_before due_after old new seen unnamed due why =
+refused_place meaning does name most (Err Refusal.Exhausted) due_before due_after old new seen unnamed due why =
     (record { seen = seen; unnamed = unnamed; why = why }, due)
-refused_place meaning does name (Err Refusal.NoMemory) due_before due_after old new seen unnamed due why =
+refused_place meaning does name most (Err Refusal.NoMemory) due_before due_after old new seen unnamed due why =
     (inr (record { seen = seen; unnamed = unnamed; why = why }), due)
-refused_place meaning does name (Err _) due_before due_after old new seen unnamed due why = absurd why
+refused_place meaning does name most (Err _) due_before due_after old new seen unnamed due why = absurd why

@@ -80,7 +80,7 @@ impl<F: Feed> Hub<F> {
         has_name(&self.entries, &self.live, name)
     }
 
-    /// Lists the names of the live subscriptions, in order of subscription (`SubmissionPublisher.getSubscribers`).
+    /// Lists the names of the live subscriptions, in the order of the numbers (`SubmissionPublisher.getSubscribers`).
     ///
     /// `NoMemory` if a growth is refused; the subscriptions were looked at nevertheless.
     pub fn names(&mut self, alloc: Global) -> Result<Vec<Name>, NoMemory>
@@ -193,7 +193,7 @@ fn look_one<F: Feed>(entry: &mut Entry<F>, next: u64, capacity: usize, overview:
     overview.count_look(&glance, waited, capacity);
 }
 
-/// Lists the names of the subscriptions that aren't retired, in order of subscription.
+/// Lists the names of the subscriptions that aren't retired, in the order of the numbers.
 fn names_of<F: Feed>(
     alloc: Global,
     entries: &[Entry<F>],

@@ -23,7 +23,7 @@ impl<F: Feed> Hub<F> {
     /// Offers a text to all live subscriptions, and drops it at those that have no room
     /// (`SubmissionPublisher.offer`).
     ///
-    /// First every buffer is tried; then, for each that was full, in order of subscription, the handler is asked, and
+    /// First every buffer is tried; then, for each that was full, in the order of the numbers, the handler is asked, and
     /// if it answers true the item is offered once more. The answer is the greatest lag, in items, or, if it was
     /// dropped, minus the number of drops. Refused 5 if a growth is refused, 2 if the Hub is closed, and 13 once
     /// [`MOST_PUBLICATIONS`](flow_rules::MOST_PUBLICATIONS) were made; then no list and no count has changed.

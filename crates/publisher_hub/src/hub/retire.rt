@@ -1,5 +1,5 @@
 //! What comes out of a Hub when a subscription is done: its ticket, its producer's end, its number among those that may
-//! be live. The subscription itself stays, and keeps its number.
+//! be live. The subscription itself stays, and keeps its number until another one gets that.
 ghost use Rattle.std.specs.Prelude.{◌≡◌, map, vec_capacity};
 ghost use Rattle.publisher_hub.specs.Adding.{AreAllLive, goes_on, live_of};
 ghost use Rattle.publisher_hub.specs.Entry.{entry_of};
@@ -35,7 +35,7 @@ impl<F: Feed> Hub<F> {
 
     /// Takes the producer's end of the subscription of this number out. The subscription is retired, if it isn't, and
     /// its ticket is dropped, if it is there: that ticket is never spent. Its name, what it dropped and since when it
-    /// took part stay.
+    /// took part stay, until [`admit_at`](Hub::admit_at) gives its place to another one.
     ///
     /// `None`, with nothing changed, if the end was taken out before, or if no subscription has the number.
     pub fn take_feed(&mut self, entry: u32) -> Option<F>

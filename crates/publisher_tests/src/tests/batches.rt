@@ -1,9 +1,11 @@
 //! Several texts that one call publishes.
+mod ending;
 mod waking;
 
 ghost use Rattle.publisher.specs.Blanks.{AreBlanksOf};
 
-use flow_rules::{Collector, Ending, Refusal, Signal, Subscriber, Text};
+use ending::end_amid_a_batch;
+use flow_rules::{Collector, Ending, How, Refusal, Signal, Subscriber, Text};
 use publisher::{BlankPair, Ledgers, Publisher, Submitter, Subscription, Unsent};
 use std::alloc::Global;
 use std::marker::Brand;
@@ -108,7 +110,7 @@ fn publish_and_read<
     L: Ledgers + Send + Sync + 'static,
     R: Threads + Wait + Copy + Send + Sync + 'static,
 >(rt: R, alloc: Global, blanks: BlankPair) -> Result<String, Fail>
-    requires blanks { AreBlanksOf blanks L.publications L.drops }
+    requires blanks { AreBlanksOf blanks L.publications L.drops L.history }
 {
     let mut stand: Stand<L, Collector> = Stand::new(rt, alloc, blanks, 1, 4)?;
     let report = publish_several(&rt, &mut stand);
@@ -144,7 +146,7 @@ fn publish_several<L: Ledgers + Send + Sync + 'static, R: Threads + Wait + Sync>
 
 #[test]
 fn several_texts_are_published_by_one_call(rt: HostRuntime) -> Result<(), Fail> {
-    let blanks = BlankPair::new();
+    let blanks = BlankPair::new(rt.alloc())?;
     let told = publish_and_read::<Brand, _>(rt, rt.alloc(), blanks)?;
     let wanted = "lag 0; lag 2; 2 before the close; 0 before the close; 0 before the close; \
         a b c d complete";
@@ -154,11 +156,25 @@ fn several_texts_are_published_by_one_call(rt: HostRuntime) -> Result<(), Fail> 
 
 #[test]
 fn a_call_wakes_several(rt: HostRuntime) -> Result<(), Fail> {
-    let blanks = BlankPair::new();
+    let blanks = BlankPair::new(rt.alloc())?;
     let told = wake_several::<Brand, _>(rt, rt.alloc(), blanks)?;
     assert!(rt;
         told.as_str() == "lag 4; told all: [true, true, true]",
         "{told}"
     );
+    Ok(())
+}
+
+#[test]
+fn one_that_ends_amid_a_batch_gets_no_more(rt: HostRuntime) -> Result<(), Fail> {
+    for round in 0..50 {
+        let blanks = BlankPair::new(rt.alloc())?;
+        let ends = end_amid_a_batch::<Brand, _>(rt, rt.alloc(), blanks)?;
+        let wanted = [(Some(How::Cancelled), 10), (Some(How::Completed), 40)];
+        assert!(rt;
+            ends.as_slice() == wanted.as_slice(),
+            "they ended otherwise in round {round}"
+        );
+    }
     Ok(())
 }

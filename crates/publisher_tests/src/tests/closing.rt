@@ -56,7 +56,7 @@ fn ask_while_held<
     L: Ledgers + Send + Sync + 'static,
     R: Threads + Wait + Copy + Send + Sync + 'static,
 >(rt: R, alloc: Global, blanks: BlankPair) -> Result<String, Fail>
-    requires blanks { AreBlanksOf blanks L.publications L.drops }
+    requires blanks { AreBlanksOf blanks L.publications L.drops L.history }
 {
     let flags = Flags::new(alloc)?;
     let mut stand: Stand<L, Tally> = Stand::new(rt, alloc, blanks, 1, 1)?;
@@ -144,7 +144,7 @@ fn ask<L: Ledgers + Send + Sync + 'static>(publisher: &Publisher<L, Tally>, flag
 
 #[test]
 fn a_closing_is_read_while_the_lock_is_held(rt: HostRuntime) -> Result<(), Fail> {
-    let blanks = BlankPair::new();
+    let blanks = BlankPair::new(rt.alloc())?;
     let told = ask_while_held::<Brand, _>(rt, rt.alloc(), blanks)?;
     let wanted = "false while it is held, then true, Some(Failed(4))";
     assert!(rt; told.as_str() == wanted, "{told}");
@@ -157,7 +157,7 @@ fn submit_after_the_close<
     L: Ledgers + Send + Sync + 'static,
     R: Threads + Wait + Copy + Send + Sync + 'static,
 >(rt: R, alloc: Global, blanks: BlankPair) -> Result<String, Fail>
-    requires blanks { AreBlanksOf blanks L.publications L.drops }
+    requires blanks { AreBlanksOf blanks L.publications L.drops L.history }
 {
     let mut stand: Stand<L, Tally> = Stand::new(rt, alloc, blanks, 1, 1)?;
     let report = all_refusals(&rt, &mut stand);
@@ -209,7 +209,7 @@ fn number_of(refusal: Option<Refusal>) -> u32 {
 
 #[test]
 fn a_submitter_from_before_the_close_learns_of_it(rt: HostRuntime) -> Result<(), Fail> {
-    let blanks = BlankPair::new();
+    let blanks = BlankPair::new(rt.alloc())?;
     let told = submit_after_the_close::<Brand, _>(rt, rt.alloc(), blanks)?;
     assert!(rt; told.as_str() == "6, 2, 2; 2, 2, 2; ", "{told}");
     Ok(())
@@ -220,7 +220,7 @@ fn close_twice<
     L: Ledgers + Send + Sync + 'static,
     R: Threads + Wait + Copy + Send + Sync + 'static,
 >(rt: R, alloc: Global, blanks: BlankPair) -> Result<bool, Fail>
-    requires blanks { AreBlanksOf blanks L.publications L.drops }
+    requires blanks { AreBlanksOf blanks L.publications L.drops L.history }
 {
     let stand: Stand<L, Tally> = Stand::new(rt, alloc, blanks, 1, 1)?;
     let (one, other) = both_close(&rt, alloc, &stand.publisher);
@@ -262,7 +262,7 @@ fn close<L: Ledgers + Send + Sync + 'static, R: Wait>(
 #[test]
 fn two_closers_are_told_one_ending(rt: HostRuntime) -> Result<(), Fail> {
     for round in 0..1000 {
-        let blanks = BlankPair::new();
+        let blanks = BlankPair::new(rt.alloc())?;
         let is_one = close_twice::<Brand, _>(rt, rt.alloc(), blanks)?;
         assert!(rt; is_one, "two endings in round {round}");
     }

@@ -21,14 +21,19 @@ fn come_and_go<
     L: Ledgers + Send + Sync + 'static,
     R: Threads + Wait + Copy + Send + Sync + 'static,
 >(rt: R, alloc: Global, blanks: BlankPair, rounds: u64) -> Result<usize, Fail>
-    requires blanks { AreBlanksOf blanks L.publications L.drops }
+    requires blanks { AreBlanksOf blanks L.publications L.drops L.history }
 {
     let mut stand: Stand<L, Tally> = Stand::new(rt, alloc, blanks, 1, 1)?;
-    for _ in 0..rounds {
+    for round in 0..rounds {
         fill(&rt, &mut stand)?;
         empty(&rt, &mut stand)?;
         if stand.publisher.number_of_subscribers(&rt) != 0 {
             return Err(Fail::new("one is live"));
+        }
+        let stats = stand.publisher.stats(&rt, alloc)?;
+        let made = round.saturating_add(1).saturating_mul(LIVE as u64);
+        if !stats.live.is_empty() || stats.made != made || stats.reclaimed != 0 {
+            return Err(Fail::new("stats count others"));
         }
     }
     count_cancelled(&rt, stand)
@@ -98,7 +103,7 @@ fn rounds_of(rt: &HostRuntime) -> u64 {
 #[test]
 fn thousands_come_and_go(rt: HostRuntime) -> Result<(), Fail> {
     let rounds = rounds_of(&rt);
-    let blanks = BlankPair::new();
+    let blanks = BlankPair::new(rt.alloc())?;
     let left = come_and_go::<Brand, _>(rt, rt.alloc(), blanks, rounds)?;
     let is_each = (left / LIVE) as u64 == rounds && left % LIVE == 0;
     assert!(rt; is_each, "{left} in {rounds} rounds");

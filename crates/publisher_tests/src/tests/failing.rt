@@ -25,7 +25,7 @@ fn a_handler_hears_of_a_failed_item_alone(rt: HostRuntime) -> Result<(), Fail> {
         (0, Answer::Request(3), "0 times"),
     ];
     for (callbacks, answer, wanted) in rows {
-        let blanks = BlankPair::new();
+        let blanks = BlankPair::new(rt.alloc())?;
         let heard = hear::<Brand, _>(rt, rt.alloc(), blanks, 1, 1, callbacks, answer)?;
         assert!(rt;
             heard.as_str() == wanted,
@@ -38,7 +38,7 @@ fn a_handler_hears_of_a_failed_item_alone(rt: HostRuntime) -> Result<(), Fail> {
 #[test]
 fn a_handler_hears_once_of_each_of_many(rt: HostRuntime) -> Result<(), Fail> {
     for round in 0..20 {
-        let blanks = BlankPair::new();
+        let blanks = BlankPair::new(rt.alloc())?;
         let heard = hear::<Brand, _>(rt, rt.alloc(), blanks, 4, 40, 1, Answer::Fail(9))?;
         assert!(rt;
             heard.as_str() == "40 times, 0 again, last 9",
@@ -50,7 +50,7 @@ fn a_handler_hears_once_of_each_of_many(rt: HostRuntime) -> Result<(), Fail> {
 
 #[test]
 fn a_handler_hears_after_the_end_while_the_lock_is_free(rt: HostRuntime) -> Result<(), Fail> {
-    let blanks = BlankPair::new();
+    let blanks = BlankPair::new(rt.alloc())?;
     let told = look_while_it_hears::<Brand, _>(rt, rt.alloc(), blanks)?;
     let wanted = "ended true, live 0, lag 0; went on true, last a 7";
     assert!(rt; told.as_str() == wanted, "{told}");
@@ -60,7 +60,7 @@ fn a_handler_hears_after_the_end_while_the_lock_is_free(rt: HostRuntime) -> Resu
 #[test]
 fn a_handler_hears_before_all_have_ended(rt: HostRuntime) -> Result<(), Fail> {
     for round in 0..20 {
-        let blanks = BlankPair::new();
+        let blanks = BlankPair::new(rt.alloc())?;
         let is_told = hears_before_the_drain::<Brand, _>(rt, rt.alloc(), blanks)?;
         assert!(rt; is_told, "it has not heard in round {round}");
     }

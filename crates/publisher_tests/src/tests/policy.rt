@@ -3,7 +3,7 @@ ghost use Rattle.std.specs.Prelude.{◌≡◌, []};
 ghost use Rattle.publisher.specs.Blanks.{AreBlanksOf};
 
 use flow_rules::Tally;
-use publisher::{BlankPair, Ledgers, NamedLane, OnFull, Submitter, Subscription};
+use publisher::{BlankPair, Ledgers, NamedLane, OnFull, Stats, Submitter, Subscription};
 use std::alloc::Global;
 use std::env;
 use std::marker::Brand;
@@ -82,6 +82,23 @@ fn count(report: &mut Report, left: &NamedLane<Tally>) {
     }
 }
 
+// Whether these are the figures of four that took part in this many publications, of which the slow one alone lost some.
+fn are_of_four(stats: &Stats, items: u64, lost: u64) -> bool {
+    if (stats.live.len(), stats.made, stats.published) != (4, 4, items) {
+        return false;
+    }
+    for one in stats.live.iter() {
+        let dropped = match one.on_full {
+            OnFull::Wait => 0,
+            OnFull::Drop => lost,
+        };
+        if one.dropped != dropped || one.accepted.saturating_add(dropped) != items {
+            return false;
+        }
+    }
+    true
+}
+
 // Subscribes the four, publishes all, and has the slow one told what its buffer holds. How many drops the answers told
 // of.
 fn publish_to_four<L: Ledgers + Send + Sync + 'static, R: Wait>(
@@ -101,6 +118,10 @@ fn publish_to_four<L: Ledgers + Send + Sync + 'static, R: Wait>(
     };
     let answered = publish_many(rt, stand.alloc, submitter, slow, items)?;
     slow.request(rt, i64::MAX)?;
+    let stats = stand.publisher.stats(rt, stand.alloc)?;
+    if !are_of_four(&stats, items, answered) {
+        return Err(Fail::new("stats tell other figures"));
+    }
     stand.close(rt)?;
     stand.publisher.wait_drained(rt);
     Ok(answered)
@@ -113,7 +134,7 @@ fn four<L: Ledgers + Send + Sync + 'static, R: Threads + Wait + Copy + Send + Sy
     blanks: BlankPair,
     items: u64,
 ) -> Result<Report, Fail>
-    requires blanks { AreBlanksOf blanks L.publications L.drops }
+    requires blanks { AreBlanksOf blanks L.publications L.drops L.history }
 {
     let mut stand: Stand<L, Tally> = Stand::new(rt, alloc, blanks, 2, 8)?;
     let answered = publish_to_four(&rt, &mut stand, items);
@@ -145,7 +166,7 @@ fn items_of(rt: &HostRuntime) -> u64 {
 #[test]
 fn a_slow_one_loses_and_three_get_all(rt: HostRuntime) -> Result<(), Fail> {
     let items = items_of(&rt);
-    let report = four::<Brand, _>(rt, rt.alloc(), BlankPair::new(), items)?;
+    let report = four::<Brand, _>(rt, rt.alloc(), BlankPair::new(rt.alloc())?, items)?;
     assert!(rt;
         report.told == items.saturating_mul(3) && report.dropped == 0,
         "one that is waited for lost items: {report:?}"

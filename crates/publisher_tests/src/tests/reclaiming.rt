@@ -1,4 +1,5 @@
-//! Subscriptions that are told ten items each, end in one way after the other, and are reclaimed.
+//! Subscriptions that are told ten items each, end in one way after the other, and are reclaimed. Later ones get their
+//! numbers.
 ghost use Rattle.std.specs.Prelude.{◌≡◌};
 ghost use Rattle.flow_rules.specs.Callback.{heard_nothing};
 ghost use Rattle.publisher.specs.Blanks.{AreBlanksOf};
@@ -23,7 +24,7 @@ const ITEMS: u64 = 5;
 // How many items each subscription is told.
 const TOLD: u64 = 2 * ITEMS;
 
-// The listener of the subscription of this number. Three of five have it end at the last item.
+// The listener of the subscription of this number, whichever had it before. Three of five have it end at the last item.
 fn listener(number: u32) -> Answering
     ensures { result ≡ heard_nothing }
 {
@@ -49,31 +50,34 @@ fn ending(number: u32) -> How {
 fn come_and_go<
     L: Ledgers + Send + Sync + 'static,
     R: Threads + Wait + Copy + Send + Sync + 'static,
->(rt: R, alloc: Global, blanks: BlankPair, rounds: u32) -> Result<usize, Fail>
-    requires blanks { AreBlanksOf blanks L.publications L.drops }
+>(rt: R, alloc: Global, blanks: BlankPair, rounds: u32) -> Result<u64, Fail>
+    requires blanks { AreBlanksOf blanks L.publications L.drops L.history }
 {
     let mut stand: Stand<L, Answering> = Stand::new(rt, alloc, blanks, 2, 16)?;
     stand.add_submitter(&rt)?;
     for round in 0..rounds {
-        subscribe_all(&rt, &mut stand, round)?;
+        subscribe_all(&rt, &mut stand)?;
         publish_all(&rt, &mut stand)?;
         end_all(&rt, &mut stand)?;
-        reclaim_all(&rt, &mut stand)?;
+        reclaim_all(&rt, &mut stand, round as u64)?;
     }
     count_reclaimed(&rt, stand)
 }
 
-// Has as many subscribe as may be live, each of which requests what it is told.
+// Has as many subscribe as may be live, each of which requests what it is told. They have the same numbers in each
+// round, since the ones before them were reclaimed from the last on.
 fn subscribe_all<L: Ledgers + Send + Sync + 'static, R: Wait>(
     rt: &R,
     stand: &mut Stand<L, Answering>,
-    round: u32,
 ) -> Result<(), Fail> {
-    for place in 0..LIVE {
-        let number = round.saturating_mul(LIVE).saturating_add(place);
-        let name = format!(in stand.alloc; "s{place}")?;
+    for number in 0..LIVE {
+        let name = format!(in stand.alloc; "s{number}")?;
         stand.subscribe(rt, name.as_str(), listener(number))?;
-        stand.request(rt, place as usize, TOLD as i64)?;
+        stand.request(rt, number as usize, TOLD as i64)?;
+        match stand.subscriptions.last() {
+            Some(subscription) if subscription.entry() == number => (),
+            _ => return Err(Fail::new("it has another number")),
+        }
     }
     Ok(())
 }
@@ -139,10 +143,11 @@ fn wait_given<L: Ledgers + Send + Sync + 'static, R: Wait>(
     }
 }
 
-// Reclaims all, from the last on, and looks at what is left of each.
+// Reclaims all, from the last on, and looks at what is left of each, and how many there were then.
 fn reclaim_all<L: Ledgers + Send + Sync + 'static, R: Wait>(
     rt: &R,
     stand: &mut Stand<L, Answering>,
+    round: u64,
 ) -> Result<(), Fail> {
     for _ in 0..LIVE {
         let Some(subscription) = stand.subscriptions.pop() else {
@@ -150,9 +155,14 @@ fn reclaim_all<L: Ledgers + Send + Sync + 'static, R: Wait>(
         };
         let entry = subscription.entry();
         let left = reclaim(rt, stand, subscription)?;
-        if left.entry != entry || !is_right(&left) {
+        if left.entry != entry || !is_right(&left, round) {
             return Err(Fail::new("what is left is not that of the subscription"));
         }
+    }
+    let many = round.saturating_add(1).saturating_mul(LIVE as u64);
+    let stats = stand.publisher.stats(rt, stand.alloc)?;
+    if stats.made != many || stats.reclaimed != many {
+        return Err(Fail::new("stats count others"));
     }
     Ok(())
 }
@@ -178,8 +188,7 @@ fn reclaim<L: Ledgers + Send + Sync + 'static, R: Wait>(
 }
 
 // Whether it took part in all items of its round and in no other, was given each, and ended as it should.
-fn is_right(left: &NamedLane<Answering>) -> bool {
-    let round = (left.entry / LIVE) as u64;
+fn is_right(left: &NamedLane<Answering>, round: u64) -> bool {
     let lane = &left.lane;
     left.since == round.saturating_mul(TOLD)
         && left.dropped == 0
@@ -197,7 +206,7 @@ fn is_right(left: &NamedLane<Answering>) -> bool {
 fn count_reclaimed<L: Ledgers + Send + Sync + 'static, R: Wait>(
     rt: &R,
     stand: Stand<L, Answering>,
-) -> Result<usize, Fail> {
+) -> Result<u64, Fail> {
     stand.close(rt)?;
     let outcome = match stand.finish(rt) {
         Ok(outcome) => outcome,
@@ -206,7 +215,10 @@ fn count_reclaimed<L: Ledgers + Send + Sync + 'static, R: Wait>(
     if !outcome.lanes.is_empty() || !outcome.drained {
         return Err(Fail::new("a lane or a ticket is left"));
     }
-    Ok(outcome.reclaimed.len())
+    if outcome.made != outcome.reclaimed {
+        return Err(Fail::new("one is lost"));
+    }
+    Ok(outcome.reclaimed)
 }
 
 // How many rounds a run from outside asks for, which compares what memory they take.
@@ -220,10 +232,10 @@ fn rounds_of(rt: &HostRuntime) -> u32 {
 #[test]
 fn a_thousand_are_reclaimed(rt: HostRuntime) -> Result<(), Fail> {
     let rounds = rounds_of(&rt);
-    let blanks = BlankPair::new();
+    let blanks = BlankPair::new(rt.alloc())?;
     let many = come_and_go::<Brand, _>(rt, rt.alloc(), blanks, rounds)?;
     assert!(rt;
-        many as u64 == rounds.saturating_mul(LIVE) as u64,
+        many == (rounds as u64).saturating_mul(LIVE as u64),
         "{many} in {rounds} rounds"
     );
     Ok(())

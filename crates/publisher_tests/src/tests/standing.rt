@@ -31,7 +31,7 @@ fn look_three_times<
     L: Ledgers + Send + Sync + 'static,
     R: Threads + Wait + Copy + Send + Sync + 'static,
 >(rt: R, alloc: Global, blanks: BlankPair) -> Result<String, Fail>
-    requires blanks { AreBlanksOf blanks L.publications L.drops }
+    requires blanks { AreBlanksOf blanks L.publications L.drops L.history }
 {
     let mut stand: Stand<L, Tally> = Stand::new(rt, alloc, blanks, 1, 4)?;
     let report = three_looks(&rt, &mut stand);
@@ -109,7 +109,7 @@ fn fall<L: Ledgers + Send + Sync + 'static, R: Wait>(
 
 #[test]
 fn a_subscription_tells_how_it_stands(rt: HostRuntime) -> Result<(), Fail> {
-    let blanks = BlankPair::new();
+    let blanks = BlankPair::new(rt.alloc())?;
     let told = look_three_times::<Brand, _>(rt, rt.alloc(), blanks)?;
     let wanted =
         "lag 2 of 0, ended false; lag 1 of 1, ended false; lag 0 of 1, ended true; dropped 1";
@@ -122,7 +122,7 @@ fn look_at_two<
     L: Ledgers + Send + Sync + 'static,
     R: Threads + Wait + Copy + Send + Sync + 'static,
 >(rt: R, alloc: Global, blanks: BlankPair) -> Result<String, Fail>
-    requires blanks { AreBlanksOf blanks L.publications L.drops }
+    requires blanks { AreBlanksOf blanks L.publications L.drops L.history }
 {
     let mut stand: Stand<L, Tally> = Stand::new(rt, alloc, blanks, 1, 4)?;
     let report = looks_at_two(&rt, &mut stand);
@@ -149,7 +149,7 @@ fn looks_at_two<L: Ledgers + Send + Sync + 'static, R: Wait>(
 
 #[test]
 fn each_subscription_tells_how_it_stands_itself(rt: HostRuntime) -> Result<(), Fail> {
-    let blanks = BlankPair::new();
+    let blanks = BlankPair::new(rt.alloc())?;
     let told = look_at_two::<Brand, _>(rt, rt.alloc(), blanks)?;
     let wanted =
         "lag 2 of 0, ended false; lag 1 of 1, ended false; lag 2 of 0, ended false; lag 0 of 1, ended true; ";
@@ -163,7 +163,7 @@ fn wait_for_ends<
     L: Ledgers + Send + Sync + 'static,
     R: Threads + Wait + Copy + Send + Sync + 'static,
 >(rt: R, alloc: Global, blanks: BlankPair) -> Result<bool, Fail>
-    requires blanks { AreBlanksOf blanks L.publications L.drops }
+    requires blanks { AreBlanksOf blanks L.publications L.drops L.history }
 {
     let mut stand: Stand<L, Tally> = Stand::new(rt, alloc, blanks, 1, 4)?;
     let have_ended = have_two_ended(&rt, &mut stand);
@@ -239,7 +239,7 @@ fn close<L: Ledgers + Send + Sync + 'static, R: Wait>(
 #[test]
 fn those_who_wait_for_an_end_are_woken(rt: HostRuntime) -> Result<(), Fail> {
     for round in 0..100 {
-        let blanks = BlankPair::new();
+        let blanks = BlankPair::new(rt.alloc())?;
         let have_ended = wait_for_ends::<Brand, _>(rt, rt.alloc(), blanks)?;
         assert!(rt; have_ended, "one goes on in round {round}");
     }

@@ -16,7 +16,7 @@ fn refuse_one_more<L: Ledgers + Send + Sync + 'static, R: Threads + Wait + Copy 
     alloc: Global,
     blanks: BlankPair,
 ) -> Result<Option<Refusal>, Fail>
-    requires blanks { AreBlanksOf blanks L.publications L.drops }
+    requires blanks { AreBlanksOf blanks L.publications L.drops L.history }
 {
     let mut stand: Stand<L, Tally> = Stand::new(rt, alloc, blanks, 1, 1)?;
     for _ in 1..MOST_SOURCES {
@@ -32,7 +32,7 @@ fn refuse_one_more<L: Ledgers + Send + Sync + 'static, R: Threads + Wait + Copy 
 // submitters there are.
 #[test]
 fn one_submitter_more_than_there_may_be_is_refused(rt: HostRuntime) -> Result<(), Fail> {
-    let blanks = BlankPair::new();
+    let blanks = BlankPair::new(rt.alloc())?;
     let refusal = refuse_one_more::<Brand, _>(rt, rt.alloc(), blanks)?;
     if refusal == Some(Refusal::NoMemory) {
         return Err(Fail::new("error: NoMemory, of one submitter more"));

@@ -61,7 +61,7 @@ fn drain_without_turns<
     L: Ledgers + Send + Sync + 'static,
     R: Threads + Wait + Copy + Send + Sync + 'static,
 >(rt: R, alloc: Global, blanks: BlankPair, has_subscription: bool) -> Result<bool, Fail>
-    requires blanks { AreBlanksOf blanks L.publications L.drops }
+    requires blanks { AreBlanksOf blanks L.publications L.drops L.history }
 {
     let mut stand: Stand<L, Tally> = Stand::new(rt, alloc, blanks, 1, 4)?;
     let is_closed = drain_stand(&rt, &mut stand, has_subscription);
@@ -86,7 +86,7 @@ fn drain_stand<L: Ledgers + Send + Sync + 'static, R: Threads + Wait + Sync>(
 fn a_close_wakes_who_waits_for_the_end_of_all(rt: HostRuntime) -> Result<(), Fail> {
     for round in 0..50 {
         for has_subscription in [false, true] {
-            let blanks = BlankPair::new();
+            let blanks = BlankPair::new(rt.alloc())?;
             let is_closed = drain_without_turns::<Brand, _>(
                 rt,
                 rt.alloc(),
@@ -142,7 +142,7 @@ fn wait_beside_a_cancel<
     L: Ledgers + Send + Sync + 'static,
     R: Threads + Wait + Copy + Send + Sync + 'static,
 >(rt: R, alloc: Global, blanks: BlankPair) -> Result<bool, Fail>
-    requires blanks { AreBlanksOf blanks L.publications L.drops }
+    requires blanks { AreBlanksOf blanks L.publications L.drops L.history }
 {
     let mut stand: Stand<L, Tally> = Stand::new(rt, alloc, blanks, 1, 4)?;
     let has_ended = wait_for_one(&rt, &mut stand);
@@ -165,7 +165,7 @@ fn wait_for_one<L: Ledgers + Send + Sync + 'static, R: Threads + Wait + Sync>(
 #[test]
 fn who_waits_for_one_end_waits_on_at_another(rt: HostRuntime) -> Result<(), Fail> {
     for round in 0..50 {
-        let blanks = BlankPair::new();
+        let blanks = BlankPair::new(rt.alloc())?;
         let has_ended = wait_beside_a_cancel::<Brand, _>(rt, rt.alloc(), blanks)?;
         assert!(rt; has_ended, "the wait ended too early in round {round}");
     }

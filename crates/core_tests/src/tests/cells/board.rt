@@ -1,7 +1,7 @@
 //! Where tasks wait for the threads that run them.
 use super::in_order::InOrder;
 use super::items_in;
-use feed_cell::{Task, Turn};
+use feed_cell::{Patience, Task, Turn};
 use feed_core::Seen;
 use std::sync::atomic::Ordering::SeqCst;
 use std::sync::atomic::{AtomicBool, AtomicU64};
@@ -55,7 +55,7 @@ impl Board {
         let Some(task) = task else {
             return false;
         };
-        let turn = task.turn(seen);
+        let turn = task.turn(seen, Patience::Waits);
         self.given.fetch_add(items_in(seen.as_slice()), SeqCst);
         match turn {
             Turn::Again(task) => self.post(rt, Some(task)),

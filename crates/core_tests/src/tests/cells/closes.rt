@@ -2,7 +2,7 @@
 use super::parties::Parties;
 use super::{Left, numbers};
 use crate::Row;
-use feed_cell::{Cell, Handle, Producer, Task, Turn, close, close_again, is_shared};
+use feed_cell::{Cell, Handle, Patience, Producer, Task, Turn, close, close_again, is_shared};
 use feed_core::{Lane, Outlook, Seen};
 use flow_rules::{Collector, Feed, How, NoMemory, Shown, Signal, Subscriber, capacity};
 use std::alloc::Global;
@@ -23,7 +23,7 @@ fn at_rest(rt: &impl Abort, alloc: Global) -> Result<(Producer<Told>, Handle<Tol
 fn rests(alloc: Global, task: Option<Task<Told>>) -> Result<bool, NoMemory> {
     let mut seen = Seen::new(alloc)?;
     match task {
-        Some(task) => Ok(matches!(task.turn(&mut seen), Turn::Resting(_))),
+        Some(task) => Ok(matches!(task.turn(&mut seen, Patience::Hurries), Turn::Resting(_))),
         None => Ok(false),
     }
 }
@@ -119,7 +119,12 @@ fn its_own_handle_counts(rt: HostRuntime) -> Result<(), Fail> {
     assert!(rt; close(one, of_one).is_err());
     drop(alive);
     let mut seen = Seen::new(alloc)?;
-    assert!(rt; matches!(task.turn(&mut seen), Turn::Ended(How::Cancelled, _)));
+    assert!(rt;
+        matches!(
+            task.turn(&mut seen, Patience::Hurries),
+            Turn::Ended(How::Cancelled, _)
+        )
+    );
     let Ok(lane) = close(other, of_other) else {
         return Err(Fail::new("it is still shared"));
     };
@@ -142,7 +147,12 @@ fn one_whose_task_is_alive_is_shared(rt: HostRuntime) -> Result<(), Fail> {
         return Err(Fail::new("it is still shared"));
     };
     let mut seen = Seen::new(alloc)?;
-    assert!(rt; matches!(task.turn(&mut seen), Turn::Ended(How::Cancelled, _)));
+    assert!(rt;
+        matches!(
+            task.turn(&mut seen, Patience::Hurries),
+            Turn::Ended(How::Cancelled, _)
+        )
+    );
     let Ok(lane) = close_again(one) else {
         return Err(Fail::new("nobody shares it"));
     };

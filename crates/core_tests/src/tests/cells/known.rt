@@ -3,7 +3,7 @@
 use super::pausing::{Gate, Pausing};
 use super::putting::Putting;
 use crate::{item_with, signals};
-use feed_cell::{Cell, Handle, Task, Turn};
+use feed_cell::{Cell, Handle, Patience, Task, Turn};
 use feed_core::{Outlook, Seen};
 use flow_rules::{Ending, Fault, Feed, How, NoMemory, Put, capacity};
 use std::alloc::Global;
@@ -52,7 +52,7 @@ const LIVES: [Life; 7] = [
 
 // Runs one turn. What it told, and its outlook.
 fn turn_of(task: Task<Pausing>, mut seen: Seen) -> (Seen, Outlook) {
-    let outlook = match task.turn(&mut seen) {
+    let outlook = match task.turn(&mut seen, Patience::Waits) {
         Turn::Again(_) => Outlook::Again,
         Turn::Resting(_) => Outlook::Resting,
         Turn::Ended(how, _) => Outlook::Ended(how),

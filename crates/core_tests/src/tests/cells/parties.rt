@@ -3,7 +3,7 @@ ghost use Rattle.std.specs.Prelude.{◌≡◌, []};
 
 use super::putting::Putting;
 use crate::{Row, item_with, signals};
-use feed_cell::{Cell, Handle, Producer, Task, Turn, close};
+use feed_cell::{Cell, Handle, Patience, Producer, Task, Turn, close};
 use feed_core::{Lane, Outlook, Seen};
 use flow_rules::{Ending, ErrorOrder, Feed, Listener, NoMemory, Put, Refusal, capacity};
 use std::alloc::Global;
@@ -139,7 +139,7 @@ impl<B: Listener> Parties<B> {
         let Some(task) = self.task.take() else {
             return Ok(false);
         };
-        let found = match task.turn(&mut seen) {
+        let found = match task.turn(&mut seen, Patience::Waits) {
             Turn::Again(task) => {
                 self.task = Some(task);
                 Outlook::Again

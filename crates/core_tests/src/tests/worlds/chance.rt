@@ -6,11 +6,13 @@ use std::process::Abort;
 use std::test::Fail;
 
 /// Each kind of event, those of a turn and of a put more than once.
-const EVENTS: [Event; 58] = [
+const EVENTS: [Event; 60] = [
     Event::Room,
     Event::Room,
     Event::Put,
     Event::Put,
+    Event::PutMore,
+    Event::PutMore,
     Event::Signal(Side::Producer, None),
     Event::Signal(Side::Producer, None),
     Event::Hand(Side::Producer),
@@ -83,7 +85,7 @@ fn list_of(number: u64, capacity: usize, order: ErrorOrder) -> ([Event; LENGTH],
     let mut number = number;
     for place in 1..LENGTH {
         number = next_number(number);
-        events[place] = EVENTS[(number >> 33) as usize % 54];
+        events[place] = EVENTS[(number >> 33) as usize % 60];
     }
     (events, number)
 }

@@ -46,6 +46,13 @@ fn of_a_side(now: Parts, event: Event) -> Option<Parts> {
             producer: Producing::HasPut,
             ..now
         }),
+        (Event::PutMore, Producing::HasPut, _)
+            if now.causes.closing == None && held < now.capacity as u64 => {
+            Some(Parts {
+                accepted: now.accepted.saturating_add(1),
+                ..now
+            })
+        }
         (Event::Ask(n), _, Requesting::Idle) if n != 0 => Some(Parts {
             asked: UNBOUNDED.min(now.asked.saturating_add(n)),
             handle: Requesting::HasAsked,

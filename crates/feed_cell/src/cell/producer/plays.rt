@@ -21,7 +21,16 @@ impl<B: Listener> Play<Held<B>, View> for StandStep {
     ghost then = { λ _. FindsHead };
 }
 
-/// An item is put: a store of tail, which gives its slot back.
+/// An item is placed in its slot, ahead of its put: a load of tail, which gives its slot back and takes the next one out.
+pub(crate) struct PlaceStep;
+
+impl<B: Listener> Play<Held<B>, View> for PlaceStep {
+    ghost use Rattle.feed_cell.specs.ProducerSteps.{IsPlaced};
+
+    ghost then = { λ _ before _. IsPlaced before };
+}
+
+/// All items that are placed are put: a store of tail, which gives its slot back.
 pub(crate) struct PutStep;
 
 impl<B: Listener> Play<Held<B>, View> for PutStep {

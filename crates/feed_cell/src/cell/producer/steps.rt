@@ -1,14 +1,14 @@
 //! The steps of the producer: its looks at head, and a put. Its signals are in `signal.rt`.
-ghost use Rattle.std.specs.Prelude.{◌≡◌, Some, None, IfSome, length};
+ghost use Rattle.std.specs.Prelude.{◌≡◌, ◌+◌, ◌<◌, ◌≤◌, ◌^◌, ◌∷◌, ◌++◌, [], Some, None, IfSome, length};
 ghost use Rattle.feed_cell.specs.Types.{Closing};
 ghost use Rattle.feed_cell.specs.Offering.{Finds};
 ghost use Rattle.feed_cell.specs.ProducerSteps.{FindsRoom, FindsHead};
-ghost use Rattle.feed_cell.specs.ProducerSteps.{MayOffer, HasFreeSlot, HasPlaced};
+ghost use Rattle.feed_cell.specs.ProducerSteps.{MayOffer, HasFreeSlot, HasRoomBehind, HasRoomForAll, HasPlacedOne, HasPlaced, HasPutAll};
 ghost use Rattle.feed_cell.specs.Seats.{IsSameSeat, StepsTo};
 ghost use Rattle.feed_cell.specs.Signals.{IsSent, IsReadySeat};
 ghost use Rattle.feed_cell.specs.declared.cell.Held.TheVariants as Held;
 
-use super::plays::{PutStep, RoomStep, StandStep};
+use super::plays::{PlaceStep, PutStep, RoomStep, StandStep};
 use crate::cell::seated::Seated;
 use crate::cell::signal::signal;
 use crate::cell::words::{Word, place_of};
@@ -64,17 +64,63 @@ pub(crate) fn see_standing<B: Listener>(party: &mut Seated<B>) -> u64
     table.load::<StandStep>(&mut party.seat, at)
 }
 
-/// Places the item in the slot that is out, and stores the new tail.
-pub(crate) fn place<B: Listener>(party: &mut Seated<B>, tail: u64, item: Item)
-    requires place { HasFreeSlot tail party.old.seat.me }
+/// Places the item in the slot that is out, gives that back, and takes the slot of the next item out. No other party
+/// sees it before `place` has stored the new tail.
+pub(crate) fn place_one<B: Listener>(party: &mut Seated<B>, number: u64, item: Item)
+    requires place { HasFreeSlot number party.old.seat.me }
+    requires behind { HasRoomBehind number party.old.seat.me }
+    ensures placed { StepsTo party.old.seat (HasPlacedOne item party.old.seat.me) party.new.seat }
+{
+    let table = &party.table.shared;
+    let slot = (number % party.capacity) as usize;
+    let empty = table.exchange(&mut party.seat, slot, Held::Item(item));
+    leave(empty);
+    let at = place_of(party.capacity, Word::Tail);
+    table.load::<PlaceStep>(&mut party.seat, at);
+}
+
+/// Places the item in the slot that is out, and stores the new tail: this item is put, and all that were placed before
+/// it. Its number is how many were put and placed before.
+pub(crate) fn place<B: Listener>(party: &mut Seated<B>, number: u64, item: Item)
+    requires place { HasFreeSlot number party.old.seat.me }
     ensures put { StepsTo party.old.seat (HasPlaced item party.old.seat.me) party.new.seat }
 {
     let table = &party.table.shared;
-    let slot = (tail % party.capacity) as usize;
+    let slot = (number % party.capacity) as usize;
     let nothing = table.exchange(&mut party.seat, slot, Held::Item(item));
     leave(nothing);
     let at = place_of(party.capacity, Word::Tail);
-    table.store::<PutStep>(&mut party.seat, at, tail + 1);
+    table.store::<PutStep>(&mut party.seat, at, number + 1);
+}
+
+/// Places the items in their slots, in order, and puts them all by one store of tail.
+pub(crate) fn place_all<B: Listener>(party: &mut Seated<B>, tail: u64, items: Vec<Item>)
+    requires some { 0 < length items.items }
+    requires place { HasFreeSlot tail party.old.seat.me }
+    requires none_placed { party.old.seat.me.0.placed ≡ [] }
+    requires room { HasRoomForAll items.items party.old.seat.me }
+    requires few { tail + length items.items ≤ 2 ^ 62 }
+    ensures put { StepsTo party.old.seat (HasPutAll items.items party.old.seat.me) party.new.seat }
+{
+    let mut items = items;
+    let last = take_last(&mut items);
+    let mut number = tail;
+    for item in items {
+        place_one(party, number, item);
+        number += 1;
+    }
+    place(party, number, last);
+}
+
+/// Takes the last item.
+fn take_last(items: &mut Vec<Item>) -> Item
+    requires some { 0 < length items.old.items }
+    ensures last { items.old.items ≡ items.new.items ++ result ∷ [] }
+{
+    match items.pop() {
+        Some(last) => last,
+        None => unreachable!(),
+    }
 }
 
 /// Leaves what an empty slot held. To drop it would be to read it, which would fetch the slot from the task's cache

@@ -14,7 +14,7 @@ ghost use Rattle.feed_cell.specs.Seats.{IsSameSeat};
 use super::causes::causes_in;
 use super::known::{Known, next_item};
 use super::steps::{end, look, peek, try_rest};
-use super::waits::{pause, waits};
+use super::waits::{Patience, pause};
 use crate::cell::seated::Seated;
 use crate::cell::{Held, NEW};
 use feed_core::{Causes, Seen};
@@ -40,6 +40,7 @@ pub(crate) fn serve<B: Listener>(
     word: u64,
     seen: &mut Seen,
     known: &mut Known,
+    patience: Patience,
 ) -> Served
     requires looked { HasLookedAt B.told word party.old.seat.me }
     requires room { length seen.old.signals < SIGNALS_IN_A_TURN }
@@ -49,7 +50,7 @@ pub(crate) fn serve<B: Listener>(
         party.old.seat.me party.new.seat.me seen.old seen.new }
     ensures known { OnGoing (Some result) (IsKnown known.new party.new.seat.me.0) }
 {
-    if let Some(served) = serve_soon(party, word, seen, known) {
+    if let Some(served) = serve_soon(party, word, seen, known, patience) {
         return served;
     }
     let word = look(party);
@@ -66,6 +67,7 @@ fn serve_soon<B: Listener>(
     word: u64,
     seen: &mut Seen,
     known: &mut Known,
+    patience: Patience,
 ) -> Option<Served>
     requires looked { HasLookedAt B.told word party.old.seat.me }
     requires room { length seen.old.signals < SIGNALS_IN_A_TURN }
@@ -78,7 +80,7 @@ fn serve_soon<B: Listener>(
     if let Some(served) = serve_once(party, word, seen, known) {
         return Some(served);
     }
-    for pauses in waits(party.capacity) {
+    for pauses in patience.waits(party.capacity) {
         pause(*pauses);
         let word = peek(party);
         if let Some(served) = serve_once(party, word, seen, known) {

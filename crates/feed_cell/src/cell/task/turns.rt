@@ -15,6 +15,7 @@ ghost use Rattle.feed_cell.specs.Views.{RunsFree};
 use super::known::Known;
 use super::looks::{Served, serve};
 use super::steps::{end, peek, peek_first};
+use super::waits::Patience;
 use super::{Spent, Stage, Task};
 use crate::cell::Held;
 use crate::cell::seated::Seated;
@@ -39,9 +40,9 @@ impl<B: Listener> Task<B> {
     /// 1.3, 1.5, 1.7 and 1.9). Before each item it looks or peeks: that showed no cancel, bad request, second
     /// subscribing or error that overtakes the items, and a measure showed that the item was requested. What a callback
     /// answers is done at once; one that is refused memory ends the subscription. If nothing is left to tell,
-    /// it spins for a few microseconds at most, in case more comes. It goes on only after 64 items, or if something was
+    /// it spins for a few microseconds at most, in case more comes, if it has the patience. It goes on only after 64 items, or if something was
     /// new when it would have rested.
-    pub fn turn(self, seen: &mut Seen) -> Turn<B>
+    pub fn turn(self, seen: &mut Seen, patience: Patience) -> Turn<B>
 
         // What it tells, by what it takes each item, and what became of the task.
         ensures turned { TurnsInto self seen.new.signals result }
@@ -68,7 +69,7 @@ impl<B: Listener> Task<B> {
     {
         let Task { mut party, stage } = self;
         seen.clear();
-        match run(&mut party, stage, seen) {
+        match run(&mut party, stage, seen, patience) {
             Outlook::Again => {
                 let stage = Stage::Going;
                 Turn::Again(Task { party, stage })
@@ -86,7 +87,12 @@ impl<B: Listener> Task<B> {
 }
 
 /// Greets the subscriber, if it was told nothing yet, and looks until the turn is over.
-fn run<B: Listener>(party: &mut Seated<B>, stage: Stage, seen: &mut Seen) -> Outlook
+fn run<B: Listener>(
+    party: &mut Seated<B>,
+    stage: Stage,
+    seen: &mut Seen,
+    patience: Patience,
+) -> Outlook
     requires runner { RunsFree party.old.seat.me.0 }
     requires paused { IsPaused B.told stage party.old.seat.me }
     requires nothing { seen.old.signals ≡ [] }
@@ -105,7 +111,7 @@ fn run<B: Listener>(party: &mut Seated<B>, stage: Stage, seen: &mut Seen) -> Out
     let mut known = Known::nothing();
     for _ in 0..ITEMS_IN_A_TURN {
         let word = peek_next(party, stage);
-        match serve(party, word, seen, &mut known) {
+        match serve(party, word, seen, &mut known, patience) {
             Served::Gave => stage = Stage::Going,
             Served::Rested => return Outlook::Resting,
             Served::Missed => return Outlook::Again,

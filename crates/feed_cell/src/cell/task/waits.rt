@@ -13,12 +13,23 @@ const SHORT_WAITS: [u32; 6] = [1, 2, 4, 8, 16, 32];
 /// The pauses of each wait of a task with a larger buffer: 800 in all, some 3.6 microseconds.
 const LONG_WAITS: [u32; 4] = [200, 200, 200, 200];
 
-/// Gives the pauses of each wait, one after the other, of a task with a buffer of this capacity.
-pub(super) fn waits(capacity: u64) -> &'static [u32] {
-    if capacity < WAITS_LONG_FROM {
-        &SHORT_WAITS
-    } else {
-        &LONG_WAITS
+/// Whether a task that finds nothing to do waits a few microseconds before it rests, in case more comes.
+#[derive(Clone, Copy, Debug, PartialEq, Eq)]
+pub enum Patience {
+    /// It waits: whoever runs it has nothing else to do.
+    Waits,
+    /// It rests at once: whoever runs it is to come back soon, as a submitter is.
+    Hurries,
+}
+
+impl Patience {
+    /// Gives the pauses of each wait, one after the other, of a task with a buffer of this capacity.
+    pub(super) fn waits(self, capacity: u64) -> &'static [u32] {
+        match self {
+            Patience::Hurries => &[],
+            Patience::Waits if capacity < WAITS_LONG_FROM => &SHORT_WAITS,
+            Patience::Waits => &LONG_WAITS,
+        }
     }
 }
 

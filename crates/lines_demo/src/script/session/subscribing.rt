@@ -10,6 +10,7 @@ use super::Session;
 use commands::Reply;
 use feed_core::Desk;
 use flow_rules::{ErrorOrder, Listener, Name, NoMemory, Refusal};
+use publisher_hub::USUAL_LIVE;
 use std::alloc::Global;
 
 impl<B: Listener> Session<B> {
@@ -26,7 +27,7 @@ impl<B: Listener> Session<B> {
         ensures { Replies (λ refusals. sub_result self.old refusals name number)
             (reply_or_refusal result) self.new }
     {
-        if let Err(refusal) = self.hub.may_subscribe(name, &mut self.due) {
+        if let Err(refusal) = self.hub.may_subscribe(name, USUAL_LIVE, &mut self.due) {
             self.woken.push_all(&mut self.due);
             return Err(refusal);
         }
@@ -36,7 +37,7 @@ impl<B: Listener> Session<B> {
         let order = self.beginning.order;
         match new_desk(alloc, self.hub.capacity(), order, subscriber, number) {
             Ok(desk) => {
-                let entry = self.hub.admit(name, desk, None, &mut self.due)?;
+                let entry = self.hub.admit(name, desk, None, USUAL_LIVE, &mut self.due)?;
                 self.woken.push(entry);
                 Ok(Reply::Name(name))
             }

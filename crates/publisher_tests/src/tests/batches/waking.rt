@@ -85,7 +85,7 @@ pub fn wake_several<L: Ledgers + Send + Sync + 'static, R: Threads + Wait + Copy
     alloc: Global,
     blanks: BlankPair,
 ) -> Result<String, Fail>
-    requires blanks { AreBlanksOf blanks L.publications L.drops }
+    requires blanks { AreBlanksOf blanks L.publications L.drops L.history }
 {
     let stop = Stop::new(alloc)?;
     let (a, b, c) = (Notes::new(alloc)?, Notes::new(alloc)?, Notes::new(alloc)?);

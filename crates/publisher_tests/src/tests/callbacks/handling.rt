@@ -64,7 +64,7 @@ pub fn offer_twice<
     L: Ledgers + Send + Sync + 'static,
     R: Threads + Wait + Copy + Send + Sync + 'static,
 >(rt: R, alloc: Global, blanks: BlankPair) -> Result<i64, Fail>
-    requires blanks { AreBlanksOf blanks L.publications L.drops }
+    requires blanks { AreBlanksOf blanks L.publications L.drops L.history }
 {
     let signs = Signs::new(alloc)?;
     let act = Acting::new(Counts(Arc::try_clone(&signs.told)?));

@@ -49,7 +49,7 @@ pub fn meet<L: Ledgers + Send + Sync + 'static, R: Threads + Wait + Copy + Send 
     alloc: Global,
     blanks: BlankPair,
 ) -> Result<u64, Fail>
-    requires blanks { AreBlanksOf blanks L.publications L.drops }
+    requires blanks { AreBlanksOf blanks L.publications L.drops L.history }
 {
     let one = Arc::new(alloc, AtomicBool::new(false))?;
     let other = Arc::new(alloc, AtomicBool::new(false))?;

@@ -47,7 +47,7 @@ pub fn mix<
     B: Listener + Send + 'static,
     R: Threads + Wait + Copy + Send + 'static,
 >(rt: R, alloc: Global, blanks: BlankPair, tens: B, ones: B) -> Result<(), Fail>
-    requires blanks { AreBlanksOf blanks L.publications L.drops }
+    requires blanks { AreBlanksOf blanks L.publications L.drops L.history }
     requires untold { (B.told tens ≡ []) × (B.told ones ≡ []) }
     requires unheard { (B.replied tens ≡ []) × (B.replied ones ≡ []) }
 {

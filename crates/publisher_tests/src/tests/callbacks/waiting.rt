@@ -50,7 +50,7 @@ pub fn call_all<L: Ledgers + Send + Sync + 'static, R: Threads + Wait + Copy + S
     alloc: Global,
     blanks: BlankPair,
 ) -> Result<String, Fail>
-    requires blanks { AreBlanksOf blanks L.publications L.drops }
+    requires blanks { AreBlanksOf blanks L.publications L.drops L.history }
 {
     let waits = new_waits(alloc)?;
     let mut stand: Stand<L, Acting<Waits>> = Stand::new(rt, alloc, blanks, 1, 8)?;

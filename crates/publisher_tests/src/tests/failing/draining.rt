@@ -44,7 +44,7 @@ pub fn hears_before_the_drain<
     L: Ledgers + Send + Sync + 'static,
     R: Threads + Wait + Copy + Send + 'static,
 >(rt: R, alloc: Global, blanks: BlankPair) -> Result<bool, Fail>
-    requires blanks { AreBlanksOf blanks L.publications L.drops }
+    requires blanks { AreBlanksOf blanks L.publications L.drops L.history }
 {
     let has_heard = Arc::new(alloc, AtomicBool::new(false))?;
     let handler = HearsLate {

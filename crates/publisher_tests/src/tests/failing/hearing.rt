@@ -64,7 +64,7 @@ pub fn hear<L: Ledgers + Send + Sync + 'static, R: Threads + Wait + Copy + Send 
     callbacks: u32,
     answer: Answer,
 ) -> Result<String, Fail>
-    requires blanks { AreBlanksOf blanks L.publications L.drops }
+    requires blanks { AreBlanksOf blanks L.publications L.drops L.history }
 {
     let hears = Hears {
         names: Vec::new(alloc),

@@ -72,7 +72,7 @@ pub fn look_while_it_hears<
     L: Ledgers + Send + Sync + 'static,
     R: Threads + Wait + Copy + Send + 'static,
 >(rt: R, alloc: Global, blanks: BlankPair) -> Result<String, Fail>
-    requires blanks { AreBlanksOf blanks L.publications L.drops }
+    requires blanks { AreBlanksOf blanks L.publications L.drops L.history }
 {
     let waits = Waits::new(alloc)?;
     let handler = waits.share()?;

@@ -1,9 +1,20 @@
-use Rattle.std.proofs.Common.{◌≡◌, sym, subst}
+use Rattle.std.proofs.Common.{◌≡◌, List, sym, subst}
 use Rattle.std.proofs.lemmas.Result.{IfOk-weaker}
+use Rattle.flow_rules.specs.declared.signal.Signal.{Signal}
+use Rattle.feed_core.specs.AnsweredTurn.{Reply}
+use Rattle.publisher.specs.Handles.{SubmitterState}
 use Rattle.publisher.specs.Outcome.{IsOutcome, outcome_of}
+use Rattle.publisher.specs.declared.outcome.Outcome.{Outcome}
 use Rattle.lines_demo.proofs.threads.run.publish_lines.Goals as goal
+
+-- what is left after some submitters is what is left of them
+of_some : {B H : Type 0} (told : B → List Signal) (replied : B → List Reply) (outcome left : Outcome B H) (submitters : List SubmitterState)
+    → IsOutcome told replied submitters left → outcome ≡ left
+    → (some : List SubmitterState) × IsOutcome told replied some outcome
+of_some told replied outcome left submitters is same = (submitters, subst (λ it. IsOutcome told replied submitters it) (sym same) is)
 
 pub returns-in-None : goal.returns-in-None
 returns-in-None g c =
-    IfOk-weaker c.outcome_of.result (λ outcome. outcome ≡ outcome_of c.finish-finished.result) (λ outcome. IsOutcome (λ shown. g.S.Subscriber.told shown.subscriber) (λ shown. shown.replied) outcome)
-    (λ outcome same. subst (λ left. IsOutcome (λ shown. g.S.Subscriber.told shown.subscriber) (λ shown. shown.replied) left) (sym same) c.finish-finished.ensures.outcome) c.outcome_of.ensures
+    IfOk-weaker c.outcome_of.result (λ outcome. outcome ≡ outcome_of c.finish-finished.result)
+    (λ outcome. (submitters : List SubmitterState) × IsOutcome (λ shown. g.S.Subscriber.told shown.subscriber) (λ shown. shown.replied) submitters outcome)
+    (λ outcome same. of_some (λ shown. g.S.Subscriber.told shown.subscriber) (λ shown. shown.replied) outcome _ _ c.finish-finished.ensures.outcome same) c.outcome_of.ensures

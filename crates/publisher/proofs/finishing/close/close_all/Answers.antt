@@ -16,12 +16,11 @@ loop-found-init g c =
     let same : into_iter_items c.into_iter-found-iterator.result ≡ c.args.founds.items = gives.0 in (
       refl,
       search rules,
-      closes_none g.B.Listener.told g.B.Listener.replied c.args.lanes.items c.args.held.items c.args.reclaimed.items
-          c.requires.empty.0 c.requires.empty.1.0 c.requires.empty.1.1,
+      closes_none g.B.Listener.told g.B.Listener.replied c.args.lanes.items c.args.held.items
+          c.requires.empty.0 c.requires.empty.1,
       refl,
       rw same c.requires.room.0,
-      rw same c.requires.room.1.0,
-      rw same c.requires.room.1.1,
+      rw same c.requires.room.1,
     )
 
 pub loop-found-preserved : goal.loop-found-preserved
@@ -36,28 +35,22 @@ loop-found-preserved g c =
           let short = ap length steps in
           omega arith,
       elim c.match-close_one.branch [
-        | in-Lane w ↦ rw (w.lanes-is, w.held-is, w.reclaimed-is, w.first-is, w.push_reserved.ensures.items)
-            (more_lane told g.B.Listener.replied at.yielded at.number at.lanes.items at.held.items at.reclaimed.items
+        | in-Lane w ↦ rw (w.lanes-is, w.held-is, w.first-is, w.push_reserved.ensures.items)
+            (more_lane told g.B.Listener.replied at.yielded at.number at.lanes.items at.held.items
             at.first at.invariant.2 at.invariant.3 found w.in-Lane.left w.in-Lane.ensures)
-        | in-Held w ↦ rw (w.lanes-is, w.held-is, w.reclaimed-is, w.push_reserved-in-Held.ensures.items)
-            (more_held told g.B.Listener.replied at.yielded at.number at.lanes.items at.held.items at.reclaimed.items
+        | in-Held w ↦ rw (w.lanes-is, w.held-is, w.push_reserved-in-Held.ensures.items)
+            (more_held told g.B.Listener.replied at.yielded at.number at.lanes.items at.held.items
             at.first at.invariant.2 at.invariant.3 found w.in-Held.name c.match-close_one.first
             (λ none. rw (w.first-is, w.or-first.ensures, none) refl)
             (λ first some. rw (w.first-is, w.or-first.ensures, some) refl) w.in-Held.ensures)
-        | in-Missing w ↦ rw (w.lanes-is, w.held-is, w.reclaimed-is)
+        | in-Missing w ↦ rw (w.lanes-is, w.held-is)
             (more_missing told g.B.Listener.replied at.yielded at.number at.lanes.items at.held.items
-            at.reclaimed.items at.first at.invariant.2 at.invariant.3 found w.in-Missing.name c.match-close_one.first
+            at.first at.invariant.2 at.invariant.3 found w.in-Missing.name c.match-close_one.first
             (λ none. rw (w.first-is, w.or-first-in-Missing.ensures, none) refl)
             (λ first some. rw (w.first-is, w.or-first-in-Missing.ensures, some) refl) w.in-Missing.ensures)
-        | in-Reclaimed w ↦ rw (
-          w.lanes-is,
-          w.held-is,
-          w.reclaimed-is,
-          w.first-is,
-          w.push_reserved-in-Reclaimed.ensures.items,
-        )
+        | in-Reclaimed w ↦ rw (w.lanes-is, w.held-is, w.first-is)
             (more_reclaimed told g.B.Listener.replied at.yielded at.number at.lanes.items at.held.items
-            at.reclaimed.items at.first at.invariant.2 at.invariant.3 found w.in-Reclaimed.ensures)
+            at.first at.invariant.2 at.invariant.3 found w.in-Reclaimed.ensures)
       ],
       let many = length-append at.yielded (found ∷ []) in
           let same = at.invariant.3 in
@@ -74,12 +67,6 @@ loop-found-preserved g c =
         | in-Missing w ↦ rw w.held-is at.invariant.5
         | in-Reclaimed w ↦ rw w.held-is at.invariant.5
       ],
-      elim c.match-close_one.branch [
-        | in-Lane w ↦ rw w.reclaimed-is at.invariant.6
-        | in-Held w ↦ rw w.reclaimed-is at.invariant.6
-        | in-Missing w ↦ rw w.reclaimed-is at.invariant.6
-        | in-Reclaimed w ↦ rw (w.reclaimed-is, w.push_reserved-in-Reclaimed.ensures.capacity) at.invariant.6
-      ],
     )
 
 pub returns : goal.returns
@@ -91,6 +78,6 @@ returns g c =
     ∙ c.into_iter-found-iterator.ensures.into_iter_gives.0 in
     let number : at.number ≡ length c.args.founds.items = at.invariant.3 ∙ ap length all in
     subst (λ n. ClosesInOrder g.B.Listener.told g.B.Listener.replied c.args.founds.items n at.lanes.items
-    at.held.items at.reclaimed.items at.first) number
+    at.held.items at.first) number
     (subst (λ founds. ClosesInOrder g.B.Listener.told g.B.Listener.replied founds at.number at.lanes.items
-    at.held.items at.reclaimed.items at.first) all at.invariant.2)
+    at.held.items at.first) all at.invariant.2)

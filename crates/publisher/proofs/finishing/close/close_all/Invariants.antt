@@ -6,8 +6,7 @@ use Rattle.publisher.proofs.finishing.close.close_all.Given as goal
 abbrev pub invariant-loop-found : goal.invariant-loop-found
 invariant-loop-found g l = (l.yielded ++ into_iter_items l.found-iterator ≡ into_iter_items l.initial.found-iterator)
     × (into_iter_len l.found-iterator ≡ length (into_iter_items l.found-iterator))
-    × ClosesInOrder g.B.Listener.told g.B.Listener.replied l.yielded l.number l.lanes.items l.held.items l.reclaimed.items l.first
+    × ClosesInOrder g.B.Listener.told g.B.Listener.replied l.yielded l.number l.lanes.items l.held.items l.first
     × (l.number ≡ length l.yielded)
     × (length (into_iter_items l.initial.found-iterator) ≤ vec_capacity l.lanes)
     × (length (into_iter_items l.initial.found-iterator) ≤ vec_capacity l.held)
-    × (length (into_iter_items l.initial.found-iterator) ≤ vec_capacity l.reclaimed)

@@ -3,12 +3,13 @@ use Rattle.std.proofs.Common.{sym, ◌∙◌}
 use Rattle.publisher.proofs.SoundStates.ReclaimedStates.{knows_of}
 use Rattle.publisher.proofs.state.State.known.Goals as goal
 
-pub returns : goal.returns
-returns g c = rw (← c.self.view_is) (knows_of
+pub returns-clause-known : goal.returns-clause-known
+returns-clause-known g c = rw (← c.self.view_is) (knows_of
     (record {
       hub = c.self.inside.hub;
       counted = c.self.inside.counted;
       last = c.self.inside.last;
+      census = c.self.inside.census;
       waiters =
           c.self.inside.waiters;
     }) c.args.entry _

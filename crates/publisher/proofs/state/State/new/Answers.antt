@@ -30,5 +30,5 @@ invariant_of-result g c =
     (asked, some, subst (IsCapacityOf asked) c.in_ok-capacity.ensures.value c.in_ok-capacity.ensures.least) in
     rw (c.open-published.ensures.total, c.open-published.ensures.amount, c.open-dropping.ensures.total, c.open-dropping.ensures.amount)
     (state_at_start (capacity_of asked) opening (hub_of producer_end c.set_opening.new.self)
-    c.open-published.result.1.parts c.open-dropping.result.1.parts start c.set_opening.ensures.sound sized
-    c.open-published.ensures.parts c.open-dropping.ensures.parts)
+    c.open-published.result.1.parts c.open-dropping.result.1.parts c.named.result start c.set_opening.ensures.sound sized
+    c.open-published.ensures.parts c.open-dropping.ensures.parts c.named.ensures)

@@ -6,6 +6,7 @@ use Rattle.publisher_hub.specs.Gathering.{dropped, lags, lags_again}
 use Rattle.publisher_hub.specs.Publishing.{offer_answer}
 use Rattle.publisher.specs.Publishing.{drop_of}
 use Rattle.publisher.proofs.SoundStates.GrownStates.{drop_is, state_offered}
+use Rattle.publisher.proofs.SoundStates.Histories.{writes_of}
 use Rattle.publisher.proofs.SoundStates.KeptStates.{state_stays, stays_looked}
 use Rattle.publisher.proofs.state.State.offer.Goals as goal
 use Rattle.publisher.specs.State.{producer_end}
@@ -28,8 +29,10 @@ invariant_of-self-2 g c =
     ∙ ap (λ d. d + drop_of (offer_answer n lag)) c.self.invariant.dropping_is
     ∙ sym (drop_is n lag c.self.inside.hub.dropping) ∙ sym offered.counted in
     state_offered (hub_of producer_end c.self.inside.hub) (hub_of producer_end c.offer_with.new.self) offered.item _
-    c.add.new.self.total c.count_drop.new.dropping.total c.self.invariant c.offer_with.ensures.sound
-    offered.reaches c.add.ensures.total counted
+    c.add.new.self.total c.count_drop.new.dropping.total c.write.new.self c.args.own.now.pass.source c.args.text
+    c.self.invariant c.offer_with.ensures.sound offered.reaches c.add.ensures.total counted
+    (offered.from ∙ sym c.args.own.now.numbered) offered.words
+    (writes_of c.self.inside.history c.write.new.self _ _ c.args.text c.write.ensures.history c.of-said.ensures)
 
 pub returns-clause-one_more : goal.returns-clause-one_more
 returns-clause-one_more g c = c.add.ensures.amount

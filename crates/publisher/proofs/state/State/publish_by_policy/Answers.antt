@@ -3,6 +3,7 @@ use Rattle.publisher_hub.specs.Hub.{hub_of}
 use Rattle.publisher_hub.specs.Gathering.{missed}
 use Rattle.publisher.specs.Publishing.{loss_of}
 use Rattle.publisher.proofs.SoundStates.GrownStates.{loss_is, state_offered}
+use Rattle.publisher.proofs.SoundStates.Histories.{writes_of}
 use Rattle.publisher.proofs.SoundStates.KeptStates.{state_stays, stays_looked}
 use Rattle.publisher.proofs.state.State.publish_by_policy.Goals as goal
 use Rattle.publisher.specs.State.{producer_end}
@@ -20,8 +21,10 @@ invariant_of-self-2 g c =
     let counted = c.count_loss.ensures.total ∙ ap (λ d. c.self.inside.dropping.total + loss_of d) published.lost
     ∙ ap (λ d. d + loss_of n) c.self.invariant.dropping_is ∙ sym (loss_is n c.self.inside.hub.dropping) ∙ sym published.counted in
     state_offered (hub_of producer_end c.self.inside.hub) (hub_of producer_end c.publish_by_policy.new.self) published.item _
-    c.add.new.self.total c.count_loss.new.dropping.total c.self.invariant c.publish_by_policy.ensures.sound
-    published.reaches c.add.ensures.total counted
+    c.add.new.self.total c.count_loss.new.dropping.total c.write.new.self c.args.own.now.pass.source c.args.text
+    c.self.invariant c.publish_by_policy.ensures.sound published.reaches c.add.ensures.total counted
+    (published.from ∙ sym c.args.own.now.numbered) published.words
+    (writes_of c.self.inside.history c.write.new.self _ _ c.args.text c.write.ensures.history c.of-said.ensures)
 
 pub returns-clause-one_more : goal.returns-clause-one_more
 returns-clause-one_more g c = c.add.ensures.amount

@@ -1,7 +1,7 @@
 -- A subscription that has ended is reclaimed, and one that goes on by a look is refused.
-use Rattle.std.proofs.Common.{true, false, Option, ap, subst}
+use Rattle.std.proofs.Common.{◌+◌, true, false, Option, ap, subst, sym, ◌∙◌}
 use Rattle.feed_cell.specs.Parties.{ProducerState}
-use Rattle.publisher.specs.Reclaiming.{TakesEnd}
+use Rattle.publisher.specs.Reclaiming.{Reclaims, TakesEnd}
 use Rattle.publisher.specs.State.{PublisherState}
 use Rattle.publisher.proofs.SoundStates.ReclaimedStates.{reclaims_of, refuses_later, refuses_living, shows_end, state_viewed}
 use Rattle.publisher.proofs.state.State.reclaim.Goals as goal
@@ -15,12 +15,16 @@ returns-then-not-has_ended-clause-refused g c =
 pub returns-in-Some-take_end-clause-ok : goal.returns-in-Some-take_end-clause-ok
 returns-in-Some-take_end-clause-ok g c =
     let look = c.has_ended-has_ended in
-    reclaims_of c.args.entry c.in-Some.known c.args.handle c.in-Some-take_end.producer c.with.result look.new.self
+    subst (λ (s : PublisherState). Reclaims c.args.entry c.args.handle c.with.result c.args.self.now
+    (record s { census = c.reclaim.new.self })) (sym c.self-2.view_is)
+    (reclaims_of c.args.entry c.in-Some.known c.args.handle c.in-Some-take_end.producer c.with.result look.new.self
     c.take_end.new.self _ (state_viewed _ look.new.self _ c.self.view_is c.self.invariant)
-    (ap (λ (s : PublisherState). s.counted) c.self.view_is) c.in-Some.ensures
+    (ap (λ (s : PublisherState). s.counted) c.self.view_is) c.in-Some.ensures.known
     (subst (λ p. TakesEnd c.args.entry p look.new.self c.take_end.new.self) c.in-Some-take_end.is
-    c.take_end.ensures) c.with.ensures c.args.self.now
+    c.take_end.ensures.takes) c.with.ensures c.args.self.now c.reclaim.new.self
     (shows_end c.args.entry look.result true c.args.self.now look.new.self c.if-not-has_ended.false look.ensures.looks look.ensures.rest)
+    c.take_end.ensures.census (c.reclaim.ensures ∙ ap (λ (s : PublisherState). record s.census { reclaimed = s.census.reclaimed + 1 })
+    c.self-2.view_is))
 
 pub returns-in-None-take_end-clause-refused : goal.returns-in-None-take_end-clause-refused
 returns-in-None-take_end-clause-refused g c =
@@ -31,6 +35,6 @@ returns-in-None-take_end-clause-refused g c =
       (
         shows_end c.args.entry look.result true c.args.self.now look.new.self c.if-not-has_ended.false look.ensures.looks look.ensures.rest,
         subst (λ (p : Option ProducerState). TakesEnd c.args.entry p look.new.self c.take_end.new.self)
-            c.in-None-take_end.is c.take_end.ensures,
+            c.in-None-take_end.is c.take_end.ensures.takes,
       ),
-    )
+    ) (c.take_end.ensures.census ∙ ap (λ (s : PublisherState). s.census) look.ensures.rest)

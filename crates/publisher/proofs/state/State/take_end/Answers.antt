@@ -21,8 +21,8 @@ pub invariant_of-self-in_default : goal.invariant_of-self-in_default
 invariant_of-self-in_default g c = state_ended c.self.inside.hub c.take_ended.new.self c.args.entry
     c.take_ended.result c.take_ended.ensures.takes _ c.self.invariant c.take_ended.ensures.sound
 
-pub returns : goal.returns
-returns g c = elim c.match-ticket.branch [
+pub returns-clause-takes : goal.returns-clause-takes
+returns-clause-takes g c = elim c.match-ticket.branch [
   | in-Some w ↦ rw (← c.self.view_is, w.self-is)
       (takes_end c.args.entry c.in_ok-producer.producer c.in_ok-producer.ticket c.take_ended.result _ _
       c.take_ended.ensures.takes c.in_ok-producer.was

@@ -21,7 +21,7 @@ pub returns-then-is_some-clause-sound : goal.returns-then-is_some-clause-sound
 returns-then-is_some-clause-sound g c = c.requires.sound
 
 pub returns-then-is_some-clause-keeps : goal.returns-then-is_some-clause-keeps
-returns-then-is_some-clause-keeps g c name due can = can
+returns-then-is_some-clause-keeps g c name most due can = can
 
 pub returns-clause-ok : goal.returns-clause-ok
 returns-clause-ok g c unclosed = c.one_more.ensures.ok
@@ -37,7 +37,7 @@ pub returns-clause-rest : goal.returns-clause-rest
 returns-clause-rest g c = refl
 
 pub returns-clause-keeps : goal.returns-clause-keeps
-returns-clause-keeps g c name due can = record {
+returns-clause-keeps g c name most due can = record {
   due_place = can.due_place;
   place = record { entry_place = can.place.entry_place; number_place = can.place.number_place; few_live = can.place.few_live; few_entries = can.place.few_entries };
   ready = can.ready;

@@ -4,12 +4,6 @@ use Rattle.std.proofs.lemmas.List.{length-map}
 use Rattle.publisher_hub.specs.Entry.{entry_of}
 use Rattle.publisher_hub.proofs.hub.Hub.make_place.Goals as goal
 
-pub returns-then-len-ge-MOST_LIVE-clause-refusals : goal.returns-then-len-ge-MOST_LIVE-clause-refusals
-returns-then-len-ge-MOST_LIVE-clause-refusals g c = omega arith
-
-pub returns-then-len-ge-MOST_LIVE-clause-not_refused : goal.returns-then-len-ge-MOST_LIVE-clause-not_refused
-returns-then-len-ge-MOST_LIVE-clause-not_refused g c place = absurd (omega arith)
-
 pub returns-then-len-ge-MOST_ENTRIES-clause-refusals : goal.returns-then-len-ge-MOST_ENTRIES-clause-refusals
 returns-then-len-ge-MOST_ENTRIES-clause-refusals g c = let mapped = length-map c.args.self.now.entries.items (entry_of g.F.Feed.meaning) in (omega arith, omega arith)
 

@@ -51,7 +51,7 @@ seen g c =
 
 pub returns-clause-can : goal.returns-clause-can
 returns-clause-can g c =
-    can_admit g.F.Feed.meaning g.F.Feed.does c.args.name c.make_place.result c.see_all.new.self c.make_place.new.self c.see_all.new.due
+    can_admit g.F.Feed.meaning g.F.Feed.does c.args.name c.args.most c.make_place.result c.see_all.new.self c.make_place.new.self c.see_all.new.due
     c.make_place.ensures.ok c.in_ok-see_all.ensures.due_place c.in_ok-see_all.ensures.ready (unnamed g c) c.make_place.ensures.same
 
 pub returns-clause-seen : goal.returns-clause-seen
@@ -59,12 +59,12 @@ returns-clause-seen g c = on_ok c.make_place.result _ (seen g c)
 
 pub returns-clause-refusals : goal.returns-clause-refusals
 returns-clause-refusals g c =
-    refused_place g.F.Feed.meaning g.F.Feed.does c.args.name c.make_place.result c.args.due.now.items c.see_all.new.due.items c.args.self.now c.make_place.new.self (seen g c)
+    refused_place g.F.Feed.meaning g.F.Feed.does c.args.name c.args.most c.make_place.result c.args.due.now.items c.see_all.new.due.items c.args.self.now c.make_place.new.self (seen g c)
     (subst (λ (hub : Rattle.publisher_hub.specs.Hub.HubState). IsUnnamed c.args.name hub.entries) (sym c.make_place.ensures.same) (unnamed g c)) c.see_all.ensures.due c.make_place.ensures.refusals
 
 pub returns-clause-not_refused : goal.returns-clause-not_refused
 returns-clause-not_refused g c can =
-    c.make_place.ensures.not_refused (still_place g.F.Feed.meaning g.F.Feed.does c.args.self.now c.see_all.new.self c.in_ok-see_all.ensures.seen
+    c.make_place.ensures.not_refused (still_place g.F.Feed.meaning g.F.Feed.does c.args.most c.args.self.now c.see_all.new.self c.in_ok-see_all.ensures.seen
     c.see_all.ensures.entry_places c.see_all.ensures.number_places can.place)
 
 -- a refusal says nothing of a yes

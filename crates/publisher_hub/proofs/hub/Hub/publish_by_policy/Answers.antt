@@ -1,5 +1,5 @@
 -- A publication by policy, from what each of its steps says.
-use Rattle.std.proofs.Common.{rules, ◌≡◌, ◌≤◌, ◌∙◌, ap, refl, subst, sym}
+use Rattle.std.proofs.Common.{◌≤◌, ◌∙◌, ap, refl, subst, sym}
 use Rattle.publisher_hub.specs.Gathering.{started}
 use Rattle.publisher_hub.specs.Hub.{hub_of}
 use Rattle.publisher_hub.specs.Publishing.{PublishesByPolicy}

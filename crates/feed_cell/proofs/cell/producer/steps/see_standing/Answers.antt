@@ -10,5 +10,5 @@ load-requires g c = (
   search rules,
   search rules,
   at_place g.B.Listener.told _ _ _ c.args.party.now.seat.me c.args.party.now.capacity _ Word.Head (λ n. n) (FindsHead c.args.party.now.seat.me) (inl c.requires.may.is.0) c.args.party.now.sized c.place_of-at.ensures.place
-      (stands g.B.Listener.told _ _ _ _ c.requires.may.is c.requires.may.none_out c.requires.may.begins),
+      (stands g.B.Listener.told _ _ _ _ c.requires.may.is c.requires.may.none_out c.requires.may.none_placed c.requires.may.begins),
 )

@@ -6,7 +6,7 @@ use Rattle.publisher_hub.specs.declared.work.Work.{Work}
 use Rattle.lines_demo.specs.Prelude.{Refusal, desk_after_demand}
 use Rattle.lines_demo.specs.Script.Session.{numbers_of}
 use Rattle.lines_demo.specs.Script.State.{SessionState}
-use Rattle.lines_demo.specs.Script.Subscribing.{desk_at_start}
+use Rattle.lines_demo.specs.Script.Subscribing.{USUAL_LIVE, desk_at_start}
 use Rattle.commands.specs.declared.reply.Reply.TheVariants.{Name, Refused}
 use Rattle.lines_demo.proofs.Sessions.Inside.{state_inside}
 use Rattle.lines_demo.proofs.Sessions.Subscribing.{AnswersSub, refused, finds_nobody, gets_no_buffer, admitted, admitted_starts_nothing, all_back, few_are_woken, nobody, one_back, one_fewer, room_after}
@@ -21,7 +21,7 @@ refused_then : (g : Over) (c : goal.After-push_all-arg-in-Err-1 g)
 refused_then g c =
     refused c.self.inside.hub (length c.self.inside.stock.items) c.self.inside.woken c.self.inside.beginning c.args.name c.args.number c.self.invariant.2
     (ap (λ (s : SessionState). s.beginning.is_over) c.self.view_is ∙ c.requires.begun) c.may_subscribe.new.self c.may_subscribe.new.due.items c.in-Err.refusal c.may_subscribe.ensures.sound
-    (subst (λ (d : List (Work Unit)). Refuses end_of DoesCall c.args.name c.in-Err.refusal d c.may_subscribe.new.due.items c.self.inside.hub c.may_subscribe.new.self) c.self.invariant.3 c.in-Err.ensures.refusals)
+    (subst (λ (d : List (Work Unit)). Refuses end_of DoesCall c.args.name USUAL_LIVE c.in-Err.refusal d c.may_subscribe.new.due.items c.self.inside.hub c.may_subscribe.new.self) c.self.invariant.3 c.in-Err.ensures.refusals)
 
 pub push_all-requires : goal.push_all-requires
 push_all-requires g c = record { room = room_after (state_inside c.self.inside) c.args.name c.args.number (Refused c.in-Err.refusal) c.may_subscribe.new.self (length c.self.inside.stock.items) c.self.inside.woken c.may_subscribe.new.due.items (refused_then g c) }
@@ -32,7 +32,7 @@ refused_at_last : (g : Over) (c : goal.After-push_all g)
 refused_at_last g c = rw c.push_all.ensures.woken (
     refused c.self.inside.hub (length c.self.inside.stock.items) c.self.inside.woken c.self.inside.beginning c.args.name c.args.number c.self.invariant.2
     (ap (λ (s : SessionState). s.beginning.is_over) c.self.view_is ∙ c.requires.begun) c.may_subscribe.new.self c.may_subscribe.new.due.items c.in-Err.refusal c.may_subscribe.ensures.sound
-    (subst (λ (d : List (Work Unit)). Refuses end_of DoesCall c.args.name c.in-Err.refusal d c.may_subscribe.new.due.items c.self.inside.hub c.may_subscribe.new.self) c.self.invariant.3 c.in-Err.ensures.refusals))
+    (subst (λ (d : List (Work Unit)). Refuses end_of DoesCall c.args.name USUAL_LIVE c.in-Err.refusal d c.may_subscribe.new.due.items c.self.inside.hub c.may_subscribe.new.self) c.self.invariant.3 c.in-Err.ensures.refusals))
 
 pub invariant_of-self : goal.invariant_of-self
 invariant_of-self g c = (c.self.invariant.0, c.self.invariant.1, (refused_at_last g c).session, c.push_all.ensures.nothing_due)
@@ -78,9 +78,9 @@ requested g c = c.in-Ok.ensures.ok ∙ ap (λ n. desk_after_demand c.args.number
 
 -- the publisher added it, while nothing was due
 added : (g : Over) (c : goal.After-push g)
-    → Admits end_of DoesCall c.args.name c.in-Ok.desk None c.in_ok-entry-in-Ok.entry [] c.admit.new.due.items c.may_subscribe.new.self c.admit.new.self
+    → Admits end_of DoesCall c.args.name c.in-Ok.desk None USUAL_LIVE c.in_ok-entry-in-Ok.entry [] c.admit.new.due.items c.may_subscribe.new.self c.admit.new.self
 added g c =
-    subst (λ (d : List (Work Unit)). Admits end_of DoesCall c.args.name c.in-Ok.desk None c.in_ok-entry-in-Ok.entry d c.admit.new.due.items c.may_subscribe.new.self c.admit.new.self)
+    subst (λ (d : List (Work Unit)). Admits end_of DoesCall c.args.name c.in-Ok.desk None USUAL_LIVE c.in_ok-entry-in-Ok.entry d c.admit.new.due.items c.may_subscribe.new.self c.admit.new.self)
     (c.in_default.ensures.nothing_due ∙ c.self.invariant.3) c.in_ok-entry-in-Ok.ensures.ok
 
 -- what the new one leaves

@@ -5,10 +5,10 @@ use Rattle.publisher.proofs.finishing.judge.Books.conclude.Goals as goal
 
 pub returns-in-Some : goal.returns-in-Some
 returns-in-Some g c = concludes_held g.B.Listener.told g.B.Listener.replied c.args.self c.close_all-lanes.result.first
-    _ c.close_all-lanes.ensures refl refl refl c.in-Some.name
+    _ c.close_all-lanes.ensures refl refl refl refl c.in-Some.name
     (◌∙◌ {a = option_or c.close_all-lanes.result.first c.args.self.missing} (sym c.or.ensures) c.in-Some.is)
 
 pub returns-in-None : goal.returns-in-None
 returns-in-None g c = concludes_judged g.B.Listener.told g.B.Listener.replied c.args.self
-    c.close_all-lanes.result.first _ c.close_all-lanes.ensures refl refl refl c.judge.result
+    c.close_all-lanes.result.first _ c.close_all-lanes.ensures refl refl refl refl c.judge.result
     (◌∙◌ {a = option_or c.close_all-lanes.result.first c.args.self.missing} (sym c.or.ensures) c.in-None.is) c.judge.ensures

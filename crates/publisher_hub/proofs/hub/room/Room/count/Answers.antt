@@ -9,4 +9,5 @@ returns c = record {
   not_full = c.shows_room-has.ensures.not_full;
   everywhere = refl;
   for_waiters = refl;
+  least = c.least_with-self.ensures;
 }

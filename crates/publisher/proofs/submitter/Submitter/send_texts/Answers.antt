@@ -1,0 +1,71 @@
+use Rattle.std.proofs.Common.{◌≡◌, ◌∙◌, ℕ, ◌-◌, ◌+◌, ◌++◌, length, take, drop, ap, arith}
+use Rattle.std.proofs.lemmas.List.{length-drop, take_rest}
+use Rattle.publisher.specs.Handles.{SubmitterState}
+use Rattle.publisher.proofs.Shares.SentTexts.{counts_all, counts_first, more_sent, rest_sent}
+use Rattle.publisher.proofs.submitter.Submitter.send_texts.Goals as goal
+
+pub returns-in-Ok-clause-ok : goal.returns-in-Ok-clause-ok
+returns-in-Ok-clause-ok g c =
+    let (_, (_, (source, (amount, (drops, (within, (few, (none, sent)))))))) = c.loop.invariant in
+    let texts = c.args.texts.now in
+    let n = c.loop.published in
+    let left : take (length texts - n) (drop n texts) ≡ drop n texts = take_rest texts n in
+    let long : length (take (length texts - n) (drop n texts)) ≡ length texts - n = ap length left ∙ length-drop n texts in
+    let all = c.in-Ok.ensures.all in
+    let lost = c.in-Ok.ensures.lost in
+    counts_all c.args.self.now _ texts (c.loop.lost + c.in-Ok.all.lost) (◌∙◌ {A = ℕ} c.in-Ok.ensures.source source)
+    (ap (λ (s : SubmitterState). s.closing) c.self.view_is) (ap (λ (s : SubmitterState). s.known) c.self.view_is) (omega arith)
+    (rest_sent c.args.self.now.sent texts n c.loop.own.pass.sent _ sent
+    (c.in-Ok.ensures.sent ∙ ap (λ l. c.loop.own.pass.sent ++ l) left)) (omega arith)
+
+pub returns-in-Err-text-clause-partly : goal.returns-in-Err-text-clause-partly
+returns-in-Err-text-clause-partly g c =
+    let (_, (_, (source, (amount, (drops, (within, (few, (none, sent)))))))) = c.loop.invariant in
+    let texts = c.args.texts.now in
+    let n = c.loop.published in
+    let m = c.in-Err.field-0.published in
+    let left : take (length texts - n) (drop n texts) ≡ drop n texts = take_rest texts n in
+    let some = c.in-Err.ensures.some in
+    let lost = c.in-Err.ensures.lost_before in
+    counts_first c.args.self.now _ texts (n + m) (c.loop.lost + c.in-Err.field-0.lost) (◌∙◌ {A = ℕ} c.in-Err.ensures.source source)
+    (ap (λ (s : SubmitterState). s.closing) c.self.view_is) (ap (λ (s : SubmitterState). s.known) c.self.view_is) (omega arith)
+    (more_sent c.args.self.now.sent texts n c.loop.own.pass.sent _ m within sent
+    (c.in-Err.ensures.sent_before ∙ ap (λ l. c.loop.own.pass.sent ++ take m l) left)) (omega arith)
+
+pub loop-preserved : goal.loop-preserved
+loop-preserved g c =
+    let (_, (_, (source, (amount, (drops, (within, (few, (none, sent)))))))) = c.loop.invariant in
+    let texts = c.args.texts.now in
+    let n = c.loop.published in
+    let m = c.in-Err.field-0.published in
+    let left : take (length texts - n) (drop n texts) ≡ drop n texts = take_rest texts n in
+    let long : length (take (length texts - n) (drop n texts)) ≡ length texts - n = ap length left ∙ length-drop n texts in
+    let less = c.in-Err.ensures.stopped.less in
+    let some = c.in-Err.ensures.some in
+    let lost = c.in-Err.ensures.lost_before in
+    let few_more = c.in-Err.ensures.few_before in (
+      tt,
+      (
+        tt,
+        (
+          ◌∙◌ {A = ℕ} c.in-Err.ensures.source source,
+          (
+            omega arith,
+            (
+              omega arith,
+              (
+                omega arith,
+                (
+                  omega arith,
+                  (
+                    λ all. let before = none all in let now = c.in-Err.ensures.none_lost_before all in omega arith,
+                    more_sent c.args.self.now.sent texts n c.loop.own.pass.sent _ m within sent
+                        (c.in-Err.ensures.sent_before ∙ ap (λ l. c.loop.own.pass.sent ++ take m l) left),
+                  ),
+                ),
+              ),
+            ),
+          ),
+        ),
+      ),
+    )

@@ -1,0 +1,176 @@
+//! A subscription that several threads have, each a controller of it, so that one cancels while another waits.
+//!
+//! The owner's end stands behind a lock of its own, which is held for a few steps of its words, and in which nobody
+//! waits. A task that these start is handed to the pool after that, so a callback that runs then may request or cancel
+//! by a controller, too.
+ghost use Rattle.std.specs.Prelude.{◌≡◌, IfErr, IfOk};
+
+use crate::dispatcher::Dispatcher;
+use crate::ledgers::Ledgers;
+use crate::refused::Refused;
+use crate::subscription::Subscription;
+use feed_cell::{Handle, Task};
+use flow_rules::{FailHandler, LastFailure, Listener, NoMemory, Refusal};
+use std::alloc::Global;
+use std::fmt;
+use std::marker::Model;
+use std::sync::{Arc, Mutex, Wait};
+
+/// What a thread requests and cancels with of a subscription that several threads have
+/// ([`Subscription::share`]; `Flow.Subscription`, Java SE 17, whose methods any thread may call).
+///
+/// Once all others are dropped, [`into_subscription`](Controller::into_subscription) gives what
+/// [`finish`](crate::finish) takes back.
+#[derive(Drop)]
+pub struct Controller<L: Ledgers + Send, B: Listener + Send, F: FailHandler + Send = LastFailure> {
+    dispatcher: Dispatcher<L, B, F>,
+    entry: u32,
+    handle: Arc<Mutex<Handle<B>>>,
+}
+
+impl<L: Ledgers + Send, B: Listener + Send, F: FailHandler + Send> fmt::Debug
+    for Controller<L, B, F> {
+    fn fmt<W: fmt::Write>(&self, f: &mut fmt::Formatter<W>) -> fmt::Result {
+        write!(f, "Controller {{ entry: {} }}", self.entry)
+    }
+}
+
+impl<L: Ledgers + Send, B: Listener + Send, F: FailHandler + Send> Model for Controller<L, B, F> {
+    ghost use Rattle.publisher.specs.Handles.{ControllerState};
+
+    ghost Value = { ControllerState };
+
+    ghost view = { λ c. record { entry = c.entry } };
+}
+
+impl<L: Ledgers + Send, B: Listener + Send, F: FailHandler + Send> Subscription<L, B, F> {
+    /// Makes it one that several threads can have: this is the first controller of it, and
+    /// [`another`](Controller::another) makes more.
+    ///
+    /// Refused 5, with the subscription back, if the memory for that is refused.
+    pub fn share(self, alloc: Global) -> Result<Controller<L, B, F>, Refused<Subscription<L, B, F>>>
+        ensures entry { IfOk result (λ controller. controller.entry ≡ self.entry) }
+        ensures back { IfErr result (λ refused. refused.1.entry ≡ self.entry) }
+        ensures refusal { IfErr result (λ refused. refused.0 ≡ Refusal.NoMemory) }
+    {
+        let (dispatcher, entry, handle) = self.into_all();
+        match Arc::new(alloc, Mutex::new(handle)) {
+            Ok(handle) => Ok(Controller {
+                dispatcher,
+                entry,
+                handle,
+            }),
+            Err(failed) => Err(Refused {
+                refusal: Refusal::NoMemory,
+                back: Subscription::new(dispatcher, entry, failed.value.into_inner()),
+            }),
+        }
+    }
+}
+
+impl<L: Ledgers + Send, B: Listener + Send, F: FailHandler + Send> Controller<L, B, F> {
+    /// Makes a controller for one more thread. `NoMemory` if what it needs is refused.
+    pub fn another(&self, alloc: Global) -> Result<Controller<L, B, F>, NoMemory>
+        ensures entry { IfOk result (λ other. other.entry ≡ self.now.entry) }
+    {
+        Ok(Controller {
+            dispatcher: self.dispatcher.another(alloc)?,
+            entry: self.entry,
+            handle: Arc::try_clone(&self.handle)?,
+        })
+    }
+
+    /// Gives the subscription back, if this is its last controller, and else the controller.
+    pub fn into_subscription(self) -> Result<Subscription<L, B, F>, Controller<L, B, F>>
+        ensures entry { IfOk result (λ subscription. subscription.entry ≡ self.entry) }
+        ensures back { IfErr result (λ controller. controller.entry ≡ self.entry) }
+    {
+        let Controller {
+            dispatcher,
+            entry,
+            handle,
+        } = self;
+        match Arc::try_unwrap(handle) {
+            Ok(handle) => Ok(Subscription::new(dispatcher, entry, handle.into_inner())),
+            Err(handle) => Err(Controller {
+                dispatcher,
+                entry,
+                handle,
+            }),
+        }
+    }
+
+    /// Tells the number of the subscription.
+    pub fn entry(&self) -> u32
+        ensures { result ≡ self.now.entry }
+    {
+        self.entry
+    }
+
+    /// Adds to the demand, as [`Subscription::request`] does.
+    ///
+    /// `NoMemory` if what a started task needs is refused; nothing has changed then.
+    pub fn request<R: Wait>(&mut self, rt: &R, n: i64) -> Result<(), NoMemory>
+        ensures { self.new ≡ self.old }
+    {
+        if let Some(task) = request_behind(rt, &*self.handle, n)? {
+            self.dispatcher.start(rt, self.entry, task);
+        }
+        Ok(())
+    }
+
+    /// Ends the subscription, as [`Subscription::cancel`] does: only the first cancel of any controller does anything.
+    ///
+    /// `NoMemory` if what a started task needs is refused; nothing has changed then.
+    pub fn cancel<R: Wait>(&mut self, rt: &R) -> Result<(), NoMemory>
+        ensures { self.new ≡ self.old }
+    {
+        if let Some(task) = cancel_behind(rt, &*self.handle)? {
+            self.dispatcher.start(rt, self.entry, task);
+        }
+        Ok(())
+    }
+
+    /// Tells how many items were requested with the subscription, by any controller and before it was shared, saturated
+    /// at 2^63-1.
+    pub fn requested<R: Wait>(&self, rt: &R) -> u64 {
+        self.handle.lock(rt).requested()
+    }
+
+    /// Tells how many items wait for the subscriber; 0 once the subscription has ended.
+    pub fn lag<R: Wait>(&self, rt: &R) -> u64 {
+        self.dispatcher.shared.lock(rt).lag(self.entry)
+    }
+
+    /// Tells whether the subscription has ended, as [`Subscription::has_ended`] does.
+    pub fn has_ended<R: Wait>(&self, rt: &R) -> bool {
+        self.dispatcher.shared.lock(rt).has_ended(self.entry)
+    }
+
+    /// Waits until the subscription has ended, as [`Subscription::wait_end`] does. The other controllers request and
+    /// cancel meanwhile.
+    pub fn wait_end<R: Wait>(&self, rt: &R) {
+        let _ended = self.dispatcher.shared.wait_for_end(rt, self.entry);
+    }
+}
+
+/// Requests with the owner's end behind the lock, and gives the task that this starts.
+fn request_behind<B: Listener + Send, R: Wait>(
+    rt: &R,
+    handle: &Mutex<Handle<B>>,
+    n: i64,
+) -> Result<Option<Task<B>>, NoMemory> {
+    let mut held = handle.lock(rt);
+    held.ready()?;
+    Ok(held.request(n))
+}
+
+/// Cancels with the owner's end behind the lock, and gives the task that this starts.
+fn cancel_behind<B: Listener + Send, R: Wait>(
+    rt: &R,
+    handle: &Mutex<Handle<B>>,
+) -> Result<Option<Task<B>>, NoMemory> {
+    let mut held = handle.lock(rt);
+    held.ready()?;
+    Ok(held.cancel())
+}

@@ -1,0 +1,11 @@
+use Rattle.std.proofs.Common.{◌≡◌, ◌≤◌, length, take, vec_len}
+use Rattle.std.specs.Vec.{vec_capacity}
+use Rattle.publisher_hub.specs.Several.{items_from}
+use Rattle.publisher_hub.proofs.hub.several.items_of.Given as goal
+
+abbrev pub invariant-loop-place : goal.invariant-loop-place
+invariant-loop-place l = record {
+  items : l.items.items ≡ items_from l.source l.seq l.serial (take l.place l.texts);
+  many : vec_len l.items ≡ l.place;
+  room : length l.texts ≤ vec_capacity l.items;
+}

@@ -1,0 +1,153 @@
+"""Rows about slow readers: a lossy sink loses whole lines, which are counted, and the memory stays as it is."""
+import json
+import os
+import subprocess
+import threading
+import time
+
+from common import driver, expect, feed, read_slowly, split_lines
+
+
+def counts_lines():
+    """What a lossy sink with a filter has written, left out and lost are lines, and not texts: with a slow reader it has written exactly
+    the lines that it says, and each that it was told passes."""
+    count = 300000
+    lines = [b'%06d %s\n' % (n, b'ab' if n % 3 else b'ba') for n in range(count)]
+    process = driver.start('copy', '--grep', 'ab', '--lossy', '-', '--linger', '60')
+    found = []
+    reader = threading.Thread(target=read_slowly, args=(process.stdout, found))
+    reader.start()
+    feed(process.stdin, b''.join(lines))
+    reader.join()
+    said = process.stderr.read()
+    process.wait(60)
+    told = split_lines(b''.join(found))
+    row = json.loads(said)['sinks'][1]
+    passing = {line for line in lines if b'ab' in line}
+    expect('counts', 'the copy', driver.read('copy') == b''.join(lines), True)
+    expect('counts', 'whether each line is one that passes', set(told) <= passing, True)
+    expect('counts', 'the order', told == sorted(told), True)
+    expect('counts', 'what is reported', (row['lines'], row['lines'] + row['left_out'] + row['lost']), (len(told), count))
+    # A line that is left out was seen if one beside it was told, since texts have lines that stand together.
+    numbers = {int(line.split()[0]) for line in told}
+    beside = [(n - 1 in numbers) + (n + 1 in numbers) for n in range(0, count, 3)]
+    expect('counts', 'how many are left out', beside.count(2) - 10 <= row['left_out'] <= len(beside) - beside.count(0) + 10, True)
+    expect('counts', 'whether some are lost, and some are not', 0 < row['lost'] < count - 1000, True)
+
+
+def memory_of(process, name):
+    """A figure of a running process, in KiB: VmHWM, the most memory that it had, or RssAnon, what it has apart from pages of files."""
+    with open('/proc/%d/status' % process.pid) as file:
+        return next(int(line.split()[1]) for line in file if line.startswith(name))
+
+
+def stuck():
+    """A lossy sink that nobody reads stops nobody, takes no memory, and loses whole lines, which are counted."""
+    peaks = []
+    for count in (100000, 1000000):
+        os.mkfifo(driver.path('pipe%d' % count))
+        reader = os.open(driver.path('pipe%d' % count), os.O_RDONLY | os.O_NONBLOCK)
+        lines = [b'%08d %s\n' % (n, b'-' * (n % 60)) for n in range(count)]
+        data = b''.join(lines)
+        process = driver.start('copy', '--lossy', 'pipe%d' % count, 'other', '--linger', '60')
+        feed(process.stdin, data)
+        until = time.monotonic() + 50
+        while time.monotonic() < until and not driver.read('copy') == driver.read('other') == data:
+            time.sleep(0.1)
+        expect('stuck', 'the copies', driver.read('copy') == driver.read('other') == data, True)
+        peaks.append(memory_of(process, 'VmHWM'))
+        os.set_blocking(reader, True)
+        found = b''
+        while part := os.read(reader, 65536):
+            found += part
+        os.close(reader)
+        run = driver.end(process)
+        expect('stuck', 'the status', run.status, 0)
+        told = split_lines(found)
+        expect('stuck', 'whether each line is whole', set(told) <= set(lines), True)
+        expect('stuck', 'the order', told == sorted(told), True)
+        row = run.sink('pipe%d' % count)
+        expect('stuck', 'what is reported', (row['lines'], row['lines'] + row['lost']), (len(told), count))
+        expect('stuck', 'whether most are lost', row['lost'] > count / 2, True)
+    expect('stuck', 'the memory %r' % peaks, peaks[1] - peaks[0] < 1000, True)
+
+
+def flat():
+    """The memory is the same for a million lines and for ten, while nobody reads one of the sinks; what that is told and what it
+    lost are all lines. Pages of the program and the C library differ by 200 KiB from run to run, so its own are looked at besides."""
+    for count in (10**6, 10**7):
+        os.mkfifo(driver.path('deaf%d' % count))
+        reader = os.open(driver.path('deaf%d' % count), os.O_RDONLY | os.O_NONBLOCK)
+        numbers = subprocess.Popen(['seq', str(count)], stdout=subprocess.PIPE)
+        process = driver.start('copy', '--grep', '77', 'some', '--lossy', 'deaf%d' % count, '--linger', '600',
+                               stdin=numbers.stdout)
+        numbers.stdout.close()
+        numbers.wait()
+        until = time.monotonic() + 60
+        while time.monotonic() < until and not ends_with(driver.path('copy'), b'\n%d\n' % count):
+            time.sleep(0.1)
+        for figure, most in (('VmHWM', 2816), ('RssAnon', 800)):
+            found = memory_of(process, figure)
+            expect('flat', 'whether a %s of %d KiB is %d at most for %d lines' % (figure, found, most, count), found <= most, True)
+        os.set_blocking(reader, True)
+        told = read_all(reader).split()
+        run = driver.end(process)
+        expect('flat', 'the status', run.status, 0)
+        for name, command in (('copy', 'seq %d' % count), ('some', 'seq %d | grep 77' % count)):
+            same = subprocess.run('%s | cmp - %s' % (command, name), shell=True, cwd=driver.folder).returncode
+            expect('flat', 'how %s compares' % name, same, 0)
+        row = run.sink('deaf%d' % count)
+        expect('flat', 'told and lost', (row['lines'], row['lines'] + row['lost']), (len(told), count))
+        numbers_told = [int(number) for number in told]
+        expect('flat', 'the order', all(a < b for a, b in zip(numbers_told, numbers_told[1:])), True)
+        expect('flat', 'the backlog', row['backlog'], 32)
+
+
+def ends_with(path, end):
+    """Whether a file ends with these bytes."""
+    with open(path, 'rb') as file:
+        file.seek(max(0, os.path.getsize(path) - len(end)))
+        return file.read() == end
+
+
+def read_all(reader):
+    """What comes from a descriptor up to its end, which is closed then."""
+    with open(reader, 'rb') as pipe:
+        return pipe.read()
+
+
+def slow():
+    """A lossy sink whose reader is slow gets whole lines alone, short and long, in order; a stuck one ends by --linger."""
+    lines = []
+    for number in range(6000):
+        length = (50, 5000, 300, 20000, 4096)[number % 5]
+        lines.append(b'%06d ' % number + b'%c' % (97 + number % 26) * length + b'\n')
+    lines.append(b'the last ' + b'!' * 9000)
+    process = driver.start('copy', '--lossy', '-', '--cap', '16')
+    found = []
+    reader = threading.Thread(target=read_slowly, args=(process.stdout, found))
+    reader.start()
+    feed(process.stdin, b''.join(lines))
+    reader.join()
+    said = process.stderr.read()
+    process.wait(60)
+    told = split_lines(b''.join(found))
+    rows = json.loads(said)['sinks']
+    expect('slow', 'the copy', driver.read('copy') == b''.join(lines), True)
+    expect('slow', 'whether each line is whole', [line[:20] for line in told if line not in set(lines)], [])
+    expect('slow', 'the order', told == [line for line in lines if line in set(told)], True)
+    expect('slow', 'what is reported', (rows[1]['lines'], rows[1]['lines'] + rows[1]['lost']), (len(told), len(lines)))
+    expect('slow', 'whether some are lost, and some are not', 0 < rows[1]['lost'] < len(lines) - 10, True)
+
+
+def lingers():
+    """A lossy sink that is stuck at the end is given up after --linger seconds."""
+    os.mkfifo(driver.path('unread'))
+    reader = os.open(driver.path('unread'), os.O_RDONLY | os.O_NONBLOCK)
+    process = driver.start('copy', '--lossy', 'unread', '--linger', '1')
+    begun = time.monotonic()
+    run = driver.end(process, b'a line of some length\n' * 100000)
+    expect('lingers', 'the status', run.status, 3)
+    expect('lingers', 'the end', run.sink('unread')['end'], 'open')
+    expect('lingers', 'the end within 10 seconds', time.monotonic() - begun < 10, True)
+    os.close(reader)
