@@ -5,9 +5,10 @@
 # that frees many places at a time (late), which the cell's doesn't; and the kit's crossbeam_queue::ArrayQueue, through which the items go
 # with no subscriber, no demand and no task. It prints the time of each, and the ratios. A task that a put starts goes to the other thread
 # through a queue of one place, in C too. Both threads try again at once, and the order is checked. The runs alternate.
-# The program is proved and built in a temporary folder. Usage: bench/cell.sh [ITEMS [RUNS [CAPACITY..]]]; each figure is the median of RUNS
+# The program is proved and built in a temporary folder, or is PROGRAM, one that was built before. Usage: bench/cell.sh [ITEMS [RUNS [CAPACITY..]]]; each figure is the median of RUNS
 # runs of ITEMS items (1,000,000 and 5; 1, 4, 256 and 65,536). It needs a C compiler, and two processors that are free.
 set -eu
+[ -z "${PROGRAM-}" ] || PROGRAM=$(realpath -e "$PROGRAM")
 cd "$(dirname "$0")/.."
 items=${1:-1000000}
 runs=${2:-5}
@@ -20,8 +21,8 @@ trap 'rm -rf "$work"' EXIT
 cc -O2 -pthread -o "$work/bare" bench/cell_bare.c
 cc -O2 -pthread -DAPART=8 -DBEHIND=8 -o "$work/apart" bench/cell_bare.c
 cc -O2 -pthread -DAPART=8 -DBEHIND=8 -DFREES_LATE -o "$work/late" bench/cell_bare.c
-build cell_bench . "$work/cell_bench" size
-program=$work/cell_bench
+program=${PROGRAM:-$work/cell_bench}
+[ -n "${PROGRAM-}" ] || build cell_bench . "$program" size
 slot=$("$program" size)
 
 # once KIND CAPACITY: the nanoseconds of one run.

@@ -1,16 +1,22 @@
 #!/usr/bin/env python3
 """Measures fanout beside tee, grep and Java's class, and prints a table: see fanout.sh.
 
-usage: fanout.py PROGRAM FOLDER RUNS LINES [CLASSES]
+usage: fanout.py PROGRAM FOLDER ROWS RUNS LINES [CLASSES]
+
+Each row is also written to the file ROWS, as picture.py reads it.
 """
+import math
 import os
 import signal
 import subprocess
 import sys
 import time
 
-program, folder, runs, lines = os.path.abspath(sys.argv[1]), sys.argv[2], int(sys.argv[3]), int(sys.argv[4])
-java = f'java -cp {os.path.abspath(sys.argv[5])} Fanout 2 256' if len(sys.argv) > 5 else None
+from picture import PROGRAMS, fanout_head, fanout_lines
+
+program, folder, rows = os.path.abspath(sys.argv[1]), sys.argv[2], sys.argv[3]
+runs, lines = int(sys.argv[4]), int(sys.argv[5])
+java = f'java -cp {os.path.abspath(sys.argv[6])} Fanout 2 256' if len(sys.argv) > 6 else None
 SECONDS = 120
 
 
@@ -60,18 +66,26 @@ def same(*names):
             sys.exit(f'{names[0]} and {name} differ')
 
 
+def medians(figures):
+    """The milliseconds, those of processors, and the KiB: zeros if nothing was measured, and inf if a run didn't end."""
+    if not figures:
+        return [0, 0, 0]
+    if None in figures:
+        return [math.inf] * 3
+    clock, processors, peak = (middle(column) for column in zip(*figures))
+    return [round(clock * 1000), round(processors * 1000), peak]
+
+
 def row(name, commands, seconds=SECONDS):
     """Measures commands in turns, and prints the medians of each."""
-    taken = {peer: [] for peer in commands}
+    taken = {peer: [] for peer in PROGRAMS}
     for _ in range(runs):
         for peer, command in commands.items():
             taken[peer].append(measure(command, seconds))
-    for peer, figures in taken.items():
-        if None in figures:
-            print(f'{name:44} {peer:8} did not end in {seconds} s')
-            continue
-        clock, processors, peak = (middle(column) for column in zip(*figures))
-        print(f'{name:44} {peer:8} {clock * 1000:9.0f} {processors * 1000:9.0f} {peak:9}')
+    found = [medians(taken[peer]) for peer in PROGRAMS]
+    with open(rows, 'a') as file:
+        print(name, *(figure for figures in found for figure in figures), sep='\t', file=file)
+    print('\n'.join(fanout_lines(name, found)), flush=True)
 
 
 def with_java(commands, words):
@@ -81,7 +95,7 @@ def with_java(commands, words):
 with open(os.path.join(folder, 'lines'), 'wb') as file:
     for number in range(lines):
         file.write((b'%d the line that goes to each of the sinks, and has seventy-four bytes' % number).ljust(73, b'.')[:73] + b'\n')
-print(f'{"":44} {"":8} {"ms":>9} {"CPU ms":>9} {"KiB":>9}')
+print(fanout_head())
 quiet = '--report none'
 row('a copy', with_java({'fanout': f'exec {program} a {quiet}', 'tee': 'exec tee b >/dev/null'}, 'c'))
 same('lines', 'a', 'b', *(['c'] if java else []))

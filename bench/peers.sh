@@ -1,17 +1,20 @@
 #!/bin/sh
 # Measures this publisher beside the JDK's SubmissionPublisher (bench/java), and beside a plain fan-out in Rust (bench/rust/fan_out.rs): the
 # threads program on 4 sources of 50,000 lines with 4 subscribers, whose reports have to be the same to the byte; deliveries in one process;
-# and how long one item takes to a subscriber at rest. Runs are interleaved, and a row has the medians and the ratios of this one's time to
-# the others'. A JVM that answers for itself alone is warmed up by earlier rounds; the threads program begins cold, as a program does.
-# What isn't there (javac, rustc) is left out. The table and a picture of the ratios go to bench/results, with the machine's name.
-# Usage: PROGRAM=FILE DELIVERIES=FILE bench/peers.sh [RUNS [ITEMS]] (5 and 400,000). The files are the native programs of lines_demo and
-# deliveries_bench; without a name they are those that `rt ci` leaves in crates/*/out.
+# how long one item takes to a subscriber at rest; and the rows of fanout.sh. Runs are interleaved, and a row has the medians and the ratios
+# of this one's time to the others'. A JVM that answers for itself alone is warmed up by earlier rounds; the threads program begins cold, as a
+# program does. What isn't there (javac, rustc) is left out. The tables and a picture of the ratios go to bench/results, with the machine's
+# name.
+# Usage: PROGRAM=FILE DELIVERIES=FILE FANOUT=FILE bench/peers.sh [RUNS [ITEMS]] (5 and 400,000). The files are the native programs of
+# lines_demo, deliveries_bench and fanout; without a name they are those that `rt ci` leaves in crates/*/out.
 set -eu
 cd "$(dirname "$0")/.."
 . tests/program.sh
 begin lines_demo
 deliveries=${DELIVERIES:-crates/deliveries_bench/out/deliveries_bench}
 [ -x "$deliveries" ] || { echo "$deliveries isn't there: run .ci/run"; exit 1; }
+fanout=${FANOUT:-crates/fanout/out/fanout}
+need fanout "$fanout"
 runs=${1:-5}
 items=${2:-400000}
 peers=
@@ -113,6 +116,8 @@ batches '4 submitters to 4' 4 4 4 256 16 16
 batches '4 submitters to 4' 4 4 4 256 16 64
 alone 'one item at a time, 2,000 of them' 1 10
 alone 'one item at a time, 2,000 of them' 1 1000
+echo
+PROGRAM=$fanout bench/fanout.sh "$runs" 1000000 "$work/fanout"
 mkdir -p bench/results
 machine="$(uname -m), $(nproc) processors, $(sed -n 's/^model name[^:]*: //p' /proc/cpuinfo | head -n 1)"
-bench/picture.py --results "$work/rows" "$(date +%F)" "$machine" "$runs"
+bench/picture.py --results "$work/rows" "$work/fanout" "$(date +%F)" "$machine" "$runs"

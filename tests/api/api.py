@@ -23,7 +23,7 @@ CRATES = ("publisher", "inbox", "flow_rules")
 HANDED_ON = {"publisher": [("feed_core", "Lane"), ("publisher_hub", "OnFull"), ("publisher_hub", "Published")]}
 PAGE = f"{TOP}/docs/API.md"
 # Where a call is looked for, the simplest first.
-EXAMPLES = ("hello_example", "inbox_example", "bus_example", "lines_demo", "console", "fanout", "publisher_tests", "inbox_tests", "test_stand", "day_tests")
+EXAMPLES = ("hello_example", "inbox_example", "bus_example", "lines_demo", "console", "fanout", "publisher_tests", "controller_tests", "inbox_tests", "test_stand", "day_tests")
 HEAD = """# API
 
 The public types and functions of `publisher`, `inbox` and `flow_rules`: what each does, with what it is refused, and a call from an example, a
@@ -37,6 +37,7 @@ LONGEST = 100
 # How values of a type are called in the examples.
 VALUES = {
     "Collector": "collector|subscriber",
+    "Controller": "owner|controller",
     "HandedIn": "handed_in",
     "Inbox": r"inbox|other",
     "Name": "name",

@@ -1,7 +1,9 @@
 //! Days at a publisher: what happens behind the lock, and what is left at the end. A day that goes another way than it
 //! should says its name, the first step or line that differs, what was wanted and what was found.
+mod act;
 mod batches;
 mod closing;
+mod controlled;
 mod day;
 mod dropping;
 mod ending;
@@ -20,10 +22,11 @@ mod told;
 mod waiting;
 mod waking;
 
-use day::Day;
+use day::{Day, RefusedDay};
 use flow_rules::ErrorOrder;
 use player::play;
 use publisher::{BlankPair, PublisherOptions, USUAL_LIVE};
+use refused::sharing;
 use std::alloc::Global;
 use std::marker::Brand;
 use std::process::Abort;
@@ -127,6 +130,11 @@ fn those_that_ended_are_reclaimed(rt: HostRuntime) -> Result<(), Fail> {
 }
 
 #[test]
+fn controllers_share_a_subscription(rt: HostRuntime) -> Result<(), Fail> {
+    compare_all(rt, rt.alloc(), ErrorOrder::Overtake, &controlled::DAYS)
+}
+
+#[test]
 fn one_ends_and_the_others_go_on(rt: HostRuntime) -> Result<(), Fail> {
     compare_all(rt, rt.alloc(), ErrorOrder::Overtake, &ending::DAYS)
 }
@@ -160,13 +168,13 @@ fn no_race_leaves_anybody_asleep(rt: HostRuntime) -> Result<(), Fail> {
     Ok(())
 }
 
-// Run from outside, too, with each request for memory refused in turn: a call that is refused changes nothing, and
-// leaves no ticket behind, which would keep the count open; a subscriber whose callback is refused is told no more, and
-// no other. If the end itself is refused, nothing is left.
-#[test]
-fn a_refusal_changes_nothing_else(rt: HostRuntime) -> Result<(), Fail> {
-    let alloc = rt.alloc();
-    for refused in &refused::DAYS {
+// Plays each day, on which memory may be refused, with one worker.
+fn play_refused<R: Abort + Clock + Threads + Wait + Copy + Send + 'static>(
+    rt: R,
+    alloc: Global,
+    days: &[RefusedDay],
+) -> Result<(), Fail> {
+    for refused in days {
         let told = played(rt, alloc, 1, ErrorOrder::Overtake, 0, &refused.day)?;
         if !told.is_of(refused) {
             let name = refused.day.name;
@@ -175,4 +183,13 @@ fn a_refusal_changes_nothing_else(rt: HostRuntime) -> Result<(), Fail> {
         }
     }
     Ok(())
+}
+
+// Run from outside, too, with each request for memory refused in turn: a call that is refused changes nothing, and
+// leaves no ticket behind, which would keep the count open; a subscriber whose callback is refused is told no more, and
+// no other; and what was to be shared or made anew goes on. If the end itself is refused, nothing is left.
+#[test]
+fn a_refusal_changes_nothing_else(rt: HostRuntime) -> Result<(), Fail> {
+    play_refused(rt, rt.alloc(), &refused::DAYS)?;
+    play_refused(rt, rt.alloc(), &sharing::DAYS)
 }

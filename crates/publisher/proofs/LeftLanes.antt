@@ -4,5 +4,6 @@ pub mod Concluding
 pub mod FirstFailures
 pub mod Judged
 pub mod LeavingRounds
+pub mod Ordering
 pub mod Outcomes
 pub mod ReclaimedLanes

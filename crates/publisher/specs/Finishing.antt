@@ -5,7 +5,7 @@ use Rattle.publisher_hub.specs.Hub.{hub_of}
 use Rattle.publisher_hub.specs.Sound.{IsOrdered}
 use Rattle.history.specs.declared.rule.Entry.{Entry}
 use Rattle.publisher.specs.Content.{AreSentIn, StandsIn}
-use Rattle.publisher.specs.Finding.{AreFoundIn, IsHandedIn, IsHandedWith, ends_of}
+use Rattle.publisher.specs.Finding.{AreFoundIn, IsHandedIn, IsHandedAs, ends_of}
 use Rattle.publisher.specs.Handles.{SubmitterState, SubscriptionState}
 use Rattle.publisher.specs.Outcome.{AnyKnows, IsFirstAway, source_name}
 use Rattle.publisher.specs.State.{PublisherState, producer_end}
@@ -50,7 +50,7 @@ pub record AreTakenOut {B : Type 0} (subscriptions : List SubscriptionState)
   pub each : (k : ℕ) (taken : Taken B) → slice_get founds k ≡ Some (Found.Both taken)
       → IsCountedIn published dropping taken
   pub handed : (k : ℕ) (taken : Taken B) → slice_get founds k ≡ Some (Found.Both taken)
-      → IsHandedWith subscriptions k taken.handle
+      → IsHandedAs subscriptions k taken.owner
   pub missing : (k : ℕ) (name : List ℕ) → slice_get founds k ≡ Some (Found.Missing name)
       → IsHandedIn subscriptions k → ⊥
   pub reclaimed : (k : ℕ) → slice_get founds k ≡ Some Found.Reclaimed

@@ -9,14 +9,21 @@ use Rattle.publisher_hub.specs.declared.hub.publish.Unpublished.{Unpublished}
 use Rattle.publisher_hub.specs.declared.hub.publish.Unpublished.TheVariants.{NoRoom, Refused}
 use Rattle.publisher.specs.Note.{known_by}
 
--- a subscription: its number, and its handle
+-- a subscription: its number, how many subscriptions were made before it, and its handle
 pub record SubscriptionState : Type 0 where
   pub entry : ℕ
+  pub made_before : ℕ
   pub handle : HandleState
 
--- a controller of a subscription: its number. What was requested stands behind a lock
+-- a controller of a subscription: its number, and how many subscriptions were made before it. What was requested stands
+-- behind a lock
 pub record ControllerState : Type 0 where
   pub entry : ℕ
+  pub made_before : ℕ
+
+-- the controller of this subscription
+abbrev pub controller_of : SubscriptionState → ControllerState
+controller_of subscription = record { entry = subscription.entry; made_before = subscription.made_before }
 
 -- a handle with which nothing was done yet
 abbrev pub IsUnused : HandleState → Type 0

@@ -6,7 +6,7 @@ use Rattle.feed_core.specs.AnsweredTurn.{Reply}
 use Rattle.feed_core.specs.Prelude.{Signal}
 use Rattle.flow_rules.specs.declared.refusal.Refusal.{Refusal}
 use Rattle.publisher.specs.Finding.{ends_of}
-use Rattle.publisher.specs.Outcome.{HasLane, HasOwnersPart, IsAmong, Judges, StillHolds, outcome_of}
+use Rattle.publisher.specs.Outcome.{AreApart, AreInOrder, HasLane, HasOwnersPart, IsAmong, Judges, StillHolds, outcome_of}
 use Rattle.publisher.specs.declared.finishing.close.Closed.{Closed}
 use Rattle.publisher.specs.declared.outcome.NamedLane.{NamedLane}
 use Rattle.publisher.specs.declared.outcome.Outcome.{Outcome}
@@ -23,19 +23,20 @@ module _ {B : Type 0} (told : B → List Signal) (replied : B → List Reply) wh
   -- this is of the subscription of this number, whose two ends these are
   pub record IsLaneOfTaken (number : ℕ) (taken : Taken B) (left : NamedLane B) : Type 0 where
     pub number_is : left.entry ≡ number
+    pub made_before : left.made_before ≡ taken.owner.made_before
     pub name : left.name ≡ taken.name
     pub on_full : left.on_full ≡ taken.on_full
     pub since : left.since ≡ taken.since
     pub dropped : left.dropped ≡ taken.dropped
     pub late : left.late ≡ taken.late
-    pub owner : HasOwnersPart taken.handle left.lane
+    pub owner : HasOwnersPart taken.owner.handle left.lane
     pub lane : IsLeftOf told replied taken.producer.end None left.lane
 
   -- what is left of it. If they are the ends of one subscription, it counts what its handle did
   pub record IsLeftOfTaken (number : ℕ) (taken : Taken B) (left : NamedLane B) : Type 0 where
     pub of : IsLaneOfTaken number taken left
-    pub own : taken.handle.table ≡ taken.producer.table
-        → IsLeftOf told replied taken.producer.end (Some taken.handle) left.lane
+    pub own : taken.owner.handle.table ≡ taken.producer.table
+        → IsLeftOf told replied taken.producer.end (Some taken.owner.handle) left.lane
 
   -- a subscription was closed, if both its ends were there
   abbrev pub ClosesOne : ℕ → Found B → Closed B → Type 0
@@ -45,7 +46,7 @@ module _ {B : Type 0} (told : B → List Signal) (replied : B → List Reply) wh
   ClosesOne number Found.Reclaimed Closed.Reclaimed = ⊤
   ClosesOne number _ _ = ⊥
 
-  -- the first of these that has no lane and was not reclaimed, if there is one: its handle was not handed in, or a
+  -- the first of these that has no lane and was not reclaimed, if there is one: its owner's end was not handed in, or a
   -- thread has its task still. The lanes are as many as have an end, or fewer
   abbrev pub FindsFirst : List (Found B) → ℕ → List (NamedLane B) → List ℕ → Option (List ℕ)
       → Type 0
@@ -56,15 +57,14 @@ module _ {B : Type 0} (told : B → List Signal) (replied : B → List Reply) wh
       × (AreGiven founds number lanes × ((HasLane number lanes → ⊥)
       × ((slice_get founds number ≡ Some (Found.Missing name)) ⊎ IsAmong number held))))
 
-  -- those with a number below this were closed, in order
-  pub record ClosesInOrder (founds : List (Found B)) (most : ℕ) (lanes : List (NamedLane B))
+  -- those with a number below this were closed, each once
+  pub record ClosesAll (founds : List (Found B)) (most : ℕ) (lanes : List (NamedLane B))
       (held : List ℕ) (first : Option (List ℕ)) : Type 0 where
     pub each : (i : ℕ) (left : NamedLane B) → slice_get lanes i ≡ Some left
         → (taken : Taken B)
         × ((slice_get founds left.entry ≡ Some (Found.Both taken))
         × ((left.entry < most) × IsLeftOfTaken left.entry taken left))
-    pub rising : (i j : ℕ) (left other : NamedLane B) → slice_get lanes i ≡ Some left
-        → slice_get lanes j ≡ Some other → i < j → left.entry < other.entry
+    pub apart : AreApart lanes
     pub all : (number : ℕ) (taken : Taken B) → number < most
         → slice_get founds number ≡ Some (Found.Both taken)
         → HasLane number lanes ⊎ IsAmong number held
@@ -82,8 +82,9 @@ module _ {B : Type 0} (told : B → List Signal) (replied : B → List Reply) wh
       (result : Result (Outcome B H) (Refusal × Outcome B H))
       : Type 0 where
     pub first : Option (List ℕ)
-    pub closes : ClosesInOrder books.founds.items (length books.founds.items)
+    pub closes : ClosesAll books.founds.items (length books.founds.items)
         (outcome_of result).lanes.items (outcome_of result).held.items first
+    pub ordered : AreInOrder (outcome_of result).lanes.items
     pub made : (outcome_of result).made ≡ books.made
     pub reclaimed : (outcome_of result).reclaimed ≡ books.reclaimed
     pub published : (outcome_of result).published ≡ books.published

@@ -95,13 +95,23 @@ outcome_of (Err refused) = refused.1
 -- it is what is left of one of these subscriptions, with the part of its owner
 abbrev pub IsOfOne : {B : Type 0} → List SubscriptionState → NamedLane B → Type 0
 IsOfOne subscriptions left = (i : ℕ) × (s : SubscriptionState) × ((slice_get subscriptions i ≡ Some s)
-    × ((s.entry ≡ left.entry) × HasOwnersPart s.handle left.lane))
+    × ((s.entry ≡ left.entry) × ((s.made_before ≡ left.made_before) × HasOwnersPart s.handle left.lane)))
 
--- what is left is that of subscriptions which were handed in, their numbers rising
+-- no two lanes have one number
+abbrev pub AreApart : {B : Type 0} → List (NamedLane B) → Type 0
+AreApart {B} lanes = (i j : ℕ) (left other : NamedLane B) → slice_get lanes i ≡ Some left
+    → slice_get lanes j ≡ Some other → left.entry ≡ other.entry → i ≡ j
+
+-- the lanes are in order of subscription: before none stands one that was subscribed later
+abbrev pub AreInOrder : {B : Type 0} → List (NamedLane B) → Type 0
+AreInOrder {B} lanes = (i j : ℕ) (left other : NamedLane B) → slice_get lanes i ≡ Some left
+    → slice_get lanes j ≡ Some other → i < j → left.made_before ≤ other.made_before
+
+-- what is left is that of subscriptions which were handed in, of each once, in order of subscription
 pub record AreHandedIn {B : Type 0} (subscriptions : List SubscriptionState)
     (lanes : List (NamedLane B)) : Type 0 where
-  pub rising : (i j : ℕ) (left other : NamedLane B) → slice_get lanes i ≡ Some left
-      → slice_get lanes j ≡ Some other → i < j → left.entry < other.entry
+  pub apart : AreApart lanes
+  pub ordered : AreInOrder lanes
   pub each : (i : ℕ) (left : NamedLane B) → slice_get lanes i ≡ Some left
       → IsOfOne subscriptions left
 

@@ -6,7 +6,7 @@ use Rattle.close_count.specs.Ticket.{count_of_ticket}
 use Rattle.close_count.specs.declared.spent.Spent.{Spent}
 use Rattle.close_count.specs.declared.ticket.Ticket.{Ticket}
 use Rattle.feed_cell.specs.Offering.{DoesCall}
-use Rattle.feed_cell.specs.Parties.{HandleState, ProducerState}
+use Rattle.feed_cell.specs.Parties.{ProducerState}
 use Rattle.feed_core.specs.Lane.{LaneState}
 use Rattle.feed_core.specs.Prelude.{Signal}
 use Rattle.flow_rules.specs.declared.feed.standing.Standing.{Standing}
@@ -15,6 +15,7 @@ use Rattle.publisher_hub.specs.Looking.{LooksAtOne}
 use Rattle.publisher_hub.specs.Reclaiming.{TakesEndedAt}
 use Rattle.publisher_hub.specs.declared.entry.Entry.{Entry}
 use Rattle.publisher.specs.Finishing.{IsCountedIn}
+use Rattle.publisher.specs.Handles.{SubscriptionState}
 use Rattle.publisher.specs.Outcome.{IsLane}
 use Rattle.publisher.specs.Spending.{last_after}
 use Rattle.publisher.specs.Standing.{has_ended_by}
@@ -64,15 +65,15 @@ IsKnown known taken = (taken.name ≡ known.name) × ((taken.on_full ≡ known.o
     × ((taken.since ≡ known.since)
     × ((taken.dropped ≡ known.dropped) × (taken.late ≡ known.late))))
 
--- both ends of the subscription of this number, which has ended, were taken out, with what is known of it, and it was
--- counted as reclaimed
-pub record Reclaims {B : Type 0} (number : ℕ) (handle : HandleState) (taken : Taken B)
+-- both ends of the subscription with this owner's end, which has ended, were taken out, with what is known of it, and
+-- it was counted as reclaimed
+pub record Reclaims {B : Type 0} (owner : SubscriptionState) (taken : Taken B)
     (old new : PublisherState) : Type 0 where
   pub middle : PublisherState
-  pub looks : ShowsEnd number true old middle
-  pub takes : TakesEnd number (Some taken.producer) middle new
-  pub known : (known : Known) × (Knows middle number known × IsKnown known taken)
-  pub handle_is : taken.handle ≡ handle
+  pub looks : ShowsEnd owner.entry true old middle
+  pub takes : TakesEnd owner.entry (Some taken.producer) middle new
+  pub known : (known : Known) × (Knows middle owner.entry known × IsKnown known taken)
+  pub owner_is : taken.owner ≡ owner
   pub over : taken.producer.end.over ≡ true
   pub counted : IsCountedIn old.hub.next old.hub.dropping taken
   -- it is counted once, and its drops stay among those of the publisher

@@ -23,11 +23,11 @@ pub record IsSubscription {B : Type 0} (name : List ℕ) (on_full : OnFull) (ord
     (subscribed : Subscribed B) (new : PublisherState) : Type 0 where
   pub entry : Entry ProducerState
   pub producer : ProducerState
-  pub stands : slice_get new.hub.entries.items subscribed.entry ≡ Some entry
+  pub stands : slice_get new.hub.entries.items subscribed.owner.entry ≡ Some entry
   pub named : entry.name ≡ name
   pub says : entry.on_full ≡ on_full
   pub there : entry.feed ≡ Some producer
-  pub handle_is : subscribed.handle ≡ new_handle_in order new.hub.capacity producer.table
+  pub handle_is : subscribed.owner.handle ≡ new_handle_in order new.hub.capacity producer.table
   pub task_is : IsNewTaskIn order producer.table new.hub.capacity subscribed.task
 
 -- no name was taken that was free

@@ -4,9 +4,11 @@
 //! waits. A task that these start is handed to the pool after that, so a callback that runs then may request or cancel
 //! by a controller, too.
 ghost use Rattle.std.specs.Prelude.{◌≡◌, IfErr, IfOk};
+ghost use Rattle.publisher.specs.Handles.{controller_of};
 
 use crate::dispatcher::Dispatcher;
 use crate::ledgers::Ledgers;
+use crate::owner::OwnersEnd;
 use crate::refused::Refused;
 use crate::subscription::Subscription;
 use feed_cell::{Handle, Task};
@@ -25,6 +27,7 @@ use std::sync::{Arc, Mutex, Wait};
 pub struct Controller<L: Ledgers + Send, B: Listener + Send, F: FailHandler + Send = LastFailure> {
     dispatcher: Dispatcher<L, B, F>,
     entry: u32,
+    made_before: u64,
     handle: Arc<Mutex<Handle<B>>>,
 }
 
@@ -40,7 +43,7 @@ impl<L: Ledgers + Send, B: Listener + Send, F: FailHandler + Send> Model for Con
 
     ghost Value = { ControllerState };
 
-    ghost view = { λ c. record { entry = c.entry } };
+    ghost view = { λ c. record { entry = c.entry; made_before = c.made_before } };
 }
 
 impl<L: Ledgers + Send, B: Listener + Send, F: FailHandler + Send> Subscription<L, B, F> {
@@ -49,21 +52,35 @@ impl<L: Ledgers + Send, B: Listener + Send, F: FailHandler + Send> Subscription<
     ///
     /// Refused 5, with the subscription back, if the memory for that is refused.
     pub fn share(self, alloc: Global) -> Result<Controller<L, B, F>, Refused<Subscription<L, B, F>>>
-        ensures entry { IfOk result (λ controller. controller.entry ≡ self.entry) }
-        ensures back { IfErr result (λ refused. refused.1.entry ≡ self.entry) }
+        ensures same { IfOk result (λ controller. controller ≡ controller_of self) }
+        ensures back { IfErr result (λ refused.
+            controller_of refused.1 ≡ controller_of self) }
         ensures refusal { IfErr result (λ refused. refused.0 ≡ Refusal.NoMemory) }
     {
-        let (dispatcher, entry, handle) = self.into_all();
+        let (dispatcher, owner) = self.into_all();
+        let OwnersEnd {
+            entry,
+            made_before,
+            handle,
+        } = owner;
         match Arc::new(alloc, Mutex::new(handle)) {
             Ok(handle) => Ok(Controller {
                 dispatcher,
                 entry,
+                made_before,
                 handle,
             }),
-            Err(failed) => Err(Refused {
-                refusal: Refusal::NoMemory,
-                back: Subscription::new(dispatcher, entry, failed.value.into_inner()),
-            }),
+            Err(failed) => {
+                let owner = OwnersEnd {
+                    entry,
+                    made_before,
+                    handle: failed.value.into_inner(),
+                };
+                Err(Refused {
+                    refusal: Refusal::NoMemory,
+                    back: Subscription::new(dispatcher, owner),
+                })
+            }
         }
     }
 }
@@ -71,30 +88,41 @@ impl<L: Ledgers + Send, B: Listener + Send, F: FailHandler + Send> Subscription<
 impl<L: Ledgers + Send, B: Listener + Send, F: FailHandler + Send> Controller<L, B, F> {
     /// Makes a controller for one more thread. `NoMemory` if what it needs is refused.
     pub fn another(&self, alloc: Global) -> Result<Controller<L, B, F>, NoMemory>
-        ensures entry { IfOk result (λ other. other.entry ≡ self.now.entry) }
+        ensures same { IfOk result (λ other. other ≡ self.now) }
     {
         Ok(Controller {
             dispatcher: self.dispatcher.another(alloc)?,
             entry: self.entry,
+            made_before: self.made_before,
             handle: Arc::try_clone(&self.handle)?,
         })
     }
 
     /// Gives the subscription back, if this is its last controller, and else the controller.
     pub fn into_subscription(self) -> Result<Subscription<L, B, F>, Controller<L, B, F>>
-        ensures entry { IfOk result (λ subscription. subscription.entry ≡ self.entry) }
-        ensures back { IfErr result (λ controller. controller.entry ≡ self.entry) }
+        ensures same { IfOk result (λ subscription.
+            controller_of subscription ≡ self) }
+        ensures back { IfErr result (λ controller. controller ≡ self) }
     {
         let Controller {
             dispatcher,
             entry,
+            made_before,
             handle,
         } = self;
         match Arc::try_unwrap(handle) {
-            Ok(handle) => Ok(Subscription::new(dispatcher, entry, handle.into_inner())),
+            Ok(handle) => {
+                let owner = OwnersEnd {
+                    entry,
+                    made_before,
+                    handle: handle.into_inner(),
+                };
+                Ok(Subscription::new(dispatcher, owner))
+            }
             Err(handle) => Err(Controller {
                 dispatcher,
                 entry,
+                made_before,
                 handle,
             }),
         }
@@ -105,6 +133,13 @@ impl<L: Ledgers + Send, B: Listener + Send, F: FailHandler + Send> Controller<L,
         ensures { result ≡ self.now.entry }
     {
         self.entry
+    }
+
+    /// Tells how many subscriptions were made before it, as [`Subscription::made_before`] does.
+    pub fn made_before(&self) -> u64
+        ensures { result ≡ self.now.made_before }
+    {
+        self.made_before
     }
 
     /// Adds to the demand, as [`Subscription::request`] does.

@@ -25,7 +25,7 @@ pub struct Dispatcher<L: Ledgers + Send, B: Listener + Send, F: FailHandler + Se
     /// What its thread shares with the others.
     pub shared: Arc<Shared<L, B, F>>,
     pool: Arc<Pool<ConsumerTask<L, B, F>>>,
-    /// What the last turn that its thread ran saw.
+    /// What a turn that its thread runs sees. It is empty between two turns.
     seen: Seen,
 }
 

@@ -3,10 +3,10 @@
 //! It is made in three passes, after the workers have ended. The first takes all the memory (`room`), so that a
 //! refusal comes before anything is taken out: no later pass can fail halfway, with some subscribers in hand and
 //! others behind the lock. The second holds the lock once, and brings the two ends of each subscription together
-//! (`find`). Subscriptions are handed in in any order, so their list is emptied from its end, and each handle laid at
-//! the place of its number; these places are gone over from the front, so that what is found is in order of
-//! the numbers. The third closes each pair of ends (`close`), outside the lock since that drops what the buffers hold
-//! still, and then chooses the answer (`judge`).
+//! (`find`). Subscriptions are handed in in any order, so their list is emptied from its end, and each owner's end laid
+//! at the place of its number; these places are gone over from the front. The third closes each pair of ends (`close`),
+//! outside the lock since that drops what the buffers hold still, puts the lanes in the order of subscription, and then
+//! chooses the answer (`judge`).
 pub(crate) mod close;
 pub(crate) mod find;
 pub(crate) mod judge;

@@ -2,6 +2,8 @@
 //!
 //! A turn is run outside every lock. How a task comes to the pool stands in `dispatcher`, and what the threads share
 //! in `shared`.
+ghost use Rattle.std.specs.Prelude.{◌≡◌, []};
+
 use crate::awaiting::Done;
 use crate::ledgers::Ledgers;
 use crate::shared::Shared;
@@ -18,7 +20,7 @@ use std::sync::{Arc, Wait};
 pub struct Worker<L: Ledgers, B: Listener, F: FailHandler> {
     /// What it shares with the other threads.
     pub shared: Arc<Shared<L, B, F>>,
-    /// What its last turn saw.
+    /// What its turn sees. It is empty between two turns.
     seen: Seen,
 }
 
@@ -50,15 +52,18 @@ impl<L: Ledgers, B: Listener, F: FailHandler> ConsumerTask<L, B, F> {
         }
     }
 
-    /// Runs one turn, and then does what follows it: first the handler hears of an `onNext` that failed. The answer is
-    /// the task if another turn is owed.
+    /// Runs one turn, and then does what follows it: the handler hears of an `onNext` that failed, and what the turn saw is
+    /// dropped, so that no text is kept until the thread runs another turn. The answer is the task if another one is
+    /// owed.
     pub fn turn<R: Wait>(
         self,
         rt: &R,
         shared: &Shared<L, B, F>,
         seen: &mut Seen,
         patience: Patience,
-    ) -> Option<ConsumerTask<L, B, F>> {
+    ) -> Option<ConsumerTask<L, B, F>>
+        ensures forgets { seen.new.signals ≡ [] }
+    {
         let ConsumerTask { entry, task, of: _ } = self;
         let (done, task, how) = Done::of(task.turn(seen, patience));
         if let Some(how) = how {
@@ -66,6 +71,7 @@ impl<L: Ledgers, B: Listener, F: FailHandler> ConsumerTask<L, B, F> {
                 shared.tell_failure(rt, entry, code);
             }
         }
+        seen.clear();
         shared.after_turn(rt, entry, done);
         match task {
             Some(task) => Some(ConsumerTask::new(entry, task)),

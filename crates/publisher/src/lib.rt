@@ -48,6 +48,7 @@ mod job;
 mod ledgers;
 mod note;
 mod outcome;
+mod owner;
 mod publisher;
 mod refused;
 mod shared;

@@ -12,10 +12,10 @@ use publisher_hub::OnFull;
 #[derive(Drop)]
 #[derive_where(Debug; B)]
 pub struct Outcome<B, F: FailHandler = LastFailure> {
-    /// What is left of its subscriptions, in order of their numbers.
+    /// What is left of its subscriptions, in order of subscription.
     pub lanes: Vec<NamedLane<B>>,
     /// The numbers of those subscriptions that were handed in and have no lane, since a thread is still in the middle
-    /// of a turn of theirs, in order.
+    /// of a turn of theirs, rising.
     pub held: Vec<u32>,
     /// How many subscriptions have no lane since [`reclaim`](crate::Publisher::reclaim) gave it before.
     pub reclaimed: u64,
@@ -37,8 +37,10 @@ pub struct Outcome<B, F: FailHandler = LastFailure> {
 pub struct NamedLane<B> {
     /// The name that its subscriber subscribed with.
     pub name: Name,
-    /// Its number, from 0 in order of subscription; the number of one that was reclaimed goes to a later one.
+    /// Its number. That of one that was reclaimed goes to a later one.
     pub entry: u32,
+    /// How many subscriptions were made before it.
+    pub made_before: u64,
     /// What becomes of a text that [`publish`](crate::Submitter::publish) publishes, and that finds its buffer full.
     pub on_full: OnFull,
     /// The serial number of the next publication when it was subscribed.

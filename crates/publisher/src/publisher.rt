@@ -187,13 +187,9 @@ impl<L: Ledgers + Send, B: Listener + Send, F: FailHandler + Send> Publisher<L, 
             &mut due,
         );
         dispatcher.start_all(rt, &mut due);
-        let Subscribed {
-            entry,
-            handle,
-            task,
-        } = subscribed?;
-        dispatcher.start(rt, entry, task);
-        Ok(Subscription::new(dispatcher, entry, handle))
+        let Subscribed { owner, task } = subscribed?;
+        dispatcher.start(rt, owner.entry, task);
+        Ok(Subscription::new(dispatcher, owner))
     }
 
     /// Makes one more source of publications, which knows of the close if the note does.

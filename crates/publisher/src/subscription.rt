@@ -3,7 +3,7 @@
 //! Its subscriber is told by turns, which run elsewhere (`job`).
 use crate::dispatcher::Dispatcher;
 use crate::ledgers::Ledgers;
-use feed_cell::Handle;
+use crate::owner::OwnersEnd;
 use flow_rules::{FailHandler, LastFailure, Listener, NoMemory};
 use std::fmt;
 use std::marker::Model;
@@ -18,14 +18,13 @@ pub struct Subscription<
     F: FailHandler + Send = LastFailure,
 > {
     dispatcher: Dispatcher<L, B, F>,
-    entry: u32,
-    handle: Handle<B>,
+    owner: OwnersEnd<B>,
 }
 
 impl<L: Ledgers + Send, B: Listener + Send, F: FailHandler + Send> fmt::Debug
     for Subscription<L, B, F> {
     fn fmt<W: fmt::Write>(&self, f: &mut fmt::Formatter<W>) -> fmt::Result {
-        write!(f, "Subscription {{ entry: {} }}", self.entry)
+        write!(f, "Subscription {{ entry: {} }}", self.owner.entry)
     }
 }
 
@@ -34,34 +33,34 @@ impl<L: Ledgers + Send, B: Listener + Send, F: FailHandler + Send> Model for Sub
 
     ghost Value = { SubscriptionState };
 
-    ghost view = { λ s. record { entry = s.entry; handle = s.handle } };
+    ghost view = { λ s. s.owner };
 }
 
 impl<L: Ledgers + Send, B: Listener + Send, F: FailHandler + Send> Subscription<L, B, F> {
     ghost use Rattle.std.specs.Prelude.{◌≡◌, OnErr, OnOk};
     ghost use Rattle.publisher.specs.Handles.{Cancels, Requests};
 
-    /// Makes that of the subscription of this number.
-    pub(crate) fn new(
-        dispatcher: Dispatcher<L, B, F>,
-        entry: u32,
-        handle: Handle<B>,
-    ) -> Subscription<L, B, F>
-        ensures { result ≡ record { entry = entry; handle = handle } }
+    /// Makes the subscription of this owner's end.
+    pub(crate) fn new(dispatcher: Dispatcher<L, B, F>, owner: OwnersEnd<B>) -> Subscription<L, B, F>
+        ensures { result ≡ owner }
     {
-        Subscription {
-            dispatcher,
-            entry,
-            handle,
-        }
+        Subscription { dispatcher, owner }
     }
 
-    /// Tells the number of the subscription, from 0 in order of subscription; the number of one that was reclaimed goes
-    /// to a later one.
+    /// Tells the number of the subscription. The number of one that was reclaimed goes to a later one; the others have
+    /// theirs from 0 in order of subscription.
     pub fn entry(&self) -> u32
         ensures { result ≡ self.now.entry }
     {
-        self.entry
+        self.owner.entry
+    }
+
+    /// Tells how many subscriptions its publisher had made before it: no other has this number, also when some were
+    /// reclaimed. The lanes that [`finish`](crate::finish) gives are in this order.
+    pub fn made_before(&self) -> u64
+        ensures { result ≡ self.now.made_before }
+    {
+        self.owner.made_before
     }
 
     /// Adds to the demand (`Flow.Subscription.request`; Reactive Streams 1.0, rules 3.6, 3.8, 3.9 and 3.17). A number
@@ -70,12 +69,13 @@ impl<L: Ledgers + Send, B: Listener + Send, F: FailHandler + Send> Subscription<
     /// `NoMemory` if what a started task needs is refused; nothing has changed then.
     pub fn request<R: Wait>(&mut self, rt: &R, n: i64) -> Result<(), NoMemory>
         ensures entry { self.new.entry ≡ self.old.entry }
+        ensures made_before { self.new.made_before ≡ self.old.made_before }
         ensures ok { OnOk result (Requests n self.old.handle self.new.handle) }
         ensures unchanged { OnErr result (self.new ≡ self.old) }
     {
-        self.handle.ready()?;
-        if let Some(task) = self.handle.request(n) {
-            self.dispatcher.start(rt, self.entry, task);
+        self.owner.handle.ready()?;
+        if let Some(task) = self.owner.handle.request(n) {
+            self.dispatcher.start(rt, self.owner.entry, task);
         }
         Ok(())
     }
@@ -87,19 +87,20 @@ impl<L: Ledgers + Send, B: Listener + Send, F: FailHandler + Send> Subscription<
     /// `NoMemory` if what a started task needs is refused; nothing has changed then.
     pub fn cancel<R: Wait>(&mut self, rt: &R) -> Result<(), NoMemory>
         ensures entry { self.new.entry ≡ self.old.entry }
+        ensures made_before { self.new.made_before ≡ self.old.made_before }
         ensures ok { OnOk result (Cancels self.old.handle self.new.handle) }
         ensures unchanged { OnErr result (self.new ≡ self.old) }
     {
-        self.handle.ready()?;
-        if let Some(task) = self.handle.cancel() {
-            self.dispatcher.start(rt, self.entry, task);
+        self.owner.handle.ready()?;
+        if let Some(task) = self.owner.handle.cancel() {
+            self.dispatcher.start(rt, self.owner.entry, task);
         }
         Ok(())
     }
 
     /// Tells how many items wait for the subscriber; 0 once the subscription has ended.
     pub fn lag<R: Wait>(&self, rt: &R) -> u64 {
-        self.dispatcher.shared.lock(rt).lag(self.entry)
+        self.dispatcher.shared.lock(rt).lag(self.owner.entry)
     }
 
     /// Tells how many items were requested with this subscription, saturated at 2^63-1. What the subscriber requests
@@ -107,39 +108,34 @@ impl<L: Ledgers + Send, B: Listener + Send, F: FailHandler + Send> Subscription<
     pub fn requested(&self) -> u64
         ensures { result ≡ self.now.handle.asked }
     {
-        self.handle.requested()
+        self.owner.handle.requested()
     }
 
     /// Tells whether the subscription has ended: the subscriber was told `onComplete` or `onError`, a turn has obeyed
     /// a cancel, or a callback failed or was refused memory.
     pub fn has_ended<R: Wait>(&self, rt: &R) -> bool {
-        self.dispatcher.shared.lock(rt).has_ended(self.entry)
+        self.dispatcher.shared.lock(rt).has_ended(self.owner.entry)
     }
 
     /// Waits until the subscription has ended. It requests and cancels nothing by itself: if items or a completion
     /// wait for demand that nobody requests, it waits for ever.
     pub fn wait_end<R: Wait>(&self, rt: &R) {
-        let _ended = self.dispatcher.shared.wait_for_end(rt, self.entry);
+        let _ended = self.dispatcher.shared.wait_for_end(rt, self.owner.entry);
     }
 
-    /// Gives up its number and its handle.
-    pub(crate) fn into_parts(self) -> (u32, Handle<B>)
-        ensures { result ≡ (self.entry, self.handle) }
+    /// Gives up its owner's end.
+    pub(crate) fn into_owner(self) -> OwnersEnd<B>
+        ensures { result ≡ self }
     {
-        let (_, entry, handle) = self.into_all();
-        (entry, handle)
+        let (_, owner) = self.into_all();
+        owner
     }
 
-    /// Gives up its number and its handle, and what its owner hands tasks to the pool with.
-    pub(crate) fn into_all(self) -> (Dispatcher<L, B, F>, u32, Handle<B>)
-        ensures entry { result.1 ≡ self.entry }
-        ensures handle { result.2 ≡ self.handle }
+    /// Gives up its owner's end, and what its owner hands tasks to the pool with.
+    pub(crate) fn into_all(self) -> (Dispatcher<L, B, F>, OwnersEnd<B>)
+        ensures { result.1 ≡ self }
     {
-        let Subscription {
-            dispatcher,
-            entry,
-            handle,
-        } = self;
-        (dispatcher, entry, handle)
+        let Subscription { dispatcher, owner } = self;
+        (dispatcher, owner)
     }
 }

@@ -4,7 +4,6 @@ mod batches;
 mod callbacks;
 mod closing;
 mod coming;
-mod controllers;
 mod failing;
 mod policy;
 mod reclaiming;

@@ -2,6 +2,7 @@
 ghost use Rattle.std.specs.Prelude.{◌≡◌};
 ghost use Rattle.publisher.specs.Blanks.{AreBlanksOf};
 
+mod controlling;
 mod ending;
 mod publishing;
 mod reclaiming;
@@ -15,7 +16,8 @@ use super::told::Told;
 use ending::request_of;
 use flow_rules::Refusal;
 use publisher::{
-    BlankPair, Ledgers, Note, OnFull, Publisher, PublisherOptions, Submitter, Subscription,
+    BlankPair, Controller, Ledgers, Note, OnFull, Publisher, PublisherOptions, Submitter,
+    Subscription,
 };
 use senders::{Call, Senders, Sent};
 use std::alloc::Global;
@@ -34,6 +36,8 @@ struct Player<L: Ledgers + Send + Sync + 'static> {
     // Those that are not handed in.
     kept_submitters: Vec<Submitter<L, Heard>>,
     kept_subscriptions: Vec<Subscription<L, Heard>>,
+    // Those of one subscription.
+    controllers: Vec<Controller<L, Heard>>,
     // How many signals were told.
     told: Count,
     senders: Senders<L>,
@@ -81,6 +85,7 @@ fn new_player<L: Ledgers + Send + Sync + 'static>(
         stand: Stand::of(alloc, publisher),
         kept_submitters: Vec::new(alloc),
         kept_subscriptions: Vec::new(alloc),
+        controllers: Vec::new(alloc),
         told: Arc::new(alloc, AtomicU64::new(0))?,
         senders: Senders::new(alloc)?,
         round,
@@ -110,6 +115,7 @@ impl<L: Ledgers + Send + Sync + 'static> Player<L> {
             Step::Ask(place, answer, names) => self.ask(&rt, place, answer, names),
             Step::Publish(place, bytes) => self.publish(&rt, place, bytes),
             Step::PublishAll(place, lengths) => self.publish_all(&rt, place, lengths),
+            Step::SubmitAll(place, lengths) => self.submit_all(&rt, place, lengths),
             Step::Send(texts) => self.send(rt, texts, Call::Submit),
             Step::Spread(texts) => self.send(rt, texts, Call::Publish),
             Step::SpreadAll(texts) => self.send(rt, texts, Call::PublishAll),
@@ -118,6 +124,7 @@ impl<L: Ledgers + Send + Sync + 'static> Player<L> {
             Step::Looks => self.looks(&rt),
             Step::End(place) => self.wait_end(&rt, place),
             Step::Reclaim(place) => self.reclaim(&rt, place),
+            Step::Control(act) => self.control(&rt, act),
             Step::KeepSubscription(_) | Step::KeepSubmitter(_) => self.keep(step),
             wait => self.wait(&rt, wait),
         }

@@ -4,7 +4,7 @@ use super::step::Step::{Cancel, Close, Offer, Reclaim, Request, Rest, Source, Su
 
 pub const DAYS: [Day; 3] = [
     Day {
-        name: "one that lives is not reclaimed; once it was cancelled it is, its name and its number are free, and nothing asks for it at the end",
+        name: "one that lives is not reclaimed; once it was cancelled it is, its name and its number are free, nothing asks for it at the end, and who comes later is left later",
         capacity: 1,
         steps: &[
             (Subscribe("a", 1), "sub a"),
@@ -25,8 +25,8 @@ pub const DAYS: [Day; 3] = [
         ],
         left: &[
             "done, published 2, drained",
-            "a Some(Completed) 1 + 0 of 9: s 0.1.2 c",
             "b Some(Completed) 2 + 0 of 9: s 0.0.1 0.1.2 c",
+            "a Some(Completed) 1 + 0 of 9: s 0.1.2 c",
             "1 reclaimed",
         ],
     },

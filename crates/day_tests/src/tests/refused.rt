@@ -1,12 +1,14 @@
 //! Days on which one request for memory may be refused. A call that is refused is made once more, and is answered then
 //! as if it had not been refused before.
+pub mod sharing;
+
 use super::day::{Day, Other, RefusedDay};
 use super::step::Step::{
     Cancel, Close, End, Fail, KeepSubscription, Lossy, MayRefuse, Nap, Offer, Publish, PublishAll,
-    Reclaim, Request, Source, Submit, Subscribe,
+    Reclaim, Request, Source, Submit, SubmitAll, Subscribe,
 };
 
-pub const DAYS: [RefusedDay; 8] = [
+pub const DAYS: [RefusedDay; 9] = [
     RefusedDay {
         day: Day {
             name: "it ends in completions, and its text takes memory of its own",
@@ -254,5 +256,44 @@ pub const DAYS: [RefusedDay; 8] = [
             answers: &[(3, "reclaimed 0"), (6, "")],
             left: &["done, published 0, open", "1 reclaimed"],
         }],
+    },
+    RefusedDay {
+        day: Day {
+            name: "several texts are submitted by one call, and two of them take memory of their own",
+            capacity: 4,
+            steps: &[
+                (MayRefuse, ""),
+                (Subscribe("a", 9), "sub a"),
+                (Subscribe("b", 0), "sub b"),
+                (Source, ""),
+                (Nap, ""),
+                (SubmitAll(0, &[40, 1, 40]), "sent 3"),
+                (Close, "ok"),
+                (Request(1, 3), ""),
+            ],
+            left: &[
+                "done, published 3, drained",
+                "a Some(Completed) 3 + 0 of 9: s 0.0.40 0.1.1 0.2.40 c",
+                "b Some(Completed) 3 + 0 of 3: s 0.0.40 0.1.1 0.2.40 c",
+            ],
+        },
+        others: &[
+            Other {
+                answers: &[],
+                left: &[
+                    "done, published 3, drained",
+                    "a refused",
+                    "b Some(Completed) 3 + 0 of 3: s 0.0.40 0.1.1 0.2.40 c",
+                ],
+            },
+            Other {
+                answers: &[],
+                left: &[
+                    "done, published 3, drained",
+                    "a Some(Completed) 3 + 0 of 9: s 0.0.40 0.1.1 0.2.40 c",
+                    "b refused",
+                ],
+            },
+        ],
     },
 ];

@@ -1,4 +1,5 @@
 //! What is done to a publisher on a day.
+use super::act::Act;
 
 // One call, or one wait.
 #[derive(Clone, Copy)]
@@ -25,6 +26,8 @@ pub enum Step {
     Publish(usize, usize),
     // It publishes texts of these many bytes by one call, in the same way.
     PublishAll(usize, &'static [usize]),
+    // It submits texts of these many bytes by one call.
+    SubmitAll(usize, &'static [usize]),
     // It offers a text of one byte with a handler of drops that always answers so, and is asked about the subscribers
     // of these names, each of one letter.
     Ask(usize, bool, &'static str),
@@ -58,6 +61,8 @@ pub enum Step {
     End(usize),
     // It is reclaimed.
     Reclaim(usize),
+    // Controllers of one subscription do this.
+    Control(Act),
     // The subscription, or the submitter, of this place is not handed in at the end. After the end such a subscription
     // requests one item.
     KeepSubscription(usize),

@@ -4,7 +4,8 @@ use Rattle.std.specs.Option.{option_and_then}
 use Rattle.std.specs.Prelude.{IsSome, slice_get, slice_set}
 use Rattle.std.proofs.lemmas.List.{length-append, length-map, length-set}
 use Rattle.std.proofs.lemmas.Option.{same_Some}
-use Rattle.feed_cell.specs.Parties.{HandleState, ProducerState}
+use Rattle.feed_cell.specs.Parties.{ProducerState}
+use Rattle.publisher.specs.Handles.{SubscriptionState}
 use Rattle.publisher_hub.specs.Entry.{EntryState, entry_of}
 use Rattle.publisher_hub.specs.Hub.{HubState, hub_of}
 use Rattle.publisher_hub.specs.Lists.{Each}
@@ -31,34 +32,34 @@ right_false : (a b : Bool) → (a || b) ≡ false → b ≡ false
 right_false true b e = cc
 right_false false b e = e
 
--- no handle was handed in, if none is that of a reclaimed subscription
-not_handed : {B : Type 0} (handle : Option HandleState) (found : Found B) → found ≡ Found.Reclaimed
-    → (is_some handle && is_reclaimed found) ≡ false → handle ≡ None
+-- no owner was handed in, if none is that of a reclaimed subscription
+not_handed : {B : Type 0} (owner : Option SubscriptionState) (found : Found B) → found ≡ Found.Reclaimed
+    → (is_some owner && is_reclaimed found) ≡ false → owner ≡ None
 not_handed None found is e = refl
-not_handed (Some handle) (Found.Both taken) is e = cc
-not_handed (Some handle) (Found.Missing name) is e = cc
-not_handed (Some handle) Found.Reclaimed is e = cc
+not_handed (Some owner) (Found.Both taken) is e = cc
+not_handed (Some owner) (Found.Missing name) is e = cc
+not_handed (Some owner) Found.Reclaimed is e = cc
 
 -- how far the finding has come: nothing further has changed
 pub record IsFinding {B : Type 0} (old new : Hub ProducerState) (counted : Option ℕ)
-    (handles now : List (Option HandleState)) (most : ℕ) (founds : List (Found B)) (gone : Bool) : Type 0 where
+    (owners now : List (Option SubscriptionState)) (most : ℕ) (founds : List (Found B)) (gone : Bool) : Type 0 where
   pub as_many : length founds ≡ most
   pub each : (k : ℕ) (entry : Entry ProducerState) (found : Found B) → slice_get old.entries.items k ≡ Some entry
       → slice_get founds k ≡ Some found → IsFoundOf counted k (entry_of producer_end entry) found
-  pub here : (k : ℕ) (taken : Taken B) → slice_get founds k ≡ Some (Found.Both taken) → slice_get handles k ≡ Some (Some taken.handle)
-  pub missing : (k : ℕ) (name : List ℕ) → slice_get founds k ≡ Some (Found.Missing name) → slice_get handles k ≡ Some None
-  pub reclaimed : gone ≡ false → (k : ℕ) → slice_get founds k ≡ Some Found.Reclaimed → slice_get handles k ≡ Some None
+  pub here : (k : ℕ) (taken : Taken B) → slice_get founds k ≡ Some (Found.Both taken) → slice_get owners k ≡ Some (Some taken.owner)
+  pub missing : (k : ℕ) (name : List ℕ) → slice_get founds k ≡ Some (Found.Missing name) → slice_get owners k ≡ Some None
+  pub reclaimed : gone ≡ false → (k : ℕ) → slice_get founds k ≡ Some Found.Reclaimed → slice_get owners k ≡ Some None
   pub rest : hub_of producer_end new ≡ record (hub_of producer_end old) { entries = (hub_of producer_end new).entries }
   pub stays : Each IsSameOrLeft old.entries.items new.entries.items
   pub sound : IsSound (hub_of producer_end new)
   pub ahead : (k : ℕ) → most ≤ k → slice_get new.entries.items k ≡ slice_get old.entries.items k
-  pub handles_ahead : (k : ℕ) → most ≤ k → slice_get now k ≡ slice_get handles k
-  pub handles_long : length now ≡ length handles
+  pub owners_ahead : (k : ℕ) → most ≤ k → slice_get now k ≡ slice_get owners k
+  pub owners_long : length now ≡ length owners
 
-pub finding_none : {B : Type 0} (hub : Hub ProducerState) (counted : Option ℕ) (handles : List (Option HandleState))
+pub finding_none : {B : Type 0} (hub : Hub ProducerState) (counted : Option ℕ) (owners : List (Option SubscriptionState))
     (founds : List (Found B)) → founds ≡ [] → IsSound (hub_of producer_end hub)
-    → IsFinding hub hub counted handles handles 0 founds false
-finding_none hub counted handles [] none sound = record {
+    → IsFinding hub hub counted owners owners 0 founds false
+finding_none hub counted owners [] none sound = record {
   as_many = refl;
   each = λ k entry found at on. cc;
   here = λ k taken at. cc;
@@ -68,10 +69,10 @@ finding_none hub counted handles [] none sound = record {
   stays = record { as_long = refl; each = λ k x y at on. inl (same_Some y x (sym on ∙ at)) };
   sound = sound;
   ahead = λ k le. refl;
-  handles_ahead = λ k le. refl;
-  handles_long = refl;
+  owners_ahead = λ k le. refl;
+  owners_long = refl;
 }
-finding_none hub counted handles (found ∷ founds) none sound = cc
+finding_none hub counted owners (found ∷ founds) none sound = cc
 
 -- one more entry was taken out
 left_set : (xs ys zs : List (Entry ProducerState)) (number next : ℕ) (entry : Entry ProducerState)
@@ -90,13 +91,13 @@ left_set xs ys zs number next entry stands set are = record {
   by k x z at (inr before) = are.each k x z at before
 
 module _ {B : Type 0} (old new later : Hub ProducerState) (counted : Option ℕ)
-    (handles now then : List (Option HandleState)) (most : ℕ) (founds : List (Found B)) (gone : Bool)
-    (handle : Option HandleState) (found : Found B)
-    (finding : IsFinding old new counted handles now most founds gone) (taken : slice_get now most ≡ Some handle)
-    (then_is : then ≡ slice_set now most None) (finds : FindsOne counted most handle found new later)
+    (owners now then : List (Option SubscriptionState)) (most : ℕ) (founds : List (Found B)) (gone : Bool)
+    (owner : Option SubscriptionState) (found : Found B)
+    (finding : IsFinding old new counted owners now most founds gone) (taken : slice_get now most ≡ Some owner)
+    (then_is : then ≡ slice_set now most None) (finds : FindsOne counted most owner found new later)
     (sound : IsSound (hub_of producer_end later)) where
-  was_handle : slice_get handles most ≡ Some handle
-  was_handle = sym (finding.handles_ahead most (omega arith)) ∙ taken
+  was_owner : slice_get owners most ≡ Some owner
+  was_owner = sym (finding.owners_ahead most (omega arith)) ∙ taken
 
   stood : slice_get old.entries.items most ≡ Some finds.entry
   stood = sym (finding.ahead most (omega arith)) ∙ finds.stands
@@ -109,7 +110,7 @@ module _ {B : Type 0} (old new later : Hub ProducerState) (counted : Option ℕ)
   )
 
   -- what changed in the list of entries
-  changed : (f : Found B) → found ≡ f → FindsBy most handle finds.entry f new later
+  changed : (f : Found B) → found ≡ f → FindsBy most owner finds.entry f new later
       → Each IsSameOrLeft old.entries.items later.entries.items
       × ((k : ℕ) → most + 1 ≤ k → slice_get later.entries.items k ≡ slice_get old.entries.items k)
   changed (Found.Both both) e by = (
@@ -120,20 +121,20 @@ module _ {B : Type 0} (old new later : Hub ProducerState) (counted : Option ℕ)
   changed (Found.Missing name) e by = same_still by.1
   changed Found.Reclaimed e by = same_still by
 
-  found_is : FindsBy most handle finds.entry found new later
+  found_is : FindsBy most owner finds.entry found new later
   found_is = finds.by
 
-  both_here : (both : Taken B) → found ≡ Found.Both both → slice_get handles most ≡ Some (Some both.handle)
-  both_here both e = was_handle ∙ ap Some (subst (λ f. FindsBy most handle finds.entry f new later) e finds.by).0
+  both_here : (both : Taken B) → found ≡ Found.Both both → slice_get owners most ≡ Some (Some both.owner)
+  both_here both e = was_owner ∙ ap Some (subst (λ f. FindsBy most owner finds.entry f new later) e finds.by).0
 
-  missing_here : (name : List ℕ) → found ≡ Found.Missing name → slice_get handles most ≡ Some None
-  missing_here name e = was_handle ∙ ap Some (subst (λ f. FindsBy most handle finds.entry f new later) e finds.by).0
+  missing_here : (name : List ℕ) → found ≡ Found.Missing name → slice_get owners most ≡ Some None
+  missing_here name e = was_owner ∙ ap Some (subst (λ f. FindsBy most owner finds.entry f new later) e finds.by).0
 
-  reclaimed_here : found ≡ Found.Reclaimed → (is_some handle && is_reclaimed found) ≡ false → slice_get handles most ≡ Some None
-  reclaimed_here e here = was_handle ∙ ap Some (not_handed handle found e here)
+  reclaimed_here : found ≡ Found.Reclaimed → (is_some owner && is_reclaimed found) ≡ false → slice_get owners most ≡ Some None
+  reclaimed_here e here = was_owner ∙ ap Some (not_handed owner found e here)
 
-  pub finding_more : IsFinding old later counted handles then (most + 1) (founds ++ found ∷ [])
-      (gone || (is_some handle && is_reclaimed found))
+  pub finding_more : IsFinding old later counted owners then (most + 1) (founds ++ found ∷ [])
+      (gone || (is_some owner && is_reclaimed found))
   finding_more = record {
     as_many = length-append founds (found ∷ []) ∙ ap (λ n. n + 1) finding.as_many;
     each = λ k entry it at on. each k entry it at (get_grown founds found k it on);
@@ -144,9 +145,9 @@ module _ {B : Type 0} (old new later : Hub ProducerState) (counted : Option ℕ)
     stays = (changed found refl finds.by).0;
     sound = sound;
     ahead = (changed found refl finds.by).1;
-    handles_ahead = λ k le. ap (λ hs. slice_get hs k) then_is
-        ∙ get_elsewhere now most k None (λ same. absurd (omega arith)) ∙ finding.handles_ahead k (omega arith);
-    handles_long = ap length then_is ∙ length-set now most None ∙ finding.handles_long;
+    owners_ahead = λ k le. ap (λ hs. slice_get hs k) then_is
+        ∙ get_elsewhere now most k None (λ same. absurd (omega arith)) ∙ finding.owners_ahead k (omega arith);
+    owners_long = ap length then_is ∙ length-set now most None ∙ finding.owners_long;
   } where
     each : (k : ℕ) (entry : Entry ProducerState) (it : Found B) → slice_get old.entries.items k ≡ Some entry
         → (slice_get founds k ≡ Some it) ⊎ ((k ≡ length founds) × (found ≡ it)) → IsFoundOf counted k (entry_of producer_end entry) it
@@ -160,26 +161,26 @@ module _ {B : Type 0} (old new later : Hub ProducerState) (counted : Option ℕ)
         (subst (λ n. IsFoundOf counted n (entry_of producer_end finds.entry) found) (sym number) finds.is))
 
     here : (k : ℕ) (both : Taken B) → (slice_get founds k ≡ Some (Found.Both both)) ⊎
-        ((k ≡ length founds) × (found ≡ Found.Both both)) → slice_get handles k ≡ Some (Some both.handle)
+        ((k ≡ length founds) × (found ≡ Found.Both both)) → slice_get owners k ≡ Some (Some both.owner)
     here k both (inl before) = finding.here k both before
-    here k both (inr last) = subst (λ n. slice_get handles n ≡ Some (Some both.handle))
+    here k both (inr last) = subst (λ n. slice_get owners n ≡ Some (Some both.owner))
         (sym (last.0 ∙ finding.as_many)) (both_here both last.1)
 
     missing : (k : ℕ) (name : List ℕ) → (slice_get founds k ≡ Some (Found.Missing name)) ⊎
-        ((k ≡ length founds) × (found ≡ Found.Missing name)) → slice_get handles k ≡ Some None
+        ((k ≡ length founds) × (found ≡ Found.Missing name)) → slice_get owners k ≡ Some None
     missing k name (inl before) = finding.missing k name before
-    missing k name (inr last) = subst (λ n. slice_get handles n ≡ Some None) (sym (last.0 ∙ finding.as_many)) (missing_here name last.1)
+    missing k name (inr last) = subst (λ n. slice_get owners n ≡ Some None) (sym (last.0 ∙ finding.as_many)) (missing_here name last.1)
 
-    reclaimed : (gone || (is_some handle && is_reclaimed found)) ≡ false → (k : ℕ)
-        → (slice_get founds k ≡ Some Found.Reclaimed) ⊎ ((k ≡ length founds) × (found ≡ Found.Reclaimed)) → slice_get handles k ≡ Some None
+    reclaimed : (gone || (is_some owner && is_reclaimed found)) ≡ false → (k : ℕ)
+        → (slice_get founds k ≡ Some Found.Reclaimed) ⊎ ((k ≡ length founds) × (found ≡ Found.Reclaimed)) → slice_get owners k ≡ Some None
     reclaimed none k (inl before) = finding.reclaimed (left_false gone _ none) k before
-    reclaimed none k (inr last) = subst (λ n. slice_get handles n ≡ Some None) (sym (last.0 ∙ finding.as_many))
+    reclaimed none k (inr last) = subst (λ n. slice_get owners n ≡ Some None) (sym (last.0 ∙ finding.as_many))
         (reclaimed_here last.1 (right_false gone _ none))
 
 pub finding_all : {B : Type 0} (old new : Hub ProducerState) (counted : Option ℕ)
-    (handles now : List (Option HandleState)) (most : ℕ) (founds : List (Found B)) (gone : Bool) → most ≡ length old.entries.items
-    → IsFinding old new counted handles now most founds gone → FindsAll old new counted handles founds gone
-finding_all old new counted handles now most founds gone all is = record {
+    (owners now : List (Option SubscriptionState)) (most : ℕ) (founds : List (Found B)) (gone : Bool) → most ≡ length old.entries.items
+    → IsFinding old new counted owners now most founds gone → FindsAll old new counted owners founds gone
+finding_all old new counted owners now most founds gone all is = record {
   found = record {
     as_many = is.as_many ∙ all ∙ sym (length-map old.entries.items (entry_of producer_end));
     each = λ k entry found at on.
@@ -204,15 +205,15 @@ read_of f hub number entry answer x is value stands =
     (sym is ∙ value ∙ ap (option_map f) (get_mapped (entry_of producer_end) hub.entries.items number entry stands))
 
 -- what is found of one subscription
-module _ {B : Type 0} (counted : Option ℕ) (number : ℕ) (handle : Option HandleState) (old new : Hub ProducerState)
+module _ {B : Type 0} (counted : Option ℕ) (number : ℕ) (owner : Option SubscriptionState) (old new : Hub ProducerState)
     (within : number < length old.entries.items) where
-  pub finds_both : (other : HandleState) (taken : Taken B) → handle ≡ Some other
-      → TakesOutAt producer_end number (Some taken.producer) old new → taken.handle ≡ other
+  pub finds_both : (other : SubscriptionState) (taken : Taken B) → owner ≡ Some other
+      → TakesOutAt producer_end number (Some taken.producer) old new → taken.owner ≡ other
       → ((taken.late ≡ true → IsLate counted number) × (IsLate counted number → taken.late ≡ true))
       → ((entry : Entry ProducerState) → slice_get old.entries.items number ≡ Some entry → (taken.name ≡ entry.name)
       × (taken.on_full ≡ entry.on_full) × (taken.since ≡ entry.since) × (taken.dropped ≡ entry.dropped))
-      → FindsOne counted number handle (Found.Both taken) old new
-  finds_both other taken handed takes handle_is late reads =
+      → FindsOne counted number owner (Found.Both taken) old new
+  finds_both other taken handed takes owner_is late reads =
       let entry = there old.entries.items number within in
       let after = takes.there entry.0 entry.1 in
       let known = reads entry.0 entry.1 in
@@ -228,12 +229,12 @@ module _ {B : Type 0} (counted : Option ℕ) (number : ℕ) (handle : Option Han
           producer =
               ap (option_map producer_end) after.1.0.0;
         };
-        by = (handed ∙ ap Some (sym handle_is), after.1.1 ∙ ap (slice_set old.entries.items number) after.1.0.1);
+        by = (handed ∙ ap Some (sym owner_is), after.1.1 ∙ ap (slice_set old.entries.items number) after.1.0.1);
         rest = takes.rest;
       }
 
   -- one whose producer's end was taken out before
-  pub finds_reclaimed : TakesOutAt producer_end number None old new → FindsOne {B = B} counted number handle Found.Reclaimed old new
+  pub finds_reclaimed : TakesOutAt producer_end number None old new → FindsOne {B = B} counted number owner Found.Reclaimed old new
   finds_reclaimed takes =
       let entry = there old.entries.items number within in
       let after = takes.there entry.0 entry.1 in
@@ -258,27 +259,27 @@ mapped_none : (feed : Option ProducerState) → (IsSome feed → ⊥) → option
 mapped_none None none = refl
 mapped_none (Some producer) none = absurd (none refl)
 
-none_handed : (handle : Option HandleState) → ((it : HandleState) → handle ≡ Some it → ⊥) → handle ≡ None
+none_handed : (owner : Option SubscriptionState) → ((it : SubscriptionState) → owner ≡ Some it → ⊥) → owner ≡ None
 none_handed None not = refl
 none_handed (Some it) not = absurd (not it refl)
 
--- what is found of one whose handle was not handed in
-module _ {B : Type 0} (counted : Option ℕ) (number : ℕ) (handle : Option HandleState) (hub : Hub ProducerState)
-    (within : number < length hub.entries.items) (unhanded : (it : HandleState) → handle ≡ Some it → ⊥) where
+-- what is found of one whose owner was not handed in
+module _ {B : Type 0} (counted : Option ℕ) (number : ℕ) (owner : Option SubscriptionState) (hub : Hub ProducerState)
+    (within : number < length hub.entries.items) (unhanded : (it : SubscriptionState) → owner ≡ Some it → ⊥) where
   pub finds_missing : (name : List ℕ) → IsSome (feed_at hub number)
       → ((entry : Entry ProducerState) → slice_get hub.entries.items number ≡ Some entry → name ≡ entry.name)
-      → FindsOne {B = B} counted number handle (Found.Missing name) hub hub
+      → FindsOne {B = B} counted number owner (Found.Missing name) hub hub
   finds_missing name some reads =
       let entry = there hub.entries.items number within in
       record {
         entry = entry.0;
         stands = entry.1;
         is = (reads entry.0 entry.1, mapped_some entry.0.feed (subst IsSome (stored_feed hub number entry.0 entry.1) some));
-        by = (none_handed handle unhanded, refl);
+        by = (none_handed owner unhanded, refl);
         rest = refl;
       }
 
-  pub finds_gone : (IsSome (feed_at hub number) → ⊥) → FindsOne {B = B} counted number handle Found.Reclaimed hub hub
+  pub finds_gone : (IsSome (feed_at hub number) → ⊥) → FindsOne {B = B} counted number owner Found.Reclaimed hub hub
   finds_gone none =
       let entry = there hub.entries.items number within in
       record {

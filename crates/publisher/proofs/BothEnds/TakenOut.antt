@@ -4,7 +4,7 @@ use Rattle.std.specs.Prelude.{IsSome, slice_get, ◌==◌}
 use Rattle.std.proofs.lemmas.List.{length-map}
 use Rattle.std.proofs.lemmas.Option.{slice_get_within}
 use Rattle.close_count.specs.declared.spent.Spent.{Spent}
-use Rattle.feed_cell.specs.Parties.{HandleState, ProducerState}
+use Rattle.feed_cell.specs.Parties.{ProducerState}
 use Rattle.feed_core.specs.Prelude.{Item}
 use Rattle.flow_rules.specs.Feed.{End}
 use Rattle.flow_rules.specs.declared.ending.Ending.{Ending}
@@ -106,20 +106,20 @@ module _ {B : Type 0} (hub : HubState) (counted : Option ℕ) (sums : Sums) (fou
     by entry of (inl over) = over taken.producer.end of.producer
     by entry of (inr late) = let no : false ≡ true = sym on_time ∙ of.late.1 late in cc
 
-  pub are_taken_out : (subscriptions : List SubscriptionState) (handles : List (Option HandleState))
+  pub are_taken_out : (subscriptions : List SubscriptionState) (owners : List (Option SubscriptionState))
       (published dropping : ℕ) (drained : Bool) → published ≡ hub.progress.next → dropping ≡ hub.progress.dropping
-      → length handles ≡ length founds
-      → ArePlaced subscriptions handles true → ((k : ℕ) (taken : Taken B)
-      → slice_get founds k ≡ Some (Found.Both taken) → slice_get handles k ≡ Some (Some taken.handle))
-      → ((k : ℕ) (name : List ℕ) → slice_get founds k ≡ Some (Found.Missing name) → slice_get handles k ≡ Some None)
-      → ((k : ℕ) → slice_get founds k ≡ Some Found.Reclaimed → slice_get handles k ≡ Some None)
+      → length owners ≡ length founds
+      → ArePlaced subscriptions owners true → ((k : ℕ) (taken : Taken B)
+      → slice_get founds k ≡ Some (Found.Both taken) → slice_get owners k ≡ Some (Some taken.owner))
+      → ((k : ℕ) (name : List ℕ) → slice_get founds k ≡ Some (Found.Missing name) → slice_get owners k ≡ Some None)
+      → ((k : ℕ) → slice_get founds k ≡ Some Found.Reclaimed → slice_get owners k ≡ Some None)
       → (drained ≡ true → (k : ℕ) (entry : EntryState) → slice_get hub.entries k ≡ Some entry → IsOver entry ⊎ IsLate counted k)
       → AreTakenOut subscriptions founds published dropping drained
-  are_taken_out subscriptions handles published dropping drained published_is dropping_is long placed here missing
+  are_taken_out subscriptions owners published dropping drained published_is dropping_is long placed here missing
       reclaimed spent = record {
         each = λ k taken at. subst (λ n. IsCountedIn n dropping taken) (sym published_is)
             (subst (λ n. IsCountedIn hub.progress.next n taken) (sym dropping_is) (counted_in k taken at));
-        handed = λ k taken at. placed.placed k taken.handle (here k taken at);
+        handed = λ k taken at. placed.placed k taken.owner (here k taken at);
         missing = λ k name at handed. placed.empty k (missing k name at) handed;
         reclaimed = λ k at handed. placed.empty k (reclaimed k at) handed;
         within = λ number handed. subst (λ n. number < n) long (placed.within refl number handed);
@@ -204,9 +204,9 @@ all_left xs ys each = record {
       (λ f at. let no : None ≡ Some f = sym (ap (option_map producer_end) left.0.0) ∙ at in cc)
 
 pub state_found : {B : Type 0} (old new : Hub ProducerState) (counted : Option ℕ)
-    (handles : List (Option HandleState)) (founds : List (Found B)) (gone : Bool) (was : HubState) (sums : Sums)
-    → IsState was sums → hub_of producer_end old ≡ was → FindsAll old new counted handles founds gone
+    (owners : List (Option SubscriptionState)) (founds : List (Found B)) (gone : Bool) (was : HubState) (sums : Sums)
+    → IsState was sums → hub_of producer_end old ≡ was → FindsAll old new counted owners founds gone
     → IsState (hub_of producer_end new) sums
-state_found old new counted handles founds gone was sums is same finds =
+state_found old new counted owners founds gone was sums is same finds =
     state_stays (hub_of producer_end old) (hub_of producer_end new) sums (subst (λ hub. IsState hub sums) (sym same) is) finds.sound
     (stays_by (hub_of producer_end old) (hub_of producer_end new) finds.rest (all_left old.entries.items new.entries.items finds.stays))

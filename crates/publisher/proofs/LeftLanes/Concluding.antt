@@ -4,7 +4,6 @@ use Rattle.feed_core.specs.AnsweredTurn.{Reply}
 use Rattle.std.specs.Prelude.{IsSome, slice_get}
 use Rattle.std.specs.Option.{option_or}
 use Rattle.std.proofs.lemmas.Option.{same_Some, slice_get_within}
-use Rattle.feed_cell.specs.Parties.{HandleState}
 use Rattle.feed_core.specs.Prelude.{How, Signal}
 use Rattle.flow_rules.specs.declared.refusal.Refusal.{Refusal}
 use Rattle.publisher_hub.proofs.AnswerLists.Places.{there}
@@ -13,8 +12,8 @@ use Rattle.history.specs.declared.rule.Entry.{Entry}
 use Rattle.publisher.specs.Content.{ArePublished, AreSentIn}
 use Rattle.publisher.specs.Finishing.{AreAudited, AreOfLog, AreTakenOut, IsNothing}
 use Rattle.publisher.specs.Handles.{SubmitterState, SubscriptionState}
-use Rattle.publisher.specs.Leaving.{ClosesInOrder, Concludes, FindsFirst}
-use Rattle.publisher.specs.Outcome.{AnyKnows, AreDone, AreHandedIn, AreReclaimed, Finishes, HasLane, IsAmong, IsMissing, IsOutcome, IsRestGiven, IsWhole, Judges, NamesUndone, is_undone, outcome_of}
+use Rattle.publisher.specs.Leaving.{ClosesAll, Concludes, FindsFirst}
+use Rattle.publisher.specs.Outcome.{AnyKnows, AreDone, AreHandedIn, AreInOrder, AreReclaimed, Finishes, HasLane, IsAmong, IsMissing, IsOutcome, IsRestGiven, IsWhole, Judges, NamesUndone, is_undone, outcome_of}
 use Rattle.publisher.specs.declared.outcome.NamedLane.{NamedLane}
 use Rattle.publisher.specs.declared.outcome.Outcome.{Outcome}
 use Rattle.publisher.specs.declared.finishing.find.Found.{Found}
@@ -85,31 +84,37 @@ module _ {B H : Type 0} (told : B → List Signal) (replied : B → List Reply) 
     (subscriptions : List SubscriptionState) (founds : List (Found B)) (dropping : ℕ) (drained : Bool)
     (outcome : Outcome B H) (first missing : Option (List ℕ))
     (out : AreTakenOut subscriptions founds outcome.published dropping drained) (same : outcome.drained ≡ drained)
-    (counted : ends_of founds + outcome.reclaimed ≡ outcome.made) (closes : ClosesInOrder told replied founds (length founds)
+    (counted : ends_of founds + outcome.reclaimed ≡ outcome.made) (closes : ClosesAll told replied founds (length founds)
     outcome.lanes.items outcome.held.items first)
     (audited : AreAudited submitters outcome.published dropping missing) where
   -- one whose two ends were there was handed in
   both_handed : (number : ℕ) (taken : Taken B) → slice_get founds number ≡ Some (Found.Both taken) → IsHandedIn subscriptions number
   both_handed number taken at = let handed = out.handed number taken at in (handed.0, handed.1, (handed.2.0, handed.2.1.0))
 
-  pub are_handed_in : AreHandedIn subscriptions outcome.lanes.items
-  are_handed_in = record {
-    rising = closes.rising;
-    each = λ i left at. let it = closes.each i left at in let handed = out.handed left.entry it.0 it.1.0 in let owner = it.1.1.1.of.owner in (
-      handed.0,
-      handed.1,
-      (
-        handed.2.0,
-        (
-          handed.2.1.0,
+  pub are_handed_in : AreInOrder outcome.lanes.items → AreHandedIn subscriptions outcome.lanes.items
+  are_handed_in ordered = record {
+    apart = closes.apart;
+    ordered = ordered;
+    each = λ i left at.
+        let it = closes.each i left at in
+        let handed = out.handed left.entry it.0 it.1.0 in
+        let owner = it.1.1.1.of.owner in (
+          handed.0,
+          handed.1,
           (
-            owner.0 ∙ ap (λ (h : HandleState). h.asked) (sym handed.2.1.1),
-            owner.1
-                ∙ ap (λ (h : HandleState). h.cancelled) (sym handed.2.1.1),
+            handed.2.0,
+            (
+              handed.2.1.0,
+              (
+                ap (λ (s : SubscriptionState). s.made_before) handed.2.1.1 ∙ sym it.1.1.1.of.made_before,
+                (
+                  owner.0 ∙ ap (λ (s : SubscriptionState). s.handle.asked) (sym handed.2.1.1),
+                  owner.1 ∙ ap (λ (s : SubscriptionState). s.handle.cancelled) (sym handed.2.1.1),
+                ),
+              ),
+            ),
           ),
-        ),
-      ),
-    );
+        );
   }
 
   -- none was counted twice
@@ -198,7 +203,7 @@ module _ {B H : Type 0} (told : B → List Signal) (replied : B → List Reply) 
 
   pub handed_is : AreHandedIn subscriptions (outcome_of result).lanes.items
   handed_is = are_handed_in told replied submitters subscriptions books.founds.items dropping books.drained
-      (outcome_of result) concludes.first books.missing out concludes.drained counted_is concludes.closes audit
+      (outcome_of result) concludes.first books.missing out concludes.drained counted_is concludes.closes audit concludes.ordered
 
   pub reclaimed_is : AreReclaimed (outcome_of result)
   reclaimed_is = are_reclaimed told replied submitters subscriptions books.founds.items dropping books.drained
@@ -250,14 +255,15 @@ few_of_none lanes held reclaimed made no_lanes none_held few = omega arith
 -- the answers of what was closed
 module _ {B H : Type 0} (told : B → List Signal) (replied : B → List Reply) (books : Books B)
     (first : Option (List ℕ)) (outcome : Outcome B H)
-    (closes : ClosesInOrder told replied books.founds.items (length books.founds.items) outcome.lanes.items
-    outcome.held.items first)
+    (closes : ClosesAll told replied books.founds.items (length books.founds.items) outcome.lanes.items
+    outcome.held.items first) (ordered : AreInOrder outcome.lanes.items)
     (made : outcome.made ≡ books.made) (reclaimed : outcome.reclaimed ≡ books.reclaimed) (published : outcome.published ≡ books.published) (drained : outcome.drained ≡ books.drained) where
   pub concludes_held : (name : List ℕ) → option_or first books.missing ≡ Some name
       → Concludes told replied books (Err (Refusal.StillHeld name, outcome))
   concludes_held name is = record {
     first = first;
     closes = closes;
+    ordered = ordered;
     made = made;
     reclaimed = reclaimed;
     published = published;
@@ -272,8 +278,9 @@ module _ {B H : Type 0} (told : B → List Signal) (replied : B → List Reply) 
       let same = judged_same [] [] outcome books.is_closed result judges in
       record {
         first = first;
-        closes = subst (λ (o : Outcome B H). ClosesInOrder told replied books.founds.items (length books.founds.items)
+        closes = subst (λ (o : Outcome B H). ClosesAll told replied books.founds.items (length books.founds.items)
             o.lanes.items o.held.items first) (sym same) closes;
+        ordered = subst (λ (o : Outcome B H). AreInOrder o.lanes.items) (sym same) ordered;
         made = ap (λ (o : Outcome B H). o.made) same ∙ made;
         reclaimed = ap (λ (o : Outcome B H). o.reclaimed) same ∙ reclaimed;
         published = ap (λ (o : Outcome B H). o.published) same ∙ published;

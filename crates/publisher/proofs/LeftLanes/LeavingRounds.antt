@@ -9,7 +9,7 @@ use Rattle.feed_core.specs.Prelude.{Signal}
 use Rattle.publisher_hub.proofs.AnswerLists.Updates.{get_grown}
 use Rattle.publisher.proofs.BothEnds.LongerLists.{get_last, get_still}
 use Rattle.publisher.specs.Finding.{ends_of, is_reclaimed}
-use Rattle.publisher.specs.Leaving.{AreGiven, ClosesInOrder, ClosesOne, FindsFirst, IsLeftOfTaken}
+use Rattle.publisher.specs.Leaving.{AreGiven, ClosesAll, ClosesOne, FindsFirst, IsLeftOfTaken}
 use Rattle.publisher.specs.Outcome.{HasLane, IsAmong}
 use Rattle.publisher.specs.declared.finishing.close.Closed.TheVariants as Closed
 use Rattle.publisher.specs.declared.outcome.NamedLane.{NamedLane}
@@ -26,10 +26,10 @@ ends_more founds found = sum_by_push (λ f. cond (not (is_reclaimed f)) 1 0) fou
 
 module _ {B : Type 0} (told : B → List Signal) (replied : B → List Reply) where
   pub closes_none : (lanes : List (NamedLane B)) (held : List ℕ) → lanes ≡ [] → held ≡ []
-      → ClosesInOrder told replied [] 0 lanes held None
+      → ClosesAll told replied [] 0 lanes held None
   closes_none lanes held no_lanes none_held = record {
     each = λ i left at. absurd (no_lane i left at);
-    rising = λ i j left other at on less. absurd (no_lane i left at);
+    apart = λ i j left other at on same. absurd (no_lane i left at);
     all = λ number taken less at. absurd (nothing_at number (Found.Both taken) at);
     held_are = λ number is_held. absurd (nothing_at is_held.0 number (sym (ap (λ hs. slice_get hs is_held.0) none_held) ∙ is_held.1));
     finds = (ap length no_lanes, (λ number less. absurd (omega arith), none_held));
@@ -41,7 +41,7 @@ module _ {B : Type 0} (told : B → List Signal) (replied : B → List Reply) wh
     no_lane i left at = nothing_at i left (sym (ap (λ ls. slice_get ls i) no_lanes) ∙ at)
 
   module _ (founds : List (Found B)) (most : ℕ) (lanes : List (NamedLane B)) (held : List ℕ)
-      (first : Option (List ℕ)) (closes : ClosesInOrder told replied founds most lanes held first)
+      (first : Option (List ℕ)) (closes : ClosesAll told replied founds most lanes held first)
       (is_most : most ≡ length founds) where
     -- a lane so far is that of a smaller number
     below : (number : ℕ) → HasLane number lanes → number < most
@@ -122,10 +122,10 @@ module _ {B : Type 0} (told : B → List Signal) (replied : B → List Reply) wh
         missing (inl at) = inl (get_still founds (Found.Both taken) finds.0 (Found.Missing name) at)
         missing (inr is_held) = inr is_held
 
-      pub closes_lane : ClosesInOrder told replied (founds ++ Found.Both taken ∷ []) (most + 1) (lanes ++ left ∷ []) held first
+      pub closes_lane : ClosesAll told replied (founds ++ Found.Both taken ∷ []) (most + 1) (lanes ++ left ∷ []) held first
       closes_lane = record {
         each = λ i it at. each i it (get_grown lanes left i it at);
-        rising = λ i j it other at on less. rises i j it other less (get_grown lanes left i it at) (get_grown lanes left j other on);
+        apart = λ i j it other at on same. apart i j it other same (get_grown lanes left i it at) (get_grown lanes left j other on);
         all = λ number other less at. all number other (before_or_last (Found.Both taken) (Found.Both other) number at);
         held_are = λ number is_held.
             let was = closes.held_are number is_held in (
@@ -171,17 +171,19 @@ module _ {B : Type 0} (told : B → List Signal) (replied : B → List Reply) wh
               ),
             )
 
-        rises : (i j : ℕ) (it other : NamedLane B) → i < j
+        apart : (i j : ℕ) (it other : NamedLane B) → it.entry ≡ other.entry
             → (slice_get lanes i ≡ Some it) ⊎ ((i ≡ length lanes) × (left ≡ it))
-            → (slice_get lanes j ≡ Some other) ⊎ ((j ≡ length lanes) × (left ≡ other)) → it.entry < other.entry
-        rises i j it other less (inl at) (inl on) = closes.rising i j it other at on less
-        rises i j it other less (inl at) (inr last) =
+            → (slice_get lanes j ≡ Some other) ⊎ ((j ≡ length lanes) × (left ≡ other)) → i ≡ j
+        apart i j it other same (inl at) (inl on) = closes.apart i j it other at on same
+        apart i j it other same (inl at) (inr last) =
             let small = below it.entry (i, it, (at, refl)) in
-            let same = ap (λ (l : NamedLane B). l.entry) last.1 in
-            let number = is.of.number_is in omega arith
-        rises i j it other less (inr last) (inl on) = let within = slice_get_within lanes j other on in let end =
-            last.0 in absurd (omega arith)
-        rises i j it other less (inr last) (inr also) = let end = last.0 in let other_end = also.0 in absurd (omega arith)
+            let its = ap (λ (l : NamedLane B). l.entry) last.1 in
+            let number = is.of.number_is in absurd (omega arith)
+        apart i j it other same (inr last) (inl on) =
+            let small = below other.entry (j, other, (on, refl)) in
+            let its = ap (λ (l : NamedLane B). l.entry) last.1 in
+            let number = is.of.number_is in absurd (omega arith)
+        apart i j it other same (inr last) (inr also) = last.0 ∙ sym also.0
 
         all : (number : ℕ) (other : Taken B) → (slice_get founds number ≡ Some (Found.Both other)) ⊎
             ((number ≡ most) × (Found.Both taken ≡ Found.Both other)) → HasLane number (lanes ++ left ∷ []) ⊎ IsAmong number held
@@ -231,7 +233,7 @@ module _ {B : Type 0} (told : B → List Signal) (replied : B → List Reply) wh
             missing (inl at) = inl (get_still founds (Found.Both taken) finds.0 (Found.Missing it) at)
             missing (inr is_held) = inr (held_still most finds.0 is_held)
 
-      pub closes_held : ClosesInOrder told replied (founds ++ Found.Both taken ∷ []) (most + 1) lanes
+      pub closes_held : ClosesAll told replied (founds ++ Found.Both taken ∷ []) (most + 1) lanes
           (held ++ most ∷ []) first_then
       closes_held = record {
         each = λ i it at. let was = closes.each i it at in (
@@ -241,7 +243,7 @@ module _ {B : Type 0} (told : B → List Signal) (replied : B → List Reply) wh
             (let less = was.1.1.0 in omega arith, was.1.1.1),
           ),
         );
-        rising = closes.rising;
+        apart = closes.apart;
         all = λ number other less at. all number other (before_or_last (Found.Both taken) (Found.Both other) number at);
         held_are = λ number is_held. held_are number (get_grown held most is_held.0 number is_held.1) is_held;
         finds = finds_held first refl closes.finds;
@@ -319,7 +321,7 @@ module _ {B : Type 0} (told : B → List Signal) (replied : B → List Reply) wh
             missing (inl at) = inl (get_still founds (Found.Missing name) finds.0 (Found.Missing it) at)
             missing (inr is_held) = inr is_held
 
-      pub closes_missing : ClosesInOrder told replied (founds ++ Found.Missing name ∷ []) (most + 1) lanes held first_then
+      pub closes_missing : ClosesAll told replied (founds ++ Found.Missing name ∷ []) (most + 1) lanes held first_then
       closes_missing = record {
         each = λ i it at. let was = closes.each i it at in (
           was.0,
@@ -328,7 +330,7 @@ module _ {B : Type 0} (told : B → List Signal) (replied : B → List Reply) wh
             (let less = was.1.1.0 in omega arith, was.1.1.1),
           ),
         );
-        rising = closes.rising;
+        apart = closes.apart;
         all = λ number other less at. all number other (before_or_last (Found.Missing name) (Found.Both other) number at);
         held_are = λ number is_held. let was = closes.held_are number is_held in (
           was.0,
@@ -378,11 +380,11 @@ module _ {B : Type 0} (told : B → List Signal) (replied : B → List Reply) wh
       missing (inl at) = inl (get_still founds Found.Reclaimed finds.0 (Found.Missing name) at)
       missing (inr is_held) = inr is_held
 
-    closes_reclaimed : ClosesInOrder told replied (founds ++ Found.Reclaimed ∷ []) (most + 1) lanes held first
+    closes_reclaimed : ClosesAll told replied (founds ++ Found.Reclaimed ∷ []) (most + 1) lanes held first
     closes_reclaimed = record {
       each = λ i it at. let was = closes.each i it at in
           (was.0, (get_still founds Found.Reclaimed it.entry (Found.Both was.0) was.1.0, (let less = was.1.1.0 in omega arith, was.1.1.1)));
-      rising = closes.rising;
+      apart = closes.apart;
       all = λ number other less at. all number other (before_or_last Found.Reclaimed (Found.Both other) number at);
       held_are = λ number is_held. let was = closes.held_are number is_held in
           (was.0, (get_still founds Found.Reclaimed number (Found.Both was.0) was.1.0, (let less = was.1.1.0 in omega arith, was.1.1.1)));
@@ -399,7 +401,7 @@ module _ {B : Type 0} (told : B → List Signal) (replied : B → List Reply) wh
 
     -- one more was closed
     pub more_lane : (found : Found B) (left : NamedLane B) → ClosesOne told replied most found (Closed.Lane left)
-        → ClosesInOrder told replied (founds ++ found ∷ []) (most + 1) (lanes ++ left ∷ []) held first
+        → ClosesAll told replied (founds ++ found ∷ []) (most + 1) (lanes ++ left ∷ []) held first
     more_lane (Found.Both taken) left is = closes_lane taken left is
     more_lane (Found.Missing name) left is = absurd is
     more_lane Found.Reclaimed left is = absurd is
@@ -407,7 +409,7 @@ module _ {B : Type 0} (told : B → List Signal) (replied : B → List Reply) wh
     pub more_held : (found : Found B) (name : List ℕ) (first_then : Option (List ℕ))
         → (first ≡ None → first_then ≡ Some name) → ((it : List ℕ) → first ≡ Some it → first_then ≡ Some it)
         → ClosesOne told replied most found (Closed.Held name)
-        → ClosesInOrder told replied (founds ++ found ∷ []) (most + 1) lanes (held ++ most ∷ []) first_then
+        → ClosesAll told replied (founds ++ found ∷ []) (most + 1) lanes (held ++ most ∷ []) first_then
     more_held (Found.Both taken) name first_then none some is = closes_held taken name first_then none some
     more_held (Found.Missing other) name first_then none some is = absurd is
     more_held Found.Reclaimed name first_then none some is = absurd is
@@ -415,13 +417,13 @@ module _ {B : Type 0} (told : B → List Signal) (replied : B → List Reply) wh
     pub more_missing : (found : Found B) (name : List ℕ) (first_then : Option (List ℕ))
         → (first ≡ None → first_then ≡ Some name) → ((it : List ℕ) → first ≡ Some it → first_then ≡ Some it)
         → ClosesOne told replied most found (Closed.Missing name)
-        → ClosesInOrder told replied (founds ++ found ∷ []) (most + 1) lanes held first_then
+        → ClosesAll told replied (founds ++ found ∷ []) (most + 1) lanes held first_then
     more_missing (Found.Both taken) name first_then none some is = absurd is
     more_missing (Found.Missing other) name first_then none some is = closes_missing other first_then (λ e. none e ∙ ap Some is) some
     more_missing Found.Reclaimed name first_then none some is = absurd is
 
     pub more_reclaimed : (found : Found B) → ClosesOne told replied most found Closed.Reclaimed
-        → ClosesInOrder told replied (founds ++ found ∷ []) (most + 1) lanes held first
+        → ClosesAll told replied (founds ++ found ∷ []) (most + 1) lanes held first
     more_reclaimed Found.Reclaimed is = closes_reclaimed
     more_reclaimed (Found.Both taken) is = absurd is
     more_reclaimed (Found.Missing name) is = absurd is

@@ -11,7 +11,7 @@ use Rattle.history.specs.declared.rule.Entry.{Entry}
 use Rattle.publisher.specs.Content.{AreSentIn}
 use Rattle.publisher.specs.Finishing.{AreOfLog, AreTakenOut, IsCountedIn}
 use Rattle.publisher.specs.Handles.{SubmitterState, SubscriptionState}
-use Rattle.publisher.specs.Leaving.{ClosesInOrder, IsLaneOfTaken}
+use Rattle.publisher.specs.Leaving.{ClosesAll, IsLaneOfTaken}
 use Rattle.publisher.specs.Outcome.{IsLane, IsOutcome, TookPart}
 use Rattle.publisher.specs.declared.outcome.NamedLane.{NamedLane}
 use Rattle.publisher.specs.declared.outcome.Outcome.{Outcome}
@@ -86,7 +86,7 @@ module _ {B : Type 0} (told : B → List Signal) (replied : B → List Reply) (p
 module _ {B H : Type 0} (told : B → List Signal) (replied : B → List Reply) (subscriptions : List SubscriptionState)
     (founds : List (Found B)) (dropping : ℕ) (drained : Bool) (outcome : Outcome B H) (first : Option (List ℕ))
     (out : AreTakenOut subscriptions founds outcome.published dropping drained) (same : outcome.drained ≡ drained)
-    (closes : ClosesInOrder told replied founds (length founds) outcome.lanes.items outcome.held.items first) where
+    (closes : ClosesAll told replied founds (length founds) outcome.lanes.items outcome.held.items first) where
   lane_at : (i : ℕ) (left : NamedLane B) → slice_get outcome.lanes.items i ≡ Some left → (lane : LaneState)
       × HasLaneState told replied outcome.published founds left lane
   lane_at i left at =

@@ -8,7 +8,7 @@ use Rattle.close_count.specs.Ticket.{count_of_ticket}
 use Rattle.close_count.specs.declared.spent.Spent.{Spent}
 use Rattle.close_count.specs.declared.ticket.Ticket.{Ticket}
 use Rattle.feed_cell.specs.Offering.{DoesCall}
-use Rattle.feed_cell.specs.Parties.{HandleState, ProducerState}
+use Rattle.feed_cell.specs.Parties.{ProducerState}
 use Rattle.flow_rules.specs.Feed.{End, Looked}
 use Rattle.flow_rules.specs.declared.feed.standing.Standing.{Standing}
 use Rattle.flow_rules.specs.declared.refusal.Refusal.{Refusal}
@@ -23,6 +23,7 @@ use Rattle.publisher_hub.proofs.PartialRounds.Next.{get_before_map, get_mapped}
 use Rattle.publisher.specs.Census.{CensusState}
 use Rattle.publisher.specs.Finding.{IsTakenOf}
 use Rattle.publisher.specs.Finishing.{IsCountedIn}
+use Rattle.publisher.specs.Handles.{SubscriptionState}
 use Rattle.publisher.specs.Reclaiming.{IsSpent, Knows, LooksTwice, NamesOne, Reclaims, RefusesReclaim, ShowsEnd, TakesEnd}
 use Rattle.publisher.specs.Spending.{last_after}
 use Rattle.publisher.specs.Standing.{has_ended_by}
@@ -173,9 +174,10 @@ takes_still number producer old new census ends = record {
   by (Some ticket) spent = spent
 
 -- what is taken out of a sound publisher has ended, and counts what was published while it took part
-module _ {B : Type 0} (number : ℕ) (known : Known) (handle : HandleState) (producer : ProducerState) (taken : Taken B)
+module _ {B : Type 0} (known : Known) (owner : SubscriptionState) (producer : ProducerState) (taken : Taken B)
     (middle new : PublisherState) (sums : Sums) (is : IsState (hub_of producer_end middle.hub) sums)
-    (same : sums.counted ≡ middle.counted) (knows : Knows middle number known) (ends : TakesEnd number (Some producer) middle new)
+    (same : sums.counted ≡ middle.counted) (knows : Knows middle owner.entry known)
+    (ends : TakesEnd owner.entry (Some producer) middle new)
     (taken_is : taken ≡ record {
       name = known.name;
       on_full = known.on_full;
@@ -184,7 +186,7 @@ module _ {B : Type 0} (number : ℕ) (known : Known) (handle : HandleState) (pro
       late =
           known.late;
       producer = producer;
-      handle = handle;
+      owner = owner;
     }) where
   -- what the look at it showed
   pub record IsOver (before : ProducerState) : Type 0 where
@@ -211,7 +213,7 @@ module _ {B : Type 0} (number : ℕ) (known : Known) (handle : HandleState) (pro
   abbrev earlier : Taken B
   earlier = record taken { producer = shown.0 }
 
-  of : IsTakenOf middle.counted number (entry_of producer_end knows.entry) earlier
+  of : IsTakenOf middle.counted owner.entry (entry_of producer_end knows.entry) earlier
   of = record {
     name = ap (λ (t : Taken B). t.name) taken_is ∙ knows.name;
     on_full = ap (λ (t : Taken B). t.on_full) taken_is ∙ knows.on_full;
@@ -227,21 +229,21 @@ module _ {B : Type 0} (number : ℕ) (known : Known) (handle : HandleState) (pro
   pub counted_is : IsCountedIn middle.hub.next middle.hub.dropping taken
   counted_is = looked_counted middle.hub.next middle.hub.dropping earlier taken refl
       (subst (λ (p : ProducerState). Looked shown.0.end p.end) (sym (ap (λ (t : Taken B). t.producer) taken_is)) shown.1.look) over_is
-      (counted_of (hub_of producer_end middle.hub) middle.counted sums number (entry_of producer_end knows.entry)
-      earlier is same (get_mapped (entry_of producer_end) middle.hub.entries.items number knows.entry knows.stands) of)
+      (counted_of (hub_of producer_end middle.hub) middle.counted sums owner.entry (entry_of producer_end knows.entry)
+      earlier is same (get_mapped (entry_of producer_end) middle.hub.entries.items owner.entry knows.entry knows.stands) of)
 
   -- so it is reclaimed, and counted
-  pub reclaims_of : (old : PublisherState) (census : CensusState) → ShowsEnd number true old middle → new.census ≡ middle.census
+  pub reclaims_of : (old : PublisherState) (census : CensusState) → ShowsEnd owner.entry true old middle → new.census ≡ middle.census
       → census ≡ record new.census { reclaimed = new.census.reclaimed + 1 }
-      → Reclaims number handle taken old (record new { census = census })
+      → Reclaims owner taken old (record new { census = census })
   reclaims_of old census shows kept counts =
       let next = ap (λ (h : HubState). h.progress.next) shows.looks.rest in
       let dropping = ap (λ (h : HubState). h.progress.dropping) shows.looks.rest in
       record {
         middle = middle;
         looks = shows;
-        takes = takes_still number (Some taken.producer) middle new census
-            (subst (λ (p : ProducerState). TakesEnd number (Some p) middle new) (sym (ap (λ (t : Taken B). t.producer) taken_is)) ends);
+        takes = takes_still owner.entry (Some taken.producer) middle new census
+            (subst (λ (p : ProducerState). TakesEnd owner.entry (Some p) middle new) (sym (ap (λ (t : Taken B). t.producer) taken_is)) ends);
         known = (
           known,
           (
@@ -255,7 +257,7 @@ module _ {B : Type 0} (number : ℕ) (known : Known) (handle : HandleState) (pro
             ),
           ),
         );
-        handle_is = ap (λ (t : Taken B). t.handle) taken_is;
+        owner_is = ap (λ (t : Taken B). t.owner) taken_is;
         over = over_is;
         counted = subst (λ n. IsCountedIn n old.hub.dropping taken) next
             (subst (λ n. IsCountedIn middle.hub.next n taken) dropping counted_is);
@@ -276,6 +278,15 @@ pub shows_end : (number : ℕ) (answer ended : Bool) (old new : PublisherState) 
     → ShowsEnd number ended old new
 shows_end number answer ended old new same looks rest =
     record { glance = looks.0; looks = looks.1.0; ended_is = sym same ∙ looks.1.1; rest = rest }
+
+-- one that has ended by a look, and whose task a thread has, is refused by its name
+pub refuses_held : (number : ℕ) (name : List ℕ) (old new : PublisherState) → ShowsEnd number true old new
+    → RefusesReclaim number (Refusal.StillHeld name) old new
+refuses_held number name old new shows = record {
+  is = (name, refl);
+  looks = shows;
+  census = ap (λ (s : PublisherState). s.census) shows.rest;
+}
 
 -- one that goes on by a look is refused by its name
 module _ (number : ℕ) (name : List ℕ) (old new : PublisherState) where

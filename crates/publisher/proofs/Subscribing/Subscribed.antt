@@ -28,9 +28,9 @@ same_subscription (Some ending) feed after start closes = closes.1.table
 -- where it stands, by its number
 stands_as : {B : Type 0} (name : List ℕ) (on_full : OnFull) (order : ErrorOrder) (producer after : ProducerState) (ticket : Option Ticket)
     (next : ℕ) (old new : PublisherState) (subscribed : Subscribed B)
-    → slice_get new.hub.entries.items subscribed.entry ≡ Some (first_entry_with name on_full next after ticket)
+    → slice_get new.hub.entries.items subscribed.owner.entry ≡ Some (first_entry_with name on_full next after ticket)
     → after.table ≡ producer.table → new.hub.capacity ≡ old.hub.capacity
-    → subscribed.handle ≡ new_handle_in order old.hub.capacity producer.table
+    → subscribed.owner.handle ≡ new_handle_in order old.hub.capacity producer.table
     → IsNewTaskIn order producer.table old.hub.capacity subscribed.task
     → IsSubscription name on_full order subscribed new
 stands_as name on_full order producer after ticket next old new subscribed stands table capacity handle task = record {
@@ -48,8 +48,8 @@ stands_as name on_full order producer after ticket next old new subscribed stand
 
 pub subscribed_is : {B : Type 0} (name : List ℕ) (on_full : OnFull) (order : ErrorOrder) (producer : ProducerState)
     (ticket : Option Ticket) (most : ℕ) (due_before due_after : List (Work TaskState)) (old new : PublisherState) (subscribed : Subscribed B)
-    → AdmitsOpen name on_full producer ticket most subscribed.entry due_before due_after old.hub new.hub
-    → subscribed.handle ≡ new_handle_in order old.hub.capacity producer.table
+    → AdmitsOpen name on_full producer ticket most subscribed.owner.entry due_before due_after old.hub new.hub
+    → subscribed.owner.handle ≡ new_handle_in order old.hub.capacity producer.table
     → IsNewTaskIn order producer.table old.hub.capacity subscribed.task
     → IsSubscription name on_full order subscribed new
 subscribed_is name on_full order producer ticket most due_before due_after old new subscribed (inl admits) handle task =
@@ -57,7 +57,7 @@ subscribed_is name on_full order producer ticket most due_before due_after old n
     let long : length admits.middle.entries.items ≡ length old.hub.entries.items =
     sym (length-map admits.middle.entries.items (entry_of producer_end)) ∙ admits.seen.kept.as_long
     ∙ length-map old.hub.entries.items (entry_of producer_end) in
-    let number : subscribed.entry ≡ length admits.middle.entries.items = admits.is_next ∙ sym long in
+    let number : subscribed.owner.entry ≡ length admits.middle.entries.items = admits.is_next ∙ sym long in
     stands_as name on_full order producer admits.after ticket old.hub.next old new subscribed
     (ap (slice_get new.hub.entries.items) number
     ∙ ap (λ items. slice_get items (length admits.middle.entries.items)) admits.entries ∙ get_last admits.middle.entries.items first)
@@ -66,8 +66,8 @@ subscribed_is name on_full order producer ticket most due_before due_after old n
 subscribed_is name on_full order producer ticket most due_before due_after old new subscribed (inr takes) handle task =
     let it = takes.1 in
     stands_as name on_full order producer it.after ticket old.hub.next old new subscribed
-    (ap (λ items. slice_get items subscribed.entry) it.entries
-    ∙ get_there it.middle.entries.items subscribed.entry (first_entry_with name on_full old.hub.next it.after ticket)
-    (slice_get_within it.middle.entries.items subscribed.entry it.vacant.0 it.vacant.1.0))
+    (ap (λ items. slice_get items subscribed.owner.entry) it.entries
+    ∙ get_there it.middle.entries.items subscribed.owner.entry (first_entry_with name on_full old.hub.next it.after ticket)
+    (slice_get_within it.middle.entries.items subscribed.owner.entry it.vacant.0 it.vacant.1.0))
     (same_subscription old.hub.ending producer it.after it.start it.closes)
     (ap (λ (h : HubState). h.progress.capacity) it.rest) handle task

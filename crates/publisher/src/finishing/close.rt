@@ -2,10 +2,11 @@
 //!
 //! Whether what is left may be answered with Ok is not asked here, but in `judge`.
 ghost use Rattle.std.specs.Prelude.{◌≡◌, ◌<◌, ◌≤◌, [], length, true, vec_capacity};
-ghost use Rattle.publisher.specs.Leaving.{ClosesInOrder, ClosesOne};
+ghost use Rattle.publisher.specs.Leaving.{ClosesAll, ClosesOne};
 
 use super::find::{Found, Taken};
 use crate::outcome::NamedLane;
+use crate::owner::OwnersEnd;
 use feed_cell::{Handle, close};
 use feed_core::Lane;
 use flow_rules::{Listener, Name};
@@ -21,7 +22,7 @@ pub struct Left<B> {
     pub first: Option<Name>,
 }
 
-/// Closes each subscription of which both ends are there, in order.
+/// Closes each subscription of which both ends are there.
 pub fn close_all<B: Listener>(
     founds: Vec<Found<B>>,
     mut lanes: Vec<NamedLane<B>>,
@@ -31,8 +32,8 @@ pub fn close_all<B: Listener>(
     requires room { (length founds.items ≤ vec_capacity lanes)
         × (length founds.items ≤ vec_capacity held) }
     requires few { length founds.items < 4294967296 }
-    ensures { ClosesInOrder B.told B.replied founds.items (length founds.items)
-        result.lanes.items result.held.items result.first }
+    ensures { ClosesAll B.told B.replied founds.items (length founds.items) result.lanes.items
+        result.held.items result.first }
 {
     let mut first = None;
     let mut number = 0;
@@ -57,7 +58,7 @@ enum Closed<B> {
     Lane(NamedLane<B>),
     /// A thread has its task still.
     Held(Name),
-    /// Its handle was not handed in.
+    /// Its owner's end was not handed in.
     Missing(Name),
     /// It was reclaimed before.
     Reclaimed,
@@ -80,18 +81,24 @@ fn close_one<B: Listener>(number: u32, found: Found<B>) -> Closed<B>
         dropped,
         late,
         producer,
-        handle,
+        owner,
     } = taken;
-    let owner = OwnersPart::of(&handle);
+    let OwnersEnd {
+        made_before,
+        handle,
+        ..
+    } = owner;
+    let part = OwnersPart::of(&handle);
     let Ok(lane) = close(producer, handle) else {
         return Closed::Held(name);
     };
-    if !owner.is_in(&lane) {
+    if !part.is_in(&lane) {
         return Closed::Held(name);
     }
     Closed::Lane(NamedLane {
         name,
         entry: number,
+        made_before,
         on_full,
         since,
         dropped,

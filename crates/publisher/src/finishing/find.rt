@@ -1,6 +1,6 @@
 //! How the two ends of each subscription of a publisher are brought together at its end, while the lock is held.
 //!
-//! The handles come from the subscriptions that were handed in, and the producers' ends from the Hub. Nothing is
+//! The owners' ends come from the subscriptions that were handed in, and the producers' ends from the Hub. Nothing is
 //! closed here.
 ghost use Rattle.std.specs.Prelude.{◌≡◌, ◌<◌, ◌≤◌, ◌↔◌, [], length, None, Some, slice_get, slice_set, true, vec_capacity};
 ghost use Rattle.publisher_hub.specs.Hub.{hub_of};
@@ -10,8 +10,9 @@ ghost use Rattle.publisher.specs.State.{producer_end};
 ghost use Rattle.publisher.specs.Tickets.{IsLate};
 
 use crate::ledgers::Ledgers;
+use crate::owner::OwnersEnd;
 use crate::subscription::Subscription;
-use feed_cell::{Handle, Producer};
+use feed_cell::Producer;
 use flow_rules::{FailHandler, Listener, Name};
 use publisher_hub::{Hub, OnFull};
 
@@ -31,7 +32,7 @@ pub struct Taken<B: Listener> {
     /// The publisher's end.
     pub producer: Producer<B>,
     /// The owner's end.
-    pub handle: Handle<B>,
+    pub owner: OwnersEnd<B>,
 }
 
 /// What is found of a subscription.
@@ -39,7 +40,7 @@ pub struct Taken<B: Listener> {
 pub enum Found<B: Listener> {
     /// Both its ends.
     Both(Taken<B>),
-    /// Its handle was not handed in.
+    /// Its owner's end was not handed in.
     Missing(Name),
     /// It was reclaimed: its producer's end was taken out before.
     Reclaimed,
@@ -58,54 +59,54 @@ impl<B: Listener> Found<B> {
     }
 }
 
-/// Lays the handle of each subscription at the place of its number. The answer is whether each has a place.
+/// Lays the owner's end of each subscription at the place of its number. The answer is whether each has a place.
 pub fn place_all<L: Ledgers + Send, B: Listener + Send, F: FailHandler + Send>(
-    handles: &mut [Option<Handle<B>>],
+    owners: &mut [Option<OwnersEnd<B>>],
     mut subscriptions: Vec<Subscription<L, B, F>>,
 ) -> bool
-    requires empty { AreNone handles.old }
-    ensures placed { ArePlaced subscriptions.items handles.new result }
-    ensures length { length handles.new ≡ length handles.old }
+    requires empty { AreNone owners.old }
+    ensures placed { ArePlaced subscriptions.items owners.new result }
+    ensures length { length owners.new ≡ length owners.old }
 {
     let mut all = true;
     while let Some(subscription) = subscriptions.pop() {
-        let (entry, handle) = subscription.into_parts();
         // Not `&&`: the others are laid down, also after one that has no place.
-        all &= place(handles, entry as usize, handle);
+        all &= place(owners, subscription.into_owner());
     }
     all
 }
 
-/// Lays a handle at this place. The answer is whether there is one.
-fn place<B: Listener>(handles: &mut [Option<Handle<B>>], place: usize, handle: Handle<B>) -> bool
-    ensures set { handles.new ≡ slice_set handles.old place (Some handle) }
-    ensures there { result ≡ true → place < length handles.old }
+/// Lays an owner's end at the place of its number. The answer is whether there is one.
+fn place<B: Listener>(owners: &mut [Option<OwnersEnd<B>>], owner: OwnersEnd<B>) -> bool
+    ensures set { owners.new ≡ slice_set owners.old owner.entry (Some owner) }
+    ensures there { result ≡ true → owner.entry < length owners.old }
 {
-    let is_there = place < handles.len();
+    let place = owner.entry as usize;
+    let is_there = place < owners.len();
     if is_there {
-        handles[place] = Some(handle);
+        owners[place] = Some(owner);
     }
     is_there
 }
 
-/// Finds what there is of each subscription, in order. The answer is whether a handle is that of a reclaimed one.
+/// Finds what there is of each subscription, in order. The answer is whether an owner's end is that of a reclaimed one.
 pub fn find_all<B: Listener>(
     hub: &mut Hub<Producer<B>>,
     counted: Option<u32>,
-    handles: &mut [Option<Handle<B>>],
+    owners: &mut [Option<OwnersEnd<B>>],
     founds: &mut Vec<Found<B>>,
 ) -> bool
     requires sound { IsSound (hub_of producer_end hub.old) }
-    requires all { length handles.old ≡ length hub.old.entries.items }
+    requires all { length owners.old ≡ length hub.old.entries.items }
     requires empty { founds.old.items ≡ [] }
-    requires room { length handles.old ≤ vec_capacity founds.old }
-    ensures { FindsAll hub.old hub.new counted handles.old founds.new.items result }
+    requires room { length owners.old ≤ vec_capacity founds.old }
+    ensures { FindsAll hub.old hub.new counted owners.old founds.new.items result }
 {
     let mut gone = false;
-    for number in 0..handles.len() {
-        let handle = take_at(handles, number);
-        let is_handed = handle.is_some();
-        let found = find_one(hub, counted, number as u32, handle);
+    for number in 0..owners.len() {
+        let owner = take_at(owners, number);
+        let is_handed = owner.is_some();
+        let found = find_one(hub, counted, number as u32, owner);
         // Two Bools that are there already, so `&` leaves nothing out.
         gone |= is_handed & found.is_reclaimed();
         founds.push_reserved(found);
@@ -126,32 +127,32 @@ pub fn count_ends<B: Listener>(founds: &[Found<B>]) -> u64
     ends
 }
 
-/// Takes the handle of this place, if it is there.
-fn take_at<B: Listener>(handles: &mut [Option<Handle<B>>], place: usize) -> Option<Handle<B>>
-    requires { place < length handles.old }
-    ensures taken { slice_get handles.old place ≡ Some result }
-    ensures left { handles.new ≡ slice_set handles.old place None }
+/// Takes the owner's end of this place, if it is there.
+fn take_at<B: Listener>(owners: &mut [Option<OwnersEnd<B>>], place: usize) -> Option<OwnersEnd<B>>
+    requires { place < length owners.old }
+    ensures taken { slice_get owners.old place ≡ Some result }
+    ensures left { owners.new ≡ slice_set owners.old place None }
 {
-    handles[place].take()
+    owners[place].take()
 }
 
-/// Finds what there is of the subscription of this number, with this handle, if that was handed in.
+/// Finds what there is of the subscription of this number, with this owner's end, if that was handed in.
 fn find_one<B: Listener>(
     hub: &mut Hub<Producer<B>>,
     counted: Option<u32>,
     number: u32,
-    handle: Option<Handle<B>>,
+    owner: Option<OwnersEnd<B>>,
 ) -> Found<B>
     requires sound { IsSound (hub_of producer_end hub.old) }
     requires there { number < length hub.old.entries.items }
-    ensures finds { FindsOne counted number handle result hub.old hub.new }
+    ensures finds { FindsOne counted number owner result hub.old hub.new }
     ensures sound { IsSound (hub_of producer_end hub.new) }
 {
     let name = hub.name_of(number).unwrap();
     let on_full = hub.on_full(number).unwrap();
     let since = hub.since(number).unwrap();
     let dropped = hub.dropped(number).unwrap();
-    let Some(handle) = handle else {
+    let Some(owner) = owner else {
         return if hub.has_feed(number) {
             Found::Missing(name)
         } else {
@@ -166,7 +167,7 @@ fn find_one<B: Listener>(
             dropped,
             late: is_late(counted, number),
             producer,
-            handle,
+            owner,
         }),
         None => Found::Reclaimed,
     }

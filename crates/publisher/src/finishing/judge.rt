@@ -1,10 +1,10 @@
 //! The answer of a publisher's end: which refusal comes first, and Ok if none does.
 //!
 //! What is left is given whatever the answer is. Nothing is closed or taken out here but by `close`.
-ghost use Rattle.std.specs.Prelude.{◌≡◌, ◌<◌, ◌≤◌, ◌++◌, [], ◌∷◌, if◌then◌else◌, length, vec_capacity};
+ghost use Rattle.std.specs.Prelude.{◌≡◌, ◌<◌, ◌≤◌, ◌++◌, [], ◌∷◌, IsPermutation, if◌then◌else◌, length, vec_capacity};
 ghost use Rattle.publisher.specs.Finishing.{HasRoomFor};
 ghost use Rattle.publisher.specs.Leaving.{Concludes};
-ghost use Rattle.publisher.specs.Outcome.{Judges, is_undone};
+ghost use Rattle.publisher.specs.Outcome.{AreInOrder, Judges, is_undone};
 
 use super::close::{Left, close_all};
 use super::find::Found;
@@ -16,7 +16,7 @@ use flow_rules::{FailHandler, Listener, Name, Refusal};
 /// What stood behind the lock of a publisher at its end.
 #[derive(Drop)]
 pub struct Books<B: Listener> {
-    /// What was found at each number, in order.
+    /// What was found at each number, rising.
     pub founds: Vec<Found<B>>,
     /// The room for what is left of them.
     pub room: Room<B>,
@@ -58,7 +58,12 @@ impl<B: Listener> Books<B> {
             held,
             unsettled,
         } = room;
-        let Left { lanes, held, first } = close_all(founds, lanes, held);
+        let Left {
+            mut lanes,
+            held,
+            first,
+        } = close_all(founds, lanes, held);
+        put_in_order(&mut lanes);
         let outcome = Outcome {
             lanes,
             held,
@@ -76,6 +81,17 @@ impl<B: Listener> Books<B> {
             None => judge(outcome, is_closed, unsettled),
         }
     }
+}
+
+/// Puts lanes in the order in which they were subscribed. They come by their numbers, of which a later subscription may
+/// have an earlier one's that was reclaimed.
+fn put_in_order<B>(lanes: &mut Vec<NamedLane<B>>)
+    ensures same { IsPermutation lanes.old.items lanes.new.items }
+    ensures ordered { AreInOrder lanes.new.items }
+    ensures length { length lanes.new.items ≡ length lanes.old.items }
+    ensures capacity { vec_capacity lanes.new ≡ vec_capacity lanes.old }
+{
+    lanes.sort_unstable_by_key(|left| left.made_before);
 }
 
 /// Refuses what is left if a subscription runs, or is closed and has not ended, and names these.

@@ -7,7 +7,7 @@ ghost use Rattle.publisher.specs.Finishing.{HasRoomFor};
 
 use super::find::Found;
 use crate::outcome::NamedLane;
-use feed_cell::Handle;
+use crate::owner::OwnersEnd;
 use flow_rules::{Listener, Name, NoMemory};
 use std::alloc::Global;
 
@@ -24,8 +24,8 @@ pub struct Room<B: Listener> {
 
 /// A place for each subscription.
 pub struct Places<B: Listener> {
-    /// The handle of each that was handed in.
-    pub handles: Vec<Option<Handle<B>>>,
+    /// The owner's end of each that was handed in.
+    pub owners: Vec<Option<OwnersEnd<B>>>,
     /// For what is found of each.
     pub founds: Vec<Found<B>>,
     /// For what is left of them.
@@ -34,13 +34,13 @@ pub struct Places<B: Listener> {
 
 /// Makes places for this many subscriptions, with the room for what is left of them.
 pub fn new_places<B: Listener>(alloc: Global, entries: usize) -> Result<Places<B>, NoMemory>
-    ensures handles { IfOk result (λ places. places.handles.items ≡ replicate entries None) }
+    ensures owners { IfOk result (λ places. places.owners.items ≡ replicate entries None) }
     ensures founds { IfOk result
         (λ places. (places.founds.items ≡ []) × (entries ≤ vec_capacity places.founds)) }
     ensures room { IfOk result (λ places. HasRoomFor entries places.room) }
 {
     Ok(Places {
-        handles: no_handles(alloc, entries)?,
+        owners: no_owners(alloc, entries)?,
         founds: Vec::with_capacity(alloc, entries)?,
         room: Room {
             lanes: Vec::with_capacity(alloc, entries)?,
@@ -50,18 +50,18 @@ pub fn new_places<B: Listener>(alloc: Global, entries: usize) -> Result<Places<B
     })
 }
 
-/// Makes this many places without a handle.
-fn no_handles<B: Listener>(
+/// Makes this many places without an owner's end.
+fn no_owners<B: Listener>(
     alloc: Global,
     entries: usize,
-) -> Result<Vec<Option<Handle<B>>>, NoMemory>
-    ensures { IfOk result (λ handles. handles.items ≡ replicate entries None) }
+) -> Result<Vec<Option<OwnersEnd<B>>>, NoMemory>
+    ensures { IfOk result (λ owners. owners.items ≡ replicate entries None) }
 {
-    let mut handles = Vec::with_capacity(alloc, entries)?;
+    let mut owners = Vec::with_capacity(alloc, entries)?;
     let mut i = 0;
     while i < entries {
-        handles.push_reserved(None);
+        owners.push_reserved(None);
         i += 1;
     }
-    Ok(handles)
+    Ok(owners)
 }

@@ -36,17 +36,20 @@ impl<L: Ledgers + Send, B: Listener + Send, F: FailHandler + Send> Publisher<L, 
     ) -> Result<NamedLane<B>, Refused<Subscription<L, B, F>>>
         ensures lane { IfOk result (λ left. IsReclaimed B.told B.replied left) }
         ensures entry { IfOk result (λ left. left.entry ≡ subscription.entry) }
+        ensures made_before { IfOk result
+            (λ left. left.made_before ≡ subscription.made_before) }
         ensures owner { IfOk result (λ left. HasOwnersPart subscription.handle left.lane) }
         ensures unchanged { IfErr result (λ refused. refused.1 ≡ subscription) }
         ensures refusals { IfErr result (λ refused. IsRefusalOfReclaim refused.0) }
     {
-        let (dispatcher, entry, handle) = subscription.into_all();
-        let taken = self.shared.lock(rt).reclaim(alloc, entry, handle);
+        let (dispatcher, owner) = subscription.into_all();
+        let entry = owner.entry;
+        let taken = self.shared.lock(rt).reclaim(alloc, owner);
         match taken {
             Ok(taken) => Ok(close_ended(rt, entry, taken)),
-            Err((refusal, handle)) => Err(Refused {
+            Err((refusal, owner)) => Err(Refused {
                 refusal,
-                back: Subscription::new(dispatcher, entry, handle),
+                back: Subscription::new(dispatcher, owner),
             }),
         }
     }
@@ -63,16 +66,17 @@ fn close_ended<B: Listener, R: Wait>(rt: &R, number: u32, taken: Taken<B>) -> Na
         dropped,
         late,
         producer,
-        handle,
+        owner,
     } = taken;
     NamedLane {
         name,
         entry: number,
+        made_before: owner.made_before,
         on_full,
         since,
         dropped,
         late,
-        lane: close_alone(rt, producer, handle),
+        lane: close_alone(rt, producer, owner.handle),
     }
 }
 

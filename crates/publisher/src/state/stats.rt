@@ -13,8 +13,9 @@ use std::alloc::Global;
 pub struct Stats {
     /// The figures of each live subscription, in order of their numbers.
     pub live: Vec<Figures>,
-    /// How many subscriptions there ever were, and how many of them were reclaimed.
+    /// How many subscriptions there ever were.
     pub made: u64,
+    /// How many of them were reclaimed.
     pub reclaimed: u64,
     /// How many publications were made.
     pub published: u64,

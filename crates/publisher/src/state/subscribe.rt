@@ -14,8 +14,9 @@ ghost use Rattle.publisher.specs.Tickets.{IsTicketFor};
 
 use super::State;
 use crate::ledgers::Ledgers;
+use crate::owner::OwnersEnd;
 use close_count::Ticket;
-use feed_cell::{Cell, Handle, Producer, Task};
+use feed_cell::{Cell, Producer, Task};
 use flow_rules::{ErrorOrder, Listener, Name, Refusal};
 use publisher_hub::{Hub, OnFull, Work};
 use std::alloc::Global;
@@ -24,10 +25,8 @@ use std::alloc::Global;
 #[must_use]
 #[derive(Drop)]
 pub struct Subscribed<B: Listener> {
-    /// The number of the subscription.
-    pub entry: u32,
-    /// What its owner requests and cancels with.
-    pub handle: Handle<B>,
+    /// Which subscription it is, and what its owner requests and cancels with.
+    pub owner: OwnersEnd<B>,
     /// Its first task, which has to be run.
     pub task: Task<B>,
 }
@@ -56,7 +55,9 @@ impl<L: Ledgers, B: Listener> State<L, B> {
         ensures due { IfErr result (λ refused. IsDueAfter name self.old.census.most refused.0
             due.old.items due.new.items self.old.hub self.new.hub) }
         ensures admits { IfOk result (λ subscribed. AdmitsNew name on_full self.old.census.most
-            subscribed.entry due.old.items due.new.items self.old.hub self.new.hub) }
+            subscribed.owner.entry due.old.items due.new.items self.old.hub self.new.hub) }
+        ensures order { IfOk result
+            (λ subscribed. subscribed.owner.made_before ≡ self.old.census.made) }
         ensures counted { OnOk result
             (self.new.census ≡ record self.old.census { made = self.old.census.made + 1 }) }
         ensures uncounted { OnErr result (self.new.census ≡ self.old.census) }
@@ -70,12 +71,14 @@ impl<L: Ledgers, B: Listener> State<L, B> {
         };
         match Cell::new_with(alloc, self.hub.capacity(), order, subscriber) {
             Ok((producer, handle, task)) => {
+                let made_before = self.census.made();
                 let entry = self.admit(name, on_full, producer, ticket, due);
-                Ok(Subscribed {
+                let owner = OwnersEnd {
                     entry,
+                    made_before,
                     handle,
-                    task,
-                })
+                };
+                Ok(Subscribed { owner, task })
             }
             Err((_, subscriber)) => {
                 spend_unused(ticket);

@@ -14,9 +14,10 @@ use crate::finishing::judge::Books;
 use crate::finishing::room::{Places, new_places};
 use crate::ledgers::Ledgers;
 use crate::outcome::Outcome;
+use crate::owner::OwnersEnd;
 use crate::submitter::Submitter;
 use crate::subscription::Subscription;
-use feed_cell::{Handle, Producer, is_shared};
+use feed_cell::{Producer, is_shared};
 use flow_rules::{FailHandler, Listener, Name, Refusal};
 use publisher_hub::OnFull;
 use std::alloc::Global;
@@ -37,7 +38,7 @@ pub struct Known {
 
 impl Known {
     /// Adds both ends of the subscription to what is known of it.
-    fn with<B: Listener>(self, producer: Producer<B>, handle: Handle<B>) -> Taken<B>
+    fn with<B: Listener>(self, producer: Producer<B>, owner: OwnersEnd<B>) -> Taken<B>
         ensures { result ≡ record {
           name = self.name;
           on_full = self.on_full;
@@ -45,7 +46,7 @@ impl Known {
           dropped = self.dropped;
           late = self.late;
           producer = producer;
-          handle = handle;
+          owner = owner;
         } }
     {
         Taken {
@@ -55,50 +56,50 @@ impl Known {
             dropped: self.dropped,
             late: self.late,
             producer,
-            handle,
+            owner,
         }
     }
 }
 
 impl<L: Ledgers, B: Listener> State<L, B> {
-    /// Takes the producer's end of the subscription of this number out, if that has ended, for its handle, which this
-    /// is. Its ticket is spent, if it wasn't.
+    /// Takes the producer's end of a subscription out, if that has ended, for its owner's end, which this is. Its ticket
+    /// is spent, if it wasn't.
     ///
-    /// Refused, with the handle back: 9 if a look shows that it has not ended, by its name; 8 if a thread has its task
+    /// Refused, with the owner's end back: 9 if a look shows that it has not ended, by its name; 8 if a thread has its task
     /// still; and 5 if the memory for the list of that one name is refused, or if no subscription has the number.
     /// Nothing has changed then but by looks. If it is given, one more was reclaimed, and a later one may have its
     /// number.
     pub fn reclaim(
         &mut self,
         alloc: Global,
-        entry: u32,
-        handle: Handle<B>,
-    ) -> Result<Taken<B>, (Refusal, Handle<B>)>
-        ensures ok { IfOk result (λ taken. Reclaims entry handle taken self.old self.new) }
-        ensures back { IfErr result (λ refused. refused.1 ≡ handle) }
+        owner: OwnersEnd<B>,
+    ) -> Result<Taken<B>, (Refusal, OwnersEnd<B>)>
+        ensures ok { IfOk result (λ taken. Reclaims owner taken self.old self.new) }
+        ensures back { IfErr result (λ refused. refused.1 ≡ owner) }
         ensures refused { IfErr result (λ refused.
-            RefusesReclaim entry refused.0 self.old self.new) }
+            RefusesReclaim owner.entry refused.0 self.old self.new) }
     {
+        let entry = owner.entry;
         let has_ended = self.has_ended(entry);
         let Some(known) = self.known(entry) else {
-            return Err((Refusal::NoMemory, handle));
+            return Err((Refusal::NoMemory, owner));
         };
         if !has_ended {
-            return Err((unsettled(alloc, known.name), handle));
+            return Err((unsettled(alloc, known.name), owner));
         }
         let is_held = match self.hub.feed(entry) {
-            Some(producer) => is_shared(producer, &handle),
+            Some(producer) => is_shared(producer, &owner.handle),
             None => false,
         };
         if is_held {
-            return Err((Refusal::StillHeld(known.name), handle));
+            return Err((Refusal::StillHeld(known.name), owner));
         }
         match self.take_end(entry) {
             Some(producer) => {
                 self.census.reclaim(entry);
-                Ok(known.with(producer, handle))
+                Ok(known.with(producer, owner))
             }
-            None => Err((unsettled(alloc, known.name), handle)),
+            None => Err((unsettled(alloc, known.name), owner)),
         }
     }
 
@@ -158,7 +159,7 @@ impl<L: Ledgers + Send, B: Listener + Send> State<L, B> {
         );
         let Ok(
             Places {
-                mut handles,
+                mut owners,
                 mut founds,
                 room,
             },
@@ -166,9 +167,9 @@ impl<L: Ledgers + Send, B: Listener + Send> State<L, B> {
         else {
             return Err(self.nothing(alloc));
         };
-        let all = place_all(&mut handles, subscriptions);
+        let all = place_all(&mut owners, subscriptions);
         compare_tickets(&mut self.hub, &mut self.last, self.entries);
-        let gone = find_all(&mut self.hub, self.counted, &mut handles, &mut founds);
+        let gone = find_all(&mut self.hub, self.counted, &mut owners, &mut founds);
         // Each subscription of this publisher has its place, one that is reclaimed is given up by its owner, and the
         // others have their ends here.
         let whole = count_ends(&founds) == self.census.unreclaimed();

@@ -74,9 +74,12 @@ fn reclaim_at<L: Ledgers + Send + Sync + 'static, R: Wait>(
     unreachable!()
 }
 
-// The number of the last one that subscribed.
-fn last_number<L: Ledgers + Send + Sync + 'static>(stand: &Stand<L, Tally>) -> Option<u32> {
-    stand.subscriptions.last().map(|it| it.entry())
+// The number of the last one that subscribed, and how many were made before it.
+fn last_numbers<L: Ledgers + Send + Sync + 'static>(stand: &Stand<L, Tally>) -> Option<(u32, u64)> {
+    stand
+        .subscriptions
+        .last()
+        .map(|it| (it.entry(), it.made_before()))
 }
 
 // Whether the next subscribing is refused as one too many.
@@ -115,9 +118,9 @@ fn give_anew<L: Ledgers + Send + Sync + 'static, R: Threads + Wait + Copy + Send
     {
         return Err(Fail::new("others were reclaimed"));
     }
-    for (more, number) in [(0_u32, 1_u32), (1, 0), (2, 3)] {
-        subscribe_some(&rt, &mut stand, more.saturating_add(3), 1)?;
-        if last_number(&stand) != Some(number) {
+    for (others, number) in [(3_u32, 1_u32), (4, 0), (5, 3)] {
+        subscribe_some(&rt, &mut stand, others, 1)?;
+        if last_numbers(&stand) != Some((number, others as u64)) {
             return Err(Fail::new("a number is not given anew, or twice"));
         }
     }
@@ -126,13 +129,13 @@ fn give_anew<L: Ledgers + Send + Sync + 'static, R: Threads + Wait + Copy + Send
     }
     stand.close(&rt)?;
     subscribe_some(&rt, &mut stand, 9, 1)?;
-    if last_number(&stand) != Some(4) {
+    if last_numbers(&stand) != Some((4, 6)) {
         return Err(Fail::new("a number is given anew after the close"));
     }
     look_at_left(&rt, stand)
 }
 
-// What is left: a lane for each but the reclaimed ones, in order of their numbers.
+// What is left: a lane for each but the reclaimed ones, in order of subscription and not of their numbers.
 fn look_at_left<L: Ledgers + Send + Sync + 'static, R: Wait>(
     rt: &R,
     stand: Stand<L, Tally>,
@@ -141,12 +144,12 @@ fn look_at_left<L: Ledgers + Send + Sync + 'static, R: Wait>(
         Ok(outcome) => outcome,
         Err(refused) => return Err(refused.into()),
     };
-    let numbers = [0, 1, 2, 4];
+    let numbers = [(2, 2), (1, 3), (0, 4), (4, 6)];
     if (outcome.made, outcome.reclaimed) != (7, 3) || outcome.lanes.len() != numbers.len() {
         return Err(Fail::new("they are counted wrong"));
     }
-    for (left, number) in outcome.lanes.iter().zip(numbers) {
-        if left.entry != number || left.late != (number == 4) {
+    for (left, (number, made_before)) in outcome.lanes.iter().zip(numbers) {
+        if (left.entry, left.made_before) != (number, made_before) || left.late != (number == 4) {
             return Err(Fail::new("a lane is another"));
         }
     }
@@ -169,7 +172,7 @@ fn fill<L: Ledgers + Send + Sync + 'static, R: Threads + Wait + Copy + Send + 's
     }
     let number = reclaim_at(&rt, &mut stand, 0)?;
     subscribe_some(&rt, &mut stand, most_live, 1)?;
-    if last_number(&stand) != Some(number) || !is_full(&rt, &stand)? {
+    if last_numbers(&stand) != Some((number, most_live as u64)) || !is_full(&rt, &stand)? {
         return Err(Fail::new("the number is not given anew"));
     }
     match stand.finish(&rt) {

@@ -2,7 +2,7 @@
 use super::senders::{Call, Sent, letters};
 use super::{Player, refused_line};
 use flow_rules::{DropHandler, Refusal};
-use publisher::{Ledgers, Published, PublishedAll, PublishedPart};
+use publisher::{Ledgers, Published, PublishedAll, PublishedPart, Unsent};
 use std::sync::Wait;
 use std::test::Fail;
 use std::thread::Threads;
@@ -85,6 +85,45 @@ impl<L: Ledgers + Send + Sync + 'static> Player<L> {
                     refusal,
                 },
             ) => Ok(format!(in alloc; "{published} lost {lost}; {refusal:?}")?),
+        }
+    }
+
+    // Submits texts of these many bytes by one call, and what is left of them by a second one if memory was refused. Says
+    // how many were submitted.
+    pub fn submit_all<R: Wait>(
+        &mut self,
+        rt: &R,
+        place: usize,
+        lengths: &[usize],
+    ) -> Result<String, Fail> {
+        let alloc = self.stand.alloc;
+        let mut texts = Vec::new(alloc);
+        for bytes in lengths.iter() {
+            texts.push(letters(alloc, *bytes)?)?;
+        }
+        let Some(submitter) = self.stand.submitters.get_mut(place) else {
+            return Ok(String::new(alloc));
+        };
+        let mut before = 0_usize;
+        let answer = match submitter.submit_all(rt, alloc, texts.as_slice()) {
+            Err(
+                Unsent {
+                    published,
+                    refusal: Refusal::NoMemory,
+                },
+            ) => {
+                before = published;
+                let left = texts.as_slice().get(published..).unwrap_or(&[]);
+                submitter.submit_all(rt, alloc, left)
+            }
+            other => other,
+        };
+        match answer {
+            Ok(_) => Ok(format!(in alloc; "sent {}", texts.len())?),
+            Err(Unsent { published, refusal }) => {
+                let sent = published.saturating_add(before);
+                Ok(format!(in alloc; "sent {sent}; {refusal:?}")?)
+            }
         }
     }
 

@@ -56,6 +56,11 @@ impl<L: Ledgers + Send + Sync + 'static> Player<L> {
         Ok(line)
     }
 
+    // Waits until this many signals were told, or more.
+    pub fn rest_at_least<R: Clock + Wait>(&mut self, rt: &R, told: u64) -> Result<String, Fail> {
+        self.look_until(rt, Until::ToldAtLeast(told))
+    }
+
     // Requests this many items one by one.
     fn serve<R: Clock + Wait>(&mut self, rt: &R, place: usize, items: u64) -> Result<String, Fail> {
         for number in 0..items {

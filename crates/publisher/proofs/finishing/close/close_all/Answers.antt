@@ -1,7 +1,7 @@
 use Rattle.std.proofs.Common.{◌≡◌, ◌∷◌, [], List, length, refl, sym, ap, subst, ◌∙◌, append_assoc, append-nil, arith, rules}
 use Rattle.std.specs.Vec.Iter.{into_iter_items}
 use Rattle.std.proofs.lemmas.List.{length-append}
-use Rattle.publisher.specs.Leaving.{ClosesInOrder}
+use Rattle.publisher.specs.Leaving.{ClosesAll}
 use Rattle.publisher.proofs.LeftLanes.LeavingRounds.{closes_none, more_held, more_lane, more_missing, more_reclaimed}
 use Rattle.publisher.proofs.finishing.close.close_all.Goals as goal
 use Rattle.publisher.proofs.finishing.close.close_all.Goals.{in-Lane, in-Held, in-Missing, in-Reclaimed}
@@ -77,7 +77,7 @@ returns g c =
     let all : at.yielded ≡ c.args.founds.items = sym (append-nil at.yielded) ∙ rw empty at at.invariant.0
     ∙ c.into_iter-found-iterator.ensures.into_iter_gives.0 in
     let number : at.number ≡ length c.args.founds.items = at.invariant.3 ∙ ap length all in
-    subst (λ n. ClosesInOrder g.B.Listener.told g.B.Listener.replied c.args.founds.items n at.lanes.items
+    subst (λ n. ClosesAll g.B.Listener.told g.B.Listener.replied c.args.founds.items n at.lanes.items
     at.held.items at.first) number
-    (subst (λ founds. ClosesInOrder g.B.Listener.told g.B.Listener.replied founds at.number at.lanes.items
+    (subst (λ founds. ClosesAll g.B.Listener.told g.B.Listener.replied founds at.number at.lanes.items
     at.held.items at.first) all at.invariant.2)

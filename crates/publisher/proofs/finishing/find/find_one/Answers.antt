@@ -5,19 +5,19 @@ use Rattle.publisher.proofs.BothEnds.FindingRounds.{finds_both, finds_gone, find
 use Rattle.publisher.proofs.finishing.find.find_one.Goals as goal
 
 pub returns-then-has_feed-clause-finds : goal.returns-then-has_feed-clause-finds
-returns-then-has_feed-clause-finds g c = finds_missing c.args.counted c.args.number c.args.handle c.args.hub.now
+returns-then-has_feed-clause-finds g c = finds_missing c.args.counted c.args.number c.args.owner c.args.hub.now
     c.requires.there c.in_default.not-Some c.unwrap-name.result (c.has_feed.ensures.0 c.if-has_feed.true)
     (λ entry stands. read_of (λ (e : EntryState). e.name) c.args.hub.now c.args.number entry c.name_of.result
     c.unwrap-name.result c.unwrap-name.ensures c.name_of.ensures stands)
 
 pub returns-else-has_feed-clause-finds : goal.returns-else-has_feed-clause-finds
-returns-else-has_feed-clause-finds g c = finds_gone c.args.counted c.args.number c.args.handle c.args.hub.now
+returns-else-has_feed-clause-finds g c = finds_gone c.args.counted c.args.number c.args.owner c.args.hub.now
     c.requires.there c.in_default.not-Some (λ some. absurd (true≢false (sym (c.has_feed.ensures.1 some) ∙ c.if-has_feed.false)))
 
 pub returns-in-Some-take_feed-clause-finds : goal.returns-in-Some-take_feed-clause-finds
 returns-in-Some-take_feed-clause-finds g c =
-    finds_both c.args.counted c.args.number c.args.handle c.args.hub.now c.take_feed.new.self c.requires.there
-    c.in-Some.handle _ c.in-Some.is c.in-Some-take_feed.ensures.takes refl c.is_late.ensures
+    finds_both c.args.counted c.args.number c.args.owner c.args.hub.now c.take_feed.new.self c.requires.there
+    c.in-Some.owner _ c.in-Some.is c.in-Some-take_feed.ensures.takes refl c.is_late.ensures
     (λ entry stands. (
       read_of (λ (e : EntryState). e.name) c.args.hub.now c.args.number entry c.name_of.result c.unwrap-name.result
           c.unwrap-name.ensures c.name_of.ensures stands,
@@ -30,5 +30,5 @@ returns-in-Some-take_feed-clause-finds g c =
     ))
 
 pub returns-in-None-clause-finds : goal.returns-in-None-clause-finds
-returns-in-None-clause-finds g c = finds_reclaimed c.args.counted c.args.number c.args.handle c.args.hub.now
+returns-in-None-clause-finds g c = finds_reclaimed c.args.counted c.args.number c.args.owner c.args.hub.now
     c.take_feed.new.self c.requires.there c.in-None.ensures.takes

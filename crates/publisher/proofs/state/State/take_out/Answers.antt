@@ -13,7 +13,7 @@ use Rattle.publisher.proofs.state.State.take_out.Goals as goal
 
 pub place_all-all-requires-clause-empty : goal.place_all-all-requires-clause-empty
 place_all-all-requires-clause-empty g c κs within =
-    none_placed c.self.inside.entries c.deref_mut.result.now (c.deref_mut.ensures.value ∙ c.in-Ok.ensures.handles)
+    none_placed c.self.inside.entries c.deref_mut.result.now (c.deref_mut.ensures.value ∙ c.in-Ok.ensures.owners)
 
 pub invariant_of-self : goal.invariant_of-self
 invariant_of-self g c =
@@ -45,15 +45,15 @@ returns-clause-ok g c =
     let there = is_there c.find_all-gone.result c.place_all-all.result _ c.if-gone-all.false in
     let founds = c.find_all-gone.new.founds.items in
     let found : AreFoundIn hub c.self.inside.counted founds = subst (λ h. AreFoundIn h c.self.inside.counted founds) same finds.found in
-    let handles : c.deref_mut-2.result.now ≡ c.place_all-all.new.handles =
-    c.deref_mut-2.ensures.value ∙ with_items_is c.in-Ok.field-0.handles c.place_all-all.new.handles
+    let owners : c.deref_mut-2.result.now ≡ c.place_all-all.new.owners =
+    c.deref_mut-2.ensures.value ∙ with_items_is c.in-Ok.field-0.owners c.place_all-all.new.owners
     (c.place_all-all.ensures.length ∙ c.deref_mut.ensures.len) in
     let placed : ArePlaced c.args.subscriptions.items c.deref_mut-2.result.now true =
     subst (λ all. ArePlaced c.args.subscriptions.items c.deref_mut-2.result.now all) there.1.0
-    (subst (λ hs. ArePlaced c.args.subscriptions.items hs c.place_all-all.result) (sym handles) c.place_all-all.ensures.placed) in
+    (subst (λ hs. ArePlaced c.args.subscriptions.items hs c.place_all-all.result) (sym owners) c.place_all-all.ensures.placed) in
     let long : length c.deref_mut-2.result.now ≡ length founds =
-    ap length handles ∙ c.place_all-all.ensures.length
-    ∙ ap length (c.deref_mut.ensures.value ∙ c.in-Ok.ensures.handles)
+    ap length owners ∙ c.place_all-all.ensures.length
+    ∙ ap length (c.deref_mut.ensures.value ∙ c.in-Ok.ensures.owners)
     ∙ length-replicate c.self.inside.entries None ∙ is.entries_are ∙ sym found.as_many in
     let t = c.put_together-together.result in
     let next : c.find_all-gone.new.hub.next ≡ hub.progress.next = ap (λ (h : HubState). h.progress.next) finds.rest

@@ -1,4 +1,4 @@
-use Rattle.publisher_tests.proofs.tests.controllers.one_cancels_while_another_waits.Given as goal
+use Rattle.controller_tests.proofs.tests.waiting.one_cancels_while_another_waits.Given as goal
 
 abbrev pub ghosts-cancel_on_a_stand : goal.ghosts-cancel_on_a_stand
 ghosts-cancel_on_a_stand g a = record { publications = a.blanks.publications.name; drops = a.blanks.drops.name; history = a.blanks.history }
