@@ -80,6 +80,8 @@ impl<J: Job, P: Rule<J> + Shutdown, Q: Rule<J>> Pool<J, P, Q> {
         requires queues { Begins Q.holds }
         ensures { IfOk result (λ pool. pool_workers pool ≡ workers) }
     {
+        // The room for what is left is the largest, and is not written to: made first, it takes no page that others have used.
+        let left = Left::new(alloc)?;
         let inbox = Inbox::new(alloc)?;
         let (crew, thieves) = Crew::new(alloc, workers)?;
         Ok(Pool {
@@ -89,7 +91,7 @@ impl<J: Job, P: Rule<J> + Shutdown, Q: Rule<J>> Pool<J, P, Q> {
             moved: Condvar::new(),
             lookout: Lookout::new(),
             door: Door::new(),
-            left: Mutex::new(Left::new(alloc)?),
+            left: Mutex::new(left),
         })
     }
 
