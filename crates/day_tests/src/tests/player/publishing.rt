@@ -1,5 +1,5 @@
 //! What the submitters do.
-use super::senders::{Call, Sent, letters};
+use super::senders::{Call, Sent, texts_of};
 use super::{Player, refused_line};
 use flow_rules::{DropHandler, Refusal};
 use publisher::{Ledgers, Published, PublishedAll, PublishedPart, Unsent};
@@ -51,10 +51,7 @@ impl<L: Ledgers + Send + Sync + 'static> Player<L> {
         lengths: &[usize],
     ) -> Result<String, Fail> {
         let alloc = self.stand.alloc;
-        let mut texts = Vec::new(alloc);
-        for bytes in lengths.iter() {
-            texts.push(letters(alloc, *bytes)?)?;
-        }
+        let texts = texts_of(alloc, lengths)?;
         let Some(submitter) = self.stand.submitters.get_mut(place) else {
             return Ok(String::new(alloc));
         };
@@ -97,10 +94,7 @@ impl<L: Ledgers + Send + Sync + 'static> Player<L> {
         lengths: &[usize],
     ) -> Result<String, Fail> {
         let alloc = self.stand.alloc;
-        let mut texts = Vec::new(alloc);
-        for bytes in lengths.iter() {
-            texts.push(letters(alloc, *bytes)?)?;
-        }
+        let texts = texts_of(alloc, lengths)?;
         let Some(submitter) = self.stand.submitters.get_mut(place) else {
             return Ok(String::new(alloc));
         };

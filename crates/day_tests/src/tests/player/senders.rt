@@ -27,12 +27,21 @@ pub enum Call {
 }
 
 // A text of this many letters, if it isn't too long.
-pub fn letters(alloc: Global, many: usize) -> Result<Text, Refusal> {
+fn letters(alloc: Global, many: usize) -> Result<Text, Refusal> {
     let text = vec![in alloc; b'x'; many]?;
     if text.len() > Text::LONGEST {
         return Err(Refusal::LineTooLong);
     }
     Ok(Text::new(alloc, &text)?)
+}
+
+// Texts of these many letters.
+pub fn texts_of(alloc: Global, lengths: &[usize]) -> Result<Vec<Text>, Refusal> {
+    let mut texts = Vec::new(alloc);
+    for many in lengths.iter() {
+        texts.push(letters(alloc, *many)?)?;
+    }
+    Ok(texts)
 }
 
 // This many texts, the first of one byte, and each of one more than the text before it.
