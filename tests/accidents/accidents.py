@@ -19,8 +19,9 @@ import time
 
 sys.dont_write_bytecode = True
 HERE = os.path.dirname(os.path.realpath(__file__))
-sys.path.insert(0, f"{HERE}/../refused_memory")
+sys.path += [f"{HERE}/../refused_memory", f"{HERE}/.."]
 from definition import play
+from heed import heed_signals
 
 SECONDS = 20
 # The stack of each thread in bytes, and the descriptors: the three streams, and one more to load libraries by.
@@ -57,7 +58,7 @@ class Accidents:
     def start(self, words, given, **how):
         """A run that goes on, and has read all of its input."""
         pipe = subprocess.PIPE
-        it = subprocess.Popen([self.program, *words], stdin=pipe, stdout=pipe, stderr=pipe, **how)
+        it = subprocess.Popen([self.program, *words], stdin=pipe, stdout=pipe, stderr=pipe, preexec_fn=heed_signals, **how)
         it.stdin.write(given)
         it.stdin.close()
         return it

@@ -1,9 +1,14 @@
 """Drives a console through pipes: it types lines, and takes what the console prints."""
 
+import os
 import queue
 import subprocess
+import sys
 import threading
 import time
+
+sys.path.append(os.path.realpath(f"{os.path.dirname(os.path.realpath(__file__))}/.."))
+from heed import heed_signals
 
 # How long a console may take for anything, and how long it is watched where nothing is to come.
 SECONDS, QUIET = 20, 0.3
@@ -18,7 +23,7 @@ class Console:
 
     def __init__(self, program, words=(), **how):
         pipe = subprocess.PIPE
-        self.it = subprocess.Popen([program, *words], stdin=pipe, stdout=pipe, stderr=pipe, **how)
+        self.it = subprocess.Popen([program, *words], stdin=pipe, stdout=pipe, stderr=pipe, preexec_fn=heed_signals, **how)
         self.lines = queue.Queue()
         self.reader = threading.Thread(target=self.read, daemon=True)
         self.reader.start()

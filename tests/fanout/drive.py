@@ -1,14 +1,11 @@
 """Runs fanout, and reads its report."""
 import json
 import os
-import signal
 import subprocess
+import sys
 
-
-def heed_signals():
-    """Has signals end the program, also if whoever runs the test ignores them, as a shell does for what it runs in the background."""
-    for number in (signal.SIGTERM, signal.SIGINT, signal.SIGHUP):
-        signal.signal(number, signal.SIG_DFL)
+sys.path.append(os.path.realpath(f'{os.path.dirname(os.path.realpath(__file__))}/..'))
+from heed import heed_signals
 
 
 class Run:
