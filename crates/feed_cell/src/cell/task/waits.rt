@@ -7,8 +7,8 @@ use std::hint::spin_loop;
 /// From this capacity on a task waits long. A smaller buffer fills up meanwhile.
 const WAITS_LONG_FROM: u64 = 32;
 
-/// The pauses of each wait of a task with a small buffer: 63 in all, some 0.3 microseconds.
-const SHORT_WAITS: [u32; 6] = [1, 2, 4, 8, 16, 32];
+/// The pauses of each wait of a task with a small buffer: 510 in all, some 2.3 microseconds.
+const SHORT_WAITS: [u32; 8] = [2, 4, 8, 16, 32, 64, 128, 256];
 
 /// The pauses of each wait of a task with a larger buffer: 800 in all, some 3.6 microseconds.
 const LONG_WAITS: [u32; 4] = [200, 200, 200, 200];
