@@ -63,8 +63,8 @@
 //! A look clears the mark of something new and tells the causes. A peek tells the causes and leaves the mark, so it is
 //! a load. The task peeks before each item. It takes an item after that peek if it knows from this turn's last loads of
 //! tail and asked that the item was put and requested, and else loads the two again, after the peek and never before.
-//! If it finds nothing to do after a peek that found something new, it waits a moment and does the same again, a few
-//! times, in case the next item is about to come. Then it looks, and loads the two once more. If it finds nothing to do
+//! If it finds nothing to do after a peek that found something new, it waits a moment and does the same again, once or
+//! a few times, in case more comes. Then it looks, and loads the two once more. If it finds nothing to do
 //! then, it rests by one compare-and-exchange: from the word after its look to the same without the mark of the task.
 //! That fails exactly if there was a signal since the look, and then the task goes on. Thus nothing is forgotten: a
 //! subscription at rest was told all that its demand and its ending allow, or somebody is between a store and its

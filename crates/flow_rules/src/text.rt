@@ -51,6 +51,7 @@ impl Text {
 
     /// A text of these bytes, which need be no text in any encoding. One of [`Text::LONGEST_INSIDE`] bytes or fewer is
     /// never refused.
+    #[inline(always)]
     pub fn new(alloc: Global, bytes: &[u8]) -> Result<Text, NoMemory>
         requires { length bytes.now ≤ Text.LONGEST }
         ensures bytes { IfOk result (λ text. text ≡ bytes.now) }
@@ -66,6 +67,7 @@ impl Text {
     }
 
     /// A text that lies in this value.
+    #[inline(always)]
     fn inside(bytes: &[u8]) -> Text
         requires { length bytes.now ≤ Text.LONGEST_INSIDE }
         ensures { result ≡ bytes.now }

@@ -237,7 +237,7 @@ abbrev pub AreReclaimed : {B H : Type 0} → Outcome B H → Type 0
 AreReclaimed outcome =
     (length outcome.lanes.items + length outcome.held.items) + outcome.reclaimed ≤ outcome.made
 
--- on 8 the one of this name is missing, and the rest is given
+-- on 8 a subscription, or the submitter of this name, is missing, and the rest is given
 abbrev pub LacksOne : {B H : Type 0} → List SubmitterState → List SubscriptionState → List ℕ
     → Outcome B H → Type 0
 LacksOne submitters subscriptions name outcome =

@@ -1,8 +1,8 @@
 //! The end of a publisher: what is handed in, and what is left of it.
 //!
-//! It is made in three passes, after the workers have ended. The first takes all the memory (`room`), so that a
-//! refusal comes before anything is taken out: no later pass can fail halfway, with some subscribers in hand and
-//! others behind the lock. The second holds the lock once, and brings the two ends of each subscription together
+//! It is made in three passes, after the workers have ended. The first two hold the lock, once. The first takes all the
+//! memory (`room`), so that a refusal comes before anything is taken out: no later pass can fail halfway, with some
+//! subscribers in hand and others behind the lock. The second brings the two ends of each subscription together
 //! (`find`). Subscriptions are handed in in any order, so their list is emptied from its end, and each owner's end laid
 //! at the place of its number; these places are gone over from the front. The third closes each pair of ends (`close`),
 //! outside the lock since that drops what the buffers hold still, puts the lanes in the order of subscription, and then

@@ -1,7 +1,7 @@
 //! The publisher: who subscribes and who publishes, how it stands, and how it is closed.
 //!
 //! Its calls take the lock, call what stands behind it (`state`), and hand the tasks that this starts to the pool. How
-//! its threads are ended stands in `finishing`.
+//! its threads are started and ended stands in `workers`.
 mod making;
 mod reclaim;
 mod workers;

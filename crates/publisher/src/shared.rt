@@ -1,7 +1,7 @@
 //! What a publisher's threads share: the lock, and the waits for what others do behind it.
 //!
-//! Whatever may be read without the lock stands beside it. How a thread sleeps in the hold of the lock in which it
-//! looked stands in `state`.
+//! Whatever may be read without the lock stands beside it. How a thread looks and sleeps while holding the lock once
+//! stands in `state`.
 use crate::awaiting::Awaiting;
 use crate::ledgers::Ledgers;
 use crate::state::{Drained, Ended, LoopsEnded, Need, State, StateLock};

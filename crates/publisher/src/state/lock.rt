@@ -1,8 +1,8 @@
 //! The lock of a publisher: how it is taken, how whoever changed something wakes those who wait, and how a thread
 //! sleeps.
 //!
-//! A thread sleeps in the very hold of the lock in which it looked in vain: a look takes the hold with it, and gives
-//! it back, or gives a [`Blocked`], which alone can sleep. So no change comes between a look and the sleep, since each
+//! A thread that looked in vain doesn't let go of the lock before it sleeps: a look takes the [`Held`] lock with it,
+//! and gives it back, or gives a [`Blocked`], which alone can sleep. So no change comes between a look and the sleep, since each
 //! change is made, and told, while the lock is held.
 use super::State;
 use super::look::{Drained, Ended, Need};

@@ -35,6 +35,7 @@ impl Gathering {
     }
 
     /// Makes this many shares of an item, and forgets what was gathered before.
+    #[inline(always)]
     pub fn begin(&mut self, item: &Item, many: usize) -> Result<(), NoMemory>
         ensures shares { OnOk result (AreShares item.now self.new.shares.items) }
         ensures as_many { OnOk result (vec_len self.new.shares ≡ many) }

@@ -22,6 +22,7 @@ use flow_rules::{Feed, NoMemory};
 impl<F: Feed> Hub<F> {
     /// Looks at all live subscriptions, retires those that have ended, and makes each that goes on ready for one task.
     /// The answer is what that showed of their room.
+    #[inline(always)]
     pub(super) fn prepare_live(&mut self) -> Result<Room, NoMemory>
         requires sound { IsSound (hub_of F.meaning self.old) }
         ensures ok { IfOk result (FindsRoom F.meaning F.does self.old self.new) }
@@ -71,6 +72,7 @@ impl<F: Feed> Hub<F> {
 
 /// Looks at all live subscriptions, and makes each that goes on ready for one task. The answer is what that showed of
 /// their room.
+#[inline(always)]
 fn prepare_all<F: Feed>(
     entries: &mut [Entry<F>],
     live: &[u32],

@@ -1,6 +1,6 @@
 //! What the task does after a look or a peek: it gives one item, or ends the subscription, or rests. If it finds
-//! nothing to do after a peek, it waits a moment and peeks again, a few times, and then it looks, for it rests only
-//! after a look.
+//! nothing to do after a peek, it waits a moment and peeks again, once or a few times, and then it looks, for it rests
+//! only after a look.
 ghost use Rattle.std.specs.Prelude.{◌≡◌, ◌+◌, ◌≤◌, ◌<◌, length, ◌==◌, Some};
 ghost use Rattle.std.specs.Int.{bit_at};
 ghost use Rattle.feed_core.specs.Prelude.{UNBOUNDED};

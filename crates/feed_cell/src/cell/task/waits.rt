@@ -10,8 +10,9 @@ const WAITS_LONG_FROM: u64 = 32;
 /// The pauses of each wait of a task with a small buffer: 510 in all, some 2.3 microseconds.
 const SHORT_WAITS: [u32; 8] = [2, 4, 8, 16, 32, 64, 128, 256];
 
-/// The pauses of each wait of a task with a larger buffer: 800 in all, some 3.6 microseconds.
-const LONG_WAITS: [u32; 4] = [200, 200, 200, 200];
+/// The pauses of the one wait of a task with a larger buffer: some 3.6 microseconds. What comes meanwhile is given in a
+/// row, and moves fewer cache lines.
+const LONG_WAITS: [u32; 1] = [800];
 
 /// Whether a task that finds nothing to do waits a few microseconds before it rests, in case more comes.
 #[derive(Clone, Copy, Debug, PartialEq, Eq)]
