@@ -1,8 +1,8 @@
 #!/bin/sh
 # Measures the time for each item that one thread puts into a subscription of feed_cell and that turns in another thread give to its
 # subscriber, at several capacities (crates/cell_bench). All items are requested before. Beside it stand peers: the same steps on bare
-# words in C (bench/cell_bare.c), with the words side by side as in the cell; apart, each in a cache line of its own; and apart with a task
-# that frees many places at a time (late), which the cell's doesn't; and the kit's crossbeam_queue::ArrayQueue, through which the items go
+# words in C (bench/cell_bare.c), which lie as in the cell; apart, each word in lines of its own; and apart with a task that frees many places
+# at a time (late), which the cell's doesn't; and the kit's crossbeam_queue::ArrayQueue, through which the items go
 # with no subscriber, no demand and no task. It prints the time of each, and the ratios. A task that a put starts goes to the other thread
 # through a queue of one place, in C too. Both threads try again at once, and the order is checked. The runs alternate.
 # The program is proved and built in a temporary folder, or is PROGRAM, one that was built before. Usage: bench/cell.sh [ITEMS [RUNS [CAPACITY..]]]; each figure is the median of RUNS
@@ -19,8 +19,8 @@ trap 'rm -rf "$work"' EXIT
 . bench/build.sh
 
 cc -O2 -pthread -o "$work/bare" bench/cell_bare.c
-cc -O2 -pthread -DAPART=8 -DBEHIND=8 -o "$work/apart" bench/cell_bare.c
-cc -O2 -pthread -DAPART=8 -DBEHIND=8 -DFREES_LATE -o "$work/late" bench/cell_bare.c
+cc -O2 -pthread -DAPART -o "$work/apart" bench/cell_bare.c
+cc -O2 -pthread -DAPART -DFREES_LATE -o "$work/late" bench/cell_bare.c
 program=${PROGRAM:-$work/cell_bench}
 [ -n "${PROGRAM-}" ] || build cell_bench . "$program" size
 slot=$("$program" size)

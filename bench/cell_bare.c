@@ -9,7 +9,7 @@
 #include <string.h>
 #include <time.h>
 
-enum { RUN = 1, ITEM = 3, COMPLETE = 67, STOPS = 4 | 8 | 16 | 32, ITEMS_IN_A_TURN = 64, PATIENCE = 6 };
+enum { RUN = 1, ITEM = 3, COMPLETE = 67, STOPS = 4 | 8 | 16 | 32, ITEMS_IN_A_TURN = 64, LARGE = 32 };
 #define QUIET (~(uint64_t)2)
 #define RESTING (~(uint64_t)1)
 #define MARK ((uint64_t)1 << 63)
@@ -25,21 +25,26 @@ typedef struct {
     Item item;
 } Held;
 
-/* Head, tail, asked and control lie side by side, and so do the slots, as in the table. With -DAPART=8 -DBEHIND=8 each word
-   has a cache line of its own, and with -DBEHIND=16 control alone. */
-#ifndef APART
-#define APART 1
-#endif
-#ifndef BEHIND
-#define BEHIND 1
-#endif
+/* The words lie as in the table: side by side in a small buffer, and in a large one head and tail 128 bytes from one another and from the two
+   others. With -DAPART each has 128 bytes of its own in any buffer. */
 static _Atomic uint64_t *words;
+static uint64_t tail_at = 1, asked_at = 2, control_at = 3;
 #define HEAD (words[0])
-#define TAIL (words[APART])
-#define ASKED (words[2 * APART])
-#define CONTROL (words[2 * APART + BEHIND])
+#define TAIL (words[tail_at])
+#define ASKED (words[asked_at])
+#define CONTROL (words[control_at])
 static char *slots;
 static uint64_t capacity, items, slot_bytes;
+
+static void lay_words(void) {
+#ifdef APART
+    tail_at = 16, control_at = 32, asked_at = 48;
+#else
+    if (capacity >= LARGE) tail_at = 16, control_at = 32, asked_at = 33;
+#endif
+    words = aligned_alloc(128, 64 * sizeof *words);
+    if (words) memset((void *)words, 0, 64 * sizeof *words);
+}
 static Item *all;
 
 /* How many parties share the table, and how many items share the text. Both change all the time, so each has a cache line of its own. */
@@ -117,27 +122,35 @@ static void clear(void) {
     seen_count = 0;
 }
 
-/* With -DFREES_LATE the task frees places an eighth of the buffer at a time, and when it knows of no more items: it stores head then, and reads
-   tail and asked only then. Places are free later, so a producer that waits for room behind a slow subscriber waits longer. */
+/* With -DFREES_LATE the task frees places an eighth of the buffer at a time, and when it knows of no more items: it stores head only then.
+   Places are free later, so a producer that waits for room behind a slow subscriber waits longer. */
 #ifdef FREES_LATE
 #define PLACES (capacity / 8 ? capacity / 8 : 1)
-#define KNOWS_MORE (given < known_tail && given < known_asked)
 #else
 #define PLACES 1
-#define KNOWS_MORE 0
 #endif
 static uint64_t freed, known_tail, known_asked;
 
-/* One turn: 1 where another is owed, 0 at rest, -1 at the end. It peeks before each item; with nothing to do it spins and peeks again, a few
-   times, and it looks before it rests. */
+/* The pauses of each wait of a task that finds nothing to do. */
+static const int small_waits[] = {2, 4, 8, 16, 32, 64, 128, 256}, large_waits[] = {800};
+
+static void wait_pauses(int pauses) {
+    while (pauses--) __builtin_ia32_pause();
+}
+
+/* One turn: 1 where another is owed, 0 at rest, -1 at the end. It peeks before each item, and loads tail and asked where what it knows of them
+   is used up; with nothing to do it waits and peeks again, once or a few times, and it looks before it rests. */
 static int turn(void) {
+    const int *waits = capacity < LARGE ? small_waits : large_waits;
+    int waits_count = capacity < LARGE ? 8 : 1;
     clear();
+    known_tail = known_asked = 0;
     for (int i = 0; i < ITEMS_IN_A_TURN; i++) {
         uint64_t word = atomic_load(&CONTROL);
         int peeks = 0;
     again:
         if (word & STOPS) abort();
-        if (!KNOWS_MORE) {
+        if (given >= known_tail || given >= known_asked) {
             known_tail = atomic_load(&TAIL);
             known_asked = atomic_load(&ASKED);
         }
@@ -154,9 +167,8 @@ static int turn(void) {
             atomic_store(&HEAD, given + MARK);
             return -1;
         } else if (word & ~QUIET) {
-            if (peeks < PATIENCE) {
-                for (int pause = 0; pause < 1 << peeks; pause++) __builtin_ia32_pause();
-                peeks++;
+            if (peeks < waits_count) {
+                wait_pauses(waits[peeks++]);
                 word = atomic_load(&CONTROL);
             } else {
                 word = atomic_fetch_and(&CONTROL, QUIET) & QUIET;
@@ -192,7 +204,7 @@ int main(int count, char **argument) {
     items = strtoull(argument[2], NULL, 10);
     slot_bytes = strtoull(argument[3], NULL, 10);
     if (!capacity || slot_bytes < sizeof(Held)) return 2;
-    words = calloc(2 * APART + BEHIND + 1, sizeof *words);
+    lay_words();
     slots = malloc((capacity + 1) * slot_bytes);
     all = malloc(items * sizeof *all);
     if (!words || !slots || !all) return 1;

@@ -20,7 +20,7 @@ from functions import functions_of, without_texts
 
 CRATES = ("publisher", "inbox", "flow_rules")
 # What a crate hands on from another one, and a page of it would lack.
-HANDED_ON = {"publisher": [("feed_core", "Lane"), ("publisher_hub", "OnFull"), ("publisher_hub", "Published")]}
+HANDED_ON = {"publisher": [("feed_core", "Lane"), ("publisher_hub", "Figures"), ("publisher_hub", "OnFull"), ("publisher_hub", "Published")]}
 PAGE = f"{TOP}/docs/API.md"
 # Where a call is looked for, the simplest first.
 EXAMPLES = ("hello_example", "inbox_example", "bus_example", "lines_demo", "console", "fanout", "publisher_tests", "controller_tests", "inbox_tests", "test_stand", "day_tests")
@@ -182,7 +182,9 @@ def calls_of(crate):
             item = text[it.item : it.start or None]
             name = re.match(r"\w*", owner)[0]
             is_public = re.search(r"(?m)^\s*pub (?:const )?fn ", code[it.item : it.start or None]) and not trait
-            if is_public and modules.get(name or it.name) == module:
+            # A method may stand in another module than its type, but not beside a type of the same name.
+            is_elsewhere = name in modules and not type_in(text, name)
+            if is_public and (modules.get(name or it.name) == module or is_elsewhere):
                 calls.setdefault(name, []).append(Call(name, it.name, item))
     return calls
 
