@@ -43,6 +43,8 @@ pub record IsLane {B : Type 0} (told : B → List Signal) (replied : B → List 
   -- only if the last reply says so, or its owner cancelled
   pub ends : IfSome left.lane.subscriber (λ b. EndsSo left.lane.ending (replied b))
   pub by : IfSome left.lane.subscriber (λ b. IsEndedBy left.lane.cancelled left.lane.ending (replied b))
+  -- if its owner cancelled, it runs or has ended
+  pub heeded : left.lane.running ≡ false → left.lane.cancelled ≡ true → IsSome left.lane.ending
   -- it accepted each item once, and those of each sender in the order in which they were sent
   pub ordered : IsOrdered lane.accepted
   -- each of them was published since it was subscribed

@@ -1,10 +1,13 @@
 -- What is left of the subscriptions of a publisher keeps the rules of Flow, and agrees.
 use Rattle.std.proofs.Common.{◌≡◌, ◌⊎◌, inl, inr, ℕ, zero, suc, ◌<◌, ◌≤◌, Bool, true, false, Option, None, Some, List, ◌∷◌, [], length, map, refl, sym, ap, subst, ◌∙◌, arith}
 use Rattle.feed_core.specs.AnsweredTurn.{Reply}
-use Rattle.std.specs.Prelude.{IsSome, slice_get, Contains}
+use Rattle.std.specs.Prelude.{IsSome, IfSome, slice_get, Contains, ◌||◌}
 use Rattle.std.proofs.lemmas.Option.{same_Some, slice_get_within}
 use Rattle.feed_core.specs.Prelude.{Signal, Subscribed, Next, Complete, How}
-use Rattle.feed_core.specs.Lane.{LaneState, IsSettled, IsSettledAs}
+use Rattle.feed_core.specs.Answered.{causes_by}
+use Rattle.feed_core.specs.Cause.{stops}
+use Rattle.feed_core.specs.Lane.{LaneState, IsIdle, IsSettled, IsSettledAs}
+use Rattle.feed_core.specs.declared.cause.Causes.{Causes}
 use Rattle.feed_core.proofs.Turns.Loop.{last_contained}
 use Rattle.publisher_hub.proofs.AnswerLists.Places.{there}
 use Rattle.history.specs.declared.rule.Entry.{Entry}
@@ -24,6 +27,12 @@ completed_closed lane how settled =
     let told : IsSettledAs lane (Some How.Completed) = subst (IsSettledAs lane) how settled.rests in
     let contains : Contains lane.told Complete = last_contained lane.told Complete (Subscribed ∷ map Next lane.accepted, told) in
     rw (settled.flow.completed contains).0 refl
+
+-- a cancel stops a subscription
+cancel_stops : (causes : Causes) → causes.cancel ≡ true → stops causes ≡ None → ⊥
+cancel_stops causes cancelled none =
+    let stopped : stops causes ≡ Some How.Cancelled = rw cancelled refl in
+    let no : Some How.Cancelled ≡ None = sym stopped ∙ none in cc
 
 -- which of the lanes is that of each of what is left
 pub record HasLaneState {B : Type 0} (told : B → List Signal) (replied : B → List Reply) (published : ℕ)
@@ -60,6 +69,25 @@ module _ {B : Type 0} (told : B → List Signal) (replied : B → List Reply) (p
   still_part (Some (How.Failed code)) e part = absurd part
   still_part (Some How.OutOfMemory) e part = absurd part
 
+  not_none : (subscriber : Option B) → subscriber ≡ None → IsSome subscriber → ⊥
+  not_none None none some = cc
+  not_none (Some b) none some = cc
+
+  -- one that its owner cancelled is not idle, so it has ended if it doesn't run
+  cancel_heeded : left.lane.running ≡ false → left.lane.cancelled ≡ true → IsSome left.lane.ending
+  cancel_heeded rests cancelled = by left.lane.subscriber left.lane.ending refl refl where
+    by : (subscriber : Option B) (ending : Option How) → left.lane.subscriber ≡ subscriber → left.lane.ending ≡ ending
+        → IsSome left.lane.ending
+    by subscriber (Some how) there at = rw at refl
+    by None None there at = absurd (not_none left.lane.subscriber there (is.lane.is.settled rests).0)
+    by (Some b) None there at =
+        let idle : IsIdle lane = subst (IsSettledAs lane) (sym is.lane.is.ending ∙ at) (is.lane.is.settled rests).1.rests in
+        let cause : lane.causes.cancel ≡ left.lane.cancelled || (causes_by lane.causes.order (replied b)).cancel =
+        subst (λ s. IfSome s (λ b. lane.causes.cancel ≡ left.lane.cancelled || (causes_by lane.causes.order (replied b)).cancel))
+        there is.lane.cancelled in
+        absurd (cancel_stops lane.causes
+        (cause ∙ ap (λ c. c || (causes_by lane.causes.order (replied b)).cancel) cancelled) idle.runs_on)
+
   many : left.lane.accepted ≡ length taken.producer.end.accepted
   many = is.lane.is.accepted ∙ ap length is.lane.accepted
 
@@ -69,6 +97,7 @@ module _ {B : Type 0} (told : B → List Signal) (replied : B → List Reply) (p
     asked = is.lane.asked;
     ends = is.lane.ends;
     by = is.lane.by;
+    heeded = cancel_heeded;
     ordered = λ i j x y at on less. counted.ordered i j x y (sym (ap (λ l. slice_get l i) is.lane.accepted) ∙ at)
         (sym (ap (λ l. slice_get l j) is.lane.accepted) ∙ on) less;
     since = λ i x at.
