@@ -1,6 +1,7 @@
 -- What is taken out from behind the lock at the end of a publisher.
 use Rattle.std.specs.Prelude.{◌≡◌, ◌⊎◌, ℕ, ◌+◌, ◌<◌, ◌≤◌, Bool, true, false, Option, None, Some, IsSome, List, [], length, slice_get, vec_capacity, sum_by}
 use Rattle.feed_core.specs.Prelude.{Item}
+use Rattle.flow_rules.specs.declared.ending.Ending.{Ending}
 use Rattle.publisher_hub.specs.Hub.{hub_of}
 use Rattle.publisher_hub.specs.Sound.{IsOrdered}
 use Rattle.history.specs.declared.rule.Entry.{Entry}
@@ -71,6 +72,12 @@ AreOfLog {B} log founds = (k i : ℕ) (taken : Taken B) (x : Item)
     → slice_get founds k ≡ Some (Found.Both taken)
     → slice_get taken.producer.end.accepted i ≡ Some x → StandsIn log x
 
+-- each of these subscriptions that was closed was closed with this ending
+abbrev pub AreClosedWith : {B : Type 0} → Option Ending → List (Found B) → Type 0
+AreClosedWith {B} closing founds = (k : ℕ) (taken : Taken B) (ending : Ending)
+    → slice_get founds k ≡ Some (Found.Both taken)
+    → taken.producer.end.closing ≡ Some ending → closing ≡ Some ending
+
 -- the shares of the submitters were compared with the totals: all are there, and sum up to these; or one is missing
 abbrev pub AreAudited : List SubmitterState → ℕ → ℕ → Option (List ℕ) → Type 0
 AreAudited submitters published dropping None = (sum_by
@@ -98,3 +105,4 @@ pub record TakesBooksOut {B : Type 0} (submitters : List SubmitterState)
   pub long : length log ≡ books.published
   pub sent : AreSentIn log submitters
   pub content : AreOfLog log books.founds.items
+  pub closed_with : AreClosedWith old.hub.ending books.founds.items

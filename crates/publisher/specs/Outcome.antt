@@ -8,7 +8,7 @@ use Rattle.feed_core.specs.declared.lane.Lane.{Lane}
 use Rattle.feed_cell.specs.Parties.{HandleState}
 use Rattle.feed_cell.specs.TaskAnswers.{EndsSo}
 use Rattle.flow_rules.specs.declared.refusal.Refusal.{Refusal}
-use Rattle.feed_core.specs.Prelude.{Item, Signal, How, total_after}
+use Rattle.feed_core.specs.Prelude.{Item, Signal, Ending, How, total_after}
 use Rattle.feed_core.specs.Lane.{LaneState}
 use Rattle.feed_core.specs.LeftLane.{IsLeftLane}
 use Rattle.publisher_hub.specs.Sound.{IsOrdered}
@@ -67,6 +67,11 @@ abbrev pub AcceptsOf : List Entry → List LaneState → Type 0
 AcceptsOf log lanes = (i k : ℕ) (lane : LaneState) (x : Item)
     → slice_get lanes i ≡ Some lane → slice_get lane.accepted k ≡ Some x → StandsIn log x
 
+-- whatever was closed was closed with this ending
+abbrev pub CloseWith : Option Ending → List LaneState → Type 0
+CloseWith closing lanes = (i : ℕ) (lane : LaneState) (ending : Ending)
+    → slice_get lanes i ≡ Some lane → lane.causes.closing ≡ Some ending → closing ≡ Some ending
+
 -- what a publisher to which these submitters sent leaves: each subscription was a lane, and these agree
 pub record IsOutcome {B H : Type 0} (told : B → List Signal) (replied : B → List Reply)
     (submitters : List SubmitterState) (outcome : Outcome B H) : Type 0 where
@@ -82,6 +87,9 @@ pub record IsOutcome {B H : Type 0} (told : B → List Signal) (replied : B → 
   pub long : length log ≡ outcome.published
   pub sent : AreSentIn log submitters
   pub content : AcceptsOf log lanes
+  -- the close told all whom it reached of one ending
+  pub closing : Option Ending
+  pub closed : CloseWith closing lanes
   -- once the last ticket was spent, each has ended that was subscribed before the close
   pub drained : outcome.drained ≡ true → (i : ℕ) (left : NamedLane B)
       → slice_get outcome.lanes.items i ≡ Some left → left.late ≡ false → IsSome left.lane.ending

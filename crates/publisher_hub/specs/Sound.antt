@@ -1,6 +1,7 @@
 -- What holds of a Hub between any two calls.
 use Rattle.std.specs.Prelude.{◌≡◌, ℕ, ◌+◌, ◌<◌, ◌≤◌, true, false, None, Some, IsSome, List, length, slice_get}
 use Rattle.flow_rules.specs.Feed.{End, is_gone}
+use Rattle.flow_rules.specs.declared.ending.Ending.{Ending}
 use Rattle.flow_rules.specs.declared.item.Item.{Item}
 use Rattle.flow_rules.specs.declared.item.TheConstants.{MOST_PUBLICATIONS}
 use Rattle.publisher_hub.specs.Entry.{EntryState, until_of}
@@ -34,7 +35,7 @@ pub record IsCounted (progress : Progress) (entry : EntryState) (e : End) : Type
   pub until : until_of progress.next entry ≤ progress.next
   pub gone : entry.retired ≡ true → is_gone e ≡ true
   pub closed : IsSome e.closing → until_of progress.next entry ≡ progress.next
-  pub unclosed : progress.ending ≡ None → e.closing ≡ None
+  pub closed_as : (ending : Ending) → e.closing ≡ Some ending → progress.ending ≡ Some ending
 
 -- a subscription of a Hub: its producer's end is there as long as it isn't retired, and is counted while it is
 pub record IsEntry (progress : Progress) (entry : EntryState) : Type 0 where

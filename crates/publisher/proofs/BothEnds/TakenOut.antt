@@ -17,7 +17,7 @@ use Rattle.publisher_hub.specs.declared.hub.Hub.{Hub}
 use Rattle.publisher_hub.proofs.PartialRounds.Next.{get_before_map}
 use Rattle.publisher_hub.proofs.AnswerLists.Places.{there}
 use Rattle.publisher.specs.Finding.{AreFoundIn, ArePlaced, FindsAll, IsSameOrLeft, IsTakenOf}
-use Rattle.publisher.specs.Finishing.{AreAudited, AreOfLog, AreTakenOut, IsCountedIn}
+use Rattle.publisher.specs.Finishing.{AreAudited, AreClosedWith, AreOfLog, AreTakenOut, IsCountedIn}
 use Rattle.publisher.specs.Handles.{SubmitterState, SubscriptionState}
 use Rattle.publisher.specs.Outcome.{AnyKnows}
 use Rattle.publisher.specs.State.{IsState, Sums, producer_end}
@@ -97,6 +97,12 @@ module _ {B : Type 0} (hub : HubState) (counted : Option ℕ) (sums : Sums) (fou
   -- whatever they accepted is one of the publications
   pub are_of_log : AreOfLog sums.log founds
   are_of_log k i taken x at on = is.logged.content x (accepted_by k taken i x at on)
+
+  -- whatever was closed was closed with the Hub's ending
+  pub are_closed_with : AreClosedWith hub.progress.ending founds
+  are_closed_with k taken ending at closed =
+      let it = stored k taken at in
+      ((is.sound.entries k it.0 it.1.0).counted taken.producer.end it.1.1.producer).closed_as ending closed
 
   -- one that is not late and has no ticket has ended
   ended_in : ((k : ℕ) (entry : EntryState) → slice_get hub.entries k ≡ Some entry → IsOver entry ⊎ IsLate counted k)

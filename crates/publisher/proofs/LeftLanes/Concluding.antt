@@ -4,13 +4,13 @@ use Rattle.feed_core.specs.AnsweredTurn.{Reply}
 use Rattle.std.specs.Prelude.{IsSome, slice_get}
 use Rattle.std.specs.Option.{option_or}
 use Rattle.std.proofs.lemmas.Option.{same_Some, slice_get_within}
-use Rattle.feed_core.specs.Prelude.{How, Signal}
+use Rattle.feed_core.specs.Prelude.{Ending, How, Signal}
 use Rattle.flow_rules.specs.declared.refusal.Refusal.{Refusal}
 use Rattle.publisher_hub.proofs.AnswerLists.Places.{there}
 use Rattle.publisher.specs.Finding.{IsHandedIn, ends_of}
 use Rattle.history.specs.declared.rule.Entry.{Entry}
 use Rattle.publisher.specs.Content.{ArePublished, AreSentIn}
-use Rattle.publisher.specs.Finishing.{AreAudited, AreOfLog, AreTakenOut, IsNothing}
+use Rattle.publisher.specs.Finishing.{AreAudited, AreClosedWith, AreOfLog, AreTakenOut, IsNothing}
 use Rattle.publisher.specs.Handles.{SubmitterState, SubscriptionState}
 use Rattle.publisher.specs.Leaving.{ClosesAll, Concludes, FindsFirst}
 use Rattle.publisher.specs.Outcome.{AnyKnows, AreDone, AreHandedIn, AreInOrder, AreReclaimed, Finishes, HasLane, IsAmong, IsMissing, IsOutcome, IsRestGiven, IsWhole, Judges, NamesUndone, is_undone, outcome_of}
@@ -197,9 +197,10 @@ module _ {B H : Type 0} (told : B → List Signal) (replied : B → List Reply) 
   audit = subst (λ n. AreAudited submitters n dropping books.missing) (sym concludes.published) audited
 
   pub outcome_is : (log : List Entry) → length log ≡ books.published → AreSentIn log submitters → AreOfLog log books.founds.items
-      → IsOutcome told replied submitters (outcome_of result)
-  outcome_is log long sent of_log = is_outcome told replied subscriptions books.founds.items dropping books.drained (outcome_of result)
+      → (closing : Option Ending) → AreClosedWith closing books.founds.items → IsOutcome told replied submitters (outcome_of result)
+  outcome_is log long sent of_log closing closed = is_outcome told replied subscriptions books.founds.items dropping books.drained (outcome_of result)
       concludes.first out concludes.drained concludes.closes submitters log (long ∙ sym concludes.published) sent of_log
+      closing closed
 
   pub handed_is : AreHandedIn subscriptions (outcome_of result).lanes.items
   handed_is = are_handed_in told replied submitters subscriptions books.founds.items dropping books.drained
@@ -245,6 +246,8 @@ nothing_is told replied submitters outcome none sent = record {
   long = sent.long;
   sent = sent.sent;
   content = λ i k one x at. cc;
+  closing = None;
+  closed = λ i lane ending at. cc;
   drained = λ last i left at. let no : None ≡ Some left = sym (ap (λ lanes. slice_get lanes i) none.no_lanes) ∙ at in cc;
   late = λ i left at. let no : None ≡ Some left = sym (ap (λ lanes. slice_get lanes i) none.no_lanes) ∙ at in cc;
 }

@@ -3,7 +3,7 @@ use Rattle.std.proofs.Common.{◌≡◌, ◌⊎◌, inl, inr, ℕ, zero, suc, �
 use Rattle.feed_core.specs.AnsweredTurn.{Reply}
 use Rattle.std.specs.Prelude.{IsSome, IfSome, slice_get, Contains, ◌||◌}
 use Rattle.std.proofs.lemmas.Option.{same_Some, slice_get_within}
-use Rattle.feed_core.specs.Prelude.{Signal, Subscribed, Next, Complete, How}
+use Rattle.feed_core.specs.Prelude.{Signal, Subscribed, Next, Complete, Ending, How}
 use Rattle.feed_core.specs.Answered.{causes_by}
 use Rattle.feed_core.specs.Cause.{stops}
 use Rattle.feed_core.specs.Lane.{LaneState, IsIdle, IsSettled, IsSettledAs}
@@ -12,7 +12,7 @@ use Rattle.feed_core.proofs.Turns.Loop.{last_contained}
 use Rattle.publisher_hub.proofs.AnswerLists.Places.{there}
 use Rattle.history.specs.declared.rule.Entry.{Entry}
 use Rattle.publisher.specs.Content.{AreSentIn}
-use Rattle.publisher.specs.Finishing.{AreOfLog, AreTakenOut, IsCountedIn}
+use Rattle.publisher.specs.Finishing.{AreClosedWith, AreOfLog, AreTakenOut, IsCountedIn}
 use Rattle.publisher.specs.Handles.{SubmitterState, SubscriptionState}
 use Rattle.publisher.specs.Leaving.{ClosesAll, IsLaneOfTaken}
 use Rattle.publisher.specs.Outcome.{IsLane, IsOutcome, TookPart}
@@ -40,6 +40,7 @@ pub record HasLaneState {B : Type 0} (told : B → List Signal) (replied : B →
   pub taken : Taken B
   pub stands : slice_get founds left.entry ≡ Some (Found.Both taken)
   pub accepted : lane.accepted ≡ taken.producer.end.accepted
+  pub closing : lane.causes.closing ≡ taken.producer.end.closing
   pub is_lane : IsLane told replied published left lane
 
 module _ {B : Type 0} (told : B → List Signal) (replied : B → List Reply) (published dropping : ℕ)
@@ -125,6 +126,7 @@ module _ {B H : Type 0} (told : B → List Signal) (replied : B → List Reply) 
           taken = it.0;
           stands = it.1.0;
           accepted = it.1.1.1.of.lane.accepted;
+          closing = it.1.1.1.of.lane.closing;
           is_lane = is_lane_of told replied outcome.published dropping founds left it.0 it.1.1.1.of (out.each left.entry it.0 it.1.0);
         },
       )
@@ -160,8 +162,9 @@ module _ {B H : Type 0} (told : B → List Signal) (replied : B → List Reply) 
 
   -- of what was published
   pub is_outcome : (submitters : List SubmitterState) (log : List Entry) → length log ≡ outcome.published
-      → AreSentIn log submitters → AreOfLog log founds → IsOutcome told replied submitters outcome
-  is_outcome submitters log long sent of_log =
+      → AreSentIn log submitters → AreOfLog log founds → (closing : Option Ending) → AreClosedWith closing founds
+      → IsOutcome told replied submitters outcome
+  is_outcome submitters log long sent of_log closing closed =
       let all = lanes_of outcome.lanes.items lane_at in
       record {
         lanes = all.0;
@@ -182,6 +185,11 @@ module _ {B H : Type 0} (told : B → List Signal) (replied : B → List Reply) 
             let left = there outcome.lanes.items i (subst (λ m. i < m) all.1.as_many (slice_get_within all.0 i one at)) in
             let here = all.1.each i left.0 one left.1 at in
             of_log left.0.entry k here.taken x here.stands (sym (ap (λ l. slice_get l k) here.accepted) ∙ on);
+        closing = closing;
+        closed = λ i one ending at told.
+            let left = there outcome.lanes.items i (subst (λ m. i < m) all.1.as_many (slice_get_within all.0 i one at)) in
+            let here = all.1.each i left.0 one left.1 at in
+            closed left.0.entry here.taken ending here.stands (sym here.closing ∙ told);
         drained = λ last i left at on_time.
             let it = closes.each i left at in
             it.1.1.1.of.lane.over (out.ended (sym same ∙ last) left.entry it.0 it.1.0 (sym it.1.1.1.of.late ∙ on_time));

@@ -22,6 +22,7 @@ use Rattle.publisher_hub.specs.declared.hub.Hub.{Hub}
 use Rattle.publisher_hub.specs.declared.hub.TheConstants.{MOST_SOURCES}
 use Rattle.publisher_hub.specs.declared.work.Work.{Work}
 use Rattle.publisher_hub.proofs.PartialRounds.Next.{get_before_map, get_mapped}
+use Rattle.publisher_hub.proofs.Soundness.Looking.{unclosed_by}
 use Rattle.publisher_hub.proofs.Soundness.Publishing.{sound_offered}
 use Rattle.publisher_hub.proofs.Publications.AllSubscriptions.{all_offered, no_drop_counted, nobody_missed}
 
@@ -54,7 +55,7 @@ module _ {F T : Type 0} (meaning : F → End) (does : F → Call T → F → Typ
       let stands : slice_get hub.entries k ≡ Some (entry_of meaning old) =
       subst (λ all. slice_get all k ≡ Some (entry_of meaning old)) (sym are) (get_mapped (entry_of meaning) xs k old at) in
       let counted = (sound.entries k (entry_of meaning old) stands).counted e was in
-      (counted.unclosed unclosed, counted.capacity)
+      (unclosed_by hub.progress (entry_of meaning old) e counted unclosed, counted.capacity)
 
   -- the item was published to all
   pub published_to_all : (old new : Hub F) (middle : List (Entry F)) (x : Item) (glances : List (Option Standing)) (puts : List (Option (Put T))) → IsSound (hub_of meaning old)

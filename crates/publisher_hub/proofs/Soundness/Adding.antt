@@ -5,6 +5,7 @@ use Rattle.std.proofs.lemmas.List.{length-append, length-map, map-append}
 use Rattle.std.proofs.lemmas.Option.{slice_get_within}
 use Rattle.close_count.specs.declared.ticket.Ticket.{Ticket}
 use Rattle.flow_rules.specs.Feed.{End}
+use Rattle.flow_rules.specs.declared.ending.Ending.{Ending}
 use Rattle.flow_rules.specs.declared.item.Item.{Item}
 use Rattle.publisher_hub.specs.Adding.{hub_with, new_entry}
 use Rattle.publisher_hub.specs.Entry.{EntryState, entry_of}
@@ -34,8 +35,8 @@ get_first (first ∷ xs) x y (suc i) at = get_first xs x y i at
 
 -- a new subscription has accepted and dropped nothing since it was subscribed
 pub entry_added : (p : Progress) (name : List ℕ) (on_full : OnFull) (e : End) (ticket : Option Ticket) → e.accepted ≡ [] → e.capacity ≡ p.capacity
-    → (p.ending ≡ None → e.closing ≡ None) → IsEntry p (new_entry p name on_full e ticket)
-entry_added p name on_full e ticket empty capacity unclosed = record {
+    → ((ending : Ending) → e.closing ≡ Some ending → p.ending ≡ Some ending) → IsEntry p (new_entry p name on_full e ticket)
+entry_added p name on_full e ticket empty capacity closed_as = record {
   here = λ _. cc;
   counted = λ f at. subst (λ (end : End). IsCounted p (new_entry p name on_full e ticket) end) (same_end at) (record {
     capacity = capacity;
@@ -45,7 +46,7 @@ entry_added p name on_full e ticket empty capacity unclosed = record {
     until = omega arith;
     gone = λ retired. cc;
     closed = λ _. refl;
-    unclosed = unclosed;
+    closed_as = closed_as;
   });
   drops = omega arith;
 }
@@ -89,10 +90,10 @@ live_added live entries entry are = record {
 
 -- a sound Hub that a subscription is added to stays sound
 pub sound_added : (hub : HubState) (name : List ℕ) (on_full : OnFull) (e : End) (ticket : Option Ticket) → e.accepted ≡ [] → e.capacity ≡ hub.progress.capacity
-    → (hub.progress.ending ≡ None → e.closing ≡ None)
+    → ((ending : Ending) → e.closing ≡ Some ending → hub.progress.ending ≡ Some ending)
     → length hub.live < MOST_LIVE → length hub.entries < MOST_ENTRIES → IsSound hub
     → IsSound (hub_with (new_entry hub.progress name on_full e ticket) hub)
-sound_added hub name on_full e ticket empty capacity unclosed few_live few_entries sound =
+sound_added hub name on_full e ticket empty capacity closed_as few_live few_entries sound =
     let entry : EntryState = new_entry hub.progress name on_full e ticket in
     let many_live = length-append hub.live (length hub.entries ∷ []) in
     let many_entries = length-append hub.entries (entry ∷ []) in
@@ -112,19 +113,19 @@ sound_added hub name on_full e ticket empty capacity unclosed few_live few_entri
           → (slice_get hub.entries k ≡ Some l) ⊎ ((k ≡ length hub.entries) × (new_entry hub.progress name on_full e ticket ≡ l))
           → IsEntry hub.progress l
       by k l (inl before) = sound.entries k l before
-      by k l (inr now) = subst (λ (entry : EntryState). IsEntry hub.progress entry) now.1 (entry_added hub.progress name on_full e ticket empty capacity unclosed)
+      by k l (inr now) = subst (λ (entry : EntryState). IsEntry hub.progress entry) now.1 (entry_added hub.progress name on_full e ticket empty capacity closed_as)
 
 -- the same of what is stored
 pub sound_grown : {F : Type 0} (meaning : F → End) (hub : Hub F) (entries : List (Entry F)) (live : List ℕ) (name : List ℕ) (on_full : OnFull) (feed : F) (ticket : Option Ticket) → (meaning feed).accepted ≡ []
-    → (meaning feed).capacity ≡ hub.capacity → (hub.ending ≡ None → (meaning feed).closing ≡ None) → HasPlace MOST_LIVE hub
+    → (meaning feed).capacity ≡ hub.capacity → ((ending : Ending) → (meaning feed).closing ≡ Some ending → hub.ending ≡ Some ending) → HasPlace MOST_LIVE hub
     → entries ≡ hub.entries.items ++ first_entry_with name on_full hub.next feed ticket ∷ []
     → live ≡ hub.live.items ++ length hub.entries.items ∷ [] → IsSound (hub_of meaning hub)
     → IsSound (record (hub_of meaning hub) { entries = map (entry_of meaning) entries; live = live })
-sound_grown {F} meaning hub entries live name on_full feed ticket empty capacity unclosed place entries_are live_is sound =
+sound_grown {F} meaning hub entries live name on_full feed ticket empty capacity closed_as place entries_are live_is sound =
     let many : length (map (entry_of meaning) hub.entries.items) ≡ length hub.entries.items =
     length-map hub.entries.items (entry_of meaning) in
     let few_entries = place.few_entries in
-    let added = sound_added (hub_of meaning hub) name on_full (meaning feed) ticket empty capacity unclosed place.few_live (omega arith) sound in
+    let added = sound_added (hub_of meaning hub) name on_full (meaning feed) ticket empty capacity closed_as place.few_live (omega arith) sound in
     let mapped : map (entry_of meaning) entries ≡ map (entry_of meaning) hub.entries.items ++ new_entry (hub_of meaning hub).progress name on_full (meaning feed) ticket ∷ [] =
     ap (λ (l : List (Entry F)). map (entry_of meaning) l) entries_are
     ∙ map-append (entry_of meaning) hub.entries.items (first_entry_with name on_full hub.next feed ticket ∷ []) in

@@ -14,7 +14,7 @@ use Rattle.publisher_hub.specs.Sound.{IsCounted, IsEntry, IsOrdered, IsPublished
 use Rattle.publisher_hub.specs.declared.entry.AtClose.{AtClose}
 use Rattle.publisher_hub.specs.declared.entry.Entry.{Entry}
 use Rattle.publisher_hub.proofs.PartialRounds.Next.{get_before_map}
-use Rattle.publisher_hub.proofs.Soundness.Looking.{same_end, until_next}
+use Rattle.publisher_hub.proofs.Soundness.Looking.{same_end, unclosed_by, until_next}
 use Rattle.publisher_hub.proofs.AnswerLists.Places.{answered_at, stood_at}
 use Rattle.publisher_hub.proofs.Soundness.SameLists.{KeepsLists, RetiresNoLess, agreed_same, live_same}
 
@@ -24,9 +24,9 @@ published_still : (p : Progress) (ending : Ending) (entry : EntryState) (x : Ite
 published_still p ending entry x is = record { since = is.since; until = is.until; seq = is.seq; source = is.source }
 
 -- a subscription that a close left alone is counted as before
-counted_alone : (p : Progress) (ending : Ending) (entry : EntryState) (e : End) → IsCounted p entry e
+counted_alone : (p : Progress) (ending : Ending) (entry : EntryState) (e : End) → p.ending ≡ None → IsCounted p entry e
     → IsCounted (progress_closed ending p) entry e
-counted_alone p ending entry e is = record {
+counted_alone p ending entry e unclosed is = record {
   capacity = is.capacity;
   ordered = is.ordered;
   items = λ i x at. published_still p ending entry x (is.items i x at);
@@ -34,7 +34,7 @@ counted_alone p ending entry e is = record {
   until = is.until;
   gone = is.gone;
   closed = is.closed;
-  unclosed = λ none. cc;
+  closed_as = λ other at. let no : Some other ≡ None = sym at ∙ unclosed_by p entry e is unclosed in cc;
 }
 
 -- a subscription that was closed is counted as before: it takes part up to the next serial number
@@ -52,18 +52,18 @@ counted_closed p ending old new was is =
       until = is.until;
       gone = λ retired. let e = sym was.live ∙ retired in cc;
       closed = λ some. until_next p.next old was.live;
-      unclosed = λ none. cc;
+      closed_as = λ other at. sym (ap (λ (end : End). end.closing) was.became) ∙ at;
     }
 
 -- a subscription of a sound Hub stays such a subscription if it is closed
-entry_closed : (p : Progress) (ending : Ending) (old new : EntryState) → IsClosedBy ending old new → IsEntry p old
+entry_closed : (p : Progress) (ending : Ending) (old new : EntryState) → p.ending ≡ None → IsClosedBy ending old new → IsEntry p old
     → IsEntry (progress_closed ending p) new
-entry_closed p ending old new (inl stays) is = subst (λ (entry : EntryState). IsEntry (progress_closed ending p) entry) (sym stays.same) (record {
+entry_closed p ending old new unclosed (inl stays) is = subst (λ (entry : EntryState). IsEntry (progress_closed ending p) entry) (sym stays.same) (record {
   here = is.here;
-  counted = λ e was. counted_alone p ending old e (is.counted e was);
+  counted = λ e was. counted_alone p ending old e unclosed (is.counted e was);
   drops = is.drops;
 })
-entry_closed p ending old new (inr was) is = subst (λ (entry : EntryState). IsEntry (progress_closed ending p) entry) (sym was.now) (record {
+entry_closed p ending old new unclosed (inr was) is = subst (λ (entry : EntryState). IsEntry (progress_closed ending p) entry) (sym was.now) (record {
   here = λ live. cc;
   counted = λ f at. subst (λ (end : End). IsCounted (progress_closed ending p) (record old { feed = Some was.after }) end) (same_end at)
       (counted_closed p ending old new was (is.counted was.before was.was));
@@ -88,7 +88,7 @@ sound_closed ending old new sound closed =
     let ys = new.entries in
     subst (λ (hub : HubState). IsSound hub) (sym closed.rest) (record {
       entries = λ k entry at. let stood = stood_at (IsClosedBy ending) old.entries ys k entry closed.entries at in
-          entry_closed p ending stood.entry entry stood.became (sound.entries k stood.entry stood.at);
+          entry_closed p ending stood.entry entry closed.unclosed stood.became (sound.entries k stood.entry stood.at);
       agreed = agreed_same (IsClosedBy ending) old.entries ys closed.entries (keeps_lists ending) sound.agreed;
       live = live_same (IsClosedBy ending) old.entries ys closed.entries (retires_no_less ending) old.live sound.live;
       few_live = sound.few_live;
@@ -103,7 +103,7 @@ sound_closed ending old new sound closed =
 -- no producer's end of a Hub without an ending was closed
 pub none_closed : (hub : HubState) → IsSound hub → hub.progress.ending ≡ None → (k : ℕ) (entry : EntryState) (e : End)
     → slice_get hub.entries k ≡ Some entry → entry.feed ≡ Some e → e.closing ≡ None
-none_closed hub sound none k entry e at was = ((sound.entries k entry at).counted e was).unclosed none
+none_closed hub sound none k entry e at was = unclosed_by hub.progress entry e ((sound.entries k entry at).counted e was) none
 
 module _ {F T : Type 0} (meaning : F → End) (does : F → Call T → F → Type 0) (ending : Ending) where
   -- what a close did to a subscription whose end wasn't closed before

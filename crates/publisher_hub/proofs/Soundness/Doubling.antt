@@ -39,7 +39,7 @@ counted_doubled p old new was is =
       until = is.until;
       gone = λ retired. let e = sym was.live ∙ retired in cc;
       closed = λ some. is.closed (subst (λ c. Rattle.std.specs.Prelude.IsSome c) closing some);
-      unclosed = λ none. closing ∙ is.unclosed none;
+      closed_as = λ ending at. is.closed_as ending (sym closing ∙ at);
     }
 
 entry_doubled : (p : Progress) (old new : EntryState) → MayBeDoubled old new → IsEntry p old → IsEntry p new

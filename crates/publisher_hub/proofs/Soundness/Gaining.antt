@@ -1,5 +1,5 @@
 -- A sound Hub stays sound if its live subscriptions gain an item, however often they were looked at.
-use Rattle.std.proofs.Common.{◌≡◌, ◌⊎◌, ℕ, ◌+◌, ◌<◌, ◌≤◌, true, false, None, Some, List, [], ◌∷◌, ◌++◌, length, refl, ap, sym, subst, ◌∙◌, inl, inr, arith}
+use Rattle.std.proofs.Common.{◌≡◌, ◌⊎◌, ℕ, ◌+◌, ◌<◌, ◌≤◌, true, false, Option, None, Some, List, [], ◌∷◌, ◌++◌, length, refl, ap, sym, subst, ◌∙◌, inl, inr, arith}
 use Rattle.std.specs.Prelude.{IsSome, slice_get}
 use Rattle.std.proofs.lemmas.List.{length-append, length-set}
 use Rattle.std.proofs.lemmas.Option.{slice_get_within}
@@ -14,7 +14,7 @@ use Rattle.publisher_hub.specs.Offering.{HasDropped, HasEnded, IsNextItem, progr
 use Rattle.publisher_hub.specs.declared.hub.TheConstants.{MOST_SOURCES}
 use Rattle.publisher_hub.specs.Sound.{AreAgreed, AreLive, IsAccepted, IsBefore, IsCounted, IsEntry, IsOrdered, IsPublished, IsSound, MOST_ENTRIES}
 use Rattle.publisher_hub.proofs.AnswerLists.Updates.{get_grown, get_set, get_set_there}
-use Rattle.publisher_hub.proofs.Soundness.Looking.{same_end, until_next}
+use Rattle.publisher_hub.proofs.Soundness.Looking.{same_end, unclosed_by, until_next}
 use Rattle.publisher_hub.proofs.AnswerLists.Places.{stood_at}
 
 -- a live subscription accepted the item
@@ -62,10 +62,13 @@ module _ (p : Progress) (x : Item) (dropping : ℕ) (next : IsNextItem p x) wher
     source = is.source;
   }
 
+  -- what is some ending is some
+  some_of : (closing : Option Ending) (ending : Ending) → closing ≡ Some ending → IsSome closing
+  some_of closing ending at = rw at refl
+
   -- no end of a Hub that was not closed is closed
   never_closed : (old : EntryState) (e f : End) → IsCounted p old e → f.closing ≡ e.closing → IsSome f.closing → ⊥
-  never_closed old e f is closing some = let none : f.closing ≡ None = closing
-      ∙ is.unclosed next.unclosed in let e : IsSome {T = Ending} None = subst (λ c. IsSome c) none some in cc
+  never_closed old e f is closing some = let none : f.closing ≡ None = closing ∙ unclosed_by p old e is next.unclosed in let e : IsSome {T = Ending} None = subst (λ c. IsSome c) none some in cc
 
   -- a subscription whose list is as it was is counted after the publication, too
   counted_same : (old new : EntryState) (e f : End) → Follows e f → new.since ≡ old.since → until_of p.next old ≤ until_of q.next new
@@ -83,7 +86,7 @@ module _ (p : Progress) (x : Item) (dropping : ℕ) (next : IsNextItem p x) wher
         until = within;
         gone = gone;
         closed = λ some. absurd (never_closed old e f is closing some);
-        unclosed = λ none. closing ∙ is.unclosed next.unclosed;
+        closed_as = λ ending at. absurd (never_closed old e f is closing (some_of f.closing ending at));
       }
 
   -- the items that a live subscription had accepted come before this one
@@ -126,7 +129,7 @@ module _ (p : Progress) (x : Item) (dropping : ℕ) (next : IsNextItem p x) wher
         until = omega arith;
         gone = λ retired. let e = sym g.live ∙ retired in cc;
         closed = λ some. absurd (never_closed old g.before g.after is closing some);
-        unclosed = λ none. closing ∙ is.unclosed next.unclosed;
+        closed_as = λ ending at. absurd (never_closed old g.before g.after is closing (some_of g.after.closing ending at));
       } where
         by : (i : ℕ) (y : Item) → (slice_get g.before.accepted i ≡ Some y) ⊎ ((i ≡ length g.before.accepted) × (x ≡ y)) → IsPublished q (record old { feed = Some g.after }) y
         by i y (inl stood) = published_before old (record old { feed = Some g.after }) y refl
@@ -153,7 +156,7 @@ module _ (p : Progress) (x : Item) (dropping : ℕ) (next : IsNextItem p x) wher
         until = omega arith;
         gone = is.gone;
         closed = λ some. absurd (never_closed entry e e is refl some);
-        unclosed = λ none. is.unclosed next.unclosed;
+        closed_as = λ ending at. absurd (never_closed entry e e is refl (some_of e.closing ending at));
       }
 
   -- a subscription of a sound Hub stays such a subscription if an item is offered to it

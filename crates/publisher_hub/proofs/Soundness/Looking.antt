@@ -1,7 +1,8 @@
 -- A sound Hub that is looked at stays sound.
-use Rattle.std.proofs.Common.{◌≡◌, ℕ, ◌<◌, ◌≤◌, true, false, Some, List, refl, ap, sym, subst, ◌∙◌, inl, inr, arith}
+use Rattle.std.proofs.Common.{◌≡◌, ℕ, ◌<◌, ◌≤◌, true, false, Option, None, Some, List, refl, ap, sym, subst, ◌∙◌, inl, inr, arith}
 use Rattle.std.specs.Prelude.{IsSome, slice_get}
 use Rattle.flow_rules.specs.Feed.{End, is_gone}
+use Rattle.flow_rules.specs.declared.ending.Ending.{Ending}
 use Rattle.flow_rules.specs.declared.item.Item.{Item}
 use Rattle.publisher_hub.specs.Entry.{EntryState, until_of}
 use Rattle.publisher_hub.specs.Hub.{HubState, Progress}
@@ -17,6 +18,13 @@ same_end e = cc
 -- a subscription that isn't retired takes part up to the next serial number
 pub until_next : (next : ℕ) (entry : EntryState) → entry.retired ≡ false → until_of next entry ≡ next
 until_next next entry live = rw live refl
+
+-- no end of a Hub that was not closed is closed
+pub unclosed_by : (p : Progress) (entry : EntryState) (e : End) → IsCounted p entry e → p.ending ≡ None → e.closing ≡ None
+unclosed_by p entry e is unclosed = by e.closing refl where
+  by : (closing : Option Ending) → e.closing ≡ closing → closing ≡ None
+  by None at = refl
+  by (Some ending) at = let no : Some ending ≡ None = sym (is.closed_as ending at) ∙ unclosed in cc
 
 -- an item that was published while a subscription took part still is such an item if only the end of the subscription
 -- changed, or it is retired now
@@ -44,7 +52,7 @@ counted_looked p old new e f follows since dropped until within gone is =
       until = within;
       gone = gone;
       closed = λ some. until ∙ is.closed (subst (λ c. IsSome c) closing some);
-      unclosed = λ none. closing ∙ is.unclosed none;
+      closed_as = λ ending at. is.closed_as ending (sym closing ∙ at);
     }
 
 -- a subscription of a sound Hub stays such a subscription if it is looked at

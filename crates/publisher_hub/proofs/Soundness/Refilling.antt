@@ -6,6 +6,7 @@ use Rattle.std.proofs.lemmas.List.Edits.{length-insert}
 use Rattle.std.proofs.lemmas.Option.{slice_get_within}
 use Rattle.close_count.specs.declared.ticket.Ticket.{Ticket}
 use Rattle.flow_rules.specs.Feed.{End}
+use Rattle.flow_rules.specs.declared.ending.Ending.{Ending}
 use Rattle.flow_rules.specs.declared.item.Item.{Item}
 use Rattle.publisher_hub.specs.Adding.{AreAllLive, new_entry}
 use Rattle.publisher_hub.specs.Entry.{EntryState, entry_of}
@@ -108,12 +109,12 @@ not_live hub place old sound all stood none i at =
 -- a sound Hub stays sound
 sound_put : (hub : HubState) (place rank : ℕ) (old : EntryState) (name : List ℕ) (on_full : OnFull) (e : End) (ticket : Option Ticket)
     → IsSound hub → AreAllLive hub.live hub.entries → slice_get hub.entries place ≡ Some old → old.feed ≡ None
-    → e.accepted ≡ [] → e.capacity ≡ hub.progress.capacity → (hub.progress.ending ≡ None → e.closing ≡ None) → length hub.live < MOST_LIVE
+    → e.accepted ≡ [] → e.capacity ≡ hub.progress.capacity → ((ending : Ending) → e.closing ≡ Some ending → hub.progress.ending ≡ Some ending) → length hub.live < MOST_LIVE
     → rank ≤ length hub.live
     → ((i n : ℕ) → slice_get hub.live i ≡ Some n → i < rank → n < place)
     → ((i n : ℕ) → slice_get hub.live i ≡ Some n → rank ≤ i → place ≤ n)
     → IsSound (record hub { entries = set hub.entries place (new_entry hub.progress name on_full e ticket); live = insert hub.live rank place })
-sound_put hub place rank old name on_full e ticket sound all stood none empty capacity unclosed few within below above =
+sound_put hub place rank old name on_full e ticket sound all stood none empty capacity closed_as few within below above =
     let entry : EntryState = new_entry hub.progress name on_full e ticket in
     let many_live = length-insert hub.live rank place within in
     record {
@@ -131,7 +132,7 @@ sound_put hub place rank old name on_full e ticket sound all stood none empty ca
       by : (k : ℕ) (l : EntryState)
           → ((place ≡ k) × (new_entry hub.progress name on_full e ticket ≡ l)) ⊎ (slice_get hub.entries k ≡ Some l)
           → IsEntry hub.progress l
-      by k l (inl now) = subst (λ (entry : EntryState). IsEntry hub.progress entry) now.1 (entry_added hub.progress name on_full e ticket empty capacity unclosed)
+      by k l (inl now) = subst (λ (entry : EntryState). IsEntry hub.progress entry) now.1 (entry_added hub.progress name on_full e ticket empty capacity closed_as)
       by k l (inr before) = sound.entries k l before
 
       other : (i n : ℕ) → slice_get hub.live i ≡ Some n → place ≡ n → ⊥
@@ -143,15 +144,15 @@ sound_put hub place rank old name on_full e ticket sound all stood none empty ca
 -- the same of what is stored
 pub sound_refilled : {F : Type 0} (meaning : F → End) (hub : Hub F) (place rank : ℕ) (name : List ℕ) (on_full : OnFull) (feed : F) (ticket : Option Ticket) (entry : Entry F) (live : List ℕ)
     → IsSound (hub_of meaning hub) → AreAllLive hub.live.items (hub_of meaning hub).entries → IsVacant place hub.entries.items
-    → (meaning feed).accepted ≡ [] → (meaning feed).capacity ≡ hub.capacity → (hub.ending ≡ None → (meaning feed).closing ≡ None)
+    → (meaning feed).accepted ≡ [] → (meaning feed).capacity ≡ hub.capacity → ((ending : Ending) → (meaning feed).closing ≡ Some ending → hub.ending ≡ Some ending)
     → HasPlace MOST_LIVE hub → entry ≡ first_entry_with name on_full hub.next feed ticket → rank ≤ length hub.live.items
     → ((i n : ℕ) → slice_get hub.live.items i ≡ Some n → i < rank → n < place)
     → ((i n : ℕ) → slice_get hub.live.items i ≡ Some n → rank ≤ i → place ≤ n)
     → live ≡ insert hub.live.items rank place
     → IsSound (record (hub_of meaning hub) { entries = map (entry_of meaning) (set hub.entries.items place entry); live = live })
-sound_refilled {F} meaning hub place rank name on_full feed ticket entry live sound all (old, (stood, (none, spent))) empty capacity unclosed has_place is within below above live_is =
+sound_refilled {F} meaning hub place rank name on_full feed ticket entry live sound all (old, (stood, (none, spent))) empty capacity closed_as has_place is within below above live_is =
     let put = sound_put (hub_of meaning hub) place rank (entry_of meaning old) name on_full (meaning feed) ticket sound all (get_mapped (entry_of meaning) hub.entries.items place old stood)
-    (ap (λ feed. option_map meaning feed) none) empty capacity unclosed has_place.few_live within below above in
+    (ap (λ feed. option_map meaning feed) none) empty capacity closed_as has_place.few_live within below above in
     let mapped : map (entry_of meaning) (set hub.entries.items place entry) ≡ set (hub_of meaning hub).entries place (entry_of meaning (first_entry_with name on_full hub.next feed ticket)) =
     ap (λ (l : Entry F). map (entry_of meaning) (set hub.entries.items place l)) is
     ∙ map-set (entry_of meaning) hub.entries.items place (first_entry_with name on_full hub.next feed ticket) in

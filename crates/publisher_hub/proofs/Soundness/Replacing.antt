@@ -37,7 +37,7 @@ counted_after p old new s is = record {
   until = subst (λ u. u ≤ p.next) (sym s.until) is.until;
   gone = s.gone;
   closed = λ some. s.until ∙ is.closed (subst (λ c. IsSome c) s.closing some);
-  unclosed = λ none. s.closing ∙ is.unclosed none;
+  closed_as = λ ending at. is.closed_as ending (sym s.closing ∙ at);
 } where
   published : (x : Item) → IsPublished p old x → IsPublished p new x
   published x was = record {

@@ -130,7 +130,7 @@ counted_without p entry e is = record {
   until = is.until;
   gone = is.gone;
   closed = is.closed;
-  unclosed = is.unclosed;
+  closed_as = is.closed_as;
 }
 
 replaces_ticketed : (p : Progress) (entry : EntryState) → Replaces p entry (record entry { ticket = None })

@@ -25,18 +25,18 @@ module _ {F T : Type 0} (meaning : F → End) (does : F → Call T → F → Typ
   -- a new producer's end that was closed if its Hub was: it has accepted nothing
   pub closed_empty : (ending : Option Ending) (capacity : ℕ) (feed after : F) (start : Option T)
       → ClosesNew meaning does ending feed start after → IsFresh capacity (meaning feed)
-      → ((meaning after).accepted ≡ []) × (((meaning after).capacity ≡ capacity) × (ending ≡ None → (meaning after).closing ≡ None))
+      → ((meaning after).accepted ≡ []) × (((meaning after).capacity ≡ capacity)
+      × ((told : Ending) → (meaning after).closing ≡ Some told → ending ≡ Some told))
   closed_empty None capacity feed after start closes fresh = (
     ap (λ f. (meaning f).accepted) closes.1 ∙ fresh.empty,
     (
       ap (λ f. (meaning f).capacity) closes.1 ∙ fresh.capacity_is,
-      λ none. ap (λ f. (meaning f).closing) closes.1
-          ∙ fresh.unclosed,
+      λ told at. let no : None ≡ Some told = sym (ap (λ f. (meaning f).closing) closes.1 ∙ fresh.unclosed) ∙ at in cc,
     ),
   )
   closed_empty (Some ending) capacity feed after start closes fresh =
       let now = closes.0.first fresh.unclosed in
-      (ap (λ (e : End). e.accepted) now ∙ fresh.empty, (ap (λ (e : End). e.capacity) now ∙ fresh.capacity_is, λ none. cc))
+      (ap (λ (e : End). e.accepted) now ∙ fresh.empty, (ap (λ (e : End). e.capacity) now ∙ fresh.capacity_is, λ told at. sym (ap (λ (e : End). e.closing) now) ∙ at))
 
   -- looks leave a vacant place vacant
   pub vacant_after : (place : ℕ) (old new : Hub F) → IsPrepared meaning does old new → IsVacant place old.entries.items

@@ -149,7 +149,7 @@ impl<F: Feed> Hub<F> {
         requires place { HasPlace MOST_LIVE self.old }
         requires empty { (F.meaning feed).accepted ≡ [] }
         requires capacity { (F.meaning feed).capacity ≡ self.old.capacity }
-        requires unclosed { self.old.ending ≡ None → (F.meaning feed).closing ≡ None }
+        requires closed_as { (ending : _) → (F.meaning feed).closing ≡ Some ending → self.old.ending ≡ Some ending }
         ensures entries { self.new.entries.items ≡ self.old.entries.items
             ++ first_entry_with name on_full self.old.next feed ticket ∷ [] }
         ensures live { self.new.live.items ≡ self.old.live.items

@@ -6,7 +6,8 @@ use Rattle.publisher.proofs.finishing.finish.Goals as goal
 pub returns-in-Ok-clause-outcome : goal.returns-in-Ok-clause-outcome
 returns-in-Ok-clause-outcome g c = let out = c.in-Ok.ensures.ok in
     outcome_is g.B.Listener.told g.B.Listener.replied c.args.submitters.items c.args.subscriptions.items c.in-Ok.books
-    _ c.conclude.result out.ends out.counted out.audited c.conclude.ensures out.log out.long out.sent out.content
+    _ c.conclude.result out.ends out.counted out.audited c.conclude.ensures out.log out.long out.sent out.content _
+    out.closed_with
 
 pub returns-in-Ok-clause-handed : goal.returns-in-Ok-clause-handed
 returns-in-Ok-clause-handed g c = let out = c.in-Ok.ensures.ok in

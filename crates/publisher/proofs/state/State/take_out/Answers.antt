@@ -8,7 +8,7 @@ use Rattle.publisher.specs.State.{PublisherState, producer_end}
 use Rattle.publisher.specs.Tickets.{AreSpent}
 use Rattle.publisher.specs.Together.{Audits}
 use Rattle.publisher.proofs.BothEnds.Placing.{none_placed}
-use Rattle.publisher.proofs.BothEnds.TakenOut.{all_spent, are_of_log, are_taken_out, audited, closed_by, closed_if_drained, is_counted, is_there, state_found}
+use Rattle.publisher.proofs.BothEnds.TakenOut.{all_spent, are_closed_with, are_of_log, are_taken_out, audited, closed_by, closed_if_drained, is_counted, is_there, state_found}
 use Rattle.publisher.proofs.state.State.take_out.Goals as goal
 
 pub place_all-all-requires-clause-empty : goal.place_all-all-requires-clause-empty
@@ -104,4 +104,5 @@ returns-clause-ok g c =
       long = is.logged.long ∙ sym (serial ∙ next);
       sent = c.put_together-together.ensures.sent;
       content = are_of_log hub c.self.inside.counted _ founds is refl found;
+      closed_with = are_closed_with hub c.self.inside.counted _ founds is refl found;
     })

@@ -11,7 +11,7 @@ returns-clause-entries g c = c.push_reserved.ensures.items
 pub returns-clause-sound : goal.returns-clause-sound
 returns-clause-sound g c =
     sound_grown g.F.Feed.meaning c.args.self.now c.push_reserved.new.self.items c.push_reserved-2.new.self.items c.args.name c.args.on_full c.args.feed c.args.ticket
-    c.requires.empty c.requires.capacity c.requires.unclosed c.requires.place (returns-clause-entries g c) (search rules) c.requires.sound
+    c.requires.empty c.requires.capacity c.requires.closed_as c.requires.place (returns-clause-entries g c) (search rules) c.requires.sound
 
 pub returns-clause-live : goal.returns-clause-live
 returns-clause-live g c = c.push_reserved-2.ensures.items
