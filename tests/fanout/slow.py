@@ -72,8 +72,8 @@ def stuck():
     expect('stuck', 'the memory %r' % peaks, peaks[1] - peaks[0] < 1000, True)
 
 
-# How often a program is run for the median of its memory: single runs differ by 200 KiB, by what the system maps of the program.
-RUNS = 9
+# How often a program is run for the median of its memory: single runs differ by 300 KiB, by what the system maps of the program.
+RUNS = 25
 
 
 def flat():
