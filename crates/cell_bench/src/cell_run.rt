@@ -63,9 +63,10 @@ fn through_cell<R: Threads + Wait + Sync>(
 
 /// Runs each task that comes until the subscription has ended.
 fn run_all<R: Wait>(rt: &R, tasks: &Tasks, mut seen: Seen) {
+    let mut patience = Patience::waits();
     for _ in rt.forever() {
         if let Some(task) = tasks.pop(rt) {
-            if run(rt, task, &mut seen) {
+            if run(rt, task, &mut seen, &mut patience) {
                 break;
             }
         }
@@ -73,10 +74,10 @@ fn run_all<R: Wait>(rt: &R, tasks: &Tasks, mut seen: Seen) {
 }
 
 /// Runs a task until it rests or has ended. Tells whether it has ended.
-fn run<R: Wait>(rt: &R, task: Task<InOrder>, seen: &mut Seen) -> bool {
+fn run<R: Wait>(rt: &R, task: Task<InOrder>, seen: &mut Seen, patience: &mut Patience) -> bool {
     let mut task = task;
     for _ in rt.forever() {
-        match task.turn(seen, Patience::Waits) {
+        match task.turn(seen, patience) {
             Turn::Again(next) => task = next,
             Turn::Resting(_) => return false,
             Turn::Ended(..) => return true,

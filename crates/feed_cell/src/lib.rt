@@ -113,7 +113,7 @@
 //! ```
 //! let (mut producer, mut handle, task) = Cell::new(alloc, 4, Collector::asking(alloc, 1))?;
 //! let put = producer.put(item);                    // accepted, with lag 1; its first turn is owed already
-//! let turn = task.turn(&mut seen, Patience::Waits); // told onSubscribe and the item, and rests
+//! let turn = task.turn(&mut seen, &mut Patience::waits()); // told onSubscribe and the item, and rests
 //! handle.ready()?;
 //! let woken = handle.request(1);                   // a task, which has to be run: the subscription was at rest
 //! producer.ready()?;

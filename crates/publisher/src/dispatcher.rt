@@ -65,7 +65,7 @@ impl<L: Ledgers + Send, B: Listener + Send, F: FailHandler + Send> Dispatcher<L,
         let Some(task) = self.pool.run_one(rt) else {
             return false;
         };
-        if let Some(again) = task.turn(rt, &*self.shared, &mut self.seen, Patience::Hurries) {
+        if let Some(again) = self.turn(rt, task) {
             self.hand_in(rt, again);
         }
         true
@@ -97,10 +97,20 @@ impl<L: Ledgers + Send, B: Listener + Send, F: FailHandler + Send> Dispatcher<L,
     fn run<R: Wait>(&mut self, rt: &R, task: ConsumerTask<L, B, F>) {
         let mut next = task;
         for _ in rt.forever() {
-            match next.turn(rt, &*self.shared, &mut self.seen, Patience::Hurries) {
+            match self.turn(rt, next) {
                 Some(again) => next = again,
                 None => return,
             }
         }
+    }
+
+    /// Runs a turn of a task. Its thread is to come back soon.
+    fn turn<R: Wait>(
+        &mut self,
+        rt: &R,
+        task: ConsumerTask<L, B, F>,
+    ) -> Option<ConsumerTask<L, B, F>> {
+        let Dispatcher { shared, seen, .. } = self;
+        task.turn(rt, &**shared, seen, &mut Patience::hurries())
     }
 }

@@ -22,6 +22,8 @@ pub struct Worker<L: Ledgers, B: Listener, F: FailHandler> {
     pub shared: Arc<Shared<L, B, F>>,
     /// What its turn sees. It is empty between two turns.
     seen: Seen,
+    /// How long its tasks wait before they rest.
+    patience: Patience,
 }
 
 impl<L: Ledgers, B: Listener, F: FailHandler> Worker<L, B, F> {
@@ -30,6 +32,7 @@ impl<L: Ledgers, B: Listener, F: FailHandler> Worker<L, B, F> {
         Ok(Worker {
             shared: Arc::try_clone(shared)?,
             seen: Seen::new(alloc)?,
+            patience: Patience::waits(),
         })
     }
 }
@@ -60,7 +63,7 @@ impl<L: Ledgers, B: Listener, F: FailHandler> ConsumerTask<L, B, F> {
         rt: &R,
         shared: &Shared<L, B, F>,
         seen: &mut Seen,
-        patience: Patience,
+        patience: &mut Patience,
     ) -> Option<ConsumerTask<L, B, F>>
         ensures forgets { seen.new.signals ≡ [] }
     {
@@ -95,8 +98,12 @@ impl<L: Ledgers + Send, B: Listener + Send, F: FailHandler + Send> Job for Consu
 
     /// Runs one turn. It is run again if another one is owed.
     fn run<R: Wait>(self, rt: &R, worker: &mut Worker<L, B, F>) -> Option<ConsumerTask<L, B, F>> {
-        let Worker { shared, seen } = worker;
-        self.turn(rt, &**shared, seen, Patience::Waits)
+        let Worker {
+            shared,
+            seen,
+            patience,
+        } = worker;
+        self.turn(rt, &**shared, seen, patience)
     }
 }
 

@@ -11,6 +11,7 @@ mod pausing;
 mod putting;
 mod relay;
 mod several;
+mod waits;
 
 use super::desks::has_told;
 use crate::Row;

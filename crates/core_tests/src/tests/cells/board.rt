@@ -55,7 +55,7 @@ impl Board {
         let Some(task) = task else {
             return false;
         };
-        let turn = task.turn(seen, Patience::Waits);
+        let turn = task.turn(seen, &mut Patience::waits());
         self.given.fetch_add(items_in(seen.as_slice()), SeqCst);
         match turn {
             Turn::Again(task) => self.post(rt, Some(task)),

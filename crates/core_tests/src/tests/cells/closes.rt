@@ -23,7 +23,10 @@ fn at_rest(rt: &impl Abort, alloc: Global) -> Result<(Producer<Told>, Handle<Tol
 fn rests(alloc: Global, task: Option<Task<Told>>) -> Result<bool, NoMemory> {
     let mut seen = Seen::new(alloc)?;
     match task {
-        Some(task) => Ok(matches!(task.turn(&mut seen, Patience::Hurries), Turn::Resting(_))),
+        Some(task) => Ok(matches!(
+            task.turn(&mut seen, &mut Patience::hurries()),
+            Turn::Resting(_)
+        )),
         None => Ok(false),
     }
 }
@@ -121,7 +124,7 @@ fn its_own_handle_counts(rt: HostRuntime) -> Result<(), Fail> {
     let mut seen = Seen::new(alloc)?;
     assert!(rt;
         matches!(
-            task.turn(&mut seen, Patience::Hurries),
+            task.turn(&mut seen, &mut Patience::hurries()),
             Turn::Ended(How::Cancelled, _)
         )
     );
@@ -149,7 +152,7 @@ fn one_whose_task_is_alive_is_shared(rt: HostRuntime) -> Result<(), Fail> {
     let mut seen = Seen::new(alloc)?;
     assert!(rt;
         matches!(
-            task.turn(&mut seen, Patience::Hurries),
+            task.turn(&mut seen, &mut Patience::hurries()),
             Turn::Ended(How::Cancelled, _)
         )
     );

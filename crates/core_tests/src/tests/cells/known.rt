@@ -52,7 +52,7 @@ const LIVES: [Life; 7] = [
 
 // Runs one turn. What it told, and its outlook.
 fn turn_of(task: Task<Pausing>, mut seen: Seen) -> (Seen, Outlook) {
-    let outlook = match task.turn(&mut seen, Patience::Waits) {
+    let outlook = match task.turn(&mut seen, &mut Patience::waits()) {
         Turn::Again(_) => Outlook::Again,
         Turn::Resting(_) => Outlook::Resting,
         Turn::Ended(how, _) => Outlook::Ended(how),

@@ -139,7 +139,7 @@ impl<B: Listener> Parties<B> {
         let Some(task) = self.task.take() else {
             return Ok(false);
         };
-        let found = match task.turn(&mut seen, Patience::Waits) {
+        let found = match task.turn(&mut seen, &mut Patience::waits()) {
             Turn::Again(task) => {
                 self.task = Some(task);
                 Outlook::Again

@@ -72,7 +72,7 @@ fn runs(rt: &impl Abort, alloc: Global, task: Task<InOrder>) -> Result<(), Fail>
             return Ok(());
         };
         let mut seen = Seen::new(alloc)?;
-        next = match task.turn(&mut seen, Patience::Hurries) {
+        next = match task.turn(&mut seen, &mut Patience::hurries()) {
             Turn::Again(task) => Some(task),
             Turn::Resting(_) | Turn::Ended(_, _) => None,
         };

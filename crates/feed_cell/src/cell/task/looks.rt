@@ -40,7 +40,7 @@ pub(crate) fn serve<B: Listener>(
     word: u64,
     seen: &mut Seen,
     known: &mut Known,
-    patience: Patience,
+    patience: &mut Patience,
 ) -> Served
     requires looked { HasLookedAt B.told word party.old.seat.me }
     requires room { length seen.old.signals < SIGNALS_IN_A_TURN }
@@ -67,7 +67,7 @@ fn serve_soon<B: Listener>(
     word: u64,
     seen: &mut Seen,
     known: &mut Known,
-    patience: Patience,
+    patience: &mut Patience,
 ) -> Option<Served>
     requires looked { HasLookedAt B.told word party.old.seat.me }
     requires room { length seen.old.signals < SIGNALS_IN_A_TURN }
@@ -80,13 +80,15 @@ fn serve_soon<B: Listener>(
     if let Some(served) = serve_once(party, word, seen, known) {
         return Some(served);
     }
-    for pauses in patience.waits(party.capacity) {
+    for pauses in patience.pauses(party.capacity) {
         pause(*pauses);
         let word = peek(party);
         if let Some(served) = serve_once(party, word, seen, known) {
+            patience.paid();
             return Some(served);
         }
     }
+    patience.in_vain();
     None
 }
 

@@ -42,7 +42,7 @@ impl<B: Listener> Task<B> {
     /// answers is done at once; one that is refused memory ends the subscription. If nothing is left to tell,
     /// it spins for a few microseconds at most, in case more comes, if it has the patience. It goes on only after 64 items, or if something was
     /// new when it would have rested.
-    pub fn turn(self, seen: &mut Seen, patience: Patience) -> Turn<B>
+    pub fn turn(self, seen: &mut Seen, patience: &mut Patience) -> Turn<B>
 
         // What it tells, by what it takes each item, and what became of the task.
         ensures turned { TurnsInto self seen.new.signals result }
@@ -91,7 +91,7 @@ fn run<B: Listener>(
     party: &mut Seated<B>,
     stage: Stage,
     seen: &mut Seen,
-    patience: Patience,
+    patience: &mut Patience,
 ) -> Outlook
     requires runner { RunsFree party.old.seat.me.0 }
     requires paused { IsPaused B.told stage party.old.seat.me }

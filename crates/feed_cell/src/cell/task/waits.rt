@@ -1,35 +1,73 @@
-//! How long a task that finds nothing to do waits before it rests, by the capacity of its buffer.
-//!
-//! The waits are chosen for processors whose pause takes 4.5 nanoseconds. Where one takes ten times as long, so does
-//! each wait.
+//! How long a task that finds nothing to do waits before it rests, as whoever runs its turns has learned.
+ghost use Rattle.std.specs.Prelude.{◌≤◌};
+ghost use Rattle.std.specs.Option.{ForSome};
+ghost use Rattle.feed_cell.specs.declared.cell.task.waits.TheConstants.{MOST_DOUBLED};
+
 use std::hint::spin_loop;
 
-/// From this capacity on a task waits long. A smaller buffer fills up meanwhile.
-const WAITS_LONG_FROM: u64 = 32;
+/// From this capacity on a task waits once, and long: what comes meanwhile is given in a row, and moves fewer cache lines.
+/// A smaller buffer fills up meanwhile, so its task looks more and more rarely.
+const WAITS_ONCE_FROM: u64 = 32;
 
-/// The pauses of each wait of a task with a small buffer: 510 in all, some 2.3 microseconds.
+/// The pauses of that wait, by how much of it pays. The longest takes 3.6 microseconds where a pause takes 4.5
+/// nanoseconds, and 11 where it takes 13.5.
+const LONG_WAITS: [u32; 5] = [50, 100, 200, 400, 800];
+
+/// The pauses of the waits of a task with a small buffer, one after the other: 510 in all, if all of them pay.
 const SHORT_WAITS: [u32; 8] = [2, 4, 8, 16, 32, 64, 128, 256];
 
-/// The pauses of the one wait of a task with a larger buffer: some 3.6 microseconds. What comes meanwhile is given in a
-/// row, and moves fewer cache lines.
-const LONG_WAITS: [u32; 1] = [800];
+/// How many of these it waits at least.
+const FEWEST_SHORT_WAITS: usize = 4;
 
-/// Whether a task that finds nothing to do waits a few microseconds before it rests, in case more comes.
+/// How often the shortest waits are doubled at most.
+const MOST_DOUBLED: usize = 4;
+
+/// How long a task that finds nothing to do waits before it rests, in case more comes. It is learned: after waits in
+/// vain the next take half as long, after one in which something came twice as long, a few microseconds at most. So a
+/// task waits only where that pays, however long a pause takes on the machine.
 #[derive(Clone, Copy, Debug, PartialEq, Eq)]
-pub enum Patience {
-    /// It waits: whoever runs it has nothing else to do.
-    Waits,
-    /// It rests at once: whoever runs it is to come back soon, as a submitter is.
-    Hurries,
+pub struct Patience {
+    /// How often the shortest waits are doubled. One that hurries has none.
+    doubled: Option<usize>,
+    ghost bounded: { ForSome doubled (λ times. times ≤ MOST_DOUBLED) },
 }
 
 impl Patience {
+    /// Gives that of a thread that has nothing else to do than to run turns: its tasks wait.
+    pub fn waits() -> Patience {
+        Patience {
+            doubled: Some(MOST_DOUBLED),
+        }
+    }
+
+    /// Gives that of a thread that is to come back soon, as a submitter is: its tasks rest at once. It learns nothing.
+    pub fn hurries() -> Patience {
+        Patience { doubled: None }
+    }
+
     /// Gives the pauses of each wait, one after the other, of a task with a buffer of this capacity.
-    pub(super) fn waits(self, capacity: u64) -> &'static [u32] {
-        match self {
-            Patience::Hurries => &[],
-            Patience::Waits if capacity < WAITS_LONG_FROM => &SHORT_WAITS,
-            Patience::Waits => &LONG_WAITS,
+    pub(super) fn pauses(self, capacity: u64) -> &'static [u32] {
+        let Some(doubled) = self.doubled else {
+            return &[];
+        };
+        if capacity < WAITS_ONCE_FROM {
+            &SHORT_WAITS[..FEWEST_SHORT_WAITS + doubled]
+        } else {
+            &LONG_WAITS[doubled..doubled + 1]
+        }
+    }
+
+    /// Learns that something came in a wait.
+    pub(super) fn paid(&mut self) {
+        if let Some(doubled) = self.doubled {
+            self.doubled = Some((doubled + 1).min(MOST_DOUBLED));
+        }
+    }
+
+    /// Learns that all waits were in vain.
+    pub(super) fn in_vain(&mut self) {
+        if let Some(doubled) = self.doubled {
+            self.doubled = Some(doubled.saturating_sub(1));
         }
     }
 }
