@@ -98,7 +98,7 @@ for name in a_refusal_is_answered the_last_of_three_is_true no_two_of_one_count_
 done
 for name in alone::a_refusal_is_answered alone::a_full_pool_gives_the_job_back alone::a_shut_pool_gives_the_job_back \
     alone::stop_gives_the_jobs_left_in_order threads::each_job_of_two_workers_ran_twice \
-    threads::a_job_need_not_be_sync sleepers::a_shut_ends_both_that_sleep; do
+    threads::a_job_need_not_be_sync sleepers::a_shut_ends_all_that_sleep; do
     each "$hub" "tests::pool::$name"
 done
 each "$hub" tests::hub::the_last_serial_number_is_given_once

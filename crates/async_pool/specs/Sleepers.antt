@@ -1,6 +1,7 @@
 -- Who is called of those that sleep, and whom to wake then.
-use Rattle.std.specs.Prelude.{◌≡◌, ◌<◌, ◌⊎◌}
+use Rattle.std.specs.Prelude.{◌≡◌, ◌<◌, ◌⊎◌, true, false}
 use Rattle.async_pool.specs.declared.sleepers.Sleepers.{Sleepers}
+use Rattle.async_pool.specs.declared.sleepers.Place.TheVariants.{Lead, Others}
 use Rattle.async_pool.specs.declared.sleepers.Wake.{Wake}
 use Rattle.async_pool.specs.declared.sleepers.Wake.TheVariants.{Nobody, One, All}
 
@@ -8,13 +9,15 @@ use Rattle.async_pool.specs.declared.sleepers.Wake.TheVariants.{Nobody, One, All
 abbrev pub MayCall : Sleepers → Type 0
 MayCall sleepers = (0 < sleepers.asleep) × (sleepers.called ≡ 0)
 
--- one was called, if one may be, and is to be woken; else nobody
+-- one was called, if one may be, the lead if there is one, and is to be woken; else nobody
 pub record CallsOne (old : Sleepers) (wake : Wake) (new : Sleepers) : Type 0 where
   pub called : MayCall old → new.called ≡ 1
-  pub woken : MayCall old → wake ≡ One
+  pub lead : MayCall old → old.has_lead ≡ true → wake ≡ One Lead
+  pub other : MayCall old → old.has_lead ≡ false → wake ≡ One Others
   pub unchanged : (old.asleep ≡ 0) ⊎ (0 < old.called) → new.called ≡ old.called
   pub nobody : (old.asleep ≡ 0) ⊎ (0 < old.called) → wake ≡ Nobody
   pub asleep : new.asleep ≡ old.asleep
+  pub has_lead : new.has_lead ≡ old.has_lead
 
 -- all that sleep were called, and are to be woken
 pub record CallsAll (old : Sleepers) (wake : Wake) (new : Sleepers) : Type 0 where
@@ -22,3 +25,4 @@ pub record CallsAll (old : Sleepers) (wake : Wake) (new : Sleepers) : Type 0 whe
   pub woken : 0 < old.asleep → wake ≡ All
   pub nobody : old.asleep ≡ 0 → wake ≡ Nobody
   pub asleep : new.asleep ≡ old.asleep
+  pub has_lead : new.has_lead ≡ old.has_lead

@@ -32,6 +32,7 @@ pub(crate) struct Crew<J: Drop, Q: Rule<J>> {
 impl<J: Drop, Q: Rule<J>> Crew<J, Q> {
     ghost use Rattle.std.specs.Prelude.{◌<◌, ◌+◌, ◌-◌, Some, None, false, true, min, slice_get, slice_set};
     ghost use Rattle.async_pool.specs.Sleepers.{CallsOne, CallsAll};
+    ghost use Rattle.async_pool.specs.declared.sleepers.Place.TheVariants as Place;
 
     /// Makes the crew of an open pool with this many workers, none of whose loops runs and none of whom sleeps, and the
     /// thieves of their queues, in the order of the workers.
@@ -80,6 +81,9 @@ impl<J: Drop, Q: Rule<J>> Crew<J, Q> {
         ensures asleep { self.new.sleepers.asleep
             ≡ min (self.old.sleepers.asleep + 1) 18446744073709551615 }
         ensures called { self.new.sleepers.called ≡ self.old.sleepers.called }
+        ensures lead { self.new.sleepers.has_lead ≡ true }
+        ensures first { self.old.sleepers.has_lead ≡ false → result.0 ≡ Place.Lead }
+        ensures other { self.old.sleepers.has_lead ≡ true → result.0 ≡ Place.Others }
         ensures others { (self.new.shut ≡ self.old.shut) × (self.new.queues ≡ self.old.queues) }
     {
         self.sleepers.lie_down()
@@ -89,6 +93,9 @@ impl<J: Drop, Q: Rule<J>> Crew<J, Q> {
     pub fn get_up(&mut self, sleeper: Sleeper)
         ensures asleep { self.new.sleepers.asleep ≡ self.old.sleepers.asleep - 1 }
         ensures called { self.new.sleepers.called ≡ self.old.sleepers.called - 1 }
+        ensures lead { sleeper.0 ≡ Place.Lead → self.new.sleepers.has_lead ≡ false }
+        ensures other { sleeper.0 ≡ Place.Others
+            → self.new.sleepers.has_lead ≡ self.old.sleepers.has_lead }
         ensures others { (self.new.shut ≡ self.old.shut) × (self.new.queues ≡ self.old.queues) }
     {
         self.sleepers.get_up(sleeper);

@@ -6,6 +6,7 @@ ghost use Rattle.std.specs.Prelude.{◌≡◌, ◌<◌, ◌↔◌, ◌⊎◌, If
 ghost use Rattle.flow_rules.specs.declared.refusal.Refusal.TheVariants as Refusal;
 ghost use Rattle.async_pool.specs.Crew.{IsWorkerCount};
 
+use crate::calls::Calls;
 use crate::crew::{Crew, MOST_WORKERS, Over};
 use crate::door::{Door, Entering};
 use crate::inbox::Inbox;
@@ -21,9 +22,10 @@ use crate::source::Source;
 use crate::taker::Taker;
 use crate::thief::Thief;
 use flow_rules::{NoMemory, Refusal};
+use searching::MOST_LOOKS;
 use std::alloc::Global;
 use std::fmt;
-use std::sync::{Condvar, Mutex, Wait};
+use std::sync::{Mutex, Wait};
 
 /// A pool of workers (`ForkJoinPool` in `asyncMode`). Threads share it by reference or in an `Arc`. A caller writes
 /// `Pool<J>`: `P` and `Q`, the rules of the inbox and of the workers' queues, are for the proofs.
@@ -32,8 +34,7 @@ pub struct Pool<J: Job, P: Rule<J> + Shutdown = InOrder, Q: Rule<J> = InOrder> {
     workers: usize,
     jobs: Jobs<J, P, Thief<J, Q>>,
     crew: Mutex<Crew<J, Q>>,
-    /// A job came, or the pool was shut.
-    moved: Condvar,
+    calls: Calls,
     lookout: Lookout,
     door: Door<P>,
     left: Mutex<Left<J>>,
@@ -88,7 +89,7 @@ impl<J: Job, P: Rule<J> + Shutdown, Q: Rule<J>> Pool<J, P, Q> {
             workers,
             jobs: Jobs::new(inbox, thieves),
             crew: Mutex::new(crew),
-            moved: Condvar::new(),
+            calls: Calls::new(),
             lookout: Lookout::new(),
             door: Door::new(),
             left: Mutex::new(left),
@@ -147,6 +148,7 @@ impl<J: Job, P: Rule<J> + Shutdown, Q: Rule<J>> Pool<J, P, Q> {
             worker,
             own,
             pass: self.jobs.pass(),
+            looks: MOST_LOOKS,
         };
         let over = self.work(rt, &mut taker, gate, context);
         self.crew.lock(rt).end_loop(worker, taker.own, over);
@@ -182,7 +184,7 @@ impl<J: Job, P: Rule<J> + Shutdown, Q: Rule<J>> Pool<J, P, Q> {
             workers: _,
             jobs,
             crew: _,
-            moved: _,
+            calls: _,
             lookout: _,
             door: _,
             left,

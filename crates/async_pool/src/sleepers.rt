@@ -1,5 +1,9 @@
-//! How many workers sleep, how many of them were called, and whom to wake then.
-ghost use Rattle.std.specs.Prelude.{◌≡◌, ◌≤◌, ◌+◌, ◌-◌, min};
+//! How many workers sleep, how many of them were called, where each sleeps, and whom to wake then.
+//!
+//! The lead is called first: whoever lies down takes its place if that is free. So one worker serves jobs that come one
+//! at a time, and it has slept least of all: its processor wakes soonest.
+ghost use Rattle.std.specs.Prelude.{◌≡◌, ◌≤◌, ◌+◌, ◌-◌, min, false, true};
+ghost use Rattle.async_pool.specs.declared.sleepers.Place.TheVariants as Place;
 
 /// Workers that sleep. Each is called once, and gets up then.
 #[derive(Drop)]
@@ -8,19 +12,40 @@ pub(crate) struct Sleepers {
     asleep: usize,
     /// Those that were called and did not get up yet.
     called: usize,
+    /// Whether one of them is the lead.
+    has_lead: bool,
     ghost of_those: { called ≤ asleep },
+}
+
+/// Where a worker sleeps.
+#[derive(Clone, Copy)]
+pub(crate) enum Place {
+    /// The place of the lead, of which there is one.
+    Lead,
+    Others,
 }
 
 /// One that lay down. It can't be dropped: it is handed back by [`Sleepers::get_up`] alone.
 #[must_use]
-pub(crate) struct Sleeper(());
+pub(crate) struct Sleeper(Place);
 
 /// Whom to wake once the lock was let go. It can't be dropped, so nobody forgets it.
 #[must_use]
 pub(crate) enum Wake {
     Nobody,
-    One,
+    /// One of those who sleep there.
+    One(Place),
     All,
+}
+
+impl Sleeper {
+    /// Tells where it sleeps.
+    pub fn place(&self) -> Place
+        ensures { result ≡ self.now.0 }
+    {
+        let Sleeper(place) = self;
+        *place
+    }
 }
 
 impl Sleepers {
@@ -33,29 +58,43 @@ impl Sleepers {
         Sleepers {
             asleep: 0,
             called: 0,
+            has_lead: false,
         }
     }
 
-    /// One more sleeps.
+    /// One more sleeps, as the lead if there is none.
     pub fn lie_down(&mut self) -> Sleeper
         ensures asleep { self.new.asleep ≡ min (self.old.asleep + 1) 18446744073709551615 }
         ensures called { self.new.called ≡ self.old.called }
+        ensures lead { self.new.has_lead ≡ true }
+        ensures first { self.old.has_lead ≡ false → result.0 ≡ Place.Lead }
+        ensures other { self.old.has_lead ≡ true → result.0 ≡ Place.Others }
     {
         self.asleep = self.asleep.saturating_add(1);
-        Sleeper(())
+        if self.has_lead {
+            return Sleeper(Place::Others);
+        }
+        self.has_lead = true;
+        Sleeper(Place::Lead)
     }
 
     /// One sleeps no more, and answers a call if there is one.
     pub fn get_up(&mut self, sleeper: Sleeper)
         ensures asleep { self.new.asleep ≡ self.old.asleep - 1 }
         ensures called { self.new.called ≡ self.old.called - 1 }
+        ensures lead { sleeper.0 ≡ Place.Lead → self.new.has_lead ≡ false }
+        ensures other { sleeper.0 ≡ Place.Others → self.new.has_lead ≡ self.old.has_lead }
     {
-        let Sleeper(()) = sleeper;
+        let Sleeper(place) = sleeper;
         self.called = self.called.saturating_sub(1);
         self.asleep = self.asleep.saturating_sub(1);
+        if let Place::Lead = place {
+            self.has_lead = false;
+        }
     }
 
-    /// Calls one that sleeps, or nobody if one that was called did not get up yet: that one looks, and calls the next.
+    /// Calls one that sleeps, the lead if there is one; or nobody if one that was called did not get up yet: that one
+    /// looks, and calls the next.
     pub fn call_one(&mut self) -> Wake
         ensures { CallsOne self.old result self.new }
     {
@@ -63,7 +102,11 @@ impl Sleepers {
             return Wake::Nobody;
         }
         self.called = 1;
-        Wake::One
+        if self.has_lead {
+            Wake::One(Place::Lead)
+        } else {
+            Wake::One(Place::Others)
+        }
     }
 
     /// Calls all.

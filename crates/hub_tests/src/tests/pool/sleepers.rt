@@ -104,8 +104,8 @@ fn runs_to<R: Clock + Wait>(
 }
 
 #[test]
-fn a_shut_ends_both_that_sleep(rt: HostRuntime) -> Result<(), Fail> {
-    let workers = asleep(rt, rt.alloc(), 2, Wide)?;
+fn a_shut_ends_all_that_sleep(rt: HostRuntime) -> Result<(), Fail> {
+    let workers = asleep(rt, rt.alloc(), 3, Wide)?;
     assert!(rt; workers.sleep_on());
     assert!(rt; workers.end(&rt) == Some((0, 0)));
     Ok(())
@@ -152,6 +152,19 @@ fn a_worker_that_sleeps_is_woken(rt: HostRuntime) -> Result<(), Fail> {
         let_them_sleep(&rt);
     }
     assert!(rt; workers.end(&rt) == Some((2, 2)));
+    Ok(())
+}
+
+// Each job finds all workers asleep, and wakes the one that ran the job before.
+#[test]
+fn jobs_one_at_a_time_are_run_by_one_worker(rt: HostRuntime) -> Result<(), Fail> {
+    let runs = no_runs(rt.alloc(), 1)?;
+    let workers = asleep(rt, rt.alloc(), 3, Wide)?;
+    for round in 1..5 {
+        assert!(rt; runs_to(&rt, &workers.site.pool, 0, &runs, round)?);
+        let_them_sleep(&rt);
+    }
+    assert!(rt; workers.end(&rt) == Some((4, 4)));
     Ok(())
 }
 
