@@ -116,6 +116,8 @@ batches '4 submitters to 4' 4 4 4 256 16 16
 batches '4 submitters to 4' 4 4 4 256 16 64
 alone 'one item at a time, 2,000 of them' 1 10
 alone 'one item at a time, 2,000 of them' 1 1000
+alone 'one item at a time, 2,000 of them' 4 10
+alone 'one item at a time, 2,000 of them' 4 1000
 echo
 PROGRAM=$fanout bench/fanout.sh "$runs" 1000000 "$work/fanout"
 mkdir -p bench/results

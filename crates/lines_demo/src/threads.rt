@@ -4,6 +4,7 @@ mod chains;
 mod explaining;
 mod fault;
 mod input;
+mod page;
 mod plan;
 mod report;
 mod run;

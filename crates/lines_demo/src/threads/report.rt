@@ -1,13 +1,11 @@
 //! The report of a run: what each subscriber was told, and how its subscription ended.
 use super::chains::Chains;
-use commands::{OutputFault, write_line, write_whole};
-use flow_rules::{FailHandler, How, Name, Shown, Signal, Subscriber, Text};
+use super::page::{LONGEST_LINE, Page};
+use commands::{OutputFault, write_line};
+use flow_rules::{FailHandler, How, Name, Shown, Signal, Subscriber};
 use publisher::{NamedLane, Outcome};
-use std::alloc::{AllocError, Global};
+use std::alloc::Global;
 use std::io::Write;
-
-/// Enough for any line of a report: a name, a source and a text, with what stands between them.
-const LONGEST_LINE: usize = Name::LONGEST + Text::LONGEST + 13;
 
 /// Writes the report. The answer is whether every subscriber completed.
 pub fn write_report<S: Subscriber, F: FailHandler, W: Write>(
@@ -22,9 +20,12 @@ pub fn write_report<S: Subscriber, F: FailHandler, W: Write>(
     let Ok(mut chains) = Chains::with_room(alloc, sources.len(), most_told(&outcome.lanes)) else {
         return Err(OutputFault::Memory);
     };
+    let Ok(mut page) = Page::empty(alloc) else {
+        return Err(OutputFault::Memory);
+    };
     let mut all_complete = true;
     for left in outcome.lanes.as_slice() {
-        write_lane(writer, &mut line, &mut chains, sources, left)?;
+        write_lane(writer, &mut line, &mut page, &mut chains, sources, left)?;
         all_complete &= is_complete(left);
     }
     write_handled(writer, &mut line, &outcome.handler)?;
@@ -37,6 +38,7 @@ pub fn write_report<S: Subscriber, F: FailHandler, W: Write>(
 fn write_lane<S: Subscriber, W: Write>(
     writer: &mut W,
     line: &mut Vec<u8>,
+    page: &mut Page,
     chains: &mut Chains,
     sources: &[u32],
     left: &NamedLane<Shown<S>>,
@@ -46,8 +48,9 @@ fn write_lane<S: Subscriber, W: Write>(
     chains.find(told);
     for (submitter, source) in sources.iter().enumerate() {
         begin_line(line, name, *source)?;
-        write_items(writer, line, told, chains, submitter)?;
+        write_items(writer, page, line.as_slice(), told, chains, submitter)?;
     }
+    page.write(writer)?;
     let items = chains.items();
     if let Some(How::Failed(code)) = left.lane.ending {
         return write_line(writer, line, format_args!("{name} failed {code} {items}"));
@@ -80,34 +83,23 @@ fn begin_line(line: &mut Vec<u8>, name: &Name, source: u32) -> Result<(), Output
     }
 }
 
-/// Writes the items of the submitter of this number, a line each, which begins as `line` does.
+/// Writes the items of the submitter of this number, a line each, with this beginning. The last of them wait on the page.
 fn write_items<W: Write>(
     writer: &mut W,
-    line: &mut Vec<u8>,
+    page: &mut Page,
+    beginning: &[u8],
     told: &[Signal],
     chains: &Chains,
     submitter: usize,
 ) -> Result<(), OutputFault> {
-    let beginning = line.len();
     let chain = chains.of(submitter);
     let mut place = chain.first;
     for _ in 0..chain.items {
         if let Some(Signal::Next(item)) = told.get(place) {
-            line.truncate(beginning);
-            if end_line(line, item.text.as_bytes()).is_err() {
-                return Err(OutputFault::Memory);
-            }
-            write_whole(writer, line.as_slice())?;
+            page.add_line(writer, beginning, item.text.as_bytes())?;
         }
         place = chains.after(place);
     }
-    Ok(())
-}
-
-/// Puts the text of an item behind the beginning of its line, and ends the line.
-fn end_line(line: &mut Vec<u8>, text: &[u8]) -> Result<(), AllocError> {
-    line.extend_from_slice(text)?;
-    line.push(b'\n')?;
     Ok(())
 }
 

@@ -1,16 +1,32 @@
-//! What a task learns of turns in which nothing came while it waited.
-use feed_cell::{Cell, Patience, Turn};
+//! What is learned of turns: how long a task waits that finds nothing to do.
+use super::putting::Putting;
+use crate::item_with;
+use feed_cell::{Cell, Handle, Patience, Task, Turn};
 use feed_core::Seen;
-use flow_rules::{Collector, capacity};
+use flow_rules::{Collector, Feed, Put, capacity};
 use std::alloc::Global;
 use std::test::Fail;
 
 // Turns enough for the waits to become the shortest, and one more.
 const TURNS: u32 = 6;
 
+// Runs a turn, after which the task rests.
+fn rests(task: Task<Collector>, seen: &mut Seen, patience: &mut Patience) -> Result<(), Fail> {
+    match task.turn(seen, patience) {
+        Turn::Resting(_) => Ok(()),
+        Turn::Again(_) | Turn::Ended(..) => Err(Fail::new("it doesn't rest")),
+    }
+}
+
+// Requests an item of a subscription at rest. The task that this starts.
+fn requested(handle: &mut Handle<Collector>) -> Result<Task<Collector>, Fail> {
+    handle.ready()?;
+    Ok(handle.request(1).ok_or("a request starts no task")?)
+}
+
 // In how many turns of a subscription that gets no item, one after the other, this patience learned something.
 fn lessons(alloc: Global, places: usize, mut patience: Patience) -> Result<u32, Fail> {
-    let Ok((_producer, mut handle, first)) = Cell::new(
+    let Ok((_producer, mut handle, task)) = Cell::new(
         alloc,
         capacity(places)?,
         Collector::new(alloc),
@@ -18,18 +34,14 @@ fn lessons(alloc: Global, places: usize, mut patience: Patience) -> Result<u32, 
         return Err(Fail::new("no memory for a subscription"));
     };
     let mut seen = Seen::new(alloc)?;
-    let mut task = first;
+    rests(task, &mut seen, &mut Patience::hurries())?;
     let mut lessons: u32 = 0;
     for _ in 0..TURNS {
         let before = patience;
-        let Turn::Resting(_) = task.turn(&mut seen, &mut patience) else {
-            return Err(Fail::new("it doesn't rest"));
-        };
+        rests(requested(&mut handle)?, &mut seen, &mut patience)?;
         if patience != before {
             lessons = lessons.saturating_add(1);
         }
-        handle.ready()?;
-        task = handle.request(1).ok_or("a request starts no task")?;
     }
     Ok(lessons)
 }
@@ -46,5 +58,42 @@ fn waits_in_vain_become_shorter(rt: HostRuntime) -> Result<(), Fail> {
 #[test]
 fn one_who_hurries_learns_nothing(rt: HostRuntime) -> Result<(), Fail> {
     assert!(rt; lessons(rt.alloc(), 64, Patience::hurries())? == 0);
+    Ok(())
+}
+
+// What two items in a row leave of a patience after a wait in vain behind them, and what this leaves of the longest.
+fn after_two_items(alloc: Global, mut patience: Patience) -> Result<(Patience, Patience), Fail> {
+    let Ok((producer, mut handle, task)) = Cell::new(alloc, capacity(64)?, Collector::new(alloc))
+    else {
+        return Err(Fail::new("no memory for a subscription"));
+    };
+    let mut putting = Putting::new(producer);
+    let mut seen = Seen::new(alloc)?;
+    let mut longest = Patience::waits();
+    rests(task, &mut seen, &mut Patience::hurries())?;
+    rests(requested(&mut handle)?, &mut seen, &mut longest)?;
+    for _ in 0..TURNS {
+        rests(requested(&mut handle)?, &mut seen, &mut patience)?;
+    }
+    let Put::Accepted {
+        start: Some(task),
+        ..
+    } = putting.put(item_with(alloc, b"x")?)?
+    else {
+        return Err(Fail::new("an item starts no task"));
+    };
+    let Put::Accepted { start: None, .. } = putting.put(item_with(alloc, b"y")?)? else {
+        return Err(Fail::new("another item starts a task"));
+    };
+    rests(task, &mut seen, &mut patience)?;
+    Ok((patience, longest))
+}
+
+#[test]
+fn items_in_a_row_make_waits_the_longest(rt: HostRuntime) -> Result<(), Fail> {
+    let (learned, longest) = after_two_items(rt.alloc(), Patience::waits())?;
+    assert!(rt; learned == longest);
+    let (learned, _) = after_two_items(rt.alloc(), Patience::hurries())?;
+    assert!(rt; learned == Patience::hurries());
     Ok(())
 }

@@ -80,6 +80,9 @@ fn serve_soon<B: Listener>(
     if let Some(served) = serve_once(party, word, seen, known) {
         return Some(served);
     }
+    if seen.as_slice().len() > 1 {
+        patience.restore();
+    }
     for pauses in patience.pauses(party.capacity) {
         pause(*pauses);
         let word = peek(party);

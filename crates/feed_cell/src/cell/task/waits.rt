@@ -23,8 +23,9 @@ const FEWEST_SHORT_WAITS: usize = 4;
 const MOST_DOUBLED: usize = 4;
 
 /// How long a task that finds nothing to do waits before it rests, in case more comes. It is learned: after waits in
-/// vain the next take half as long, after one in which something came twice as long, a few microseconds at most. So a
-/// task waits only where that pays, however long a pause takes on the machine.
+/// vain the next take half as long, after one in which something came twice as long, a few microseconds at most; and
+/// once a turn has told several signals in a row it waits the longest. So a task waits only where that pays, however long
+/// a pause takes on the machine.
 #[derive(Clone, Copy, Debug, PartialEq, Eq)]
 pub struct Patience {
     /// How often the shortest waits are doubled. One that hurries has none.
@@ -61,6 +62,13 @@ impl Patience {
     pub(super) fn paid(&mut self) {
         if let Some(doubled) = self.doubled {
             self.doubled = Some((doubled + 1).min(MOST_DOUBLED));
+        }
+    }
+
+    /// Forgets all waits in vain, since signals come close together.
+    pub(super) fn restore(&mut self) {
+        if self.doubled.is_some() {
+            self.doubled = Some(MOST_DOUBLED);
         }
     }
 
