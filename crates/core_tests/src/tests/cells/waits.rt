@@ -25,12 +25,9 @@ fn requested(handle: &mut Handle<Collector>) -> Result<Task<Collector>, Fail> {
 }
 
 // In how many turns of a subscription that gets no item, one after the other, this patience learned something.
-fn lessons(alloc: Global, places: usize, mut patience: Patience) -> Result<u32, Fail> {
-    let Ok((_producer, mut handle, task)) = Cell::new(
-        alloc,
-        capacity(places)?,
-        Collector::new(alloc),
-    ) else {
+fn lessons(alloc: Global, mut patience: Patience) -> Result<u32, Fail> {
+    let Ok((_producer, mut handle, task)) = Cell::new(alloc, capacity(64)?, Collector::new(alloc))
+    else {
         return Err(Fail::new("no memory for a subscription"));
     };
     let mut seen = Seen::new(alloc)?;
@@ -46,18 +43,17 @@ fn lessons(alloc: Global, places: usize, mut patience: Patience) -> Result<u32, 
     Ok(lessons)
 }
 
-// Waits in vain become shorter, in a small buffer and in a large one, but end in a shortest one.
+// Waits in vain become shorter, but there is a shortest one.
 #[test]
 fn waits_in_vain_become_shorter(rt: HostRuntime) -> Result<(), Fail> {
-    assert!(rt; lessons(rt.alloc(), 1, Patience::waits())? == 4);
-    assert!(rt; lessons(rt.alloc(), 64, Patience::waits())? == 4);
+    assert!(rt; lessons(rt.alloc(), Patience::waits())? == 4);
     Ok(())
 }
 
 // One who hurries waits for nothing, and so learns nothing.
 #[test]
 fn one_who_hurries_learns_nothing(rt: HostRuntime) -> Result<(), Fail> {
-    assert!(rt; lessons(rt.alloc(), 64, Patience::hurries())? == 0);
+    assert!(rt; lessons(rt.alloc(), Patience::hurries())? == 0);
     Ok(())
 }
 

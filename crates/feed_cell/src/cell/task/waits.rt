@@ -13,22 +13,19 @@ const WAITS_ONCE_FROM: u64 = 32;
 /// nanoseconds, and 11 where it takes 13.5.
 const LONG_WAITS: [u32; 5] = [50, 100, 200, 400, 800];
 
-/// The pauses of the waits of a task with a small buffer, one after the other: 510 in all, if all of them pay.
-const SHORT_WAITS: [u32; 8] = [2, 4, 8, 16, 32, 64, 128, 256];
-
-/// How many of these it waits at least.
-const FEWEST_SHORT_WAITS: usize = 4;
-
-/// How often the shortest waits are doubled at most.
+/// How often the shortest of these is doubled at most.
 const MOST_DOUBLED: usize = 4;
 
-/// How long a task that finds nothing to do waits before it rests, in case more comes. It is learned: after waits in
-/// vain the next take half as long, after one in which something came twice as long, a few microseconds at most; and
-/// once a turn has told several signals in a row it waits the longest. So a task waits only where that pays, however long
-/// a pause takes on the machine.
+/// The pauses of the waits of a task with a small buffer, one after the other: 510 in all. Shorter ones cost it more.
+const SHORT_WAITS: [u32; 8] = [2, 4, 8, 16, 32, 64, 128, 256];
+
+/// How long a task that finds nothing to do waits before it rests, in case more comes. From capacity 32 on that is
+/// learned: after a wait in vain the next takes half as long, after one in which something came twice as long, a few
+/// microseconds at most; and once a turn has told several signals in a row it waits the longest. So a task waits only
+/// where that pays, however long a pause takes on the machine.
 #[derive(Clone, Copy, Debug, PartialEq, Eq)]
 pub struct Patience {
-    /// How often the shortest waits are doubled. One that hurries has none.
+    /// How often the shortest wait is doubled. One that hurries has none.
     doubled: Option<usize>,
     ghost bounded: { ForSome doubled (λ times. times ≤ MOST_DOUBLED) },
 }
@@ -52,7 +49,7 @@ impl Patience {
             return &[];
         };
         if capacity < WAITS_ONCE_FROM {
-            &SHORT_WAITS[..FEWEST_SHORT_WAITS + doubled]
+            &SHORT_WAITS
         } else {
             &LONG_WAITS[doubled..doubled + 1]
         }
