@@ -22,7 +22,6 @@ use crate::source::Source;
 use crate::taker::Taker;
 use crate::thief::Thief;
 use flow_rules::{NoMemory, Refusal};
-use searching::MOST_LOOKS;
 use std::alloc::Global;
 use std::fmt;
 use std::sync::{Mutex, Wait};
@@ -148,7 +147,6 @@ impl<J: Job, P: Rule<J> + Shutdown, Q: Rule<J>> Pool<J, P, Q> {
             worker,
             own,
             pass: self.jobs.pass(),
-            looks: MOST_LOOKS,
         };
         let over = self.work(rt, &mut taker, gate, context);
         self.crew.lock(rt).end_loop(worker, taker.own, over);

@@ -13,6 +13,4 @@ pub(crate) struct Taker<J: Drop, Q: Rule<J>> {
     pub own: Queue<J, Q>,
     /// What it takes jobs from the inbox with.
     pub pass: InboxPass<J>,
-    /// How often it looks for a job before it sleeps: as its searches have paid.
-    pub looks: u32,
 }

@@ -11,13 +11,10 @@ use crossbeam_utils::Backoff;
 use std::sync::{MutexGuard, Wait};
 use std::thread;
 
-/// How often a worker looks for a job before it sleeps, as long as that pays. It spins in between, for 447 pauses in all:
-/// some 2 microseconds where a pause takes 4.5 nanoseconds. It doesn't yield: on a kernel that takes a time slice from a
+/// How often a worker looks for a job before it sleeps. It spins in between, for 447 pauses in all: some 2 microseconds
+/// on a processor whose pause takes 4.5 nanoseconds. It doesn't yield: on a kernel that takes a time slice from a
 /// thread that yields, it would get its processor late once it is called.
-pub(super) const MOST_LOOKS: u32 = 12;
-
-/// How often it looks if that has not paid for long: then it spins for 3 pauses.
-const FEWEST_LOOKS: u32 = 2;
+const LOOKS: u32 = 12;
 
 /// What became of a worker that was to sleep.
 enum Rested<J: Drop> {
@@ -56,22 +53,19 @@ impl<J: Job, P: Rule<J> + Shutdown, Q: Rule<J>> Pool<J, P, Q> {
         unreachable!()
     }
 
-    /// Looks for a job a bounded number of times: twice as often as in a search before that found one, and half as often
-    /// as in one in vain. A worker that finds none searches still.
+    /// Looks for a job a bounded number of times. A worker that finds none searches still.
     fn search<R: Wait>(&self, rt: &R, taker: &mut Taker<J, Q>, search: Search) -> Result<J, Search>
         requires { IsTakerOf self.now.jobs taker.old }
         ensures { IsTakerOf self.now.jobs taker.new }
     {
         let backoff = Backoff::new();
-        for _ in 0..taker.looks {
+        for _ in 0..LOOKS {
             if let Some(job) = self.jobs.next(rt, taker) {
-                taker.looks = taker.looks.saturating_mul(2).min(MOST_LOOKS);
                 self.end_search(rt, taker, search);
                 return Ok(job);
             }
             backoff.spin();
         }
-        taker.looks = (taker.looks / 2).max(FEWEST_LOOKS);
         Err(search)
     }
 
