@@ -43,7 +43,7 @@ impl<J: Drop, Q: Rule<J>> Crew<J, Q> {
         ensures placed { IfOk result (λ made. AreThievesOf made.0.queues.items made.1.items) }
         ensures thieves { IfOk result (λ made. vec_len made.1 ≡ workers) }
         ensures nobody { IfOk result (λ made. (made.0.sleepers.asleep ≡ 0)
-            × (made.0.sleepers.called ≡ 0)) }
+            × (made.0.sleepers.called ≡ 0) × (made.0.sleepers.has_lead ≡ false)) }
     {
         let (queues, thieves) = new_queues(alloc, workers)?;
         let crew = Crew {

@@ -53,7 +53,7 @@ impl Sleepers {
 
     /// Nobody sleeps.
     pub fn none() -> Sleepers
-        ensures { (result.asleep ≡ 0) × (result.called ≡ 0) }
+        ensures { (result.asleep ≡ 0) × (result.called ≡ 0) × (result.has_lead ≡ false) }
     {
         Sleepers {
             asleep: 0,
