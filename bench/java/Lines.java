@@ -3,6 +3,7 @@ import java.io.IOException;
 import java.io.OutputStream;
 import java.nio.charset.StandardCharsets;
 import java.util.ArrayList;
+import java.util.Arrays;
 import java.util.List;
 import java.util.TreeMap;
 import java.util.concurrent.CountDownLatch;
@@ -21,16 +22,42 @@ public class Lines {
     /** A line of a source. */
     record Item(int source, byte[] text) {}
 
-    /** Keeps what it is told. */
-    static final class Collector implements Flow.Subscriber<Item> {
+    /** The lines of a source, as the report has them. */
+    static final class Section {
+        final byte[] beginning;
+        byte[] bytes = new byte[256];
+        int length;
+
+        Section(byte[] beginning) {
+            this.beginning = beginning;
+        }
+
+        void add(byte[] text) {
+            int end = length + beginning.length + text.length + 1;
+            if (end > bytes.length) {
+                bytes = Arrays.copyOf(bytes, Math.max(2 * bytes.length, end));
+            }
+            System.arraycopy(beginning, 0, bytes, length, beginning.length);
+            System.arraycopy(text, 0, bytes, length + beginning.length, text.length);
+            bytes[end - 1] = '\n';
+            length = end;
+        }
+    }
+
+    /** Makes up its part of the report while it is told. */
+    static final class Reporter implements Flow.Subscriber<Item> {
         final String name;
         final long demand;
-        final List<Item> told = new ArrayList<>();
+        final TreeMap<Integer, Section> sections = new TreeMap<>();
         final CountDownLatch done = new CountDownLatch(1);
+        int items;
 
-        Collector(String name, long demand) {
+        Reporter(String name, long demand, Iterable<Integer> sources) {
             this.name = name;
             this.demand = demand;
+            for (int source : sources) {
+                sections.put(source, new Section((name + " " + source + " ").getBytes(StandardCharsets.US_ASCII)));
+            }
         }
 
         @Override
@@ -40,7 +67,8 @@ public class Lines {
 
         @Override
         public void onNext(Item item) {
-            told.add(item);
+            sections.get(item.source).add(item.text);
+            items++;
         }
 
         @Override
@@ -77,20 +105,13 @@ public class Lines {
         return sources;
     }
 
-    static void report(Iterable<Integer> sources, List<Collector> collectors) throws IOException {
+    static void report(List<Reporter> reporters) throws IOException {
         try (OutputStream out = new BufferedOutputStream(System.out, 1 << 16)) {
-            for (Collector collector : collectors) {
-                for (int source : sources) {
-                    byte[] beginning = (collector.name + " " + source + " ").getBytes(StandardCharsets.US_ASCII);
-                    for (Item item : collector.told) {
-                        if (item.source == source) {
-                            out.write(beginning);
-                            out.write(item.text);
-                            out.write('\n');
-                        }
-                    }
+            for (Reporter reporter : reporters) {
+                for (Section section : reporter.sections.values()) {
+                    out.write(section.bytes, 0, section.length);
                 }
-                out.write((collector.name + " complete " + collector.told.size() + "\n").getBytes(StandardCharsets.US_ASCII));
+                out.write((reporter.name + " complete " + reporter.items + "\n").getBytes(StandardCharsets.US_ASCII));
             }
             out.write("drained 1\n".getBytes(StandardCharsets.US_ASCII));
         }
@@ -99,15 +120,15 @@ public class Lines {
     public static void main(String[] words) throws Exception {
         int workers = Integer.parseInt(words[0]);
         int capacity = Integer.parseInt(words[1]);
-        List<Collector> collectors = new ArrayList<>();
+        TreeMap<Integer, List<byte[]>> sources = read(System.in.readAllBytes());
+        List<Reporter> reporters = new ArrayList<>();
         for (int i = 2; i < words.length; i++) {
             String[] parts = words[i].split(":");
-            collectors.add(new Collector(parts[0], Long.parseLong(parts[1])));
+            reporters.add(new Reporter(parts[0], Long.parseLong(parts[1]), sources.keySet()));
         }
-        TreeMap<Integer, List<byte[]>> sources = read(System.in.readAllBytes());
         ForkJoinPool pool = new ForkJoinPool(workers, ForkJoinPool.defaultForkJoinWorkerThreadFactory, null, true);
         SubmissionPublisher<Item> publisher = new SubmissionPublisher<>(pool, capacity);
-        collectors.forEach(publisher::subscribe);
+        reporters.forEach(publisher::subscribe);
         List<Thread> threads = new ArrayList<>();
         sources.forEach((source, texts) -> threads.add(new Thread(() -> {
             for (byte[] text : texts) {
@@ -121,10 +142,10 @@ public class Lines {
             thread.join();
         }
         publisher.close();
-        for (Collector collector : collectors) {
-            collector.done.await();
+        for (Reporter reporter : reporters) {
+            reporter.done.await();
         }
-        report(sources.keySet(), collectors);
+        report(reporters);
         pool.shutdown();
     }
 }

@@ -1,6 +1,7 @@
 pub mod HubCalls
 pub mod Inputs
 pub mod Kept
+pub mod Reports
 pub mod Scripts
 pub mod Sessions
 pub mod Woken

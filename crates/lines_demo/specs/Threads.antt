@@ -1,4 +1,5 @@
 -- The program `threads`: what its command line asks for, and what it publishes.
 pub mod Input
 pub mod Plan
+pub mod Report
 pub mod Run

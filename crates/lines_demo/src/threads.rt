@@ -1,12 +1,11 @@
 //! Threads: each source of lines publishes them from a thread of its own, and the subscribers are told by worker
 //! threads.
-mod chains;
 mod explaining;
 mod fault;
 mod input;
-mod page;
 mod plan;
 mod report;
+mod reporter;
 mod run;
 mod sending;
 mod standard_input;

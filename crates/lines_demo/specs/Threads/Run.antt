@@ -1,8 +1,13 @@
 -- What a run leaves, and why it stops.
-use Rattle.std.specs.Prelude.{◌≡◌, ◌⊎◌, ℕ, Option, List, Result, Err}
+use Rattle.std.specs.Prelude.{◌≡◌, ◌⊎◌, ℕ, Option, List, Result, Err, if◌then◌else◌}
+use Rattle.std.specs.Io.KnownBytes.{Appends}
 use Rattle.lines_demo.specs.Prelude.{Refusal}
 use Rattle.lines_demo.specs.declared.reader.InputFault.{InputFault}
+use Rattle.publisher.specs.Handles.{SubmitterState}
+use Rattle.publisher.specs.Outcome.{IsOutcome}
+use Rattle.publisher.specs.declared.outcome.Outcome.{Outcome}
 use Rattle.commands.specs.declared.writing.OutputFault.{OutputFault}
+use Rattle.lines_demo.specs.Threads.Report.{ReporterState, all_completed, report_of}
 use Rattle.lines_demo.specs.declared.threads.fault.LinesFault.{LinesFault}
 use Rattle.lines_demo.specs.declared.threads.fault.LinesFault.TheVariants.{Read, TooLong, Write, Gone, Refused}
 
@@ -24,3 +29,11 @@ abbrev pub StopsFor : Refusal → Result ℕ LinesFault → Option (List ℕ) �
 StopsFor refusal result old new =
     (new ≡ old) × ((result ≡ Err (Refused refusal))
     ⊎ ((result ≡ Err Read) ⊎ ((result ≡ Err TooLong) ⊎ (result ≡ Err (Refused Refusal.NoMemory)))))
+
+-- a run appended the report of what a publisher left, after some submitters, and answers 0 if all that is left was completed, and else 3
+pub record Reports {F : Type 0} (last : F → Option (List ℕ × ℕ)) (status : ℕ) (old new : Option (List ℕ)) : Type 0 where
+  pub submitters : List SubmitterState
+  pub outcome : Outcome ReporterState F
+  pub left : IsOutcome (λ reporter. reporter.signals) (λ reporter. reporter.replies) submitters outcome
+  pub written : Appends old new (report_of last outcome)
+  pub answers : status ≡ (if all_completed outcome then 0 else 3)

@@ -1,62 +1,91 @@
 //! The report of a run: what each subscriber was told, and how its subscription ended.
-use super::chains::Chains;
-use super::page::{LONGEST_LINE, Page};
+ghost use Rattle.std.specs.Prelude.{◌≡◌, ◌++◌, codes, decimal, is_ok, IfOk, length, min, ◌-◌, ◌^◌};
+ghost use Rattle.commands.specs.Writing.{Writes, line_of};
+ghost use Rattle.lines_demo.specs.Threads.Report.{all_completed, drained_line, end_text, handled_line, heard_of, is_completed, items_told, lane_lines, lines_of_lanes, lines_told, report_of};
+
+use super::reporter::Reporter;
 use commands::{OutputFault, write_line};
-use flow_rules::{FailHandler, How, Name, Shown, Signal, Subscriber};
+use flow_rules::{FailHandler, How, Name};
 use publisher::{NamedLane, Outcome};
 use std::alloc::Global;
 use std::io::Write;
 
 /// Writes the report. The answer is whether every subscriber completed.
-pub fn write_report<S: Subscriber, F: FailHandler, W: Write>(
+pub fn write_report<F: FailHandler, W: Write>(
     alloc: Global,
     writer: &mut W,
-    sources: &[u32],
-    outcome: &Outcome<Shown<S>, F>,
-) -> Result<bool, OutputFault> {
-    let Ok(mut line) = Vec::with_capacity(alloc, LONGEST_LINE) else {
-        return Err(OutputFault::Memory);
-    };
-    let Ok(mut chains) = Chains::with_room(alloc, sources.len(), most_told(&outcome.lanes)) else {
-        return Err(OutputFault::Memory);
-    };
-    let Ok(mut page) = Page::empty(alloc) else {
-        return Err(OutputFault::Memory);
-    };
-    let mut all_complete = true;
-    for left in outcome.lanes.as_slice() {
-        write_lane(writer, &mut line, &mut page, &mut chains, sources, left)?;
-        all_complete &= is_complete(left);
-    }
+    outcome: &Outcome<Reporter, F>,
+) -> Result<bool, OutputFault>
+    ensures written { Writes (is_ok result) (W.contents writer.old) (W.contents writer.new)
+        (report_of F.last outcome.now) }
+    ensures complete { IfOk result (λ complete. complete ≡ all_completed outcome.now) }
+{
+    let mut line = Vec::new(alloc);
+    write_lanes(writer, &mut line, outcome.lanes.as_slice())?;
     write_handled(writer, &mut line, &outcome.handler)?;
-    let drained = u8::from(outcome.drained);
-    write_line(writer, &mut line, format_args!("drained {drained}"))?;
-    Ok(all_complete)
+    write_drained(writer, &mut line, outcome.drained)?;
+    Ok(outcome.lanes.iter().all(is_complete))
+}
+
+/// Writes what the subscribers were told, one after the other, and how their subscriptions ended.
+fn write_lanes<W: Write>(
+    writer: &mut W,
+    line: &mut Vec<u8>,
+    lanes: &[NamedLane<Reporter>],
+) -> Result<(), OutputFault>
+    ensures { Writes (is_ok result) (W.contents writer.old) (W.contents writer.new) (lines_of_lanes lanes.now) }
+{
+    for left in lanes {
+        write_lane(writer, line, left)?;
+    }
+    Ok(())
 }
 
 /// Writes what one subscriber was told, source by source, and how its subscription ended.
-fn write_lane<S: Subscriber, W: Write>(
+fn write_lane<W: Write>(
     writer: &mut W,
     line: &mut Vec<u8>,
-    page: &mut Page,
-    chains: &mut Chains,
-    sources: &[u32],
-    left: &NamedLane<Shown<S>>,
-) -> Result<(), OutputFault> {
-    let name = &left.name;
-    let told = told_of(left);
-    chains.find(told);
-    for (submitter, source) in sources.iter().enumerate() {
-        begin_line(line, name, *source)?;
-        write_items(writer, page, line.as_slice(), told, chains, submitter)?;
+    left: &NamedLane<Reporter>,
+) -> Result<(), OutputFault>
+    ensures { Writes (is_ok result) (W.contents writer.old) (W.contents writer.new) (lane_lines left.now) }
+{
+    let items = write_told(writer, &left.lane.subscriber)?;
+    write_ending(writer, line, &left.name, left.lane.ending, items)
+}
+
+/// Writes what a subscriber was told, if it is there. The answer is how many items that were.
+fn write_told<W: Write>(writer: &mut W, subscriber: &Option<Reporter>) -> Result<u64, OutputFault>
+    ensures written { Writes (is_ok result) (W.contents writer.old) (W.contents writer.new) (lines_told subscriber.now) }
+    ensures items { IfOk result (λ items. items ≡ min (length (items_told subscriber.now)) (2 ^ 64 - 1)) }
+{
+    match subscriber {
+        Some(reporter) => {
+            reporter.write_lines(writer)?;
+            Ok(reporter.items())
+        }
+        None => Ok(0),
     }
-    page.write(writer)?;
-    let items = chains.items();
-    if let Some(How::Failed(code)) = left.lane.ending {
-        return write_line(writer, line, format_args!("{name} failed {code} {items}"));
+}
+
+/// Writes how a subscription ended, after how many items.
+fn write_ending<W: Write>(
+    writer: &mut W,
+    line: &mut Vec<u8>,
+    name: &Name,
+    ending: Option<How>,
+    items: u64,
+) -> Result<(), OutputFault>
+    ensures { Writes (is_ok result) (W.contents writer.old) (W.contents writer.new)
+        (line_of (name.now ++ codes " " ++ end_text ending ++ codes " " ++ decimal items)) }
+{
+    match ending {
+        Some(How::Failed(code)) => {
+            write_line(writer, line, format_args!("{name} failed {code} {items}"))
+        }
+        Some(How::Completed) => write_line(writer, line, format_args!("{name} complete {items}")),
+        Some(How::OutOfMemory) => write_line(writer, line, format_args!("{name} memory {items}")),
+        _ => write_line(writer, line, format_args!("{name} open {items}")),
     }
-    let word = word_of(left.lane.ending);
-    write_line(writer, line, format_args!("{name} {word} {items}"))
 }
 
 /// Writes which failure the handler has heard of, if it has heard of one.
@@ -64,7 +93,9 @@ fn write_handled<F: FailHandler, W: Write>(
     writer: &mut W,
     line: &mut Vec<u8>,
     handler: &Option<F>,
-) -> Result<(), OutputFault> {
+) -> Result<(), OutputFault>
+    ensures { Writes (is_ok result) (W.contents writer.old) (W.contents writer.new) (handled_line (heard_of F.last handler.now)) }
+{
     let Some(handler) = handler else {
         return Ok(());
     };
@@ -74,61 +105,20 @@ fn write_handled<F: FailHandler, W: Write>(
     write_line(writer, line, format_args!("handled {name} {code}"))
 }
 
-/// Makes up how the lines of a source begin.
-fn begin_line(line: &mut Vec<u8>, name: &Name, source: u32) -> Result<(), OutputFault> {
-    line.clear();
-    match write!(line, "{name} {source} ") {
-        Ok(()) => Ok(()),
-        Err(_) => Err(OutputFault::Memory),
-    }
-}
-
-/// Writes the items of the submitter of this number, a line each, with this beginning. The last of them wait on the page.
-fn write_items<W: Write>(
+/// Writes whether the publisher was drained.
+fn write_drained<W: Write>(
     writer: &mut W,
-    page: &mut Page,
-    beginning: &[u8],
-    told: &[Signal],
-    chains: &Chains,
-    submitter: usize,
-) -> Result<(), OutputFault> {
-    let chain = chains.of(submitter);
-    let mut place = chain.first;
-    for _ in 0..chain.items {
-        if let Some(Signal::Next(item)) = told.get(place) {
-            page.add_line(writer, beginning, item.text.as_bytes())?;
-        }
-        place = chains.after(place);
-    }
-    Ok(())
+    line: &mut Vec<u8>,
+    drained: bool,
+) -> Result<(), OutputFault>
+    ensures { Writes (is_ok result) (W.contents writer.old) (W.contents writer.new) (drained_line drained) }
+{
+    let drained = u8::from(drained);
+    write_line(writer, line, format_args!("drained {drained}"))
 }
 
-/// What a subscriber was told.
-fn told_of<S: Subscriber>(left: &NamedLane<Shown<S>>) -> &[Signal] {
-    match &left.lane.subscriber {
-        Some(subscriber) => subscriber.subscriber().told(),
-        None => &[],
-    }
-}
-
-/// How many signals were told to the subscriber that was told most.
-fn most_told<S: Subscriber>(lanes: &[NamedLane<Shown<S>>]) -> usize {
-    lanes
-        .iter()
-        .map(|left| told_of(left).len())
-        .max()
-        .unwrap_or(0)
-}
-
-/// How a subscription ended, as a report says it.
-fn word_of(ending: Option<How>) -> &'static str {
-    match ending {
-        Some(How::Completed) => "complete",
-        Some(How::OutOfMemory) => "memory",
-        _ => "open",
-    }
-}
-
-fn is_complete<B>(left: &NamedLane<B>) -> bool {
+fn is_complete(left: &NamedLane<Reporter>) -> bool
+    ensures { result ≡ is_completed left.now.lane.ending }
+{
     matches!(left.lane.ending, Some(How::Completed))
 }

@@ -1,7 +1,7 @@
 //! A run: a publisher, its subscribers, and the sources of its lines.
-ghost use Rattle.std.specs.Prelude.{◌≡◌, ◌⊎◌, [], All, IfOk, IfErr, IfSome, List};
+ghost use Rattle.std.specs.Prelude.{◌≡◌, [], All, IfOk, IfErr, IfSome, List};
 ghost use Rattle.lines_demo.specs.Threads.Input.{input_of};
-ghost use Rattle.lines_demo.specs.Threads.Run.{StopsFor};
+ghost use Rattle.lines_demo.specs.Threads.Run.{Reports, StopsFor};
 ghost use Rattle.publisher.specs.Handles.{SubmitterState};
 ghost use Rattle.publisher.specs.Outcome.{IsOutcome, outcome_of};
 ghost use Rattle.publisher.specs.Blanks.{AreBlanksOf};
@@ -10,9 +10,10 @@ use super::fault::LinesFault;
 use super::input::Input;
 use super::plan::{NamedDemand, Plan};
 use super::report::write_report;
+use super::reporter::{Reporter, reporters_of};
 use super::sending::send_lines;
 use crate::reader::read_whole;
-use flow_rules::{FailHandler, NoMemory, Refusal, Shown, Subscriber};
+use flow_rules::{FailHandler, Listener, NoMemory, Refusal};
 use publisher::{
     BlankPair, Ledgers, Outcome, Publisher, PublisherOptions, Refused, Submitter, Subscription,
     finish,
@@ -30,20 +31,23 @@ const COMPLETE: u8 = 0;
 const INCOMPLETE: u8 = 3;
 
 /// Publishes the lines that the reader gives by a plan, and writes the report of what the subscribers were told. There
-/// is one subscriber for each name of the plan, in its order, and each was told nothing. The handler hears of failures,
-/// and the report says of which it heard last. The answer is the exit status: 0 if every subscriber completed, and else
-/// 3. If the input is refused, nothing is written.
-pub fn run_lines<R: Threads + Wait + Copy + Send + Sync + 'static, I: Read, W: Write>(
+/// is one subscriber for each name of the plan, in its order. The handler hears of failures, and the report says of which
+/// it heard last. The answer is the exit status: 0 if every subscriber completed, and else 3. If the input is refused,
+/// nothing is written.
+pub fn run_lines<
+    F: FailHandler + Send + 'static,
+    R: Threads + Wait + Copy + Send + Sync + 'static,
+    I: Read,
+    W: Write,
+>(
     rt: R,
     alloc: Global,
     plan: &Plan,
     reader: &mut I,
     writer: &mut W,
-    subscribers: Vec<Box<dyn Subscriber>>,
-    handler: Box<dyn FailHandler + Send>,
+    handler: F,
 ) -> Result<u8, LinesFault>
-    requires { All (λ b. told b ≡ []) subscribers.items }
-    ensures status { IfOk result (λ status. (status ≡ 0) ⊎ (status ≡ 3)) }
+    ensures report { IfOk result (λ status. Reports F.last status (W.contents writer.old) (W.contents writer.new)) }
     ensures input { IfSome (I.remaining reader.old) (λ known. IfErr (input_of plan.now known)
         (λ refusal. StopsFor refusal result (W.contents writer.old) (W.contents writer.new))) }
 {
@@ -53,22 +57,12 @@ pub fn run_lines<R: Threads + Wait + Copy + Send + Sync + 'static, I: Read, W: W
         Ok(blanks) => blanks,
         Err(NoMemory) => return Err(Refusal::NoMemory.into()),
     };
-    report_lines::<Brand, Box<dyn Subscriber>, Box<dyn FailHandler + Send>, R, W>(
-        rt,
-        alloc,
-        plan,
-        &input,
-        writer,
-        subscribers,
-        handler,
-        blanks,
-    )
+    report_lines::<Brand, F, R, W>(rt, alloc, plan, &input, writer, handler, blanks)
 }
 
 /// Publishes an input by a plan, and writes the report.
 fn report_lines<
     L: Ledgers + Send + Sync + 'static,
-    S: Subscriber + 'static,
     F: FailHandler + Send + 'static,
     R: Threads + Wait + Copy + Send + Sync + 'static,
     W: Write,
@@ -78,24 +72,19 @@ fn report_lines<
     plan: &Plan,
     input: &Input<'_>,
     writer: &mut W,
-    subscribers: Vec<S>,
     handler: F,
     blanks: BlankPair,
 ) -> Result<u8, LinesFault>
     requires blanks { AreBlanksOf blanks L.publications L.drops L.history }
-    requires untold { All (λ s. S.told s ≡ []) subscribers.items }
-    ensures { IfOk result (λ status. (status ≡ 0) ⊎ (status ≡ 3)) }
+    ensures { IfOk result (λ status. Reports F.last status (W.contents writer.old) (W.contents writer.new)) }
 {
-    let outcome = publish_lines::<L, S, F, R>(
-        rt,
-        alloc,
-        plan,
-        input,
-        subscribers,
-        handler,
-        blanks,
+    let Ok(reporters) = reporters_of(alloc, plan, input.sources()) else {
+        return Err(Refusal::NoMemory.into());
+    };
+    let outcome = publish_lines::<L, Reporter, F, R>(
+        rt, alloc, plan, input, reporters, handler, blanks,
     )?;
-    if write_report(alloc, writer, input.sources(), &outcome)? {
+    if write_report(alloc, writer, &outcome)? {
         Ok(COMPLETE)
     } else {
         Ok(INCOMPLETE)
@@ -105,7 +94,7 @@ fn report_lines<
 /// Publishes an input by a plan, and gives what the publisher leaves.
 fn publish_lines<
     L: Ledgers + Send + Sync + 'static,
-    S: Subscriber + 'static,
+    B: Listener + Send + 'static,
     F: FailHandler + Send + 'static,
     R: Threads + Wait + Copy + Send + Sync + 'static,
 >(
@@ -113,21 +102,21 @@ fn publish_lines<
     alloc: Global,
     plan: &Plan,
     input: &Input<'_>,
-    subscribers: Vec<S>,
+    subscribers: Vec<B>,
     handler: F,
     blanks: BlankPair,
-) -> Result<Outcome<Shown<S>, F>, Refusal>
+) -> Result<Outcome<B, F>, Refusal>
     requires blanks { AreBlanksOf blanks L.publications L.drops L.history }
-    requires untold { All (λ s. S.told s ≡ []) subscribers.items }
+    requires unheard { All (λ b. (B.told b ≡ []) × (B.replied b ≡ [])) subscribers.items }
     ensures { IfOk result (λ outcome. (submitters : List SubmitterState)
-        × IsOutcome (λ shown. S.told shown.subscriber) (λ shown. shown.replied) submitters outcome) }
+        × IsOutcome B.told B.replied submitters outcome) }
 {
     let options = PublisherOptions {
         workers: plan.workers(),
         capacity: plan.capacity(),
         ..PublisherOptions::default()
     };
-    let publisher: Publisher<L, Shown<S>, F> = match Publisher::with_handler(
+    let publisher: Publisher<L, B, F> = match Publisher::with_handler(
         rt, alloc, blanks, options, handler,
     ) {
         Ok(publisher) => publisher,
@@ -180,23 +169,23 @@ fn outcome_of<B: Drop, F: FailHandler>(
 /// Subscribes all subscribers, in order.
 fn subscribe_all<
     L: Ledgers + Send + Sync + 'static,
-    S: Subscriber + 'static,
+    B: Listener + Send + 'static,
     F: FailHandler + Send + 'static,
     R: Wait,
 >(
     rt: &R,
     alloc: Global,
-    publisher: &Publisher<L, Shown<S>, F>,
+    publisher: &Publisher<L, B, F>,
     named: &[NamedDemand],
-    subscribers: Vec<S>,
-    subscriptions: &mut Vec<Subscription<L, Shown<S>, F>>,
+    subscribers: Vec<B>,
+    subscriptions: &mut Vec<Subscription<L, B, F>>,
 ) -> Result<(), Refusal>
-    requires { All (λ s. S.told s ≡ []) subscribers.items }
+    requires { All (λ b. (B.told b ≡ []) × (B.replied b ≡ [])) subscribers.items }
 {
     let mut named = named.iter();
     for subscriber in subscribers {
         if let Some(first) = named.next() {
-            match publisher.subscribe(rt, alloc, first.name, Shown::new(subscriber)) {
+            match publisher.subscribe(rt, alloc, first.name, subscriber) {
                 Ok(subscription) => {
                     if subscriptions.push(subscription).is_err() {
                         return Err(Refusal::NoMemory);
@@ -212,15 +201,15 @@ fn subscribe_all<
 /// Publishes all lines and closes the publisher. The submitters come back.
 fn publish_and_close<
     L: Ledgers + Send + Sync + 'static,
-    S: Subscriber + 'static,
+    B: Listener + Send + 'static,
     F: FailHandler + Send + 'static,
     R: Threads + Wait + Sync,
 >(
     rt: &R,
     alloc: Global,
-    publisher: &Publisher<L, Shown<S>, F>,
+    publisher: &Publisher<L, B, F>,
     input: &Input<'_>,
-) -> Result<Vec<Submitter<L, Shown<S>, F>>, Refusal> {
+) -> Result<Vec<Submitter<L, B, F>>, Refusal> {
     let mut submitters = Vec::new(alloc);
     for _ in input.sources() {
         let submitter = publisher.submitter(rt, alloc, &mut publisher.note())?;

@@ -16,5 +16,5 @@ of_some told replied outcome left submitters is same = (submitters, subst (λ it
 pub returns-in-None : goal.returns-in-None
 returns-in-None g c =
     IfOk-weaker c.outcome_of.result (λ outcome. outcome ≡ outcome_of c.finish-finished.result)
-    (λ outcome. (submitters : List SubmitterState) × IsOutcome (λ shown. g.S.Subscriber.told shown.subscriber) (λ shown. shown.replied) submitters outcome)
-    (λ outcome same. of_some (λ shown. g.S.Subscriber.told shown.subscriber) (λ shown. shown.replied) outcome _ _ c.finish-finished.ensures.outcome same) c.outcome_of.ensures
+    (λ outcome. (submitters : List SubmitterState) × IsOutcome g.B.Listener.told g.B.Listener.replied submitters outcome)
+    (λ outcome same. of_some g.B.Listener.told g.B.Listener.replied outcome _ _ c.finish-finished.ensures.outcome same) c.outcome_of.ensures
