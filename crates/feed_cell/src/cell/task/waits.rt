@@ -20,9 +20,9 @@ const MOST_DOUBLED: usize = 4;
 const SHORT_WAITS: [u32; 8] = [2, 4, 8, 16, 32, 64, 128, 256];
 
 /// How long a task that finds nothing to do waits before it rests, in case more comes. From capacity 32 on that is
-/// learned: after a wait in vain the next takes half as long, after one in which something came twice as long, a few
-/// microseconds at most; and once a turn has told several signals in a row it waits the longest. So a task waits only
-/// where that pays, however long a pause takes on the machine.
+/// learned, from the waits of all tasks that its thread runs: after one in vain the next takes half as long, after one
+/// in which something came twice as long, a few microseconds at most; and once a turn has told several signals in a row
+/// it waits the longest. So a task waits only where that pays, however long a pause takes on the machine.
 #[derive(Clone, Copy, Debug, PartialEq, Eq)]
 pub struct Patience {
     /// How often the shortest wait is doubled. One that hurries has none.
