@@ -3,3 +3,4 @@ pub mod Input
 pub mod Plan
 pub mod Report
 pub mod Run
+pub mod Sending

@@ -6,7 +6,6 @@ use Rattle.flow_rules.specs.declared.signal.Signal.{Signal}
 use Rattle.flow_rules.specs.Callback.{Reply}
 use Rattle.flow_rules.specs.Signals.{items_of}
 use Rattle.flow_rules.specs.declared.how.How.{How}
-use Rattle.flow_rules.specs.declared.how.How.TheVariants as How
 use Rattle.commands.specs.Writing.{line_of}
 use Rattle.publisher.specs.declared.outcome.NamedLane.{NamedLane}
 use Rattle.publisher.specs.declared.outcome.Outcome.{Outcome}

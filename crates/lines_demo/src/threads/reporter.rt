@@ -1,8 +1,9 @@
 //! A subscriber that makes up its part of the report while it is told.
-ghost use Rattle.std.specs.Prelude.{◌≡◌, ◌++◌, [], All, IfOk, OnOk, OnErr, is_ok, length, map, min, ◌-◌, ◌^◌};
+ghost use Rattle.std.specs.Prelude.{◌≡◌, ◌++◌, [], IfOk, OnOk, OnErr, is_ok, length, map, min, ◌-◌, ◌^◌};
 ghost use Rattle.flow_rules.specs.Signals.{items_of};
 ghost use Rattle.commands.specs.Writing.{Writes, line_of};
 ghost use Rattle.lines_demo.specs.Threads.Report.{beginning_of, lines_by_source};
+ghost use Rattle.lines_demo.specs.Threads.Run.{AreUntold};
 
 use super::plan::{NamedDemand, NamedFailure, Plan};
 use commands::{OutputFault, write_whole};
@@ -176,14 +177,29 @@ fn answer_to(item: u64, fails: Option<NamedFailure>) -> Answer {
     }
 }
 
+/// A subscriber, and the name that it subscribes with.
+#[derive(Drop)]
+pub struct NamedSubscriber<B: Drop> {
+    pub name: Name,
+    pub subscriber: B,
+}
+
 /// The subscribers of a plan, in its order, for lines of these sources. Each was told nothing.
-pub fn reporters_of(alloc: Global, plan: &Plan, sources: &[u32]) -> Result<Vec<Reporter>, NoMemory>
-    ensures { IfOk result (λ reporters.
-        All (λ reporter. (reporter.signals ≡ []) × (reporter.replies ≡ [])) reporters.items) }
+pub fn reporters_of(
+    alloc: Global,
+    plan: &Plan,
+    sources: &[u32],
+) -> Result<Vec<NamedSubscriber<Reporter>>, NoMemory>
+    ensures untold { IfOk result (λ reporters. AreUntold (λ reporter. reporter.signals)
+        (λ reporter. reporter.replies) reporters.items) }
+    ensures as_many { IfOk result (λ reporters. length reporters.items ≡ length plan.now.subscribers) }
 {
     let mut reporters = Vec::new(alloc);
     for subscriber in plan.subscribers() {
-        reporters.push(Reporter::new(alloc, subscriber, plan.fail(), sources)?)?;
+        reporters.push(NamedSubscriber {
+            name: subscriber.name,
+            subscriber: Reporter::new(alloc, subscriber, plan.fail(), sources)?,
+        })?;
     }
     Ok(reporters)
 }

@@ -1,17 +1,17 @@
 //! A run: a publisher, its subscribers, and the sources of its lines.
-ghost use Rattle.std.specs.Prelude.{◌≡◌, [], All, IfOk, IfErr, IfSome, List};
+ghost use Rattle.std.specs.Prelude.{◌≡◌, ◌+◌, IfOk, IfErr, IfSome, OnOk, length};
+ghost use Rattle.std.specs.List.{AllZip};
 ghost use Rattle.lines_demo.specs.Threads.Input.{input_of};
-ghost use Rattle.lines_demo.specs.Threads.Run.{Reports, StopsFor};
-ghost use Rattle.publisher.specs.Handles.{SubmitterState};
-ghost use Rattle.publisher.specs.Outcome.{IsOutcome, outcome_of};
+ghost use Rattle.lines_demo.specs.Threads.Run.{AreUntold, IsLeftOf, Leaves, Reports, ReportsRead, StopsFor};
+ghost use Rattle.lines_demo.specs.Threads.Sending.{HasPublished};
 ghost use Rattle.publisher.specs.Blanks.{AreBlanksOf};
 
 use super::fault::LinesFault;
 use super::input::Input;
-use super::plan::{NamedDemand, Plan};
+use super::plan::Plan;
 use super::report::write_report;
-use super::reporter::{Reporter, reporters_of};
-use super::sending::send_lines;
+use super::reporter::{NamedSubscriber, Reporter, reporters_of};
+use super::sending::{Sender, send_lines};
 use crate::reader::read_whole;
 use flow_rules::{FailHandler, Listener, NoMemory, Refusal};
 use publisher::{
@@ -47,7 +47,8 @@ pub fn run_lines<
     writer: &mut W,
     handler: F,
 ) -> Result<u8, LinesFault>
-    ensures report { IfOk result (λ status. Reports F.last status (W.contents writer.old) (W.contents writer.new)) }
+    ensures report { IfOk result (λ status. ReportsRead F.last plan.now (I.remaining reader.old) status
+        (W.contents writer.old) (W.contents writer.new)) }
     ensures input { IfSome (I.remaining reader.old) (λ known. IfErr (input_of plan.now known)
         (λ refusal. StopsFor refusal result (W.contents writer.old) (W.contents writer.new))) }
 {
@@ -76,7 +77,8 @@ fn report_lines<
     blanks: BlankPair,
 ) -> Result<u8, LinesFault>
     requires blanks { AreBlanksOf blanks L.publications L.drops L.history }
-    ensures { IfOk result (λ status. Reports F.last status (W.contents writer.old) (W.contents writer.new)) }
+    ensures { IfOk result (λ status. Reports F.last input.now (length plan.now.subscribers) status
+        (W.contents writer.old) (W.contents writer.new)) }
 {
     let Ok(reporters) = reporters_of(alloc, plan, input.sources()) else {
         return Err(Refusal::NoMemory.into());
@@ -91,7 +93,7 @@ fn report_lines<
     }
 }
 
-/// Publishes an input by a plan, and gives what the publisher leaves.
+/// Publishes an input by a plan to these subscribers, and gives what the publisher leaves.
 fn publish_lines<
     L: Ledgers + Send + Sync + 'static,
     B: Listener + Send + 'static,
@@ -102,14 +104,13 @@ fn publish_lines<
     alloc: Global,
     plan: &Plan,
     input: &Input<'_>,
-    subscribers: Vec<B>,
+    subscribers: Vec<NamedSubscriber<B>>,
     handler: F,
     blanks: BlankPair,
 ) -> Result<Outcome<B, F>, Refusal>
     requires blanks { AreBlanksOf blanks L.publications L.drops L.history }
-    requires unheard { All (λ b. (B.told b ≡ []) × (B.replied b ≡ [])) subscribers.items }
-    ensures { IfOk result (λ outcome. (submitters : List SubmitterState)
-        × IsOutcome B.told B.replied submitters outcome) }
+    requires untold { AreUntold B.told B.replied subscribers.items }
+    ensures { IfOk result (Leaves B.told B.replied input.now (length subscribers.items)) }
 {
     let options = PublisherOptions {
         workers: plan.workers(),
@@ -123,27 +124,21 @@ fn publish_lines<
         Err(refused) => return Err(refused.into()),
     };
     let mut subscriptions = Vec::new(alloc);
-    let subscribed = subscribe_all(
+    let published = publish_to(
         &rt,
         alloc,
         &publisher,
-        plan.subscribers(),
+        input,
         subscribers,
         &mut subscriptions,
     );
-    let published = match subscribed {
-        Ok(()) => publish_and_close(&rt, alloc, &publisher, input),
-        Err(refusal) => Err(refusal),
-    };
-    let (submitters, refused) = match published {
-        Ok(submitters) => (submitters, None),
-        Err(refusal) => (Vec::new(alloc), Some(refusal)),
-    };
     // The workers end in any case.
-    let finished = finish(&rt, alloc, publisher, submitters, subscriptions);
-    match refused {
-        Some(refusal) => Err(refusal),
-        None => outcome_of(finished),
+    match published {
+        Ok(submitters) => outcome_of(finish(&rt, alloc, publisher, submitters, subscriptions)),
+        Err(refusal) => {
+            drop(finish(&rt, alloc, publisher, Vec::new(alloc), subscriptions));
+            Err(refusal)
+        }
     }
 }
 
@@ -151,7 +146,7 @@ fn publish_lines<
 fn outcome_of<B: Drop, F: FailHandler>(
     finished: Result<Outcome<B, F>, Refused<Outcome<B, F>>>,
 ) -> Result<Outcome<B, F>, Refusal>
-    ensures { IfOk result (λ outcome. outcome ≡ outcome_of finished) }
+    ensures { IfOk result (IsLeftOf finished) }
 {
     match finished {
         Ok(outcome) => Ok(outcome),
@@ -166,7 +161,32 @@ fn outcome_of<B: Drop, F: FailHandler>(
     }
 }
 
-/// Subscribes all subscribers, in order.
+/// Subscribes these subscribers, publishes all lines and closes the publisher. The submitters come back; the
+/// subscriptions are in the list, also if a later step is refused.
+fn publish_to<
+    L: Ledgers + Send + Sync + 'static,
+    B: Listener + Send + 'static,
+    F: FailHandler + Send + 'static,
+    R: Threads + Wait + Sync,
+>(
+    rt: &R,
+    alloc: Global,
+    publisher: &Publisher<L, B, F>,
+    input: &Input<'_>,
+    subscribers: Vec<NamedSubscriber<B>>,
+    subscriptions: &mut Vec<Subscription<L, B, F>>,
+) -> Result<Vec<Submitter<L, B, F>>, Refusal>
+    requires { AreUntold B.told B.replied subscribers.items }
+    ensures published { IfOk result (λ submitters.
+        AllZip (HasPublished input.now.publications) input.now.sources submitters.items) }
+    ensures subscribed { OnOk result (length subscriptions.new.items
+        ≡ length subscriptions.old.items + length subscribers.items) }
+{
+    subscribe_all(rt, alloc, publisher, subscribers, subscriptions)?;
+    publish_and_close(rt, alloc, publisher, input)
+}
+
+/// Subscribes these subscribers, in order.
 fn subscribe_all<
     L: Ledgers + Send + Sync + 'static,
     B: Listener + Send + 'static,
@@ -176,29 +196,21 @@ fn subscribe_all<
     rt: &R,
     alloc: Global,
     publisher: &Publisher<L, B, F>,
-    named: &[NamedDemand],
-    subscribers: Vec<B>,
+    subscribers: Vec<NamedSubscriber<B>>,
     subscriptions: &mut Vec<Subscription<L, B, F>>,
 ) -> Result<(), Refusal>
-    requires { All (λ b. (B.told b ≡ []) × (B.replied b ≡ [])) subscribers.items }
+    requires { AreUntold B.told B.replied subscribers.items }
+    ensures { OnOk result (length subscriptions.new.items
+        ≡ length subscriptions.old.items + length subscribers.items) }
 {
-    let mut named = named.iter();
-    for subscriber in subscribers {
-        if let Some(first) = named.next() {
-            match publisher.subscribe(rt, alloc, first.name, subscriber) {
-                Ok(subscription) => {
-                    if subscriptions.push(subscription).is_err() {
-                        return Err(Refusal::NoMemory);
-                    }
-                }
-                Err(refused) => return Err(refused.into()),
-            }
-        }
+    for NamedSubscriber { name, subscriber } in subscribers {
+        subscriptions.push(publisher.subscribe(rt, alloc, name, subscriber)?)?;
     }
     Ok(())
 }
 
-/// Publishes all lines and closes the publisher. The submitters come back.
+/// Publishes all lines, those of each source by a submitter of its own, and closes the publisher. The submitters come
+/// back, in the order of the sources.
 fn publish_and_close<
     L: Ledgers + Send + Sync + 'static,
     B: Listener + Send + 'static,
@@ -209,15 +221,16 @@ fn publish_and_close<
     alloc: Global,
     publisher: &Publisher<L, B, F>,
     input: &Input<'_>,
-) -> Result<Vec<Submitter<L, B, F>>, Refusal> {
-    let mut submitters = Vec::new(alloc);
-    for _ in input.sources() {
+) -> Result<Vec<Submitter<L, B, F>>, Refusal>
+    ensures { IfOk result (λ submitters.
+        AllZip (HasPublished input.now.publications) input.now.sources submitters.items) }
+{
+    let mut senders = Vec::new(alloc);
+    for source in input.sources() {
         let submitter = publisher.submitter(rt, alloc, &mut publisher.note())?;
-        if submitters.push(submitter).is_err() {
-            return Err(Refusal::NoMemory);
-        }
+        senders.push(Sender::new(*source, submitter))?;
     }
-    let submitters = send_lines(rt, alloc, input, submitters)?;
+    let submitters = send_lines(rt, alloc, input.publications(), senders)?;
     publisher.close(rt, alloc, &mut publisher.note())?;
     Ok(submitters)
 }

@@ -1,6 +1,10 @@
 //! The sources of a run: each publishes its lines in order from a thread of its own, 64 by one call.
-use super::input::{Input, Publication};
-use flow_rules::{FailHandler, Listener, NoMemory, Refusal, Text};
+ghost use Rattle.std.specs.Prelude.{◌≡◌, [], IfOk, OnOk};
+ghost use Rattle.std.specs.List.{AllZip};
+ghost use Rattle.lines_demo.specs.Threads.Sending.{AreSubmittersOf, Publishes, Sends, texts_from};
+
+use super::input::Publication;
+use flow_rules::{FailHandler, Listener, Refusal, Text};
 use publisher::{Ledgers, Submitter};
 use std::alloc::Global;
 use std::sync::Wait;
@@ -10,19 +14,33 @@ use std::thread::Threads;
 /// How many lines of a source are published by one call, but for its last ones.
 const AT_ONCE: usize = 64;
 
-/// A submitter, and the source whose lines it publishes.
+/// A source, and the submitter that publishes its lines.
 #[derive(Drop)]
-struct Sender<L: Ledgers + Send, B: Listener + Send, F: FailHandler + Send> {
-    submitter: Submitter<L, B, F>,
+pub struct Sender<L: Ledgers + Send, B: Listener + Send, F: FailHandler + Send> {
     source: u32,
-    /// Whether a line was refused. The texts are short enough and the publisher is open, so memory was refused.
-    is_refused: bool,
+    submitter: Submitter<L, B, F>,
+    /// Why a line was refused, if one was.
+    refused: Option<Refusal>,
 }
 
 impl<L: Ledgers + Send, B: Listener + Send, F: FailHandler + Send> Sender<L, B, F> {
+    /// One that has published no line.
+    pub fn new(source: u32, submitter: Submitter<L, B, F>) -> Sender<L, B, F>
+        ensures source { result.source ≡ source }
+        ensures submitter { result.submitter ≡ submitter }
+    {
+        Sender {
+            source,
+            submitter,
+            refused: None,
+        }
+    }
+
     /// Publishes the lines of its source in order, up to one that is refused.
-    fn send<R: Wait>(&mut self, rt: &R, alloc: Global, publications: &[Publication<'_>]) {
-        self.is_refused = self.send_all(rt, alloc, publications).is_err();
+    fn send<R: Wait>(&mut self, rt: &R, alloc: Global, publications: &[Publication<'_>])
+        ensures { Sends publications.now self.old self.new }
+    {
+        self.refused = self.send_all(rt, alloc, publications).err();
     }
 
     /// Publishes the lines of its source in order, [`AT_ONCE`] by one call.
@@ -31,7 +49,11 @@ impl<L: Ledgers + Send, B: Listener + Send, F: FailHandler + Send> Sender<L, B, 
         rt: &R,
         alloc: Global,
         publications: &[Publication<'_>],
-    ) -> Result<(), Refusal> {
+    ) -> Result<(), Refusal>
+        ensures source { self.new.source ≡ self.old.source }
+        ensures sent { OnOk result (Publishes (texts_from self.old.source publications.now)
+            self.old.submitter self.new.submitter) }
+    {
         let mut texts = Vec::with_capacity(alloc, AT_ONCE)?;
         for publication in publications {
             if publication.source == self.source {
@@ -50,7 +72,11 @@ impl<L: Ledgers + Send, B: Listener + Send, F: FailHandler + Send> Sender<L, B, 
         rt: &R,
         alloc: Global,
         texts: &mut Vec<Text>,
-    ) -> Result<(), Refusal> {
+    ) -> Result<(), Refusal>
+        ensures source { self.new.source ≡ self.old.source }
+        ensures published { OnOk result (Publishes texts.old.items self.old.submitter self.new.submitter) }
+        ensures empty { OnOk result (texts.new.items ≡ []) }
+    {
         match self.submitter.submit_all(rt, alloc, texts.as_slice()) {
             Ok(_) => {
                 texts.clear();
@@ -62,7 +88,9 @@ impl<L: Ledgers + Send, B: Listener + Send, F: FailHandler + Send> Sender<L, B, 
 }
 
 /// The text of a line. It is refused if it is too long.
-fn text_of(alloc: Global, publication: &Publication<'_>) -> Result<Text, Refusal> {
+fn text_of(alloc: Global, publication: &Publication<'_>) -> Result<Text, Refusal>
+    ensures { IfOk result (λ text. text ≡ publication.now.text) }
+{
     let bytes = publication.text.as_bytes();
     if bytes.len() > Text::LONGEST {
         return Err(Refusal::LineTooLong);
@@ -70,9 +98,8 @@ fn text_of(alloc: Global, publication: &Publication<'_>) -> Result<Text, Refusal
     Ok(Text::new(alloc, bytes)?)
 }
 
-/// Publishes all lines: the submitters, in order, those of the sources, each from a thread of its own. The threads have
-/// ended then, and the submitters come back, in order. It is refused if a growth is refused or a thread can't be
-/// started.
+/// Publishes all lines, each source from a thread of its own. The threads have ended then, and the submitters come back,
+/// in order. It is refused if a line of one is.
 pub fn send_lines<
     L: Ledgers + Send + Sync + 'static,
     B: Listener + Send + 'static,
@@ -81,53 +108,40 @@ pub fn send_lines<
 >(
     rt: &R,
     alloc: Global,
-    input: &Input<'_>,
-    submitters: Vec<Submitter<L, B, F>>,
-) -> Result<Vec<Submitter<L, B, F>>, NoMemory> {
-    let mut senders = make_senders(alloc, input.sources(), submitters)?;
-    let publications = input.publications();
-    let send = |_: usize, sender: &mut Sender<L, B, F>| sender.send(rt, alloc, publications);
+    publications: &[Publication<'_>],
+    senders: Vec<Sender<L, B, F>>,
+) -> Result<Vec<Submitter<L, B, F>>, Refusal>
+    ensures { IfOk result (λ submitters. AllZip
+        (λ sender. Publishes (texts_from sender.source publications.now) sender.submitter)
+        senders.items submitters.items) }
+{
+    let mut senders = senders;
+    let send = |_: usize, sender: &mut Sender<L, B, F>|
+        ensures { Sends publications.entry.now sender.old sender.new }
+    { sender.send(rt, alloc, publications) };
     let threads = senders.len().max(1);
     thread::for_each_mut(rt, &mut senders, threads, &send);
     take_back(alloc, senders)
-}
-
-/// The submitters with their sources.
-fn make_senders<L: Ledgers + Send, B: Listener + Send, F: FailHandler + Send>(
-    alloc: Global,
-    sources: &[u32],
-    submitters: Vec<Submitter<L, B, F>>,
-) -> Result<Vec<Sender<L, B, F>>, NoMemory> {
-    let mut senders = Vec::new(alloc);
-    let mut submitters = submitters.into_iter();
-    for source in sources {
-        if let Some(submitter) = submitters.next() {
-            senders.push(Sender {
-                submitter,
-                source: *source,
-                is_refused: false,
-            })?;
-        }
-    }
-    Ok(senders)
 }
 
 /// The submitters without their sources. It is refused if a line of one was.
 fn take_back<L: Ledgers + Send, B: Listener + Send, F: FailHandler + Send>(
     alloc: Global,
     senders: Vec<Sender<L, B, F>>,
-) -> Result<Vec<Submitter<L, B, F>>, NoMemory> {
+) -> Result<Vec<Submitter<L, B, F>>, Refusal>
+    ensures { IfOk result (λ submitters. AreSubmittersOf senders.items submitters.items) }
+{
     let mut submitters = Vec::new(alloc);
     for sender in senders {
         let Sender {
             submitter,
-            is_refused,
-            source: _,
+            refused,
+            ..
         } = sender;
-        if is_refused {
-            return Err(NoMemory);
+        match refused {
+            Some(refusal) => return Err(refusal),
+            None => submitters.push(submitter)?,
         }
-        submitters.push(submitter)?;
     }
     Ok(submitters)
 }
