@@ -54,10 +54,14 @@ one() {
 each() {
     tried=$((tried + 1))
     n=1
+    runs=1
     while [ "$n" -le "$MOST" ]; do
         answer=$(one "$1" "$2" "$n")
         case $answer in
-        met) n=$((n + 1)) ;;
+        met)
+            n=$((n + 1))
+            runs=1
+            ;;
         none)
             if [ "$n" -eq 1 ]; then
                 echo "$2: no request was refused"
@@ -68,6 +72,11 @@ each() {
             return
             ;;
         *)
+            # A day naps while its workers tell. If the host stops one for longer than that, the day ends otherwise; but not three times.
+            if [ "$1" = "$days" ] && [ "$runs" -lt 3 ]; then
+                runs=$((runs + 1))
+                continue
+            fi
             echo "$2: request $n refused: $answer"
             cat "$work/err"
             failures=$((failures + 1))
