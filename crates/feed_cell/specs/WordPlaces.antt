@@ -8,25 +8,26 @@ abbrev pub lie_close : ℕ → Bool
 lie_close capacity = nat_lt capacity 32
 
 abbrev pub place_in : Bool → Word → ℕ
-place_in true Word.Head = 0
-place_in true Word.Tail = 1
-place_in true Word.Asked = 2
-place_in true Word.Control = 3
-place_in false Word.Head = 0
-place_in false Word.Tail = 16
-place_in false Word.Control = 32
-place_in false Word.Asked = 33
+place_in true Word.Head = 6
+place_in true Word.Tail = 7
+place_in true Word.Asked = 8
+place_in true Word.Control = 9
+place_in false Word.Head = 6
+place_in false Word.Tail = 22
+place_in false Word.Control = 38
+place_in false Word.Asked = 39
 
 abbrev pub count_in : Bool → ℕ
-count_in true = 4
+count_in true = 16
 count_in false = 48
 
 abbrev pub words_in : Bool → ℕ → ℕ → ℕ → ℕ → List ℕ
-words_in true head tail asked control = head ∷ tail ∷ asked ∷ control ∷ []
+words_in true head tail asked control =
+    0 ∷ 0 ∷ 0 ∷ 0 ∷ 0 ∷ 0 ∷ head ∷ tail ∷ asked ∷ control ∷ 0 ∷ 0 ∷ 0 ∷ 0 ∷ 0 ∷ 0 ∷ []
 words_in false head tail asked control =
-    head ∷ 0 ∷ 0 ∷ 0 ∷ 0 ∷ 0 ∷ 0 ∷ 0 ∷ 0 ∷ 0 ∷ 0 ∷ 0 ∷ 0 ∷ 0 ∷ 0 ∷ 0
-    ∷ tail ∷ 0 ∷ 0 ∷ 0 ∷ 0 ∷ 0 ∷ 0 ∷ 0 ∷ 0 ∷ 0 ∷ 0 ∷ 0 ∷ 0 ∷ 0 ∷ 0 ∷ 0
-    ∷ control ∷ asked ∷ 0 ∷ 0 ∷ 0 ∷ 0 ∷ 0 ∷ 0 ∷ 0 ∷ 0 ∷ 0 ∷ 0 ∷ 0 ∷ 0 ∷ 0 ∷ 0 ∷ []
+    0 ∷ 0 ∷ 0 ∷ 0 ∷ 0 ∷ 0 ∷ head ∷ 0 ∷ 0 ∷ 0 ∷ 0 ∷ 0 ∷ 0 ∷ 0 ∷ 0 ∷ 0
+    ∷ 0 ∷ 0 ∷ 0 ∷ 0 ∷ 0 ∷ 0 ∷ tail ∷ 0 ∷ 0 ∷ 0 ∷ 0 ∷ 0 ∷ 0 ∷ 0 ∷ 0 ∷ 0
+    ∷ 0 ∷ 0 ∷ 0 ∷ 0 ∷ 0 ∷ 0 ∷ control ∷ asked ∷ 0 ∷ 0 ∷ 0 ∷ 0 ∷ 0 ∷ 0 ∷ 0 ∷ 0 ∷ []
 
 -- the place of a word, by the capacity
 pub place : ℕ → Word → ℕ

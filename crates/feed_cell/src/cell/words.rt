@@ -1,9 +1,10 @@
 //! The four words of a subscription, and where they lie in its table.
 //!
 //! A step takes the cache line of its word away from the other processors. With a small buffer the producer and the task
-//! wait for one another at almost every item, and need all words then: these lie side by side, in one line. With a
-//! larger one each works on its own word most of the time: head and tail lie 128 bytes from one another and from the
-//! two others, since processors fetch lines in pairs.
+//! wait for one another at almost every item, and need all words then: these lie side by side, in one line or two. An
+//! allocation is aligned to 16 bytes, so 48 unused bytes before and after them keep all other values, such as the first
+//! slot, off their lines. With a larger buffer each works on its own word most of the time: head and tail lie 128 bytes
+//! from one another and from the two others, since processors fetch lines in pairs.
 ghost use Rattle.std.specs.Prelude.{◌≡◌, ◌<◌, true, false};
 ghost use Rattle.feed_cell.specs.WordPlaces.{place, place_in, word_count, words_by};
 
@@ -25,13 +26,14 @@ pub enum Word {
 /// From this capacity on the words lie apart.
 pub(crate) const APART_FROM: u64 = 32;
 
-/// What the words are at first, side by side: nothing was taken, put or asked for, and the task is started.
-pub(crate) const CLOSE_WORDS: [u64; 4] = [0, 0, 0, RUN];
+/// What the words are at first, side by side: nothing was taken, put or asked for, and the task is started. The words
+/// around the four are never touched.
+pub(crate) const CLOSE_WORDS: [u64; 16] = [0, 0, 0, 0, 0, 0, 0, 0, 0, RUN, 0, 0, 0, 0, 0, 0];
 
 /// The same, apart. The rest is never touched.
 pub(crate) const APART_WORDS: [u64; 48] = [
     0, 0, 0, 0, 0, 0, 0, 0, 0, 0, 0, 0, 0, 0, 0, 0, 0, 0, 0, 0, 0, 0, 0, 0, 0, 0, 0, 0, 0, 0, 0, 0,
-    RUN, 0, 0, 0, 0, 0, 0, 0, 0, 0, 0, 0, 0, 0, 0, 0,
+    0, 0, 0, 0, 0, 0, RUN, 0, 0, 0, 0, 0, 0, 0, 0, 0,
 ];
 
 /// Gives the place of a word in the table of a subscription of this capacity.
@@ -51,10 +53,10 @@ fn close_place(word: Word) -> usize
     ensures place { result ≡ place_in true word }
 {
     match word {
-        Word::Head => 0,
-        Word::Tail => 1,
-        Word::Asked => 2,
-        Word::Control => 3,
+        Word::Head => 6,
+        Word::Tail => 7,
+        Word::Asked => 8,
+        Word::Control => 9,
     }
 }
 
@@ -63,10 +65,10 @@ fn place_apart(word: Word) -> usize
     ensures place { result ≡ place_in false word }
 {
     match word {
-        Word::Head => 0,
-        Word::Tail => 16,
-        Word::Control => 32,
-        Word::Asked => 33,
+        Word::Head => 6,
+        Word::Tail => 22,
+        Word::Control => 38,
+        Word::Asked => 39,
     }
 }
 
