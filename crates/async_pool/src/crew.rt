@@ -30,7 +30,7 @@ pub(crate) struct Crew<J: Drop, Q: Rule<J>> {
 }
 
 impl<J: Drop, Q: Rule<J>> Crew<J, Q> {
-    ghost use Rattle.std.specs.Prelude.{◌<◌, ◌+◌, ◌-◌, Some, None, false, true, min, slice_get, slice_set};
+    ghost use Rattle.std.specs.Prelude.{◌<◌, ◌+◌, ◌-◌, ◌⊎◌, Some, None, false, true, min, slice_get, slice_set};
     ghost use Rattle.async_pool.specs.Sleepers.{CallsOne, CallsAll};
     ghost use Rattle.async_pool.specs.declared.sleepers.Place.TheVariants as Place;
 
@@ -43,7 +43,8 @@ impl<J: Drop, Q: Rule<J>> Crew<J, Q> {
         ensures placed { IfOk result (λ made. AreThievesOf made.0.queues.items made.1.items) }
         ensures thieves { IfOk result (λ made. vec_len made.1 ≡ workers) }
         ensures nobody { IfOk result (λ made. (made.0.sleepers.asleep ≡ 0)
-            × (made.0.sleepers.called ≡ 0) × (made.0.sleepers.has_lead ≡ false)) }
+            × (made.0.sleepers.called ≡ 0) × (made.0.sleepers.has_lead ≡ false)
+            × (made.0.sleepers.in_turn ≡ 0)) }
     {
         let (queues, thieves) = new_queues(alloc, workers)?;
         let crew = Crew {
@@ -81,9 +82,11 @@ impl<J: Drop, Q: Rule<J>> Crew<J, Q> {
         ensures asleep { self.new.sleepers.asleep
             ≡ min (self.old.sleepers.asleep + 1) 18446744073709551615 }
         ensures called { self.new.sleepers.called ≡ self.old.sleepers.called }
-        ensures lead { self.new.sleepers.has_lead ≡ true }
-        ensures first { self.old.sleepers.has_lead ≡ false → result.0 ≡ Place.Lead }
-        ensures other { self.old.sleepers.has_lead ≡ true → result.0 ≡ Place.Others }
+        ensures first { self.old.sleepers.has_lead ≡ false → self.old.sleepers.in_turn ≡ 0
+            → (result.0 ≡ Place.Lead) × (self.new.sleepers.has_lead ≡ true) }
+        ensures other { (self.old.sleepers.has_lead ≡ true) ⊎ (0 < self.old.sleepers.in_turn)
+            → (result.0 ≡ Place.Others) × (self.new.sleepers.has_lead ≡ self.old.sleepers.has_lead) }
+        ensures in_turn { self.new.sleepers.in_turn ≡ self.old.sleepers.in_turn }
         ensures others { (self.new.shut ≡ self.old.shut) × (self.new.queues ≡ self.old.queues) }
     {
         self.sleepers.lie_down()
@@ -96,6 +99,7 @@ impl<J: Drop, Q: Rule<J>> Crew<J, Q> {
         ensures lead { sleeper.0 ≡ Place.Lead → self.new.sleepers.has_lead ≡ false }
         ensures other { sleeper.0 ≡ Place.Others
             → self.new.sleepers.has_lead ≡ self.old.sleepers.has_lead }
+        ensures in_turn { self.new.sleepers.in_turn ≡ self.old.sleepers.in_turn }
         ensures others { (self.new.shut ≡ self.old.shut) × (self.new.queues ≡ self.old.queues) }
     {
         self.sleepers.get_up(sleeper);

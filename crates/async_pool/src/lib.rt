@@ -14,11 +14,12 @@
 //! not have looked.
 //!
 //! A worker that found no job a bounded number of times sleeps until one comes or the pool is shut. A job that comes
-//! wakes one worker, if nobody searches, and if there are jobs one at a time it is always the same; the last that
-//! searches wakes the next once it has found a job. So jobs that come together wake no more workers than find work. One lock keeps who sleeps, whose loop runs, and whether the pool
-//! was shut. Whom to wake, and that a loop may end, is said by values that can't be dropped, and a worker lies down
-//! only after it looked while it held the lock. All room is made by [`Pool::new`]; only a worker's queue may grow
-//! later, while a thief is stopped in the middle of a steal.
+//! wakes one worker, if nobody searches. It is always the same one while jobs come one at a time, and the workers take
+//! turns while they come together. The last that searches wakes the next once it has found a job. So jobs that come
+//! together wake no more workers than find work. One lock keeps who sleeps, whose loop runs, and whether the pool was
+//! shut. Whom to wake, and that a loop may end, is said by values that can't be dropped, and a worker lies down only
+//! after it looked while it held the lock. All room is made by [`Pool::new`]; only a worker's queue may grow later,
+//! while a thief is stopped in the middle of a steal.
 //!
 //! ```
 //! let pool = Pool::new(alloc, 1)?;

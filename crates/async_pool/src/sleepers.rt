@@ -1,9 +1,13 @@
 //! How many workers sleep, how many of them were called, where each sleeps, and whom to wake then.
 //!
-//! The lead is called first: whoever lies down takes its place if that is free. So one worker serves jobs that come one
-//! at a time, and it has slept least of all: its processor wakes soonest.
-ghost use Rattle.std.specs.Prelude.{◌≡◌, ◌≤◌, ◌+◌, ◌-◌, min, false, true};
+//! Jobs that come one at a time are run by one worker, the lead: whoever lies down takes its place if that is free, and
+//! it is called first. It has slept least of all, and its processor wakes soonest. While jobs come together it is called
+//! last, and the others in turn, those that have slept longest first.
+ghost use Rattle.std.specs.Prelude.{◌≡◌, ◌<◌, ◌≤◌, ◌+◌, ◌-◌, ◌⊎◌, min, false, true};
 ghost use Rattle.async_pool.specs.declared.sleepers.Place.TheVariants as Place;
+
+/// How many calls go to the others in turn after jobs came together.
+const CALLS_IN_TURN: usize = 16;
 
 /// Workers that sleep. Each is called once, and gets up then.
 #[derive(Drop)]
@@ -14,6 +18,8 @@ pub(crate) struct Sleepers {
     called: usize,
     /// Whether one of them is the lead.
     has_lead: bool,
+    /// How many of the next calls go to the others in turn.
+    in_turn: usize,
     ghost of_those: { called ≤ asleep },
 }
 
@@ -53,25 +59,29 @@ impl Sleepers {
 
     /// Nobody sleeps.
     pub fn none() -> Sleepers
-        ensures { (result.asleep ≡ 0) × (result.called ≡ 0) × (result.has_lead ≡ false) }
+        ensures { (result.asleep ≡ 0) × (result.called ≡ 0) × (result.has_lead ≡ false)
+            × (result.in_turn ≡ 0) }
     {
         Sleepers {
             asleep: 0,
             called: 0,
             has_lead: false,
+            in_turn: 0,
         }
     }
 
-    /// One more sleeps, as the lead if there is none.
+    /// One more sleeps, as the lead if there is none and jobs come one at a time.
     pub fn lie_down(&mut self) -> Sleeper
         ensures asleep { self.new.asleep ≡ min (self.old.asleep + 1) 18446744073709551615 }
         ensures called { self.new.called ≡ self.old.called }
-        ensures lead { self.new.has_lead ≡ true }
-        ensures first { self.old.has_lead ≡ false → result.0 ≡ Place.Lead }
-        ensures other { self.old.has_lead ≡ true → result.0 ≡ Place.Others }
+        ensures first { self.old.has_lead ≡ false → self.old.in_turn ≡ 0
+            → (result.0 ≡ Place.Lead) × (self.new.has_lead ≡ true) }
+        ensures other { (self.old.has_lead ≡ true) ⊎ (0 < self.old.in_turn)
+            → (result.0 ≡ Place.Others) × (self.new.has_lead ≡ self.old.has_lead) }
+        ensures in_turn { self.new.in_turn ≡ self.old.in_turn }
     {
         self.asleep = self.asleep.saturating_add(1);
-        if self.has_lead {
+        if self.has_lead || self.in_turn > 0 {
             return Sleeper(Place::Others);
         }
         self.has_lead = true;
@@ -84,6 +94,7 @@ impl Sleepers {
         ensures called { self.new.called ≡ self.old.called - 1 }
         ensures lead { sleeper.0 ≡ Place.Lead → self.new.has_lead ≡ false }
         ensures other { sleeper.0 ≡ Place.Others → self.new.has_lead ≡ self.old.has_lead }
+        ensures in_turn { self.new.in_turn ≡ self.old.in_turn }
     {
         let Sleeper(place) = sleeper;
         self.called = self.called.saturating_sub(1);
@@ -93,20 +104,25 @@ impl Sleepers {
         }
     }
 
-    /// Calls one that sleeps, the lead if there is one; or nobody if one that was called did not get up yet: that one
-    /// looks, and calls the next.
+    /// Calls one that sleeps; or nobody if one that was called did not get up yet: that one looks, and calls the next.
+    /// The lead is called first, if there is one. But a job that comes before the one that was called has got up shows
+    /// that jobs come together: from then on the lead is called last, for [`CALLS_IN_TURN`] calls.
     pub fn call_one(&mut self) -> Wake
         ensures { CallsOne self.old result self.new }
     {
-        if self.asleep == 0 || self.called > 0 {
+        if self.called > 0 {
+            self.in_turn = CALLS_IN_TURN;
+            return Wake::Nobody;
+        }
+        if self.asleep == 0 {
             return Wake::Nobody;
         }
         self.called = 1;
-        if self.has_lead {
-            Wake::One(Place::Lead)
-        } else {
-            Wake::One(Place::Others)
+        if self.has_lead && (self.in_turn == 0 || self.asleep == 1) {
+            return Wake::One(Place::Lead);
         }
+        self.in_turn = self.in_turn.saturating_sub(1);
+        Wake::One(Place::Others)
     }
 
     /// Calls all.

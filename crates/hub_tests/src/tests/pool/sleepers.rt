@@ -168,6 +168,26 @@ fn jobs_one_at_a_time_are_run_by_one_worker(rt: HostRuntime) -> Result<(), Fail>
     Ok(())
 }
 
+// Jobs that come together, a pair at a time: each pair finds all workers asleep. The jobs after them, one at a time, are
+// run by the workers in turn: four of twelve each.
+#[test]
+fn jobs_that_come_together_go_to_workers_in_turn(rt: HostRuntime) -> Result<(), Fail> {
+    let runs = no_runs(rt.alloc(), 1)?;
+    let workers = asleep(rt, rt.alloc(), 3, Wide)?;
+    for pair in 1..4 {
+        assert!(rt; hand_in(&rt, &workers.site.pool, 1, 0, &runs)?);
+        assert!(rt; runs_to(&rt, &workers.site.pool, 0, &runs, 2 * pair)?);
+        let_them_sleep(&rt);
+    }
+    for round in 7..19 {
+        assert!(rt; runs_to(&rt, &workers.site.pool, 0, &runs, round)?);
+        let_them_sleep(&rt);
+    }
+    let (all, most) = workers.end(&rt).ok_or("a worker does not end")?;
+    assert!(rt; all == 18 && most <= 10);
+    Ok(())
+}
+
 // A gate that each of two workers passes once, and that then holds whoever comes until it is opened.
 #[derive(Drop)]
 struct Once {
