@@ -3,8 +3,8 @@
 # threads program on 4 sources of 50,000 lines with 4 subscribers, whose reports have to be the same to the byte; deliveries in one process;
 # how long one item takes to a subscriber at rest; and the rows of fanout.sh. Runs are interleaved, and a row has the medians and the ratios
 # of this one's time to the others'. A JVM that answers for itself alone is warmed up by earlier rounds; the threads program begins cold, as a
-# program does. What isn't there (javac, rustc) is left out. The tables and a picture of the ratios go to bench/results, with the machine's
-# name.
+# program does. A run beside which the machine's host took more than 2.5 % of the processors says nothing, and is made again. What isn't there
+# (javac, rustc) is left out. The tables and a picture of the ratios go to bench/results, with the machine's name.
 # Usage: PROGRAM=FILE DELIVERIES=FILE FANOUT=FILE bench/peers.sh [RUNS [ITEMS]] (5 and 400,000). The files are the native programs of
 # lines_demo, deliveries_bench and fanout; without a name they are those that `rt ci` leaves in crates/*/out.
 set -eu
@@ -36,16 +36,33 @@ nanoseconds() {
     echo $(($(date +%s%N) - from))
 }
 
+# ticks: the time that the machine's host took from the processors, and all of their time.
+ticks() {
+    awk '$1 == "cpu" { print $9, $2 + $3 + $4 + $5 + $6 + $7 + $8 + $9 }' /proc/stat
+}
+
+# quietly COMMAND..: what a command printed, of a run beside which the host took little.
+quietly() {
+    while :; do
+        before=$(ticks)
+        said=$("$@")
+        if echo "$before $(ticks)" | awk '{ exit ($3 - $1) * 40 > $4 - $2 }'; then
+            break
+        fi
+    done
+    echo "$said"
+}
+
 # threads NAME INPUT WORKERS CAPACITY DEMAND: a row of the threads program.
 threads() {
     rm -f "$work"/*.times "$work/want"
     in=$work/$2
     for _ in $(seq "$runs"); do
-        nanoseconds "$program" threads --workers "$3" --cap "$4" "a:$5" "b:$5" "c:$5" "d:$5" >>"$work/this.times"
+        quietly nanoseconds "$program" threads --workers "$3" --cap "$4" "a:$5" "b:$5" "c:$5" "d:$5" >>"$work/this.times"
         mv "$work/out" "$work/want"
         case $peers in
         *java*)
-            nanoseconds java -cp "$work" Lines "$3" "$4" "a:$5" "b:$5" "c:$5" "d:$5" >>"$work/java.times"
+            quietly nanoseconds java -cp "$work" Lines "$3" "$4" "a:$5" "b:$5" "c:$5" "d:$5" >>"$work/java.times"
             cmp "$work/out" "$work/want"
             ;;
         esac
@@ -57,9 +74,9 @@ threads() {
 fast() {
     rm -f "$work"/*.times
     for _ in $(seq "$runs"); do
-        "$deliveries" fast "$2" "$3" "$4" "$5" "$6" "$items" >>"$work/this.times"
-        case $peers in *java*) java -cp "$work" Deliveries "$2" "$3" "$4" "$5" "$6" "$items" >>"$work/java.times" ;; esac
-        case $peers in *rust*) "$work/fan_out" "$3" "$4" "$5" "$6" "$items" >>"$work/rust.times" ;; esac
+        quietly "$deliveries" fast "$2" "$3" "$4" "$5" "$6" "$items" >>"$work/this.times"
+        case $peers in *java*) quietly java -cp "$work" Deliveries "$2" "$3" "$4" "$5" "$6" "$items" >>"$work/java.times" ;; esac
+        case $peers in *rust*) quietly "$work/fan_out" "$3" "$4" "$5" "$6" "$items" >>"$work/rust.times" ;; esac
     done
     row "$1, $2 workers, capacity $5, $6 bytes"
 }
@@ -69,8 +86,8 @@ fast() {
 batches() {
     rm -f "$work"/*.times
     for _ in $(seq "$runs"); do
-        "$deliveries" fast "$2" "$3" "$4" "$5" "$6" "$items" "$7" >>"$work/this.times"
-        case $peers in *java*) java -cp "$work" Deliveries "$2" "$3" "$4" "$5" "$6" "$items" >>"$work/java.times" ;; esac
+        quietly "$deliveries" fast "$2" "$3" "$4" "$5" "$6" "$items" "$7" >>"$work/this.times"
+        case $peers in *java*) quietly java -cp "$work" Deliveries "$2" "$3" "$4" "$5" "$6" "$items" >>"$work/java.times" ;; esac
     done
     row "$1 by $7, $2 workers, capacity $5, $6 bytes"
 }
@@ -79,8 +96,8 @@ batches() {
 alone() {
     rm -f "$work"/*.times
     for _ in $(seq "$runs"); do
-        "$deliveries" alone "$2" 2000 "$3" >>"$work/this.times"
-        case $peers in *java*) java -cp "$work" Alone "$2" 2000 "$3" >>"$work/java.times" ;; esac
+        quietly "$deliveries" alone "$2" 2000 "$3" >>"$work/this.times"
+        case $peers in *java*) quietly java -cp "$work" Alone "$2" 2000 "$3" >>"$work/java.times" ;; esac
     done
     row "$1, $2 workers, a pause of $3 us"
 }
@@ -106,6 +123,7 @@ threads 'lines from threads' lines 1 256 200000
 threads 'lines from threads' lines 4 256 200000
 threads 'lines from threads' lines 4 4 200000
 fast '1 submitter to 1' 1 1 1 256 16
+fast '1 submitter to 1' 1 1 1 256 64
 fast '1 submitter to 4' 4 1 4 256 16
 fast '4 submitters to 4' 4 4 4 256 16
 fast '4 submitters to 4' 4 4 4 256 256
