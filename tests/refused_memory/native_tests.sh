@@ -3,7 +3,7 @@
 # that meets none. Each run has to end by itself, within a minute, either well or with the error that a refusal gives.
 #
 # It fails, too, where a run does not say that its test was run, and where no request of a test was refused, as when the
-# library that refuses is not loaded; and where a text that has to do without memory asks for some.
+# library that refuses is not loaded; and where a text asks for more memory than it has to.
 #
 # It needs the native tests, which `rt test` leaves in crates/NAME/out, and gcc. TESTS names another folder in the place of crates.
 set -eu
@@ -88,19 +88,22 @@ each() {
     failures=$((failures + 1))
 }
 
-# asks_for_none PROGRAM TEST: its first request would be refused, and there is none.
-asks_for_none() {
+# asks_for MANY PROGRAM TEST: the last of its MANY requests is refused, and there are no more.
+asks_for() {
     tried=$((tried + 1))
-    answer=$(one "$1" "$2" 1)
-    if [ "$answer" = none ]; then
-        echo "$2: no request"
+    last=met
+    [ "$1" -eq 0 ] || last=$(one "$2" "$3" "$1")
+    next=$(one "$2" "$3" $(($1 + 1)))
+    if [ "$last" = met ] && [ "$next" = none ]; then
+        echo "$3: requests: $1"
     else
-        echo "$2: it asks for memory: $answer"
+        echo "$3: not $1 requests for memory: $last, then $next"
         failures=$((failures + 1))
     fi
 }
 
-asks_for_none "$core" tests::texts::a_short_text_asks_for_no_memory
+asks_for 0 "$core" tests::texts::a_short_text_asks_for_no_memory
+asks_for 1 "$core" tests::texts::a_text_of_111_bytes_asks_for_memory_once
 each "$core" tests::texts::a_long_text_asks_for_memory
 for name in a_refusal_is_answered the_last_of_three_is_true no_two_of_one_count_are_the_last of_all_one_is_the_last; do
     each "$hub" "tests::count::$name"

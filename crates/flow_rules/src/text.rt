@@ -1,10 +1,13 @@
 //! A text: the bytes of an item.
+mod short;
+
 ghost use Rattle.std.specs.Prelude.{◌≡◌, ◌≤◌, ◌==◌, ◌↔◌, [], length, IfOk, IsOk, true};
 ghost use Rattle.std.specs.Cmp.Lexicographic.{pointwise};
 ghost use Rattle.std.specs.Cmp.Rules.{comparing};
 ghost use Rattle.std.proofs.Common.{rules};
 
 use crate::refusal::NoMemory;
+use short::Short;
 use std::alloc::Global;
 use std::convert::AsSlice;
 use std::fmt;
@@ -21,14 +24,12 @@ pub struct Text {
 /// Where the bytes of a text lie.
 #[derive(Drop)]
 enum Bytes {
-    /// In this value: the first `len` bytes of the array. `len` lies before it, so that the array is copied in fewer
-    /// parts.
-    Inside {
-        len: u8,
-        array: [u8; Text::LONGEST_INSIDE],
-    },
-    /// In memory that the owners of the text share.
-    Shared(Arc<Vec<u8>>),
+    /// In this value.
+    Inside(Short<{ Text::LONGEST_INSIDE }>),
+    /// In one block of memory with the count of its owners.
+    InBlock(Arc<Short<{ Text::LONGEST_IN_BLOCK }>>),
+    /// In memory of its own, which the block with the count points at.
+    Apart(Arc<Vec<u8>>),
 }
 
 impl Model for Text {
@@ -49,6 +50,10 @@ impl Text {
     /// The number of bytes of the longest text that takes no memory.
     pub const LONGEST_INSIDE: usize = 30;
 
+    /// The number of bytes of the longest text that takes one block of memory; a longer one takes two. With its count of
+    /// owners this block is the largest that glibc gives back to another thread's memory without a lock.
+    const LONGEST_IN_BLOCK: usize = 111;
+
     /// A text of these bytes, which need be no text in any encoding. One of [`Text::LONGEST_INSIDE`] bytes or fewer is
     /// never refused.
     #[inline(always)]
@@ -57,29 +62,14 @@ impl Text {
         ensures bytes { IfOk result (λ text. text ≡ bytes.now) }
         ensures not_refused { length bytes.now ≤ Text.LONGEST_INSIDE → IsOk result }
     {
-        if bytes.len() <= Text::LONGEST_INSIDE {
-            return Ok(Text::inside(bytes));
-        }
-        let copy = Vec::from_slice(alloc, bytes)?;
-        Ok(Text {
-            bytes: Bytes::Shared(Arc::new(alloc, copy)?),
-        })
-    }
-
-    /// A text that lies in this value.
-    #[inline(always)]
-    fn inside(bytes: &[u8]) -> Text
-        requires { length bytes.now ≤ Text.LONGEST_INSIDE }
-        ensures { result ≡ bytes.now }
-    {
-        let mut array = [0; Text::LONGEST_INSIDE];
-        array[..bytes.len()].copy_from_slice(bytes);
-        Text {
-            bytes: Bytes::Inside {
-                len: bytes.len() as u8,
-                array,
-            },
-        }
+        let bytes = if bytes.len() <= Text::LONGEST_INSIDE {
+            Bytes::Inside(Short::of(bytes))
+        } else if bytes.len() <= Text::LONGEST_IN_BLOCK {
+            Bytes::InBlock(Arc::new(alloc, Short::of(bytes))?)
+        } else {
+            Bytes::Apart(Arc::new(alloc, Vec::from_slice(alloc, bytes)?)?)
+        };
+        Ok(Text { bytes })
     }
 
     /// The same text once more. It may be refused, as any growth, if the text has more than [`Text::LONGEST_INSIDE`]
@@ -89,11 +79,9 @@ impl Text {
         ensures not_refused { length self.now ≤ Text.LONGEST_INSIDE → IsOk result }
     {
         let bytes = match &self.bytes {
-            Bytes::Inside { len, array } => Bytes::Inside {
-                len: *len,
-                array: *array,
-            },
-            Bytes::Shared(bytes) => Bytes::Shared(Arc::try_clone(bytes)?),
+            Bytes::Inside(short) => Bytes::Inside(short.again()),
+            Bytes::InBlock(short) => Bytes::InBlock(Arc::try_clone(short)?),
+            Bytes::Apart(bytes) => Bytes::Apart(Arc::try_clone(bytes)?),
         };
         Ok(Text { bytes })
     }
@@ -104,8 +92,9 @@ impl Text {
         ensures short { length self.now ≤ Text.LONGEST }
     {
         match &self.bytes {
-            Bytes::Inside { len, array } => &array[..usize::from(*len)],
-            Bytes::Shared(bytes) => bytes.as_slice(),
+            Bytes::Inside(short) => short.as_slice(),
+            Bytes::InBlock(short) => short.as_slice(),
+            Bytes::Apart(bytes) => bytes.as_slice(),
         }
     }
 

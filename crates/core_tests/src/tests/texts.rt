@@ -8,15 +8,17 @@ use std::convert::AsSlice;
 use std::mem::size_of;
 use std::test::Fail;
 
-// The longest that lies in its value, one byte less, one byte more, and the longest of all.
-const TEXTS: [&[u8]; 7] = [
+// Up to 30 bytes lie in the value, up to 111 in one block of memory, and up to 4,096 in two.
+const TEXTS: [&[u8]; 9] = [
     b"",
     b" x",
     b"\xff\0",
     &[b'd'; 29],
     &[b'e'; 30],
     &[b'f'; 31],
-    &[b'g'; 4096],
+    &[b'g'; 111],
+    &[b'h'; 112],
+    &[b'i'; 4096],
 ];
 
 /// The parts of items, and whether those of `item_with` are the same with the text `x`.
@@ -75,10 +77,17 @@ fn a_short_text_asks_for_no_memory(rt: HostRuntime) -> Result<(), Fail> {
     Ok(())
 }
 
+// Run from outside, too, with its one request for memory refused.
+#[test]
+fn a_text_of_111_bytes_asks_for_memory_once(rt: HostRuntime) -> Result<(), Fail> {
+    assert!(rt; is_shared(rt.alloc(), TEXTS[6])?);
+    Ok(())
+}
+
 // Run from outside, too, with each request for memory refused in turn.
 #[test]
 fn a_long_text_asks_for_memory(rt: HostRuntime) -> Result<(), Fail> {
-    assert!(rt; is_shared(rt.alloc(), &[b'f'; 31])?);
+    assert!(rt; is_shared(rt.alloc(), TEXTS[7])?);
     Ok(())
 }
 
