@@ -1,7 +1,9 @@
 -- How a subscription's table starts, how its maker's seat becomes three, and how the first task takes its subscriber
 -- with it.
-use Rattle.std.proofs.Common.{◌≡◌, ℕ, ◌+◌, ◌%◌, ◌<◌, ◌≤◌, true, false, List, [], ◌∷◌, length, map, replicate, set, None, sym, refl, ap, ◌∙◌, subst, mod-lt, min, arith, inl, inr, ◌++◌}
+use Rattle.std.proofs.Common.{◌≡◌, ℕ, ◌+◌, ◌-◌, ◌%◌, bit_and, ◌<◌, ◌≤◌, true, false, List, [], ◌∷◌, length, map, replicate, set, None, sym, refl, ap, ◌∙◌, subst, mod-lt, min, arith, inl, inr, ◌++◌}
 use Rattle.std.proofs.lemmas.List.{length-map, length-replicate}
+use Rattle.std.proofs.lemmas.Nat.{and_mask}
+use Rattle.std.specs.Int.{IsPowerOfTwo}
 use mathlib.Core.Option.{some, none, some-ne-none}
 use lib.ListN.{get_elem?}
 use Rattle.atomic_table.proofs.Lists.{at_map}
@@ -34,6 +36,12 @@ holds_one cap capacity =
     let positive : 0 < capacity.0 = capacity.1 in
     let covers : min capacity.0 65536 ≤ cap = capacity.2.covers in
     omega arith
+
+-- a mask leaves of a number its remainder by the capacity, which is a power of two
+pub masks : (cap : ℕ) → IsCapacity cap → (number : ℕ) → bit_and number (cap - 1) ≡ number % cap
+masks cap capacity number =
+    let power : IsPowerOfTwo cap = capacity.2.power in
+    subst (λ (c : ℕ). bit_and number (c - 1) ≡ number % c) (sym power.1) (and_mask number power.0)
 
 module _ {B : Type 0} (told : B → List Signal) where
   -- the table at the start

@@ -71,8 +71,8 @@ pub(crate) fn place_one<B: Listener>(party: &mut Seated<B>, number: u64, item: I
     requires behind { HasRoomBehind number party.old.seat.me }
     ensures placed { StepsTo party.old.seat (HasPlacedOne item party.old.seat.me) party.new.seat }
 {
+    let slot = party.slot_of(number);
     let table = &party.table.shared;
-    let slot = (number % party.capacity) as usize;
     let empty = table.exchange(&mut party.seat, slot, Held::Item(item));
     leave(empty);
     let at = place_of(party.capacity, Word::Tail);
@@ -85,8 +85,8 @@ pub(crate) fn place<B: Listener>(party: &mut Seated<B>, number: u64, item: Item)
     requires place { HasFreeSlot number party.old.seat.me }
     ensures put { StepsTo party.old.seat (HasPlaced item party.old.seat.me) party.new.seat }
 {
+    let slot = party.slot_of(number);
     let table = &party.table.shared;
-    let slot = (number % party.capacity) as usize;
     let nothing = table.exchange(&mut party.seat, slot, Held::Item(item));
     leave(nothing);
     let at = place_of(party.capacity, Word::Tail);

@@ -1,6 +1,8 @@
 //! What the task does after a look or a peek: it gives one item, or ends the subscription, or rests. If it finds
 //! nothing to do after a peek, it waits a moment and peeks again, once or a few times, and then it looks, for it rests
 //! only after a look.
+//!
+//! The steps that each item goes through are inlined, as those of a publication are.
 ghost use Rattle.std.specs.Prelude.{◌≡◌, ◌+◌, ◌≤◌, ◌<◌, length, ◌==◌, Some};
 ghost use Rattle.std.specs.Int.{bit_at};
 ghost use Rattle.feed_core.specs.Prelude.{UNBOUNDED};
@@ -62,6 +64,7 @@ pub(crate) fn serve<B: Listener>(
 
 /// Does what a peek that left this word allows, or one of the peeks that it makes in the moment after that. Answers
 /// nothing if there was nothing to do until then, and something was new at each peek.
+#[inline(always)]
 fn serve_soon<B: Listener>(
     party: &mut Seated<B>,
     word: u64,
@@ -97,6 +100,7 @@ fn serve_soon<B: Listener>(
 
 /// Does what a look or a peek that left this word allows. Answers nothing if that is to rest, and something was new at
 /// the peek.
+#[inline(always)]
 fn serve_once<B: Listener>(
     party: &mut Seated<B>,
     word: u64,

@@ -128,8 +128,8 @@ pub(crate) fn take<B: Listener>(party: &mut Seated<B>, given: u64) -> Item
     ensures item { party.old.seat.me.0.item ≡ result ∷ [] }
     ensures taken { StepsTo party.old.seat (MovesOut result party.old.seat.me) party.new.seat }
 {
+    let slot = party.slot_of(given);
     let table = &party.table.shared;
-    let slot = (given % party.capacity) as usize;
     let held = table.exchange(&mut party.seat, slot, Held::Empty);
     let at = place_of(party.capacity, Word::Head);
     table.store::<TakeStep>(&mut party.seat, at, given + 1);
