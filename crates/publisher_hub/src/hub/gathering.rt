@@ -56,6 +56,7 @@ impl Gathering {
     }
 
     /// Forgets what was gathered.
+    #[inline(always)]
     pub fn forget(&mut self)
         ensures shares { self.new.shares.items ≡ [] }
         ensures missed { self.new.missed.items ≡ [] }
@@ -161,6 +162,7 @@ impl Gathering {
 }
 
 /// Puts this many shares of an item into an empty list that has room for them.
+#[inline(always)]
 fn share_out(shares: &mut Vec<Item>, item: &Item, many: usize) -> Result<(), NoMemory>
     requires empty { shares.old.items ≡ [] }
     requires room { many ≤ vec_capacity shares.old }

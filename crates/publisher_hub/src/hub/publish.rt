@@ -1,8 +1,9 @@
 //! How an item is published: to all live subscriptions if each has room, and else to none. What becomes of an item that
 //! finds a full buffer stands in offer.rt.
 //!
-//! The steps that each text goes through are inlined, here and in [`Text::new`]: the calls would take a fifth of a
-//! publication's time, since a called function reads an item in other parts than those that it was just written in.
+//! The steps that each text goes through are inlined, here, in gathering.rt and in [`Text::new`]: the calls would take a
+//! fifth of a publication's time, since a called function reads an item in other parts than those that it was just
+//! written in.
 ghost use Rattle.std.specs.Prelude.{◌≡◌, ◌+◌, ◌<◌, ◌++◌, [], List, Option, Some, IfOk, IfErr, OnOk, OnErr, map, length, slice_get, ℕ};
 ghost use Rattle.flow_rules.specs.declared.feed.put.Put.{Put};
 ghost use Rattle.flow_rules.specs.declared.item.TheConstants.{MOST_PUBLICATIONS};
