@@ -2,6 +2,7 @@
 use super::{Numbered, Runs, Site, hand_in, is_late, new_site, no_runs, start_worker};
 use async_pool::{Gate, Pool, Wide};
 use std::alloc::{AllocError, Global};
+use std::ops::Range;
 use std::process::Abort;
 use std::sync::atomic::Ordering::SeqCst;
 use std::sync::atomic::{AtomicBool, AtomicU64};
@@ -17,6 +18,9 @@ const LOOKS: u64 = 10_000;
 
 // How often a sleeper is woken for a job that is gone when it looks, if there is time for that.
 const ROUNDS: u64 = 3000;
+
+// How often pairs of jobs are handed in until one comes together.
+const TRIES: u64 = 10;
 
 // Time enough for workers to find nothing, and to sleep.
 fn let_them_sleep(rt: &impl Clock) {
@@ -155,36 +159,62 @@ fn a_worker_that_sleeps_is_woken(rt: HostRuntime) -> Result<(), Fail> {
     Ok(())
 }
 
+// Hands in a job for each of these rounds, and lets all workers sleep after it. Whether the jobs ran so often each time.
+fn one_at_a_time<R: Clock + Wait>(
+    rt: &R,
+    pool: &Pool<Numbered>,
+    runs: &Runs,
+    rounds: Range<u64>,
+) -> Result<bool, AllocError> {
+    for round in rounds {
+        if !runs_to(rt, pool, 0, runs, round)? {
+            return Ok(false);
+        }
+        let_them_sleep(rt);
+    }
+    Ok(true)
+}
+
 // Each job finds all workers asleep, and wakes the one that ran the job before.
 #[test]
 fn jobs_one_at_a_time_are_run_by_one_worker(rt: HostRuntime) -> Result<(), Fail> {
     let runs = no_runs(rt.alloc(), 1)?;
     let workers = asleep(rt, rt.alloc(), 3, Wide)?;
-    for round in 1..5 {
-        assert!(rt; runs_to(&rt, &workers.site.pool, 0, &runs, round)?);
-        let_them_sleep(&rt);
-    }
+    assert!(rt; one_at_a_time(&rt, &workers.site.pool, &runs, 1..5)?);
     assert!(rt; workers.end(&rt) == Some((4, 4)));
     Ok(())
 }
 
-// Jobs that come together, a pair at a time: each pair finds all workers asleep. The jobs after them, one at a time, are
-// run by the workers in turn: four of twelve each.
+// Hands in three pairs of jobs, each of which finds all workers asleep, and then twelve jobs one at a time. How many of
+// the jobs one worker ran at most.
+fn most_after_pairs<R: Abort + Clock + Threads + Wait + Send + Copy + 'static>(
+    rt: R,
+    alloc: Global,
+) -> Result<u64, Fail> {
+    let runs = no_runs(alloc, 1)?;
+    let workers = asleep(rt, alloc, 3, Wide)?;
+    let pool = &workers.site.pool;
+    for pair in 1..4 {
+        assert!(rt; hand_in(&rt, pool, 1, 0, &runs)?);
+        assert!(rt; runs_to(&rt, pool, 0, &runs, 2 * pair)?);
+        let_them_sleep(&rt);
+    }
+    assert!(rt; one_at_a_time(&rt, pool, &runs, 7..19)?);
+    let (all, most) = workers.end(&rt).ok_or("a worker does not end")?;
+    assert!(rt; all == 18);
+    Ok(most)
+}
+
+// After a pair the workers run the twelve jobs in turn, four each, where otherwise one of them runs all. A pair comes
+// together only if its second job is there before the worker that was called for the first has got up: on busy
+// processors no pair may, and then all is tried again.
 #[test]
 fn jobs_that_come_together_go_to_workers_in_turn(rt: HostRuntime) -> Result<(), Fail> {
-    let runs = no_runs(rt.alloc(), 1)?;
-    let workers = asleep(rt, rt.alloc(), 3, Wide)?;
-    for pair in 1..4 {
-        assert!(rt; hand_in(&rt, &workers.site.pool, 1, 0, &runs)?);
-        assert!(rt; runs_to(&rt, &workers.site.pool, 0, &runs, 2 * pair)?);
-        let_them_sleep(&rt);
+    let mut in_turn = false;
+    for _ in 0..TRIES {
+        in_turn = in_turn || most_after_pairs(rt, rt.alloc())? <= 10;
     }
-    for round in 7..19 {
-        assert!(rt; runs_to(&rt, &workers.site.pool, 0, &runs, round)?);
-        let_them_sleep(&rt);
-    }
-    let (all, most) = workers.end(&rt).ok_or("a worker does not end")?;
-    assert!(rt; all == 18 && most <= 10);
+    assert!(rt; in_turn);
     Ok(())
 }
 
