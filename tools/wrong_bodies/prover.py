@@ -15,6 +15,11 @@ def kit():
     return os.path.dirname(subprocess.run(["rt", "doc"], stdout=subprocess.PIPE, check=True, text=True).stdout.strip())
 
 
+def jobs():
+    """How many modules a check works on at a time: two where two crates can be tried beside `rt ci`."""
+    return 2 if len(os.sched_getaffinity(0)) >= 4 else 1
+
+
 def check_words(root, name, libraries, below):
     """The command that checks a crate in its folder, over what is kept of it, if anything is. `libraries` are those that crates.txt
     names, and `below` the repository's crates among them and below those."""
@@ -28,4 +33,4 @@ def check_words(root, name, libraries, below):
     logic = ["--antt-project", f"{kit()}/rattle/logic/antt-project.json", "--logic-built", f"{kit()}/logic_built"]
     # To keep work that no other check takes would cost time.
     kept = ["--incremental", "out/incremental"] * os.path.isdir(f"{root}/crates/{name}/out/incremental")
-    return [*words, *logic, *kept]
+    return [*words, *logic, *kept, "--jobs", str(jobs())]
