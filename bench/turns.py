@@ -7,15 +7,25 @@ usage: turns.py RUNS NAME=PROGRAM.. <ROWS
 A line of ROWS has the words of a run of deliveries_bench: `fast 1 4 4 256 16 200000`, or `alone 1 2000 10`. PROGRAM is a file, or the folder
 with the classes of bench/java, which publish single texts only. In each round each program runs once, in an order that is drawn anew. A run
 in which the machine's host took more than 2.5 % of the processors says nothing, and is made again. Each line that it prints has the median and
-the lower quartile of every program, in nanoseconds for an item, and the ratio of the first program's median to this one's.
+the lower quartile of every program, in nanoseconds for an item, and the ratio of the first program's median to this one's, with the bounds
+in which 95 % of such ratios lie if runs and layouts are drawn again.
+
+Two programs that do the same differ by some per cent for where their code and their memory happen to lie. If PROGRAM ends in `.*`, as
+`out/unproved/deliveries_bench.*`, it is the layouts of one program (`tools/unproved.sh --layouts`): each run draws one, and one of four places of
+its memory, which needs a C compiler (bench/shift.c).
 """
+import glob
+import os
 import random
 import subprocess
 import sys
+import tempfile
 from pathlib import Path
 from statistics import median, quantiles
 
 MOST_TAKEN = 0.025
+REDRAWN = 1000
+HERE = Path(__file__).parent
 # By the first word of a row: the JDK's class, how many of the words it takes, and which of them is the number of items.
 CLASSES = {"fast": ("Deliveries", 7, 6), "alone": ("Alone", 4, 2)}
 
@@ -33,39 +43,69 @@ def command_of(program, words):
     return ["java", "-cp", program, name, *words[1:taken]]
 
 
-def measure(program, words):
-    """The nanoseconds of a run in which the host took little."""
+def layouts_of(program):
+    """The files of a program: its layouts, if it has any."""
+    files = sorted(glob.glob(program)) if program.endswith(".*") else [program]
+    if not files:
+        sys.exit(f"{program}: there is no such file")
+    return files
+
+
+def measure(program, words, shift):
+    """A layout, and the nanoseconds of a run of it in which the host took little."""
     while True:
+        layouts = layouts_of(program)
+        layout, environment = random.choice(layouts), dict(os.environ)
+        if len(layouts) > 1:
+            environment.update(LD_PRELOAD=shift, SHIFT=str(random.randrange(4)))
         taken, whole = ticks()
-        said = subprocess.run(command_of(program, words), capture_output=True, text=True, check=True).stdout
+        said = subprocess.run(command_of(layout, words), capture_output=True, text=True, check=True, env=environment).stdout
         taken_now, whole_now = ticks()
         if taken_now - taken <= (whole_now - whole) * MOST_TAKEN:
-            return int(said.split()[0])
+            return layout, int(said.split()[0])
 
 
-def row(runs, programs, words):
+def redrawn(runs):
+    """The median of as many runs, of layouts and of runs of these that are drawn again."""
+    of = {}
+    for layout, nanoseconds in runs:
+        of.setdefault(layout, []).append(nanoseconds)
+    drawn = [of[layout] for layout in random.choices(list(of), k=len(of))]
+    return median(nanoseconds for times in drawn for nanoseconds in random.choices(times, k=len(times)))
+
+
+def row(rounds, programs, words, shift):
     """The line of a row. The first run of each program isn't counted."""
-    times = {name: [] for name in programs}
-    for _ in range(runs + 1):
+    runs = {name: [] for name in programs}
+    for _ in range(rounds + 1):
         for name in random.sample(list(programs), len(programs)):
-            times[name].append(measure(programs[name], words))
+            runs[name].append(measure(programs[name], words, shift))
     items = int(words[CLASSES[words[0]][2]])
-    first = median(times[next(iter(programs))][1:])
+    first = next(iter(programs))
     figures = []
-    for name, nanoseconds in times.items():
-        middle = median(nanoseconds[1:])
-        lower = quantiles(nanoseconds[1:], n=4, method="inclusive")[0]
-        figures.append(f"{name} {middle / items:.1f}, {lower / items:.1f} ({first / middle:.2f})")
+    for name in programs:
+        times = [nanoseconds for _, nanoseconds in runs[name][1:]]
+        lower = quantiles(times, n=4, method="inclusive")[0]
+        figure = f"{name} {median(times) / items:.1f}, {lower / items:.1f}"
+        if name != first:
+            ratios = sorted(redrawn(runs[first][1:]) / redrawn(runs[name][1:]) for _ in range(REDRAWN))
+            ratio = median(nanoseconds for _, nanoseconds in runs[first][1:]) / median(times)
+            figure += f" ({ratio:.2f}, {ratios[REDRAWN // 40]:.2f} to {ratios[-REDRAWN // 40]:.2f})"
+        figures.append(figure)
     return f"{' '.join(words)}: {'; '.join(figures)}"
 
 
 def main():
-    runs, programs = int(sys.argv[1]), dict(word.split("=", 1) for word in sys.argv[2:])
-    if runs < 2 or not programs:
+    rounds, programs = int(sys.argv[1]), dict(word.split("=", 1) for word in sys.argv[2:])
+    if rounds < 2 or not programs:
         sys.exit(__doc__)
-    for line in sys.stdin:
-        if line.strip():
-            print(row(runs, programs, line.split()), flush=True)
+    with tempfile.TemporaryDirectory() as work:
+        shift = f"{work}/shift.so"
+        if any(program.endswith(".*") for program in programs.values()):
+            subprocess.run(["cc", "-shared", "-fPIC", "-o", shift, HERE / "shift.c"], check=True)
+        for line in sys.stdin:
+            if line.strip():
+                print(row(rounds, programs, line.split(), shift), flush=True)
 
 
 if __name__ == "__main__":
