@@ -7,6 +7,7 @@ Each row is also written to the file ROWS, as picture.py reads it.
 """
 import math
 import os
+import shutil
 import signal
 import subprocess
 import sys
@@ -35,11 +36,18 @@ def memory_of(group):
     return total
 
 
-def measure(command, seconds):
-    """The seconds that a command takes, those of processors, and its KiB; or nothing if it doesn't end."""
+def begin_anew(place):
+    """Makes an empty folder: to write into files that are there would take the time in which the system empties them, too."""
+    shutil.rmtree(place, ignore_errors=True)
+    os.mkdir(place)
+
+
+def measure(command, place, seconds):
+    """The seconds that a command takes in an empty folder, those of processors, and its KiB; or nothing if it doesn't end."""
+    begin_anew(place)
     with open(os.path.join(folder, 'lines'), 'rb') as source:
         begun = time.monotonic()
-        child = subprocess.Popen(['sh', '-c', command], cwd=folder, stdin=source, start_new_session=True)
+        child = subprocess.Popen(['sh', '-c', command], cwd=place, stdin=source, start_new_session=True)
     peak = 0
     while True:
         ended, status, used = os.wait4(child.pid, os.WNOHANG)
@@ -59,11 +67,12 @@ def middle(figures):
     return sorted(figures)[len(figures) // 2]
 
 
-def same(*names):
-    """Whether these files have the same bytes."""
-    for name in names[1:]:
-        if subprocess.run(['cmp', names[0], name], cwd=folder).returncode:
-            sys.exit(f'{names[0]} and {name} differ')
+def same(peers, names, wanted=None):
+    """Whether each of these peers wrote the same bytes to each of these files as the first did, or as there are in the wanted one."""
+    for written in (f'{peer}/{name}' for peer in peers for name in names):
+        wanted = wanted or written
+        if subprocess.run(['cmp', wanted, written], cwd=folder).returncode:
+            sys.exit(f'{wanted} and {written} differ')
 
 
 def medians(figures):
@@ -81,7 +90,7 @@ def row(name, commands, seconds=SECONDS):
     taken = {peer: [] for peer in PROGRAMS}
     for _ in range(runs):
         for peer, command in commands.items():
-            taken[peer].append(measure(command, seconds))
+            taken[peer].append(measure(command, os.path.join(folder, peer), seconds))
     found = [medians(taken[peer]) for peer in PROGRAMS]
     with open(rows, 'a') as file:
         print(name, *(figure for figures in found for figure in figures), sep='\t', file=file)
@@ -97,17 +106,18 @@ with open(os.path.join(folder, 'lines'), 'wb') as file:
         file.write((b'%d the line that goes to each of the sinks, and has seventy-four bytes' % number).ljust(73, b'.')[:73] + b'\n')
 print(fanout_head())
 quiet = '--report none'
-row('a copy', with_java({'fanout': f'exec {program} a {quiet}', 'tee': 'exec tee b >/dev/null'}, 'c'))
-same('lines', 'a', 'b', *(['c'] if java else []))
+peers = [peer for peer in PROGRAMS if java or peer != 'Java']
+row('a copy', with_java({'fanout': f'exec {program} a {quiet}', 'tee': 'exec tee a >/dev/null'}, 'a'))
+same(peers, 'a', 'lines')
 row('a copy and the lines with 77', with_java(
-    {'fanout': f'exec {program} a --grep 77 d {quiet}', 'tee': 'tee b | grep 77 >e'}, 'c f:77'))
-same('lines', 'a', 'b', *(['c'] if java else []))
-same('d', 'e', *(['f'] if java else []))
+    {'fanout': f'exec {program} a --grep 77 b {quiet}', 'tee': 'tee a | grep 77 >b'}, 'a b:77'))
+same(peers, 'a', 'lines')
+same(peers, 'b')
 row('four copies', with_java(
-    {'fanout': f'exec {program} a b c d {quiet}', 'tee': 'exec tee e f g >h'}, 'i j k l'))
-same('lines', *'abcdefgh', *('ijkl' if java else ''))
+    {'fanout': f'exec {program} a b c d {quiet}', 'tee': 'exec tee a b c >d'}, 'a b c d'))
+same(peers, 'abcd', 'lines')
 os.mkfifo(os.path.join(folder, 'pipe'))
 reader = os.open(os.path.join(folder, 'pipe'), os.O_RDONLY | os.O_NONBLOCK)
 row('a copy, and a pipe that nobody reads', {
-    'fanout': f'exec {program} a --lossy pipe --linger 0 {quiet}', 'tee': 'exec tee b >pipe'}, 10)
-same('lines', 'a')
+    'fanout': f'exec {program} a --lossy ../pipe --linger 0 {quiet}', 'tee': 'exec tee a >../pipe'}, 10)
+same(['fanout'], 'a', 'lines')

@@ -57,6 +57,7 @@ fi
 
 # spent FILE: the nanoseconds of one run, that of starting the program among them.
 spent() {
+    rm -f "$work/out"
     start=$(date +%s%N)
     "$program" script ${flag:+"$flag"} <"$1" >"$work/out"
     echo $(($(date +%s%N) - start))
