@@ -55,6 +55,11 @@ quietly() {
     echo "$said"
 }
 
+# workers NUMBER: so many workers, in words.
+workers() {
+    [ "$1" -eq 1 ] && echo '1 worker' || echo "$1 workers"
+}
+
 # threads NAME INPUT WORKERS CAPACITY DEMAND: a row of the threads program.
 threads() {
     rm -f "$work"/*.times "$work/want"
@@ -69,7 +74,7 @@ threads() {
             ;;
         esac
     done
-    row "$1, $3 workers, capacity $4"
+    row "$1, $(workers "$3"), capacity $4"
 }
 
 # fast NAME WORKERS SUBMITTERS SUBSCRIBERS CAPACITY BYTES: a row of deliveries in one process.
@@ -80,7 +85,7 @@ fast() {
         case $peers in *java*) quietly java -cp "$work" Deliveries "$2" "$3" "$4" "$5" "$6" "$items" >>"$work/java.times" ;; esac
         case $peers in *rust*) quietly "$work/fan_out" "$3" "$4" "$5" "$6" "$items" >>"$work/rust.times" ;; esac
     done
-    row "$1, $2 workers, capacity $5, $6 bytes"
+    row "$1, $(workers "$2"), capacity $5, $6 bytes"
 }
 
 # batches NAME WORKERS SUBMITTERS SUBSCRIBERS CAPACITY BYTES BATCH: such a row by calls that publish so many texts, beside Java's, which publish
@@ -91,7 +96,7 @@ batches() {
         quietly "$deliveries" fast "$2" "$3" "$4" "$5" "$6" "$items" "$7" >>"$work/this.times"
         case $peers in *java*) quietly java -cp "$work" Deliveries "$2" "$3" "$4" "$5" "$6" "$items" >>"$work/java.times" ;; esac
     done
-    row "$1 by $7, $2 workers, capacity $5, $6 bytes"
+    row "$1 by $7, $(workers "$2"), capacity $5, $6 bytes"
 }
 
 # alone NAME WORKERS PAUSE: a row of one item at a time to one subscriber at rest, with a pause before each, in microseconds.
@@ -101,7 +106,7 @@ alone() {
         quietly "$deliveries" alone "$2" 2000 "$3" >>"$work/this.times"
         case $peers in *java*) quietly java -cp "$work" Alone "$2" 2000 "$3" >>"$work/java.times" ;; esac
     done
-    row "$1, $2 workers, a pause of $3 us"
+    row "$1, $(workers "$2"), a pause of $3 us"
 }
 
 # median NAME: the number in the middle of its times, or 0.

@@ -90,7 +90,7 @@ def fanout_lines(name, figures):
 
 def picture(rows, title):
     """Bars of the ratios: a bar to the left of the line at 1 is a row in which this publisher is faster."""
-    left, unit, height = 400, 220, 34
+    left, unit, height = 450, 220, 34
     bottom = 52 + len(rows) * height
     parts = [f'<text x="8" y="20" font-weight="bold">{escape(title)}</text>']
     for place, (_, color, meaning) in enumerate(BARS):
@@ -123,6 +123,7 @@ def write_results(file, fanout_file, date, machine, runs):
     (RESULTS / f"peers-{date}.txt").write_text("\n".join(table) + "\n")
     drawn = [(name, ratios_of(times)) for name, times in rows]
     drawn += [(f"fanout: {name}", fanout_ratios_of(figures)) for name, figures in fanout_rows]
+    drawn = [(name, ratios) for name, ratios in drawn if any(ratio is not None for ratio in ratios.values())]
     (RESULTS / f"peers-{date}.svg").write_text(picture(drawn, title))
 
 
