@@ -1,5 +1,5 @@
 //! Rounds in which all workers sleep, and as many jobs come.
-use super::{Runs, new_site, no_runs, start_worker};
+use super::{Runs, is_late, new_site, no_runs, start_worker};
 use async_pool::{Job, Pool, Wide};
 use std::alloc::{AllocError, Global};
 use std::sync::atomic::AtomicU64;
@@ -7,7 +7,7 @@ use std::sync::atomic::Ordering::SeqCst;
 use std::sync::{Arc, Wait};
 use std::test::Fail;
 use std::thread;
-use std::time::{Clock, Duration};
+use std::time::{Clock, Duration, Instant};
 use test_kit::comes_to;
 
 const ROUNDS: u64 = 3000;
@@ -53,22 +53,26 @@ fn all_meet<R: Wait>(
     Ok(comes_to(met, wanted))
 }
 
-// How many rounds went well.
+// Plays the rounds, if there is time for all. How many jobs met in them; nothing if those of some round didn't.
 fn meet_often<R: Clock + Wait>(
     rt: &R,
     pool: &Pool<Meeting>,
     met: &Runs,
-) -> Result<u64, AllocError> {
+) -> Result<Option<u64>, Fail> {
     let mut wanted: u64 = 0;
-    for round in 0..ROUNDS {
+    let start = Instant::now(rt)?;
+    for _ in 0..ROUNDS {
+        if is_late(rt, &start) {
+            break;
+        }
         // Time enough for workers to find nothing, and to sleep.
         thread::sleep(rt, Duration::from_micros(200));
         wanted = wanted.saturating_add(WORKERS as u64);
         if !all_meet(rt, pool, met, wanted)? {
-            return Ok(round);
+            return Ok(None);
         }
     }
-    Ok(ROUNDS)
+    Ok(Some(wanted))
 }
 
 #[test]
@@ -79,13 +83,13 @@ fn as_many_are_woken_as_jobs_come(rt: HostRuntime) -> Result<(), Fail> {
     for worker in 0..WORKERS {
         threads.push(start_worker(rt, &site, worker)?)?;
     }
-    let rounds = meet_often(&rt, &site.pool, &met)?;
-    assert!(rt; rounds == ROUNDS, "no meeting in round {rounds}");
+    let wanted = meet_often(&rt, &site.pool, &met)?;
+    assert!(rt; wanted.is_some());
     site.pool.shut(&rt);
     let mut ran: u64 = 0;
     for thread in threads {
         ran = ran.saturating_add(thread.join(&rt));
     }
-    assert!(rt; ran == ROUNDS * WORKERS as u64);
+    assert!(rt; Some(ran) == wanted && ran > 0);
     Ok(())
 }
