@@ -14,6 +14,7 @@ import sys
 import time
 
 from picture import PROGRAMS, fanout_head, fanout_lines
+from turns import is_quiet, ticks
 
 program, folder, rows = os.path.abspath(sys.argv[1]), sys.argv[2], sys.argv[3]
 runs, lines = int(sys.argv[4]), int(sys.argv[5])
@@ -63,6 +64,15 @@ def measure(command, place, seconds):
         time.sleep(0.02)
 
 
+def measure_quietly(command, place, seconds):
+    """What a run took beside which the machine's host took little: another is made again."""
+    while True:
+        before = ticks()
+        found = measure(command, place, seconds)
+        if found is None or is_quiet(before, ticks()):
+            return found
+
+
 def middle(figures):
     return sorted(figures)[len(figures) // 2]
 
@@ -90,7 +100,7 @@ def row(name, commands, seconds=SECONDS):
     taken = {peer: [] for peer in PROGRAMS}
     for _ in range(runs):
         for peer, command in commands.items():
-            taken[peer].append(measure(command, os.path.join(folder, peer), seconds))
+            taken[peer].append(measure_quietly(command, os.path.join(folder, peer), seconds))
     found = [medians(taken[peer]) for peer in PROGRAMS]
     with open(rows, 'a') as file:
         print(name, *(figure for figures in found for figure in figures), sep='\t', file=file)

@@ -36,6 +36,11 @@ def ticks():
     return columns[7], sum(columns)
 
 
+def is_quiet(before, after):
+    """Whether the host took little of the processors' time between two such ticks."""
+    return after[0] - before[0] <= (after[1] - before[1]) * MOST_TAKEN
+
+
 def command_of(program, words):
     if not Path(program).is_dir():
         return [program, *words]
@@ -58,10 +63,9 @@ def measure(program, words, shift):
         layout, environment = random.choice(layouts), dict(os.environ)
         if len(layouts) > 1:
             environment.update(LD_PRELOAD=shift, SHIFT=str(random.randrange(4)))
-        taken, whole = ticks()
+        before = ticks()
         said = subprocess.run(command_of(layout, words), capture_output=True, text=True, check=True, env=environment).stdout
-        taken_now, whole_now = ticks()
-        if taken_now - taken <= (whole_now - whole) * MOST_TAKEN:
+        if is_quiet(before, ticks()):
             return layout, int(said.split()[0])
 
 
