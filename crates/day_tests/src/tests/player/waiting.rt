@@ -34,7 +34,7 @@ impl<L: Ledgers + Send + Sync + 'static> Player<L> {
         match step {
             Step::Rest(told, live) => self.rest(rt, told, live),
             Step::Nap => {
-                thread::sleep(rt, Duration::from_millis(20));
+                thread::sleep(rt, self.nap());
                 Ok(String::new(self.stand.alloc))
             }
             Step::Turns => {
@@ -47,6 +47,12 @@ impl<L: Ledgers + Send + Sync + 'static> Player<L> {
             Step::CancelAmid(place, told) => self.cancel_amid(rt, place, told),
             _ => Ok(String::new(self.stand.alloc)),
         }
+    }
+
+    // Time enough for threads to find no room, and to sleep, on busy processors, too. A day on which memory may be refused
+    // is played some hundred times from outside, so it naps for less.
+    fn nap(&self) -> Duration {
+        Duration::from_millis(if self.may_be_refused { 20 } else { 150 })
     }
 
     // Waits until so much was told, and a little longer, since whoever told it last comes to rest after that.
