@@ -56,12 +56,12 @@ has, for each subscriber in order and each source in ascending order, a line
                     asks
 then `handled NAME C` if the publisher's handler heard of a failure, and at last
 `drained 1` if every subscription has ended, else `drained 0`. The status is 0
-if every subscriber completed, and else 3. What is refused prints
-`lines_demo: refused N WORD` on standard error, with status 2: the input, too,
-if a subscriber requests fewer items than there are lines, and its buffer can't
-hold the others; and `--fail`, if no subscriber has its NAME. There are 16
-sources at most, and 64 subscribers; a text has 4,096 bytes at most, a name 32,
-and the input 16,777,216.";
+if every subscriber completed, and else 3. What is refused prints on standard
+error a line that says why, and `lines_demo: refused N WORD`, with status 2: the
+input, too, if a subscriber requests fewer items than there are lines, and its
+buffer can't hold the others; and `--fail`, if no subscriber has its NAME. There
+are 16 sources at most, and 64 subscribers; a text has 4,096 bytes at most, a
+name 32, and the input 16,777,216.";
 
 /// What `--help` says of scripts, for a terminal of 80 columns.
 const SCRIPTS: &str = "Commands of a script, one a line, and their answers:
@@ -136,7 +136,7 @@ fn obey<R: Input + Print + Eprint + AllocGlobal + Threads + Wait + Copy + Send +
     matches: &ArgMatches<'_>,
 ) -> ExitCode {
     match matches.subcommand_matches(THREADS) {
-        Some(threads) => match run_standard_input(rt, threads, threads.get_flag(EXPLAIN)) {
+        Some(threads) => match run_standard_input(rt, threads) {
             Ok(status) => ExitCode::from(status),
             Err(LinesFault::Gone) => ExitCode::from(GONE),
             Err(fault) => {
@@ -268,7 +268,7 @@ fn threads_line<'a>(alloc: Global) -> Result<Command<'a>, AllocError> {
     let explain = Arg::new(alloc, EXPLAIN)
         .long(EXPLAIN)
         .action(ArgAction::SetTrue)
-        .help("Says on standard error which option or line is refused, and why");
+        .help("Changes nothing: why an option or a line is refused is said in any case");
     Command::new(alloc, THREADS)
         .about("Publishes the lines on standard input, each source's from a thread of its own")
         .after_help(LINES)

@@ -8,6 +8,7 @@ use Rattle.flow_rules.specs.declared.refusal.Refusal.TheVariants.{Closed, Duplic
 use Rattle.publisher_hub.specs.declared.hub.publish.Unpublished.{Unpublished}
 use Rattle.publisher_hub.specs.declared.hub.publish.Unpublished.TheVariants.{NoRoom, Refused}
 use Rattle.publisher.specs.Note.{known_by}
+use Rattle.publisher.specs.declared.state.look.Need.{Need}
 
 -- a subscription: its number, how many subscriptions were made before it, and its handle
 pub record SubscriptionState : Type 0 where
@@ -87,3 +88,8 @@ IsHubRefusal _ = ⊥
 abbrev pub IsHubReason : Unpublished → Type 0
 IsHubReason (Refused refusal) = IsHubRefusal refusal
 IsHubReason (NoRoom text) = ⊤
+
+-- why a text was not published, and whose room it needs
+pub record NotPublishedState : Type 0 where
+  pub reason : Unpublished
+  pub need : Need

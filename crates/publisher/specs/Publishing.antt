@@ -103,4 +103,5 @@ pub record StopsAt (need : Need) (source : ℕ) (texts : List (List ℕ)) (stopp
   pub lag : ℕ
   pub first : PublishesFirst need source texts stopped.published old.hub middle.hub due_old due_new
       lag stopped.lost
-  pub why : RefusesShared need text middle new stopped.why
+  pub why : RefusesShared need text middle new stopped.why.reason
+  pub needs : stopped.why.need ≡ need

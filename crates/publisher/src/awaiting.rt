@@ -4,8 +4,7 @@
 //! once it was made. So a turn that makes room after a look sees that the submitter is counted, and takes the lock to
 //! tell; and the lock is free only once the submitter sleeps. A look that may sleep asks for a [`Counted`], and
 //! whether anybody is counted is told for a [`Done`] alone.
-use feed_cell::{Task, Turn};
-use flow_rules::{How, Listener};
+use crate::turned::Done;
 use std::sync::atomic::AtomicU64;
 use std::sync::atomic::Ordering::SeqCst;
 
@@ -17,12 +16,6 @@ pub struct Awaiting(AtomicU64);
 /// room.
 #[must_use]
 pub struct Counted<'a>(&'a Awaiting);
-
-/// A turn was made.
-#[derive(Clone, Copy)]
-pub struct Done {
-    has_ended: bool,
-}
 
 impl Awaiting {
     /// Makes one in which nobody is counted.
@@ -47,22 +40,5 @@ impl Counted<'_> {
     pub fn get_up(self) {
         let Counted(awaiting) = self;
         awaiting.0.fetch_sub(1, SeqCst);
-    }
-}
-
-impl Done {
-    /// Takes a turn apart: that it was made, the task that goes on, if one does, and how the subscription has ended,
-    /// if it has.
-    pub fn of<B: Listener>(turn: Turn<B>) -> (Done, Option<Task<B>>, Option<How>) {
-        match turn {
-            Turn::Again(task) => (Done { has_ended: false }, Some(task), None),
-            Turn::Resting(_) => (Done { has_ended: false }, None, None),
-            Turn::Ended(how, _) => (Done { has_ended: true }, None, Some(how)),
-        }
-    }
-
-    /// Tells whether the subscription has ended in it.
-    pub fn has_ended(self) -> bool {
-        self.has_ended
     }
 }

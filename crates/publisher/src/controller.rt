@@ -1,8 +1,7 @@
 //! A subscription that several threads have, each a controller of it, so that one cancels while another waits.
 //!
-//! The owner's end stands behind a lock of its own, which is held for a few steps of its words, and in which nobody
-//! waits. A task that these start is handed to the pool after that, so a callback that runs then may request or cancel
-//! by a controller, too.
+//! The owner's end stands behind a lock of its own (`shared_handle`). A task that a request or a cancel starts is handed to
+//! the pool once that is free.
 ghost use Rattle.std.specs.Prelude.{◌≡◌, IfErr, IfOk};
 ghost use Rattle.publisher.specs.Handles.{controller_of};
 
@@ -10,13 +9,13 @@ use crate::dispatcher::Dispatcher;
 use crate::ledgers::Ledgers;
 use crate::owner::OwnersEnd;
 use crate::refused::Refused;
+use crate::shared_handle::SharedHandle;
 use crate::subscription::Subscription;
-use feed_cell::{Handle, Task};
 use flow_rules::{FailHandler, LastFailure, Listener, NoMemory, Refusal};
 use std::alloc::Global;
 use std::fmt;
 use std::marker::Model;
-use std::sync::{Arc, Mutex, Wait};
+use std::sync::Wait;
 
 /// What a thread requests and cancels with of a subscription that several threads have
 /// ([`Subscription::share`]; `Flow.Subscription`, Java SE 17, whose methods any thread may call).
@@ -28,7 +27,7 @@ pub struct Controller<L: Ledgers + Send, B: Listener + Send, F: FailHandler + Se
     dispatcher: Dispatcher<L, B, F>,
     entry: u32,
     made_before: u64,
-    handle: Arc<Mutex<Handle<B>>>,
+    handle: SharedHandle<B>,
 }
 
 impl<L: Ledgers + Send, B: Listener + Send, F: FailHandler + Send> fmt::Debug
@@ -63,18 +62,18 @@ impl<L: Ledgers + Send, B: Listener + Send, F: FailHandler + Send> Subscription<
             made_before,
             handle,
         } = owner;
-        match Arc::new(alloc, Mutex::new(handle)) {
+        match SharedHandle::new(alloc, handle) {
             Ok(handle) => Ok(Controller {
                 dispatcher,
                 entry,
                 made_before,
                 handle,
             }),
-            Err(failed) => {
+            Err(handle) => {
                 let owner = OwnersEnd {
                     entry,
                     made_before,
-                    handle: failed.value.into_inner(),
+                    handle,
                 };
                 Err(Refused {
                     refusal: Refusal::NoMemory,
@@ -94,7 +93,7 @@ impl<L: Ledgers + Send, B: Listener + Send, F: FailHandler + Send> Controller<L,
             dispatcher: self.dispatcher.another(alloc)?,
             entry: self.entry,
             made_before: self.made_before,
-            handle: Arc::try_clone(&self.handle)?,
+            handle: self.handle.another()?,
         })
     }
 
@@ -110,12 +109,12 @@ impl<L: Ledgers + Send, B: Listener + Send, F: FailHandler + Send> Controller<L,
             made_before,
             handle,
         } = self;
-        match Arc::try_unwrap(handle) {
+        match handle.into_handle() {
             Ok(handle) => {
                 let owner = OwnersEnd {
                     entry,
                     made_before,
-                    handle: handle.into_inner(),
+                    handle,
                 };
                 Ok(Subscription::new(dispatcher, owner))
             }
@@ -148,7 +147,7 @@ impl<L: Ledgers + Send, B: Listener + Send, F: FailHandler + Send> Controller<L,
     pub fn request<R: Wait>(&mut self, rt: &R, n: i64) -> Result<(), NoMemory>
         ensures { self.new ≡ self.old }
     {
-        if let Some(task) = request_behind(rt, &*self.handle, n)? {
+        if let Some(task) = self.handle.request(rt, n)? {
             self.dispatcher.start(rt, self.entry, task);
         }
         Ok(())
@@ -160,7 +159,7 @@ impl<L: Ledgers + Send, B: Listener + Send, F: FailHandler + Send> Controller<L,
     pub fn cancel<R: Wait>(&mut self, rt: &R) -> Result<(), NoMemory>
         ensures { self.new ≡ self.old }
     {
-        if let Some(task) = cancel_behind(rt, &*self.handle)? {
+        if let Some(task) = self.handle.cancel(rt)? {
             self.dispatcher.start(rt, self.entry, task);
         }
         Ok(())
@@ -169,7 +168,7 @@ impl<L: Ledgers + Send, B: Listener + Send, F: FailHandler + Send> Controller<L,
     /// Tells how many items were requested with the subscription, by any controller and before it was shared, saturated
     /// at 2^63-1.
     pub fn requested<R: Wait>(&self, rt: &R) -> u64 {
-        self.handle.lock(rt).requested()
+        self.handle.requested(rt)
     }
 
     /// Tells how many items wait for the subscriber; 0 once the subscription has ended.
@@ -187,25 +186,4 @@ impl<L: Ledgers + Send, B: Listener + Send, F: FailHandler + Send> Controller<L,
     pub fn wait_end<R: Wait>(&self, rt: &R) {
         let _ended = self.dispatcher.shared.wait_for_end(rt, self.entry);
     }
-}
-
-/// Requests with the owner's end behind the lock, and gives the task that this starts.
-fn request_behind<B: Listener + Send, R: Wait>(
-    rt: &R,
-    handle: &Mutex<Handle<B>>,
-    n: i64,
-) -> Result<Option<Task<B>>, NoMemory> {
-    let mut held = handle.lock(rt);
-    held.ready()?;
-    Ok(held.request(n))
-}
-
-/// Cancels with the owner's end behind the lock, and gives the task that this starts.
-fn cancel_behind<B: Listener + Send, R: Wait>(
-    rt: &R,
-    handle: &Mutex<Handle<B>>,
-) -> Result<Option<Task<B>>, NoMemory> {
-    let mut held = handle.lock(rt);
-    held.ready()?;
-    Ok(held.cancel())
 }

@@ -1,11 +1,11 @@
 //! How a thread that is no worker hands tasks to the pool, and runs those that come back.
 //!
 //! Each submitter and subscription has one of its own, since a turn needs room of its thread's own. What is run stands
-//! in `job`.
-use crate::job::ConsumerTask;
+//! in `consumer_task`.
+use crate::consumer_task::ConsumerTask;
 use crate::ledgers::Ledgers;
 use crate::shared::Shared;
-use crate::state::Need;
+use crate::state::NoRoom;
 use async_pool::Pool;
 use crossbeam_utils::Backoff;
 use feed_cell::{Patience, Task};
@@ -71,10 +71,16 @@ impl<L: Ledgers + Send, B: Listener + Send, F: FailHandler + Send> Dispatcher<L,
         true
     }
 
-    /// Does what may make room: it runs a turn of the pool; else it looks again soon, a bounded number of times; and
-    /// then it sleeps until another thread tells, unless there is the room that is needed. The answer is how often it
-    /// has looked since it did anything else.
-    pub fn pause<R: Wait>(&mut self, rt: &R, looks: u32, backoff: &Backoff, need: Need) -> u32 {
+    /// Does what may make room for a text: it runs a turn of the pool; else it looks again soon, a bounded number of
+    /// times; and then it sleeps until another thread tells, unless there is the room that the text needs. The answer is
+    /// how often it has looked since it did anything else.
+    pub fn pause<R: Wait>(
+        &mut self,
+        rt: &R,
+        looks: u32,
+        backoff: &Backoff,
+        no_room: &NoRoom,
+    ) -> u32 {
         if self.run_one(rt) {
             return 0;
         }
@@ -82,7 +88,7 @@ impl<L: Ledgers + Send, B: Listener + Send, F: FailHandler + Send> Dispatcher<L,
             backoff.spin();
             return looks + 1;
         }
-        self.shared.wait_for_room(rt, need);
+        self.shared.wait_for_room(rt, no_room);
         0
     }
 

@@ -1,10 +1,11 @@
 //! How the handler of failures is set, told and taken out.
 //!
-//! It stands behind a lock of its own. Which end of a turn is a failure that it hears of is found in `job`.
+//! It stands behind a lock of its own. Which end of a turn is a failure that it hears of is found in `consumer_task`.
 ghost use Rattle.std.specs.Prelude.{◌≡◌, IfSome, Some};
 
 use crate::ledgers::Ledgers;
 use crate::shared::Shared;
+use crate::turned::EndedTask;
 use flow_rules::{FailHandler, Listener, Name};
 use std::sync::Wait;
 
@@ -19,10 +20,10 @@ impl<L: Ledgers, B: Listener, F: FailHandler> Shared<L, B, F> {
         self.handler.lock(rt).take()
     }
 
-    /// Tells the handler, if there is one, that the `onNext` of the subscription of this number failed with this code.
-    /// The lock of the publisher is free meanwhile.
-    pub fn tell_failure<R: Wait>(&self, rt: &R, entry: u32, code: u32) {
-        let name = self.lock(rt).name_of(entry);
+    /// Tells the handler, if there is one, that the `onNext` of a subscription that has ended failed with this code. The
+    /// lock of the publisher is free meanwhile.
+    pub fn tell_failure<R: Wait>(&self, rt: &R, ended: &EndedTask, code: u32) {
+        let name = self.lock(rt).name_of(ended);
         tell(&mut *self.handler.lock(rt), name, code);
     }
 }

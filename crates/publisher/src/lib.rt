@@ -40,6 +40,7 @@
 #![tactic(auto)]
 
 mod awaiting;
+mod consumer_task;
 mod controller;
 mod dispatcher;
 mod failures;
@@ -52,9 +53,11 @@ mod owner;
 mod publisher;
 mod refused;
 mod shared;
+mod shared_handle;
 mod state;
 mod submitter;
 mod subscription;
+mod turned;
 mod watch_each;
 
 pub use async_pool::MOST_WORKERS;

@@ -11,8 +11,8 @@ ghost use Rattle.flow_rules.specs.declared.refusal.Refusal.TheVariants as Refusa
 ghost use Rattle.publisher.specs.Handles.{IsUnused, RefusesSubscribing};
 ghost use Rattle.publisher.specs.Stats.{AreStats};
 
+use crate::consumer_task::ConsumerTask;
 use crate::dispatcher::Dispatcher;
-use crate::job::ConsumerTask;
 use crate::ledgers::Ledgers;
 use crate::note::Note;
 use crate::refused::Refused;

@@ -4,7 +4,7 @@
 //! stands in `state`.
 use crate::awaiting::Awaiting;
 use crate::ledgers::Ledgers;
-use crate::state::{Drained, Ended, LoopsEnded, Need, State, StateLock};
+use crate::state::{Drained, Ended, LoopsEnded, NoRoom, State, StateLock};
 use flow_rules::{Ending, ErrorOrder, FailHandler, Listener};
 use once_cell::race::OnceBox;
 use std::sync::{Arc, Mutex, MutexGuard, Wait};
@@ -45,10 +45,10 @@ impl<L: Ledgers, B: Listener, F: FailHandler> Shared<L, B, F> {
         }
     }
 
-    /// Sleeps until another thread tells, if a publication would still have to wait.
-    pub fn wait_for_room<R: Wait>(&self, rt: &R, need: Need) {
+    /// Sleeps until another thread tells, if a text that found no room would still have to wait.
+    pub fn wait_for_room<R: Wait>(&self, rt: &R, no_room: &NoRoom) {
         let counted = self.awaiting.count();
-        let held = match self.state.hold(rt).look_for_room(&counted, need) {
+        let held = match self.state.hold(rt).look_for_room(&counted, no_room) {
             Ok(held) => held,
             Err(blocked) => blocked.sleep(rt),
         };

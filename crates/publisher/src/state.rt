@@ -28,7 +28,7 @@ use history::History;
 pub(crate) use lock::StateLock;
 pub(crate) use look::{Drained, Ended, Need};
 pub use publish::PublishedAll;
-pub(crate) use publish::{Refused, Stopped};
+pub(crate) use publish::{NoRoom, Refused, Stopped};
 use publisher_hub::{Hub, MOST_LIVE};
 pub use sources::Own;
 pub use stats::Stats;

@@ -15,7 +15,7 @@ ghost use Rattle.publisher.specs.Submitting.{CountsOffer, RefusesKnown, RefusesL
 use crate::dispatcher::Dispatcher;
 use crate::ledgers::Ledgers;
 use crate::note::Note;
-use crate::state::{Need, Own, Refused};
+use crate::state::{Own, Refused};
 use crossbeam_utils::Backoff;
 use feed_cell::Task;
 use flow_rules::{
@@ -238,11 +238,12 @@ impl<L: Ledgers + Send, B: Listener + Send, F: FailHandler + Send> Submitter<L, 
                 .lock_to_publish(rt)
                 .publish(own, text, due);
             dispatcher.start_all(rt, due);
-            match published {
+            let no_room = match published {
                 Ok(lag) => return Ok(lag),
-                Err(why) => text = why.text()?,
-            }
-            looks = dispatcher.pause(rt, looks, &backoff, Need::All);
+                Err(why) => why.no_room()?,
+            };
+            looks = dispatcher.pause(rt, looks, &backoff, &no_room);
+            text = no_room.into_text();
         }
         unreachable!()
     }

@@ -1,6 +1,6 @@
 //! A subscription, as its owner has it: to request, to cancel, and to see how it stands.
 //!
-//! Its subscriber is told by turns, which run elsewhere (`job`).
+//! Its subscriber is told by turns, which run elsewhere (`consumer_task`).
 use crate::dispatcher::Dispatcher;
 use crate::ledgers::Ledgers;
 use crate::owner::OwnersEnd;

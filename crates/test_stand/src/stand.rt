@@ -4,12 +4,13 @@ ghost use Rattle.publisher.specs.Blanks.{AreBlanksOf};
 
 use flow_rules::{ErrorOrder, FailHandler, LastFailure, Listener, Name, Refusal};
 use publisher::{
-    BlankPair, Ledgers, Outcome, Publisher, PublisherOptions, Refused, Submitter, Subscription,
-    USUAL_LIVE, finish,
+    BlankPair, Ledgers, NamedLane, Outcome, Publisher, PublisherOptions, Refused, Submitter,
+    Subscription, USUAL_LIVE, finish,
 };
 use std::alloc::Global;
 use std::sync::Wait;
 use std::test::Fail;
+use std::thread;
 use std::thread::Threads;
 
 /// A publisher, and in order its submitters and its subscriptions.
@@ -130,6 +131,28 @@ impl<
         if let Some(subscription) = self.subscriptions.get(place) {
             subscription.wait_end(rt);
         }
+    }
+
+    /// Reclaims the subscription of this place, once the thread that ended it has let go of it. Gives what is left of it.
+    pub fn reclaim<R: Wait>(&mut self, rt: &R, place: usize) -> Result<NamedLane<B>, Fail> {
+        if place >= self.subscriptions.len() {
+            return Err(Fail::new("there is no such subscription"));
+        }
+        let mut subscription = self.subscriptions.remove(place);
+        for _ in rt.forever() {
+            match self.publisher.reclaim(rt, self.alloc, subscription) {
+                Ok(left) => return Ok(left),
+                Err(refused) => match refused.into_parts() {
+                    (Refusal::StillHeld(_), back) => subscription = back,
+                    (refusal, back) => {
+                        self.subscriptions.push(back)?;
+                        return Err(refusal.into());
+                    }
+                },
+            }
+            thread::yield_now();
+        }
+        unreachable!()
     }
 
     /// The first submitter publishes a text.

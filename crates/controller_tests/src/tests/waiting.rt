@@ -10,6 +10,7 @@ use std::sync::Wait;
 use std::test::Fail;
 use std::thread;
 use std::thread::Threads;
+use std::time::{Clock, Duration};
 use test_stand::Stand;
 
 // Waits for the end by a controller. Whether it has come then.
@@ -22,19 +23,17 @@ fn wait_end<L: Ledgers + Send + Sync + 'static, R: Wait>(
 }
 
 // Cancels by a controller, once other threads are likely to sleep.
-fn cancel_later<L: Ledgers + Send + Sync + 'static, R: Wait>(
+fn cancel_later<L: Ledgers + Send + Sync + 'static, R: Clock + Wait>(
     rt: &R,
     controller: &mut Controller<L, Tally>,
 ) -> Result<(), NoMemory> {
-    for _ in 0..200 {
-        thread::yield_now();
-    }
+    thread::sleep(rt, Duration::from_millis(1));
     controller.cancel(rt)
 }
 
 // One thread waits for the end and another cancels. Whether it has ended then, and whether the subscription came back while the
 // other controller was there.
-fn cancel_beside_a_wait<L: Ledgers + Send + Sync + 'static, R: Threads + Wait + Sync>(
+fn cancel_beside_a_wait<L: Ledgers + Send + Sync + 'static, R: Clock + Threads + Wait + Sync>(
     rt: &R,
     stand: &mut Stand<L, Tally>,
 ) -> Result<(bool, bool), Fail> {
@@ -62,7 +61,7 @@ fn cancel_beside_a_wait<L: Ledgers + Send + Sync + 'static, R: Threads + Wait + 
 
 fn cancel_on_a_stand<
     L: Ledgers + Send + Sync + 'static,
-    R: Threads + Wait + Copy + Send + Sync + 'static,
+    R: Clock + Threads + Wait + Copy + Send + Sync + 'static,
 >(rt: R, alloc: Global, blanks: BlankPair) -> Result<(bool, bool, Option<How>), Fail>
     requires blanks { AreBlanksOf blanks L.publications L.drops L.history }
 {
@@ -92,7 +91,7 @@ fn one_cancels_while_another_waits(rt: HostRuntime) -> Result<(), Fail> {
 
 // Three threads have a subscription for which this many items wait: two wait for its end, and the third one cancels. Whether it has
 // ended then, as each of them sees it.
-fn cancel_beside_two_waits<L: Ledgers + Send + Sync + 'static, R: Threads + Wait + Sync>(
+fn cancel_beside_two_waits<L: Ledgers + Send + Sync + 'static, R: Clock + Threads + Wait + Sync>(
     rt: &R,
     stand: &mut Stand<L, Tally>,
     items: u64,
@@ -118,7 +117,7 @@ fn cancel_beside_two_waits<L: Ledgers + Send + Sync + 'static, R: Threads + Wait
 }
 
 // One thread waits for the end and another one cancels. Whether it has come then.
-fn wait_and_cancel<L: Ledgers + Send + Sync + 'static, R: Threads + Wait + Sync>(
+fn wait_and_cancel<L: Ledgers + Send + Sync + 'static, R: Clock + Threads + Wait + Sync>(
     rt: &R,
     waiting: &Controller<L, Tally>,
     other: &mut Controller<L, Tally>,
@@ -134,7 +133,7 @@ fn wait_and_cancel<L: Ledgers + Send + Sync + 'static, R: Threads + Wait + Sync>
 
 fn cancel_for_two_on_a_stand<
     L: Ledgers + Send + Sync + 'static,
-    R: Threads + Wait + Copy + Send + Sync + 'static,
+    R: Clock + Threads + Wait + Copy + Send + Sync + 'static,
 >(rt: R, alloc: Global, blanks: BlankPair, items: u64) -> Result<(bool, Option<How>, u64), Fail>
     requires blanks { AreBlanksOf blanks L.publications L.drops L.history }
 {

@@ -3,7 +3,7 @@ use super::act::Act;
 use super::day::Day;
 use super::step::Step::{Close, Control, Looks, Nap, Request, Rest, Source, Submit, Subscribe};
 
-pub const DAYS: [Day; 9] = [
+pub const DAYS: [Day; 10] = [
     Day {
         name: "what three request adds up, and the last one gives the subscription back",
         capacity: 8,
@@ -255,5 +255,30 @@ pub const DAYS: [Day; 9] = [
             (Control(Act::Unite), "held, back"),
         ],
         left: &["done, published 1, open", "a Some(Cancelled) 1 + 0 of 0: s"],
+    },
+    Day {
+        name: "controllers tell how their own subscription stands, beside one that lags further",
+        capacity: 4,
+        steps: &[
+            (Subscribe("a", 0), "sub a"),
+            (Subscribe("b", 1), "sub b"),
+            (Source, ""),
+            (Control(Act::Share(1, 0)), ""),
+            (Control(Act::Another(0)), ""),
+            (Submit(0, 1), "lag 1"),
+            (Rest(3, 2), ""),
+            (Submit(0, 2), "lag 2"),
+            (Submit(0, 3), "lag 3"),
+            (
+                Control(Act::Stand),
+                "lag 2 of 1, ended false; lag 2 of 1, ended false",
+            ),
+            (Control(Act::Unite), "held, back"),
+        ],
+        left: &[
+            "done, published 3, open",
+            "a None 3 + 0 of 0: s",
+            "b None 3 + 0 of 1: s 0.0.1",
+        ],
     },
 ];

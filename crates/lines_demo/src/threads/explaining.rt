@@ -14,6 +14,7 @@ pub fn explain_plan<R: Eprint>(rt: &R, matches: &ArgMatches<'_>, refusal: &Refus
         Refusal::BadWorkers => explain_option(rt, matches, WORKERS, refusal),
         Refusal::BadCapacity => explain_option(rt, matches, CAPACITY, refusal),
         Refusal::Unknown => explain_option(rt, matches, FAIL, refusal),
+        Refusal::NoMemory => {}
         _ => {
             let _ = eprintln!(rt; "NAME:D: {}", refusal.explain());
         }

@@ -16,28 +16,28 @@ use std::thread::Threads;
 /// How many bytes of a report are written at once.
 const WRITTEN_AT_ONCE: usize = 65_536;
 
-/// Publishes the lines on standard input as the command line asks, and reports on standard output. If it is to explain,
-/// it says on standard error which option or line is refused, and why. The answer is the exit status.
+/// Publishes the lines on standard input as the command line asks, and reports on standard output. If that is refused, it
+/// says on standard error which option or line is, and why. The answer is the exit status.
 pub fn run_standard_input<
     R: Input + Print + Eprint + AllocGlobal + Threads + Wait + Copy + Send + Sync + 'static,
->(rt: R, matches: &ArgMatches<'_>, is_explained: bool) -> Result<u8, LinesFault> {
+>(rt: R, matches: &ArgMatches<'_>) -> Result<u8, LinesFault> {
     let alloc = rt.alloc();
     let plan = match Plan::read(alloc, matches) {
         Ok(plan) => plan,
         Err(refusal) => {
-            if is_explained {
-                explain_plan(&rt, matches, &refusal);
-            }
+            explain_plan(&rt, matches, &refusal);
             return Err(refusal.into());
         }
     };
-    if is_explained {
-        let bytes = read_whole(alloc, &mut rt.reader())?;
+    let bytes = read_whole(alloc, &mut rt.reader())?;
+    let ran = run_and_report(rt, alloc, &plan, &mut bytes.as_slice());
+    if let Err(
+        LinesFault::Refused(Refusal::BadCommand | Refusal::LineTooLong | Refusal::WouldWait),
+    ) = ran
+    {
         explain_input(&rt, alloc, &plan, bytes.as_slice());
-        run_and_report(rt, alloc, &plan, &mut bytes.as_slice())
-    } else {
-        run_and_report(rt, alloc, &plan, &mut rt.reader())
     }
+    ran
 }
 
 /// Publishes the lines of a reader by a plan, and reports on standard output.

@@ -26,8 +26,9 @@ impl<L: Ledgers + Send, B: Listener + Send, F: FailHandler + Send> Publisher<L, 
     /// number. It waits for the publisher's lock.
     ///
     /// Refused, with the subscription back: 9 if it has not ended, by its name; 8 if the thread that ended it has not
-    /// yet let go of its task, which is a matter of a few instructions; and 5 if the memory for the list of that one
-    /// name is refused. Nothing has changed then.
+    /// yet let go of it, which is a matter of a few instructions, and of the handler of failures if that hears of it
+    /// (one that waits until the subscription was reclaimed waits for ever); and 5 if the memory for the list of that
+    /// one name is refused. Nothing has changed then.
     pub fn reclaim<R: Wait>(
         &self,
         rt: &R,

@@ -6,7 +6,8 @@ ghost use Rattle.std.specs.Prelude.{◌≡◌, ◌⊎◌, ◌+◌, ◌<◌, ◌�
 ghost use Rattle.flow_rules.specs.declared.refusal.Refusal.TheVariants as Refusal;
 ghost use Rattle.publisher_hub.specs.declared.hub.TheConstants.{MOST_LIVE};
 
-use flow_rules::Refusal;
+use feed_cell::Producer;
+use flow_rules::{Listener, Refusal};
 use std::alloc::Global;
 use std::marker::Model;
 
@@ -18,6 +19,8 @@ pub struct Census {
     reclaimed: u64,
     /// The numbers of reclaimed ones that no later one has.
     vacant: Vec<u32>,
+    /// Of each number, whether the thread that ended its subscription has let go of it.
+    let_go: Vec<bool>,
     /// How many may be live at once.
     most: usize,
 }
@@ -52,6 +55,7 @@ impl Census {
             made: 0,
             reclaimed: 0,
             vacant: Vec::new(alloc),
+            let_go: Vec::new(alloc),
             most,
         }
     }
@@ -86,7 +90,7 @@ impl Census {
         self.made - self.reclaimed
     }
 
-    /// Makes room for one more subscription where there are this many places, so that each of them can become vacant
+    /// Makes room for one more subscription if there are this many places, so that each of them can become vacant
     /// without memory.
     ///
     /// Refused 13 if no more can be counted, and 5 if the growth is refused.
@@ -102,19 +106,43 @@ impl Census {
         if self.vacant.is_empty() && self.vacant.reserve(places as usize + 1).is_err() {
             return Err(Refusal::NoMemory);
         }
+        self.let_go.reserve(1)?;
         Ok(())
     }
 
-    /// Counts one more subscription.
-    pub fn add(&mut self)
+    /// Counts one more subscription, which has this number. There is room for it.
+    pub fn add(&mut self, number: u32)
         requires { self.old.made < 18446744073709551615 }
         ensures { self.new ≡ record self.old { made = self.old.made + 1 } }
     {
         self.made += 1;
+        match self.let_go.get_mut(number as usize) {
+            Some(let_go) => *let_go = false,
+            None => {
+                if self.let_go.len() < self.let_go.capacity() {
+                    self.let_go.push_reserved(false);
+                }
+            }
+        }
     }
 
-    /// Gives a number that no subscription has, if one became vacant.
-    pub fn take_vacant(&mut self) -> Option<u32>
+    /// Notes that the thread that ended the subscription of this number has let go of it.
+    pub fn let_go(&mut self, number: u32)
+        ensures { self.new ≡ self.old }
+    {
+        if let Some(let_go) = self.let_go.get_mut(number as usize) {
+            *let_go = true;
+        }
+    }
+
+    /// Tells whether the thread that ended the subscription of this number has let go of it.
+    pub fn is_let_go(&self, number: u32) -> bool {
+        self.let_go.get(number as usize) == Some(&true)
+    }
+
+    /// Gives a number that no subscription has, if one became vacant, for a subscription whose end for its producer was
+    /// made: one that is refused memory before takes none.
+    pub fn take_vacant<B: Listener>(&mut self, _of: &Producer<B>) -> Option<u32>
         ensures { self.new ≡ self.old }
     {
         self.vacant.pop()

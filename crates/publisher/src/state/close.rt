@@ -17,6 +17,7 @@ ghost use Rattle.publisher.specs.Tickets.{AreOfOneCountOf, AreSpent, IsBeside};
 
 use super::State;
 use crate::ledgers::Ledgers;
+use crate::turned::EndedTask;
 use close_count::{Spent, none_left};
 use feed_cell::{Producer, Task};
 use flow_rules::{Ending, Listener, Refusal};
@@ -52,10 +53,13 @@ impl<L: Ledgers, B: Listener> State<L, B> {
         Ok(self.hub.ending().unwrap_or(ending))
     }
 
-    /// Spends the ticket of the subscription of this number, if that has ended and its ticket is there.
-    pub fn spend_ticket(&mut self, entry: u32)
-        ensures { SpendsTicket entry self.old self.new }
+    /// Lets go of a subscription that has ended, for the thread that has ended it: its ticket is spent, if it is there,
+    /// and from then on it may be reclaimed.
+    pub fn let_go(&mut self, ended: EndedTask)
+        ensures { SpendsTicket ended.entry self.old self.new }
     {
+        let entry = ended.into_entry();
+        self.census.let_go(entry);
         if let Some(ticket) = self.hub.ended(entry) {
             let is_closed = self.hub.ending().is_some();
             keep_last(&mut self.last, ticket.spend(), is_closed);

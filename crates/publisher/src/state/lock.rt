@@ -4,9 +4,9 @@
 //! A thread that looked in vain doesn't let go of the lock before it sleeps: a look takes the [`Held`] lock with it,
 //! and gives it back, or gives a [`Blocked`], which alone can sleep. So no change comes between a look and the sleep, since each
 //! change is made, and told, while the lock is held.
-use super::State;
-use super::look::{Drained, Ended, Need};
+use super::look::{Drained, Ended};
 use super::waiters::{LoopsEnded, Reason, Wake};
+use super::{NoRoom, State};
 use crate::awaiting::Counted;
 use crate::ledgers::Ledgers;
 use crossbeam_utils::Backoff;
@@ -113,13 +113,13 @@ impl<L: Ledgers, B: Listener> StateLock<L, B> {
 }
 
 impl<'a, L: Ledgers, B: Listener> Held<'a, L, B> {
-    /// Looks whether a publication would find room, for a thread that is counted.
+    /// Looks whether a text that found no room would find it now, for a thread that is counted.
     pub fn look_for_room(
         mut self,
         _counted: &Counted<'_>,
-        need: Need,
+        no_room: &NoRoom,
     ) -> Result<Held<'a, L, B>, Blocked<'a, L, B>> {
-        match self.state.look_for_room(need) {
+        match self.state.look_for_room(no_room) {
             Ok(()) => Ok(self),
             Err(reason) => Err(Blocked { held: self, reason }),
         }

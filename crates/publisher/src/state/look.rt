@@ -14,8 +14,9 @@ ghost use Rattle.publisher.specs.Publishing.{LooksForRoom};
 ghost use Rattle.publisher.specs.Standing.{has_ended_by, lag_at};
 ghost use Rattle.publisher.specs.State.{producer_end};
 
-use super::{Reason, State};
+use super::{NoRoom, Reason, State};
 use crate::ledgers::Ledgers;
+use crate::turned::EndedTask;
 use flow_rules::{Listener, Name, Standing};
 
 /// Whose room a publication needs.
@@ -87,12 +88,12 @@ impl<L: Ledgers, B: Listener> State<L, B> {
         }
     }
 
-    /// Gives the name that the subscriber of this number subscribed with.
-    pub fn name_of(&self, entry: u32) -> Option<Name>
+    /// Gives the name that the subscriber of a subscription that has ended subscribed with. Its number is its own still.
+    pub fn name_of(&self, ended: &EndedTask) -> Option<Name>
         ensures { result ≡ option_map (λ (entry : EntryState). entry.name)
-            (slice_get (hub_of producer_end self.now.hub).entries entry) }
+            (slice_get (hub_of producer_end self.now.hub).entries ended.now.entry) }
     {
-        self.hub.name_of(entry)
+        self.hub.name_of(ended.entry())
     }
 
     /// Looks at the subscription of this number, if it is live.
@@ -131,13 +132,13 @@ impl<L: Ledgers, B: Listener> State<L, B> {
         self.hub.is_subscribed(name)
     }
 
-    /// Looks whether a publication has to wait, which gives a reason to wait. It need not if each live subscription
-    /// whose room it needs has room, or if the publisher is closed.
-    pub(super) fn look_for_room(&mut self, need: Need) -> Result<(), Reason>
+    /// Looks whether the publication of a text that found no room has to wait, which gives a reason to wait. It need not if
+    /// each live subscription whose room it needs has room, or if the publisher is closed.
+    pub(super) fn look_for_room(&mut self, no_room: &NoRoom) -> Result<(), Reason>
         ensures { (room : Bool)
-            × (LooksForRoom need room self.old self.new × (IsOk result ↔ (room ≡ true))) }
+            × (LooksForRoom no_room.now.need room self.old self.new × (IsOk result ↔ (room ≡ true))) }
     {
-        if self.has_room(need) {
+        if self.has_room(no_room.need()) {
             Ok(())
         } else {
             Err(Reason::of_a_look())

@@ -1,16 +1,14 @@
 //! Publications: of one text, of several in a row, and the offer of one.
 //!
-//! What a submitter owns of them stands in `sources`, and whether there is room in `look`. Nothing here waits. A
-//! refusal of the Hub comes as a value that is made here alone, so whoever learns from it how the publisher is closed
-//! can't have made that up.
+//! What a submitter owns of them stands in `sources`, whether there is room in `look`, and what comes of a publication in
+//! vain in `unpublished`. Nothing here waits.
 mod by_policy;
 mod several;
+mod unpublished;
 
 ghost use Rattle.std.specs.Prelude.{◌≡◌, ◌+◌, ◌≤◌, [], ◌∷◌, ◌++◌, IfErr, IfOk, OnErr, OnOk, is_none, length, take};
 ghost use Rattle.feed_cell.specs.Offering.{DoesCall};
 ghost use Rattle.publisher_hub.specs.Publishing.{OffersItem, Publishes, RefusesItem, RefusesOffer};
-ghost use Rattle.publisher_hub.specs.declared.hub.publish.Unpublished.TheVariants as Unpublished;
-ghost use Rattle.publisher.specs.Handles.{IsHubRefusal};
 ghost use Rattle.publisher.specs.Publishing.{PublishesFirst, StopsAt, drop_of};
 ghost use Rattle.publisher.specs.State.{producer_end};
 ghost use Rattle.publisher.specs.declared.state.look.Need.TheVariants as Need;
@@ -18,68 +16,11 @@ ghost use Rattle.publisher.specs.declared.state.look.Need.TheVariants as Need;
 use super::{Need, Own, State};
 use crate::ledgers::Ledgers;
 use feed_cell::Task;
-use flow_rules::{DropHandler, Listener, Refusal, Text};
-use publisher_hub::{Unpublished, Work};
-use std::marker::Model;
+use flow_rules::{DropHandler, Listener, Text};
+use publisher_hub::Work;
 use std::snapshot::Snapshot;
 use std::sync::ledger::{Book, Ledger, Share};
-
-/// A refusal of the Hub. Only a publication that the Hub refused gives one.
-#[must_use]
-#[derive(Drop)]
-pub struct Refused(Refusal);
-
-impl Model for Refused {
-    ghost use Rattle.flow_rules.specs.declared.refusal.Refusal.{Refusal};
-    ghost use Rattle.publisher.specs.Handles.{IsHubRefusal};
-
-    ghost Value = { Refusal };
-
-    ghost view = { λ refused. refused.0 };
-
-    ghost invariant = { λ refused. IsHubRefusal refused.0 };
-}
-
-impl Refused {
-    /// Tells which refusal it is.
-    pub fn refusal(self) -> Refusal
-        ensures is { result ≡ self }
-        ensures reason { IsHubRefusal result }
-    {
-        let Refused(refusal) = self;
-        refusal
-    }
-}
-
-/// Why a text was not published. Only a publication in vain gives one.
-#[must_use]
-#[derive(Drop)]
-pub struct NotPublished(Unpublished);
-
-impl Model for NotPublished {
-    ghost use Rattle.publisher_hub.specs.declared.hub.publish.Unpublished.{Unpublished};
-    ghost use Rattle.publisher.specs.Handles.{IsHubReason};
-
-    ghost Value = { Unpublished };
-
-    ghost view = { λ it. it.0 };
-
-    ghost invariant = { λ it. IsHubReason it.0 };
-}
-
-impl NotPublished {
-    /// Gives the text back if a live subscription had no room for it, and else the refusal.
-    pub fn text(self) -> Result<Text, Refused>
-        ensures back { IfOk result (λ text. self ≡ Unpublished.NoRoom text) }
-        ensures refused { IfErr result (λ refusal. self ≡ Unpublished.Refused refusal) }
-    {
-        let NotPublished(why) = self;
-        match why {
-            Unpublished::NoRoom(text) => Ok(text),
-            Unpublished::Refused(refusal) => Err(Refused(refusal)),
-        }
-    }
-}
+pub use unpublished::{NoRoom, NotPublished, Refused};
 
 /// What a publication of several texts that heeds each subscription's [`OnFull`](publisher_hub::OnFull) did.
 #[derive(Clone, Copy, Debug, PartialEq, Eq)]
@@ -113,7 +54,8 @@ impl<L: Ledgers, B: Listener> State<L, B> {
         ensures ok { IfOk result (λ lag. Publishes producer_end DoesCall own.old.source text
             self.old.hub self.new.hub due.old.items due.new.items lag) }
         ensures refusals { IfErr result
-            (λ why. RefusesItem producer_end DoesCall text self.old.hub self.new.hub why) }
+            (λ why. RefusesItem producer_end DoesCall text self.old.hub self.new.hub why.reason) }
+        ensures need { IfErr result (λ why. why.need ≡ Need.All) }
         ensures nothing_due { OnErr result (due.new.items ≡ due.old.items) }
         ensures one_more { OnOk result
             (own.new.publications.amount ≡ own.old.publications.amount + 1) }
@@ -132,7 +74,10 @@ impl<L: Ledgers, B: Listener> State<L, B> {
         let said = Snapshot::of(&text);
         let lag = match hub.publish(own.source, text, due) {
             Ok(lag) => lag,
-            Err(why) => return Err(NotPublished(why)),
+            Err(reason) => {
+                let need = Need::All;
+                return Err(NotPublished { reason, need });
+            }
         };
         published.add(&mut own.publications, 1);
         history.write(&mut own.pass, said);

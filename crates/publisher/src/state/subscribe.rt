@@ -128,24 +128,24 @@ impl<L: Ledgers, B: Listener> State<L, B> {
             ≡ record self.old.census { made = self.old.census.made + 1 } }
     {
         let most = self.census.most_live();
-        let place = self.take_vacant();
+        let place = self.take_vacant(&producer);
         let hub = &mut self.hub;
         let entry = put(hub, place, name, on_full, producer, ticket, most, due);
         self.entries = places_with(self.entries, entry);
-        self.census.add();
+        self.census.add(entry);
         entry
     }
 
     /// Gives the number of a subscription that was reclaimed, if there is one that no later one has. After the close
     /// there is none: the numbers from then on are those of late ones.
-    fn take_vacant(&mut self) -> Option<u32>
+    fn take_vacant(&mut self, producer: &Producer<B>) -> Option<u32>
         ensures same { self.new ≡ self.old }
         ensures unclosed { IsSome result → self.new.hub.ending ≡ None }
     {
         if self.hub.ending().is_some() {
             return None;
         }
-        self.census.take_vacant()
+        self.census.take_vacant(producer)
     }
 }
 

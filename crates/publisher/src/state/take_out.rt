@@ -65,8 +65,8 @@ impl<L: Ledgers, B: Listener> State<L, B> {
     /// Takes the producer's end of a subscription out, if that has ended, for its owner's end, which this is. Its ticket
     /// is spent, if it wasn't.
     ///
-    /// Refused, with the owner's end back: 9 if a look shows that it has not ended, by its name; 8 if a thread has its task
-    /// still; and 5 if the memory for the list of that one name is refused, or if no subscription has the number.
+    /// Refused, with the owner's end back: 9 if a look shows that it has not ended, by its name; 8 if the thread that ended
+    /// it has not let go of it; and 5 if the memory for the list of that one name is refused, or if no subscription has the number.
     /// Nothing has changed then but by looks. If it is given, one more was reclaimed, and a later one may have its
     /// number.
     pub fn reclaim(
@@ -88,7 +88,7 @@ impl<L: Ledgers, B: Listener> State<L, B> {
             return Err((unsettled(alloc, known.name), owner));
         }
         let is_held = match self.hub.feed(entry) {
-            Some(producer) => is_shared(producer, &owner.handle),
+            Some(producer) => { is_shared(producer, &owner.handle) | !self.census.is_let_go(entry) }
             None => false,
         };
         if is_held {

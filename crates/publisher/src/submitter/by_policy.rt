@@ -7,7 +7,7 @@ ghost use Rattle.publisher.specs.Submitting.{CountsPublished, RefusesKnown, Refu
 
 use super::Submitter;
 use crate::ledgers::Ledgers;
-use crate::state::{Need, Refused};
+use crate::state::Refused;
 use crossbeam_utils::Backoff;
 use flow_rules::{FailHandler, Listener, Refusal, Text};
 use publisher_hub::Published;
@@ -63,11 +63,12 @@ impl<L: Ledgers + Send, B: Listener + Send, F: FailHandler + Send> Submitter<L, 
                 .lock_to_publish(rt)
                 .publish_by_policy(own, text, due);
             dispatcher.start_all(rt, due);
-            match published {
+            let no_room = match published {
                 Ok(published) => return Ok(published),
-                Err(why) => text = why.text()?,
-            }
-            looks = dispatcher.pause(rt, looks, &backoff, Need::Waiters);
+                Err(why) => why.no_room()?,
+            };
+            looks = dispatcher.pause(rt, looks, &backoff, &no_room);
+            text = no_room.into_text();
         }
         unreachable!()
     }

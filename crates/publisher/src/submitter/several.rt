@@ -212,7 +212,7 @@ impl<L: Ledgers + Send, B: Listener + Send, F: FailHandler + Send> Submitter<L, 
                 .lock_to_publish(rt)
                 .publish_all(own, left, need, due);
             dispatcher.start_all(rt, due);
-            match sent {
+            let no_room = match sent {
                 Ok(all) => {
                     return Ok(PublishedAll {
                         lag: all.lag,
@@ -228,16 +228,20 @@ impl<L: Ledgers + Send, B: Listener + Send, F: FailHandler + Send> Submitter<L, 
                 ) => {
                     published += more;
                     lost += more_lost;
-                    if let Err(refused) = why.text() {
-                        return Err(Halted {
-                            published,
-                            lost,
-                            refused,
-                        });
+                    match why.no_room() {
+                        Ok(no_room) => no_room,
+                        Err(refused) => {
+                            return Err(Halted {
+                                published,
+                                lost,
+                                refused,
+                            });
+                        }
                     }
                 }
-            }
-            looks = dispatcher.pause(rt, looks, &backoff, need);
+            };
+            looks = dispatcher.pause(rt, looks, &backoff, &no_room);
+            drop(no_room);
         }
         unreachable!()
     }

@@ -57,21 +57,7 @@ fn reclaim_at<L: Ledgers + Send + Sync + 'static, R: Wait>(
 ) -> Result<u32, Fail> {
     stand.cancel(rt, place)?;
     stand.wait_end(rt, place);
-    if place >= stand.subscriptions.len() {
-        return Err(Fail::new("there is none"));
-    }
-    let mut subscription = stand.subscriptions.remove(place);
-    for _ in rt.forever() {
-        match stand.publisher.reclaim(rt, stand.alloc, subscription) {
-            Ok(left) => return Ok(left.entry),
-            Err(refused) => match refused.into_parts() {
-                (Refusal::StillHeld(_), back) => subscription = back,
-                (refusal, _) => return Err(refusal.into()),
-            },
-        }
-        thread::yield_now();
-    }
-    unreachable!()
+    Ok(stand.reclaim(rt, place)?.entry)
 }
 
 // The number of the last one that subscribed, and how many were made before it.

@@ -1,11 +1,13 @@
 //! The handler of failures: for what it is called, how often, and when.
 mod draining;
 mod hearing;
+mod others;
 mod waiting;
 
 use draining::hears_before_the_drain;
 use flow_rules::Answer;
 use hearing::hear;
+use others::{Heard, hear_beside_others};
 use publisher::BlankPair;
 use std::marker::Brand;
 use std::test::Fail;
@@ -59,10 +61,26 @@ fn a_handler_hears_after_the_end_while_the_lock_is_free(rt: HostRuntime) -> Resu
 
 #[test]
 fn a_handler_hears_before_all_have_ended(rt: HostRuntime) -> Result<(), Fail> {
-    for round in 0..20 {
+    for round in 0..10 {
         let blanks = BlankPair::new(rt.alloc())?;
         let is_told = hears_before_the_drain::<Brand, _>(rt, rt.alloc(), blanks)?;
         assert!(rt; is_told, "it has not heard in round {round}");
     }
+    Ok(())
+}
+
+#[test]
+fn a_handler_hears_the_name_of_the_one_that_failed(rt: HostRuntime) -> Result<(), Fail> {
+    let blanks = BlankPair::new(rt.alloc())?;
+    let heard = hear_beside_others::<Brand, _>(rt, rt.alloc(), blanks)?;
+    let Heard {
+        rounds,
+        right,
+        wrong,
+    } = heard;
+    assert!(rt;
+        right == rounds && wrong == 0,
+        "of {rounds} failures it heard {right}, and {wrong} of another one"
+    );
     Ok(())
 }

@@ -150,11 +150,12 @@ fn reclaim_all<L: Ledgers + Send + Sync + 'static, R: Wait>(
     round: u64,
 ) -> Result<(), Fail> {
     for _ in 0..LIVE {
-        let Some(subscription) = stand.subscriptions.pop() else {
+        let Some(last) = stand.subscriptions.last() else {
             break;
         };
-        let entry = subscription.entry();
-        let left = reclaim(rt, stand, subscription)?;
+        let entry = last.entry();
+        let place = stand.subscriptions.len() - 1;
+        let left = stand.reclaim(rt, place)?;
         if left.entry != entry || !is_right(&left, round) {
             return Err(Fail::new("what is left is not that of the subscription"));
         }
@@ -165,26 +166,6 @@ fn reclaim_all<L: Ledgers + Send + Sync + 'static, R: Wait>(
         return Err(Fail::new("stats count others"));
     }
     Ok(())
-}
-
-// Reclaims a subscription, once the thread that ended it has let go of its task.
-fn reclaim<L: Ledgers + Send + Sync + 'static, R: Wait>(
-    rt: &R,
-    stand: &Stand<L, Answering>,
-    subscription: Subscription<L, Answering>,
-) -> Result<NamedLane<Answering>, Refusal> {
-    let mut subscription = subscription;
-    for _ in rt.forever() {
-        match stand.publisher.reclaim(rt, stand.alloc, subscription) {
-            Ok(left) => return Ok(left),
-            Err(refused) => match refused.into_parts() {
-                (Refusal::StillHeld(_), back) => subscription = back,
-                (refusal, _) => return Err(refusal),
-            },
-        }
-        thread::yield_now();
-    }
-    unreachable!()
 }
 
 // Whether it took part in all items of its round and in no other, was given each, and ended as it should.

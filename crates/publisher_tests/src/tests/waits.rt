@@ -9,24 +9,21 @@ use std::sync::Wait;
 use std::test::Fail;
 use std::thread;
 use std::thread::Threads;
+use std::time::{Clock, Duration};
 use test_stand::Stand;
 
-// How often a thread yields so that another one sleeps before it goes on.
-const TURNS: u64 = 200;
-
-fn yield_often() {
-    for _ in 0..TURNS {
-        thread::yield_now();
-    }
+// Lets another thread come to its sleep, as is likely.
+fn nap<R: Clock>(rt: &R) {
+    thread::sleep(rt, Duration::from_millis(1));
 }
 
 // Closes, once another thread is likely to sleep.
-fn close_later<L: Ledgers + Send + Sync + 'static, R: Wait>(
+fn close_later<L: Ledgers + Send + Sync + 'static, R: Clock + Wait>(
     rt: &R,
     alloc: Global,
     publisher: &Publisher<L, Tally>,
 ) -> Result<(), Refusal> {
-    yield_often();
+    nap(rt);
     let mut note = publisher.note();
     publisher.close(rt, alloc, &mut note)
 }
@@ -42,7 +39,7 @@ fn wait_drained<L: Ledgers + Send + Sync + 'static, R: Wait>(
 }
 
 // One thread waits until all have ended, and another one closes. No turn follows the close.
-fn drain<L: Ledgers + Send + Sync + 'static, R: Threads + Wait + Sync>(
+fn drain<L: Ledgers + Send + Sync + 'static, R: Clock + Threads + Wait + Sync>(
     rt: &R,
     alloc: Global,
     publisher: &Publisher<L, Tally>,
@@ -59,7 +56,7 @@ fn drain<L: Ledgers + Send + Sync + 'static, R: Threads + Wait + Sync>(
 // Drains a publisher without subscriptions, or whose only one has ended before.
 fn drain_without_turns<
     L: Ledgers + Send + Sync + 'static,
-    R: Threads + Wait + Copy + Send + Sync + 'static,
+    R: Clock + Threads + Wait + Copy + Send + Sync + 'static,
 >(rt: R, alloc: Global, blanks: BlankPair, has_subscription: bool) -> Result<bool, Fail>
     requires blanks { AreBlanksOf blanks L.publications L.drops L.history }
 {
@@ -69,7 +66,7 @@ fn drain_without_turns<
     is_closed
 }
 
-fn drain_stand<L: Ledgers + Send + Sync + 'static, R: Threads + Wait + Sync>(
+fn drain_stand<L: Ledgers + Send + Sync + 'static, R: Clock + Threads + Wait + Sync>(
     rt: &R,
     stand: &mut Stand<L, Tally>,
     has_subscription: bool,
@@ -109,20 +106,20 @@ fn wait_end<L: Ledgers + Send + Sync + 'static, R: Wait>(
 }
 
 // Cancels a subscription beside one that is waited for, and ends that later by a close.
-fn cancel_and_close<L: Ledgers + Send + Sync + 'static, R: Wait>(
+fn cancel_and_close<L: Ledgers + Send + Sync + 'static, R: Clock + Wait>(
     rt: &R,
     alloc: Global,
     publisher: &Publisher<L, Tally>,
     other: &mut Subscription<L, Tally>,
 ) -> Result<(), Refusal> {
-    yield_often();
+    nap(rt);
     other.cancel(rt)?;
     other.wait_end(rt);
     close_later(rt, alloc, publisher)
 }
 
 // One thread waits for the end of a subscription, and another one cancels the one beside it before.
-fn end_one_of_two<L: Ledgers + Send + Sync + 'static, R: Threads + Wait + Sync>(
+fn end_one_of_two<L: Ledgers + Send + Sync + 'static, R: Clock + Threads + Wait + Sync>(
     rt: &R,
     alloc: Global,
     publisher: &Publisher<L, Tally>,
@@ -140,7 +137,7 @@ fn end_one_of_two<L: Ledgers + Send + Sync + 'static, R: Threads + Wait + Sync>(
 
 fn wait_beside_a_cancel<
     L: Ledgers + Send + Sync + 'static,
-    R: Threads + Wait + Copy + Send + Sync + 'static,
+    R: Clock + Threads + Wait + Copy + Send + Sync + 'static,
 >(rt: R, alloc: Global, blanks: BlankPair) -> Result<bool, Fail>
     requires blanks { AreBlanksOf blanks L.publications L.drops L.history }
 {
@@ -150,7 +147,7 @@ fn wait_beside_a_cancel<
     has_ended
 }
 
-fn wait_for_one<L: Ledgers + Send + Sync + 'static, R: Threads + Wait + Sync>(
+fn wait_for_one<L: Ledgers + Send + Sync + 'static, R: Clock + Threads + Wait + Sync>(
     rt: &R,
     stand: &mut Stand<L, Tally>,
 ) -> Result<bool, Fail> {

@@ -9,7 +9,7 @@ ghost use Rattle.publisher.specs.declared.state.look.Need.TheVariants as Need;
 
 use super::{NotPublished, PublishedAll, Stopped};
 use crate::ledgers::Ledgers;
-use crate::state::{Own, State};
+use crate::state::{Need, Own, State};
 use feed_cell::Task;
 use flow_rules::{Listener, NoMemory, Refusal, Text};
 use publisher_hub::{Published, Unpublished, Work};
@@ -74,7 +74,9 @@ impl<L: Ledgers, B: Listener> State<L, B> {
         ensures ok { IfOk result (λ published. PublishesByPolicy producer_end DoesCall
             own.old.source text.now self.old.hub self.new.hub due.old.items due.new.items
             published) }
-        ensures refusals { IfErr result (RefusesShared Need.Waiters text.now self.old self.new) }
+        ensures refusals { IfErr result
+            (λ why. RefusesShared Need.Waiters text.now self.old self.new why.reason) }
+        ensures need { IfErr result (λ why. why.need ≡ Need.Waiters) }
         ensures nothing_due { OnErr result (due.new.items ≡ due.old.items) }
         ensures one_more { OnOk result
             (own.new.publications.amount ≡ own.old.publications.amount + 1) }
@@ -88,7 +90,11 @@ impl<L: Ledgers, B: Listener> State<L, B> {
     {
         match text.share() {
             Ok(text) => self.publish_by_policy(own, text, due),
-            Err(NoMemory) => Err(NotPublished(Unpublished::Refused(Refusal::NoMemory))),
+            Err(NoMemory) => {
+                let reason = Unpublished::Refused(Refusal::NoMemory);
+                let need = Need::Waiters;
+                Err(NotPublished { reason, need })
+            }
         }
     }
 
@@ -104,7 +110,8 @@ impl<L: Ledgers, B: Listener> State<L, B> {
         ensures ok { IfOk result (λ published. PublishesByPolicy producer_end DoesCall
             own.old.source text self.old.hub self.new.hub due.old.items due.new.items published) }
         ensures refusals { IfErr result
-            (λ why. RefusesByPolicy producer_end DoesCall text self.old.hub self.new.hub why) }
+            (λ why. RefusesByPolicy producer_end DoesCall text self.old.hub self.new.hub why.reason) }
+        ensures need { IfErr result (λ why. why.need ≡ Need.Waiters) }
         ensures nothing_due { OnErr result (due.new.items ≡ due.old.items) }
         ensures one_more { OnOk result
             (own.new.publications.amount ≡ own.old.publications.amount + 1) }
@@ -126,7 +133,10 @@ impl<L: Ledgers, B: Listener> State<L, B> {
         let said = Snapshot::of(&text);
         let answer = match hub.publish_by_policy(own.source, text, due) {
             Ok(answer) => answer,
-            Err(why) => return Err(NotPublished(why)),
+            Err(reason) => {
+                let need = Need::Waiters;
+                return Err(NotPublished { reason, need });
+            }
         };
         published.add(&mut own.publications, 1);
         history.write(&mut own.pass, said);

@@ -10,7 +10,7 @@ ghost use Rattle.publisher.specs.declared.state.look.Need.TheVariants as Need;
 
 use super::{NotPublished, PublishedAll, Stopped};
 use crate::ledgers::Ledgers;
-use crate::state::{Own, State};
+use crate::state::{Need, Own, State};
 use feed_cell::Task;
 use flow_rules::{Listener, Text};
 use history::{History, HistoryId, Pass};
@@ -76,7 +76,8 @@ impl<L: Ledgers, B: Listener> State<L, B> {
             texts.now self.old.hub self.new.hub due.old.items due.new.items first) }
         ensures within { IfOk result (λ first. first.many ≤ length texts.now) }
         ensures refusals { IfErr result (λ why.
-            RefusesFirst producer_end DoesCall texts.now self.old.hub self.new.hub why) }
+            RefusesFirst producer_end DoesCall texts.now self.old.hub self.new.hub why.reason) }
+        ensures need { IfErr result (λ why. why.need ≡ Need.All) }
         ensures nothing_due { OnErr result (due.new.items ≡ due.old.items) }
         ensures more { IfOk result (λ first.
             own.new.publications.amount ≡ own.old.publications.amount + first.many) }
@@ -95,7 +96,10 @@ impl<L: Ledgers, B: Listener> State<L, B> {
         } = self;
         let first = match hub.publish_several(own.source, texts, due) {
             Ok(first) => first,
-            Err(why) => return Err(NotPublished(why)),
+            Err(reason) => {
+                let need = Need::All;
+                return Err(NotPublished { reason, need });
+            }
         };
         published.add(&mut own.publications, first.many as u64);
         write_all(history, &mut own.pass, &texts[..first.many]);

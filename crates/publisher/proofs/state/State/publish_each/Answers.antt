@@ -20,6 +20,7 @@ returns-in-Err-clause-stopped g c = record {
       c.args.self.now.hub c.loop-published.self.hub c.args.due.now.items due c.loop-published.lag c.loop-published.lost)
       (sym c.in-Err.ensures.nothing_due) c.loop-published.invariant.0;
   why = c.in-Err.ensures.refusals;
+  needs = c.in-Err.ensures.need;
 }
 
 pub loop-published-preserved : goal.loop-published-preserved

@@ -61,4 +61,5 @@ returns-in-Err-clause-stopped g c =
           c.args.self.now.hub c.loop-published.self.hub c.args.due.now.items due c.loop-published.lag 0)
           (sym c.in-Err.ensures.nothing_due) c.loop-published.invariant.0;
       why = inr why;
+      needs = c.in-Err.ensures.need;
     }

@@ -18,8 +18,8 @@ returns-in-Ok-clause-ok g c =
     (rest_sent c.args.self.now.sent texts n c.loop.own.pass.sent _ sent
     (c.in-Ok.ensures.sent ∙ ap (λ l. c.loop.own.pass.sent ++ l) left)) (omega arith)
 
-pub returns-in-Err-text-clause-partly : goal.returns-in-Err-text-clause-partly
-returns-in-Err-text-clause-partly g c =
+pub returns-in-Err-no_room-clause-partly : goal.returns-in-Err-no_room-clause-partly
+returns-in-Err-no_room-clause-partly g c =
     let (_, (_, (source, (amount, (drops, (within, (few, (none, sent)))))))) = c.loop.invariant in
     let texts = c.args.texts.now in
     let n = c.loop.published in
