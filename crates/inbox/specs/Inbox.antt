@@ -37,3 +37,8 @@ fault_of _ = None
 abbrev pub cancelled : Option How → Option How
 cancelled (Some how) = Some how
 cancelled None = Some How.Cancelled
+
+-- how a subscription has ended whose subscriber was told this: with an error, whichever it is, or by a completion
+abbrev pub ended_by : Option Fault → How
+ended_by (Some fault) = How.Errored fault
+ended_by None = How.Completed

@@ -1,16 +1,7 @@
 //! The end that subscribes: it hands over what it is told. It requests nothing by itself.
-use crate::queue::Queue;
+use crate::arrivals::{Arrivals, how_of};
 use flow_rules::{Answer, Fault, How, Item, Watch};
 use std::sync::{Arc, Wait};
-
-/// What waits in an inbox.
-#[derive(Drop)]
-pub(crate) enum Arrival {
-    /// An item.
-    Item(Item),
-    /// The end, and which it is. Nothing comes after it.
-    End(How),
-}
 
 /// The subscriber of an inbox. It ends its subscription with [`NO_ROOM`](Inlet::NO_ROOM) if more items were requested
 /// than its inbox did, and with [`NO_MEMORY`](Inlet::NO_MEMORY) if it is refused memory for a text of more than 30
@@ -18,7 +9,7 @@ pub(crate) enum Arrival {
 #[derive(Drop)]
 pub struct Inlet<R> {
     rt: R,
-    arrivals: Arc<Queue<Arrival>>,
+    arrivals: Arc<Arrivals>,
 }
 
 impl<R> Inlet<R> {
@@ -28,8 +19,8 @@ impl<R> Inlet<R> {
     /// The code of a failure by refused memory.
     pub const NO_MEMORY: u32 = 5;
 
-    /// One that hands over to this queue.
-    pub(crate) fn new(rt: R, arrivals: Arc<Queue<Arrival>>) -> Inlet<R> {
+    /// Makes one that hands over what it is told.
+    pub(crate) fn new(rt: R, arrivals: Arc<Arrivals>) -> Inlet<R> {
         Inlet { rt, arrivals }
     }
 }
@@ -41,22 +32,19 @@ impl<R: Wait + Copy> Watch for Inlet<R> {
 
     fn on_item(&mut self, item: &Item) -> Answer {
         let code = match item.share() {
-            Ok(item) => match self.arrivals.try_push(&self.rt, Arrival::Item(item)) {
-                Ok(()) => return Answer::Go,
-                Err(_) => Inlet::<R>::NO_ROOM,
-            },
+            Ok(item) => {
+                if self.arrivals.put(&self.rt, item) {
+                    return Answer::Go;
+                }
+                Inlet::<R>::NO_ROOM
+            }
             Err(_) => Inlet::<R>::NO_MEMORY,
         };
-        self.arrivals
-            .close_with(&self.rt, Arrival::End(How::Failed(code)));
+        self.arrivals.end(&self.rt, How::Failed(code));
         Answer::Fail(code)
     }
 
     fn on_end(&mut self, fault: Option<Fault>) {
-        let how = match fault {
-            Some(fault) => How::Errored(fault),
-            None => How::Completed,
-        };
-        self.arrivals.close_with(&self.rt, Arrival::End(how));
+        self.arrivals.end(&self.rt, how_of(fault));
     }
 }

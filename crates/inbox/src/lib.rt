@@ -14,6 +14,7 @@
 //! ```
 #![tactic(auto)]
 
+mod arrivals;
 mod inlet;
 mod outlet;
 mod queue;

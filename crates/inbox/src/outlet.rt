@@ -3,8 +3,8 @@ ghost use Rattle.std.specs.Prelude.{◌≡◌, ◌-◌, ◌≤◌, None, IfErr, 
 ghost use Rattle.inbox.specs.Inbox.{Refills, Takes, cancelled, fault_of};
 ghost use Rattle.publisher.specs.Handles.{Cancels};
 
-use crate::inlet::{Arrival, Inlet};
-use crate::queue::Queue;
+use crate::arrivals::{Arrival, Arrivals, Cancelled};
+use crate::inlet::Inlet;
 use flow_rules::{FailHandler, Fault, How, Item, Listener, NoMemory, Refusal};
 use publisher::{Ledgers, Subscription};
 use std::alloc::Global;
@@ -14,7 +14,7 @@ use std::sync::{Arc, Wait};
 /// Where items arrive that a thread has requested, and wait until it takes them.
 #[derive(Drop)]
 pub struct Inbox {
-    arrivals: Arc<Queue<Arrival>>,
+    arrivals: Arc<Arrivals>,
     /// How many items may be requested and not taken yet.
     batch: u32,
     /// How many are.
@@ -51,7 +51,7 @@ impl Inbox {
         if batch == 0 || batch > Inbox::MOST {
             return Err(Refusal::BadCapacity);
         }
-        let arrivals = Arc::new(alloc, Queue::new(alloc, batch as usize)?)?;
+        let arrivals = Arrivals::shared(alloc, batch as usize)?;
         let inlet = Inlet::new(rt, Arc::try_clone(&arrivals)?);
         let inbox = Inbox {
             arrivals,
@@ -85,7 +85,7 @@ impl Inbox {
             ((self.new ≡ self.old) × (subscription.new ≡ subscription.old)) }
     {
         self.ask(rt, subscription)?;
-        match self.arrivals.pop(rt) {
+        match self.arrivals.next(rt) {
             Some(arrival) => Ok(self.take(arrival)),
             None => Ok(None),
         }
@@ -109,7 +109,7 @@ impl Inbox {
             ((self.new ≡ self.old) × (subscription.new ≡ subscription.old)) }
     {
         self.ask(rt, subscription)?;
-        match self.arrivals.try_pop(rt) {
+        match self.arrivals.try_next(rt) {
             Some(arrival) => Ok(self.take(arrival)),
             None => Ok(None),
         }
@@ -168,8 +168,8 @@ impl Inbox {
         ensures unchanged { OnErr result
             ((self.new ≡ self.old) × (subscription.new ≡ subscription.old)) }
     {
-        subscription.cancel(rt)?;
-        self.arrivals.cut(rt);
+        let cancelled = Cancelled::of(rt, subscription)?;
+        self.arrivals.drop_all(rt, cancelled);
         self.ending.get_or_insert(How::Cancelled);
         Ok(())
     }

@@ -1,5 +1,9 @@
 //! A queue of bounded length that threads fill and other threads empty. All of its room is made with it, also that for
 //! the value with which it is closed.
+//!
+//! Threads that wait for room sleep apart from those that wait for a value. So whoever takes a value wakes threads that
+//! can use its room, and it would do to wake one of them; and no thread sleeps on because another one was woken in its
+//! place that can do nothing.
 ghost use Rattle.std.specs.Prelude.{◌≡◌, ◌≤◌, ◌∷◌, ◌++◌, [], true, false, None, Some, IfErr, OnErr, OnOk};
 ghost use Rattle.std.specs.VecDeque.{deque_capacity, deque_len};
 ghost use Rattle.inbox.specs.Queue.{takes};
@@ -13,7 +17,10 @@ use std::sync::{Condvar, Mutex, Wait};
 #[derive(Drop)]
 pub struct Queue<T: Drop> {
     state: Mutex<State<T>>,
-    changed: Condvar,
+    /// Where those sleep that wait for room.
+    room: Condvar,
+    /// Where those sleep that wait for a value.
+    more: Condvar,
 }
 
 #[derive(Drop)]
@@ -77,7 +84,8 @@ impl<T: Drop> Queue<T> {
                 last: None,
                 is_closed: false,
             }),
-            changed: Condvar::new(),
+            room: Condvar::new(),
+            more: Condvar::new(),
         })
     }
 
@@ -93,12 +101,12 @@ impl<T: Drop> Queue<T> {
             match state.put(left) {
                 Ok(()) => {
                     drop(state);
-                    self.changed.notify_all();
+                    self.more.notify_all();
                     return true;
                 }
                 Err(value) => left = value,
             }
-            state = self.changed.wait(rt, state);
+            state = self.room.wait(rt, state);
         }
         unreachable!()
     }
@@ -112,7 +120,7 @@ impl<T: Drop> Queue<T> {
             state.put(value)
         };
         drop(state);
-        self.changed.notify_all();
+        self.more.notify_all();
         put
     }
 
@@ -123,10 +131,10 @@ impl<T: Drop> Queue<T> {
             let first = state.take();
             if first.is_some() || state.is_closed {
                 drop(state);
-                self.changed.notify_all();
+                self.room.notify_all();
                 return first;
             }
-            state = self.changed.wait(rt, state);
+            state = self.more.wait(rt, state);
         }
         unreachable!()
     }
@@ -135,7 +143,7 @@ impl<T: Drop> Queue<T> {
     pub fn try_pop<R: Wait>(&self, rt: &R) -> Option<T> {
         let first = self.state.lock(rt).take();
         if first.is_some() {
-            self.changed.notify_all();
+            self.room.notify_all();
         }
         first
     }
@@ -144,13 +152,13 @@ impl<T: Drop> Queue<T> {
     /// After a close the value is dropped.
     pub fn close_with<R: Wait>(&self, rt: &R, last: T) {
         self.state.lock(rt).end(last);
-        self.changed.notify_all();
+        self.wake_all();
     }
 
     /// Closes the queue. What waits in it still comes out.
     pub fn close<R: Wait>(&self, rt: &R) {
         self.state.lock(rt).is_closed = true;
-        self.changed.notify_all();
+        self.wake_all();
     }
 
     /// Closes the queue, and drops what waits in it.
@@ -160,6 +168,12 @@ impl<T: Drop> Queue<T> {
         state.waiting.clear();
         state.last = None;
         drop(state);
-        self.changed.notify_all();
+        self.wake_all();
+    }
+
+    /// Wakes all that wait, once the queue is closed.
+    fn wake_all(&self) {
+        self.room.notify_all();
+        self.more.notify_all();
     }
 }

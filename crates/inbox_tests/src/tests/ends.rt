@@ -2,7 +2,7 @@
 ghost use Rattle.publisher.specs.Blanks.{AreBlanksOf};
 ghost use Rattle.std.specs.Prelude.{◌≡◌};
 
-use super::add_inbox;
+use super::{add_inbox, cancel, take_one};
 use flow_rules::{How, Refusal, Watching};
 use inbox::{Inbox, Inlet};
 use publisher::{BlankPair, Ledgers};
@@ -13,32 +13,6 @@ use std::test::Fail;
 use std::thread;
 use std::thread::Threads;
 use test_stand::Stand;
-
-// Takes the next item of the subscription of this place, if there is one; whether there was.
-fn take_one<L: Ledgers + Send + Sync + 'static, R: Wait + Copy + Send + 'static>(
-    rt: &R,
-    stand: &mut Stand<L, Watching<Inlet<R>>>,
-    place: usize,
-    inbox: &mut Inbox,
-) -> Result<bool, Fail> {
-    match stand.subscriptions.get_mut(place) {
-        Some(subscription) => Ok(inbox.next(rt, subscription)?.is_some()),
-        None => Err(Fail::new("there is no subscription")),
-    }
-}
-
-// Cancels the subscription of this place by its inbox.
-fn cancel<L: Ledgers + Send + Sync + 'static, R: Wait + Copy + Send + 'static>(
-    rt: &R,
-    stand: &mut Stand<L, Watching<Inlet<R>>>,
-    place: usize,
-    inbox: &mut Inbox,
-) -> Result<(), Fail> {
-    match stand.subscriptions.get_mut(place) {
-        Some(subscription) => Ok(inbox.cancel(rt, subscription)?),
-        None => Err(Fail::new("there is no subscription")),
-    }
-}
 
 // Closes the publisher with the error 7, and waits for the end of the first subscription.
 fn fail<L: Ledgers + Send + Sync + 'static, R: Wait + Copy + Send + 'static>(
