@@ -10,8 +10,8 @@ import time
 sys.path.append(os.path.realpath(f"{os.path.dirname(os.path.realpath(__file__))}/.."))
 from heed import heed_signals
 
-# How long a console may take for anything, and how long it is watched where nothing is to come.
-SECONDS, QUIET = 20, 0.3
+# How long a console may take for anything, on a machine that has much else to do, and how long it is watched where nothing is to come.
+SECONDS, QUIET = 600, 0.3
 
 
 class Stopped(Exception):

@@ -15,6 +15,7 @@ import termios
 import threading
 
 sys.dont_write_bytecode = True
+import order
 from drive import SECONDS, Console, Stopped
 
 REFUSED, UNKNOWN, UNSETTLED, HELD = b"= refused 12 command", b"= refused 10 unknown", b"= refused 9 unsettled", b"= refused 8 held"
@@ -23,7 +24,7 @@ REFUSED, UNKNOWN, UNSETTLED, HELD = b"= refused 12 command", b"= refused 10 unkn
 LONG = b"x" * 4097
 
 # The commands that a wrong one is told of.
-LISTED = b"no such command (sub, request, cancel, leave, offer, retry, submit, publish, close, fail, lag, stats, subscribers, closed, help, quit)"
+LISTED = b"no such command (sub, request, cancel, leave, offer, retry, submit, publish, wait, close, fail, lag, stats, subscribers, closed, help, quit)"
 
 DIGITS, NAME, SPACE = b"a number has digits alone", b"a name has 1 to 32 letters, digits, - and _", b"a space too many"
 SHOWN = b"x" * 60 + b" .."
@@ -80,6 +81,7 @@ MISTAKES = (
     (b" lag", SPACE),
     (b"lag ", SPACE),
     (b"quit now", b"quit: too many words, now"),
+    (b"wait 7", b"wait: too many words, 7"),
     (b"help me", b"help: too many words, me"),
     (b"leave", b"leave NAME: the name is missing"),
     (b"leave ", b"leave NAME: the name is missing"),
@@ -232,7 +234,7 @@ def losing(program):
     with Console(program, ["--cap", "1", "--workers", "1"]) as it:
         it.say(b"sub b 0 drop", b"= sub b", b"b subscribed")
         it.type(b"\n".join([b"publish 7 x"] * 70))
-        it.end(b"= publish 7 1", *[b"= publish 7 0, 1 dropped"] * 69, b"= b open 0, 69 dropped", b"= drained 0")
+        it.end(b"= publish 7 1", *[b"= publish 7 1, 1 dropped"] * 69, b"= b open 0, 69 dropped", b"= drained 0")
 
 
 def peak(it):
@@ -443,7 +445,7 @@ def stamps(program):
         it.waited(0, b"")
         times = [int(line.split(b" ", 1)[0]) for line in stamped]
         lines = [line.split(b" ", 1)[1] for line in stamped]
-        if times != sorted(times) or times[-1] > 20_000_000:
+        if times != sorted(times) or times[-1] > SECONDS * 1_000_000:
             raise Stopped(f"the times are {times}")
         for line in (b"= sub a", b"a subscribed", b"a next x", b"a next y", b"a complete", b"= a complete 2", b"= drained 1"):
             if line not in lines:
@@ -482,9 +484,9 @@ def words(program):
         it.type(b"# a comment")
         it.type(b"#")
         it.type(b"?")
-        asked = [it.line() for _ in range(19)]
+        asked = [it.line() for _ in range(20)]
         it.type(b"help")
-        if not asked[0].startswith(b"= sub NAME N ") or asked != [it.line() for _ in range(19)]:
+        if not asked[0].startswith(b"= sub NAME N ") or asked != [it.line() for _ in range(20)]:
             raise Stopped(f"help is {asked}")
         it.say(b"lag", b"= lag 0")
         it.say(b"exit", b"= drained 1")
@@ -560,7 +562,7 @@ def command_lines(program):
         raise Stopped(f"--help: {ran}")
 
 
-PARTS = (commands, refusals, sources, demands, late_errors, waiting, losing, full_source, cancelling, leaving, ends, many, stamps, closed_output, words, terminal, signals, command_lines)
+PARTS = (commands, refusals, sources, demands, late_errors, waiting, losing, full_source, cancelling, leaving, ends, many, stamps, closed_output, words, terminal, signals, command_lines, *order.PARTS)
 
 
 def main(program):

@@ -7,19 +7,22 @@ that play needs. If `rt` is among them, it is rt_stand_in, which does what STAND
 nothing may be left in the folder for temporary files, and no stand-in may run. The rows run side by side, since most of them wait.
 """
 
+import fcntl
 import os
 import pty
 import shutil
 import signal
 import subprocess
 import sys
+import termios
 import time
 from concurrent.futures import ThreadPoolExecutor
 
-SECONDS = 20
+SECONDS = 600
 HERE = os.path.dirname(os.path.realpath(__file__))
 TOP = os.path.realpath(f"{HERE}/../..")
 COMMANDS = "awk bash basename cat chmod dirname find grep head mkdir mktemp readlink rm sed sh sleep sort tac tail touch".split()
+PROGRAMS = ("lines_demo", "console", "fanout")
 MOST = 16777216
 SLOW = 2.3  # seconds between the parts of a slow input
 
@@ -41,13 +44,15 @@ class Site:
 
     def __init__(self, folder, program, stand_in):
         self.folder, self.stand_in = folder, stand_in
-        for name in ("tests", "tools", "crates/flow_rules/src", "crates/lines_demo/out", "crates/console/out", "tmp", "bin"):
+        for name in ("tests/play", "tools", "crates/flow_rules/src", "tmp", "bin", "the caller's folder"):
             os.makedirs(f"{folder}/{name}")
-        for name in ("lines_demo", "console"):
+        for name in PROGRAMS:
+            os.makedirs(f"{folder}/crates/{name}/out")
             os.makedirs(f"{folder}/crates/{name}/src")
             self.write(f"crates/{name}/src/main.rt", "")
-        for name in ("play", "crates.txt", "tests/program.sh", "crates/lines_demo/args"):
+        for name in ("play", "crates.txt", "tests/program.sh", "crates/lines_demo/args", "crates/fanout/args"):
             shutil.copy(f"{TOP}/{name}", f"{folder}/{name}")
+        shutil.copytree(f"{HERE}/help", f"{folder}/tests/play/help")
         for name in COMMANDS:
             os.symlink(shutil.which(name), f"{folder}/bin/{name}")
         if stand_in:
@@ -56,7 +61,9 @@ class Site:
         if program:
             shutil.copy(program, self.built())
             self.write("crates/console/out/console", '#!/bin/sh\necho "console $*"\nexec cat\n')
-            os.chmod(self.built("console"), 0o755)
+            self.write("crates/fanout/out/fanout", '#!/bin/sh\nfor file; do echo "fanout $file"; done\nexec cat >"$file"\n')
+            for name in PROGRAMS[1:]:
+                os.chmod(self.built(name), 0o755)
 
     def write(self, file, text):
         with open(f"{self.folder}/{file}", "w", encoding="utf-8") as it:
@@ -65,10 +72,10 @@ class Site:
     def built(self, name="lines_demo"):
         return f"{self.folder}/crates/{name}/out/{name}"
 
-    def start(self, words, stdin, stderr=subprocess.PIPE):
+    def start(self, words, stdin, stderr=subprocess.PIPE, **how):
         env = {"PATH": f"{self.folder}/bin", "TMPDIR": f"{self.folder}/tmp", "STAND_IN": self.stand_in or ""}
-        how = {"stdin": stdin, "stdout": subprocess.PIPE, "stderr": stderr, "env": env, "cwd": self.folder}
-        return subprocess.Popen(["./play", *words], **how, start_new_session=True)
+        how = {"stdin": stdin, "stdout": subprocess.PIPE, "stderr": stderr, "env": env, "cwd": self.folder, **how}
+        return subprocess.Popen([f"{self.folder}/play", *words], **how, start_new_session=True)
 
     def end(self, process):
         """The status, the output and standard error, once it has ended."""
@@ -80,10 +87,10 @@ class Site:
             return None, b"", b""
         return process.returncode, output, said
 
-    def run(self, words, given=b""):
+    def run(self, words, given=b"", **how):
         """A run on a pipe with these bytes."""
         read, write = os.pipe()
-        process = self.start(words, read)
+        process = self.start(words, read, **how)
         os.close(read)
         with ThreadPoolExecutor(1) as pool:
             pool.submit(feed, write, [given])
@@ -203,7 +210,7 @@ def plays_lines_to_an_open_end(site):
 
 
 def refuses_lines(site):
-    return differs(site.run([*THREADS, "a:1"], LINES), 2, b"", b"lines_demo: refused 3 duplicate\n")
+    return differs(site.run([*THREADS, "a:1"], LINES), 2, b"", has(b"lines_demo: refused 3 duplicate\n"))
 
 
 def explains_threads(site):
@@ -245,7 +252,11 @@ def refuses_wrong_words(site):
         (["--explain", "--build"], refuses(b"--build", USAGE)),
         (["--explain", "one", "two"], refuses(b"more than one", USAGE)),
         (["--explain", ""], refuses(b"empty", USAGE)),
-        (["nothing"], refuses(b"there is no file nothing")),
+        (["nothing"], refuses(b"there is no file nothing\n")),
+        (["fanuot", "x"], refuses(b"there is no command fanuot; is it fanout?", USAGE)),
+        (["consol"], refuses(b"there is no file consol; is it console?\n")),
+        (["--bulid"], refuses(b"there is no option --bulid; is it --build?", USAGE)),
+        (["--build", "line_demo"], refuses(b"no program crates/line_demo; is it lines_demo?", USAGE)),
     ):
         it = differs(site.run(words), *refusal)
         why += f"{words}: {it}; " if it else ""
@@ -270,6 +281,17 @@ def opens_the_console(site):
     return differs(got, 0, b"console --cap 1\na line\n", b"")
 
 
+def takes_names_with_spaces(site):
+    """The files of fanout, and a script, are those of the caller's folder, and their names may have spaces."""
+    there = f"{site.folder}/the caller's folder"
+    got = site.run(["fanout", "--to", "one  file", "two files *"], b"a line\n", cwd=there)
+    why = differs(got, 0, b"fanout --to\nfanout one  file\nfanout two files *\n", b"")
+    if why or contents(f"{there}/two files *") != b"a line\n":
+        return why or "the file has something else"
+    shutil.copy(f"{TOP}/examples/first.script", f"{there}/a script")
+    return differs(site.run(["a script"], cwd=there), 0, PLAYED, b"")
+
+
 def opens_the_console_at_a_terminal(site):
     return differs(typed(site, ["console"], b"a line\n"), 0, b"console \na line\n", b"")
 
@@ -281,12 +303,15 @@ def calls_of(site):
     return [it.split(b" ", 1)[1] for it in contents(f"{site.folder}/bin/calls").splitlines()]
 
 
-NEVER = b"; to prove and build it: ./play --build\n"
-UNPROVED = b"play: this lines_demo is unproved" + NEVER
+def unproved(name):
+    return b"play: this %s is unproved; to prove and build it: ./play --build %s\n" % (name, name)
+
+
+UNPROVED = unproved(b"lines_demo")
 
 
 def compiles(site):
-    """The program's status, output and standard error come through, and its input is whole. A second time nothing is compiled."""
+    """The program's status, output and standard error come through, and its input is whole. A second time nothing is compiled, nor said."""
     read, write = os.pipe()
     process = site.start([], read)
     os.close(read)
@@ -299,7 +324,7 @@ def compiles(site):
     if len(steps) != 1 or not steps[0].endswith(b" s"):
         return f"the steps are {steps}"
     why = differs(got, 3, b"out\n", has(b"without proof", UNPROVED + b"lines_demo: a word\n"))
-    again = differs(site.run([], SCRIPT), 3, b"out\n", UNPROVED + b"lines_demo: a word\n")
+    again = differs(site.run([], SCRIPT), 3, b"out\n", b"lines_demo: a word\n")
     if why or again:
         return f"{why} {again}"
     if contents(f"{site.folder}/bin/given") != SCRIPT:
@@ -347,10 +372,71 @@ def compiles_the_console(site):
     with ThreadPoolExecutor(1) as pool:
         pool.submit(feed, write, [b"", b"", b"a line\n"])
         got = site.end(process)
-    why = differs(got, 3, b"out\n", has(b"play: this console is unproved" + NEVER))
+    why = differs(got, 3, b"out\n", has(unproved(b"console")))
     if why or contents(f"{site.folder}/bin/given") != b"a line\n":
         return why or "it was given another input"
     return "" if calls_of(site) == [b"console", b"ran --late"] else f"the calls are {calls_of(site)}"
+
+
+def compiles_fanout(site):
+    """Standard error has the program's report alone, the first time, too. The files are those of the caller's folder."""
+    there = f"{site.folder}/the caller's folder"
+    for _ in range(2):
+        got = site.run(["fanout", "--report", "json", "a file"], b"a line\n", cwd=there)
+        why = differs(got, 3, b"out\n", b"fanout: a word\n")
+        if why or contents(f"{site.folder}/bin/given") != b"a line\n":
+            return why or "it was given another input"
+    ran = b"ran --report json a file in " + there.encode()
+    return "" if calls_of(site) == [b"fanout", ran, ran] else f"the calls are {calls_of(site)}"
+
+
+def notes_at_the_terminal(site):
+    """If standard error is none, what is said of the compiling goes to the terminal that it was called from."""
+    master, slave = pty.openpty()
+    read, write = os.pipe()
+    os.close(write)
+    process = site.start(["fanout", "copy"], read, preexec_fn=lambda: fcntl.ioctl(slave, termios.TIOCSCTTY, 0), pass_fds=(slave,))
+    os.close(read)
+    os.close(slave)
+    why = differs(site.end(process), 3, b"out\n", b"fanout: a word\n")
+    said = drained(master)
+    return why or ("" if unproved(b"fanout")[:-1] in said and b"fanout: a word" not in said else f"the terminal shows {said!r}")
+
+
+def helps_at_once(site):
+    """The help of each program, before anything is compiled."""
+    why = ""
+    for words in (["threads"], ["threads", "--cap", "1"], ["console", "--late"], ["fanout"], ["fanout", "a file", "--cap=1"]):
+        for option in ("--help", "-h"):
+            wanted = contents(f"{HERE}/help/{words[0]}.txt")
+            it = differs(site.run([*words, option]), 0, wanted, b"")
+            why += f"{words}: {it}; " if it else ""
+    return why or ("something was compiled" if os.path.exists(f"{site.folder}/bin/calls") else "")
+
+
+def finds_a_folder_that_cannot_be_written(site):
+    """Before anything is compiled or proved, and before a script is read: here from a pipe that nobody closes."""
+    for name in PROGRAMS:
+        site.write(f"crates/{name}/out/unproved", "")
+    os.rmdir(f"{site.folder}/crates/flow_rules/src")
+    read, write = os.pipe()
+    why = ""
+    try:
+        for words, name in (([], "lines_demo"), (THREADS, "lines_demo"), (["console"], "console"), (["fanout", "a"], "fanout")):
+            it = differs(site.end(site.start(words, read)), *refuses(b"the folder crates/%s/out/unproved can't be written" % name.encode()))
+            why += f"{words}: {it}; " if it else ""
+        shutil.rmtree(f"{site.folder}/crates/fanout/out")
+        site.write("crates/fanout/out", "")
+        it = differs(site.end(site.start(["--build"], read)), *refuses(b"the folder crates/fanout/out can't be written"))
+        why += f"--build: {it}; " if it else ""
+    finally:
+        os.close(read)
+        os.close(write)
+    return why or ("something was compiled" if os.path.exists(f"{site.folder}/bin/calls") else "")
+
+
+OPTIONS_OF_FANOUT = b"".join(it.split()[0] + b", " for it in contents(f"{HERE}/help/fanout.txt").splitlines() if it.startswith(b"      --"))[:-2]
+NO_SINK = b"play: fanout needs a sink: name a file, or - for standard output\n"
 
 
 def refuses_wrong_words_at_once(site):
@@ -369,6 +455,20 @@ def refuses_wrong_words_at_once(site):
         ([*THREADS, "--wait"], b"play: --wait: threads has no such option (--workers W, --cap N, --fail NAME:K:C, --explain)\n"),
         (["console", "--cpa", "1"], b"play: --cpa: console has no such option (--workers W, --cap N, --late, --stamp)\n"),
         (["console", "file"], b"play: file: console takes options alone (--workers W, --cap N, --late, --stamp)\n"),
+        (["fanout"], NO_SINK),
+        (["fanout", "--append"], NO_SINK),
+        (["fanout", "--from", "a", "--"], NO_SINK),
+        (["fanout", "--frob", "a"], b"play: --frob: fanout has no such option; is it --from? (%s)\n" % OPTIONS_OF_FANOUT),
+        (["fanout", "-x", "a"], b"play: -x: fanout has no such option (%s)\n" % OPTIONS_OF_FANOUT),
+        (["fanout", "a", "--cap"], b"play: --cap is the last word, and it takes <N>\n"),
+        (["fanout", "a", "--to"], b"play: --to is the last word, and it takes <FILE>\n"),
+        (["fanout", "a", "--cap", "4k"], b"play: --cap 4k: it takes a number\n"),
+        (["fanout", "a", "--cap="], b"play: --cap is the last word: it takes a number\n"),
+        (["fanout", "a", "--workers", "0"], b"play: --workers 0: it takes a number from 1 on\n"),
+        (["fanout", "a", "--linger=x"], b"play: --linger x: it takes a number\n"),
+        (["fanout", "a", "--report", "xml"], b"play: --report xml: it takes one of text json csv none\n"),
+        (["fanout", "a", "--grep", "x"], b"play: --grep stands behind all sinks, and it is for the next one\n"),
+        (["fanout", "--not", "x"], NO_SINK),
     ):
         it = differs(site.run(words, LINES), 2, b"", said)
         why += f"{words}: {it}; " if it else ""
@@ -376,7 +476,8 @@ def refuses_wrong_words_at_once(site):
 
 
 def says_why_it_was_not_compiled(site):
-    return differs(site.run([], SCRIPT), *refuses(b"error: a source is wrong\n", b"./play --build"))
+    why = differs(site.run([], SCRIPT), *refuses(b"error: a source is wrong\n", b"./play --build lines_demo\n"))
+    return why or differs(site.run(["fanout", "a"]), *refuses(b"error: a source is wrong\n", b"./play --build fanout\n"))
 
 
 def ends_what_it_started(site):
@@ -398,16 +499,16 @@ def compiles_what_is_old(site):
 
 def builds(site):
     got = site.run(["--build"])
-    steps = ["proving flow_rules", "proving lines_demo", "proving console", "building lines_demo", "building console"]
-    wanted = [f"play: {at} of 5, {it}".encode() for at, it in enumerate(steps, 1)]
+    steps = ["proving flow_rules", *[f"{act} {name}" for act in ("proving", "building") for name in PROGRAMS]]
+    wanted = [f"play: {at} of 7, {it}".encode() for at, it in enumerate(steps, 1)]
     lines = got[2].splitlines()
     shown = [it for it in lines if it.startswith(wanted[0] + b", 1 of 2 functions, ") and it.endswith(b" s")]
     if [it for it in lines if it in wanted] != wanted or not shown:
         return f"standard error {got[2]!r}"
-    why = differs(got, 0, b"", has(b"half an hour", b"built: crates/lines_demo/out/lines_demo", b"built: crates/console/out/console"))
-    if why or calls_of(site) != [b"check"] * 3 + [b"run -- script", b"run --"]:
+    why = differs(got, 0, b"", has(b"half an hour", *[f"built: crates/{it}/out/{it}\n".encode() for it in PROGRAMS]))
+    if why or calls_of(site) != [b"check"] * 4 + [b"run -- script", b"run --", b"run -- --not secret - --report none"]:
         return why or f"rt was given {calls_of(site)}"
-    return "" if all(os.access(site.built(it), os.X_OK) for it in ("lines_demo", "console")) else "there is no program"
+    return "" if all(os.access(site.built(it), os.X_OK) for it in PROGRAMS) else "there is no program"
 
 
 def builds_one(site):
@@ -421,7 +522,8 @@ def shows_why_it_was_not_built(site):
 
 
 def needs_rt(site):
-    return differs(site.run([], SCRIPT), *refuses(b"rt of the toolchain")) or differs(
+    """Not for a help."""
+    return differs(site.run(["fanout", "--help"]), 0, contents(f"{HERE}/help/fanout.txt"), b"") or differs(site.run([], SCRIPT), *refuses(b"rt of the toolchain")) or differs(
         site.run(["--build"]), *refuses(b"rt of the toolchain")
     )
 
@@ -446,12 +548,17 @@ NATIVE = (
     refuses_what_cannot_be_read,
     explains_itself,
     opens_the_console,
+    takes_names_with_spaces,
     opens_the_console_at_a_terminal,
 )
 TRIED = (
     (compiles, "ends"),
     (compiles_at_a_terminal, "ends"),
     (compiles_the_console, "ends"),
+    (compiles_fanout, "ends"),
+    (notes_at_the_terminal, "ends"),
+    (helps_at_once, "ends"),
+    (finds_a_folder_that_cannot_be_written, "ends"),
     (refuses_wrong_words_at_once, "ends"),
     (says_why_it_was_not_compiled, "refused"),
     (ends_what_it_started, "hangs"),

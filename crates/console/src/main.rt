@@ -2,6 +2,7 @@
 //! what its subscribers are told is written as it happens.
 #![tactic(auto)]
 
+mod desk;
 mod echo;
 mod fault;
 mod input;

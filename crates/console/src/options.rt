@@ -26,9 +26,11 @@ stands on a line of its own as its callback runs: `NAME subscribed`,
 `NAME next TEXT`, `NAME complete`, `NAME error published C` (of `fail`),
 `NAME error argument` (of a bad request), `NAME error state` (of a second `sub`
 of NAME). `submit` is done by a thread of its source, and answered when it
-returns. At the end of the input the sources publish what they can, the
-publisher is closed, and it is said of each subscriber that did not leave how it
-ended and how many items it was told.";
+returns. `wait` takes no other line until each source has published what it was
+handed, or waits for room that only a later line can make; so do `close`, `fail`
+and the end of the input. Then the publisher is closed, what still waits is
+refused, and it is said of each subscriber that did not leave how it ended and
+how many items it was told.";
 
 /// Which streams are terminals.
 #[derive(Clone, Copy)]

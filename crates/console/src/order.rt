@@ -1,10 +1,11 @@
 //! What a line of the terminal asks for: a command of scripts, or one that only makes sense while threads run.
 use commands::{Command, Form, Mistake, Part, TextBytes, parse_code, parse_text, split_word};
 use flow_rules::Name;
+use publisher::OnFull;
 
 /// The commands, as they are listed.
 const COMMANDS: &str =
-    "sub, request, cancel, leave, offer, retry, submit, publish, close, fail, lag, stats, subscribers, closed, help, quit";
+    "sub, request, cancel, leave, offer, retry, submit, publish, wait, close, fail, lag, stats, subscribers, closed, help, quit";
 
 /// How a source publishes a text.
 #[derive(Clone, Copy, Debug, PartialEq, Eq)]
@@ -21,6 +22,14 @@ impl Call {
         match self {
             Call::Submit => "submit",
             Call::Publish => "publish",
+        }
+    }
+
+    /// Whether it waits for room at a subscription that says this of its full buffer.
+    pub fn waits_for(self, on_full: OnFull) -> bool {
+        match self {
+            Call::Submit => true,
+            Call::Publish => on_full.waits(),
         }
     }
 
@@ -46,6 +55,8 @@ pub enum Order<'a> {
     Publish(Call, u32, TextBytes<'a>),
     /// `leave NAME`: the latest subscription of the name that this word is, which has ended, is freed.
     Leave(&'a [u8]),
+    /// `wait`: no line is taken until each source has published what it was handed, or waits for a later line.
+    Wait,
     /// `lag`: the longest backlog of any subscriber.
     Lag,
     /// `stats`: how each live subscription stands.
@@ -118,6 +129,8 @@ fn parse_leave(word: &[u8]) -> Result<Order<'_>, Mistake<'_>> {
 fn parse_word<'a>(line: &[u8]) -> Option<Order<'a>> {
     if line.first() == Some(&b'#') {
         Some(Order::Comment)
+    } else if line == b"wait".as_slice() {
+        Some(Order::Wait)
     } else if line == b"lag".as_slice() {
         Some(Order::Lag)
     } else if line == b"stats".as_slice() {
@@ -149,7 +162,9 @@ fn mistake_of(line: &[u8]) -> Mistake<'_> {
 
 /// The form of an order that is one word.
 fn form_of_look(word: &[u8]) -> Option<Form> {
-    if word == b"lag".as_slice() {
+    if word == b"wait".as_slice() {
+        Some(Form::word("wait"))
+    } else if word == b"lag".as_slice() {
         Some(Form::word("lag"))
     } else if word == b"stats".as_slice() {
         Some(Form::word("stats"))

@@ -17,7 +17,6 @@ use publisher::{
     BlankPair, HandedIn, Ledgers, Outcome, Publisher, PublisherOptions, Refused, finish,
 };
 use std::alloc::Global;
-use std::sync::atomic::AtomicU64;
 use std::sync::{Arc, Mutex, Wait};
 use std::thread;
 use std::thread::Threads;
@@ -45,8 +44,6 @@ pub fn run_session<
         alloc,
         publisher: Publisher::with_options(rt, alloc, blanks, options)?,
         screen,
-        unanswered: AtomicU64::new(0),
-        submits: AtomicU64::new(0),
         submitters: Mutex::new(submitters),
         verdict,
     };

@@ -1,9 +1,9 @@
 //! A source: a thread of its own, which publishes what the terminal hands to it.
+use crate::desk::Desk;
 use crate::echo::Echoes;
 use crate::order::Call;
 use crate::site::Site;
 use flow_rules::{NoMemory, Refusal};
-use inbox::Queue;
 use publisher::{Ledgers, Published, Submitter};
 use std::sync::{Arc, Wait};
 use std::thread::{Scope, Threads};
@@ -24,10 +24,7 @@ pub struct Handed {
     pub text: Vec<u8>,
 }
 
-/// The texts that wait for the thread of a source.
-pub type Texts = Queue<Handed>;
-
-/// Starts the thread of a source, which publishes what its queue gives it, and ends once that is closed and empty.
+/// Starts the thread of a source, which publishes what its desk gives it, and ends once that is closed and empty.
 /// `NoMemory` if the thread can't be started.
 pub fn start_source<
     's,
@@ -39,9 +36,9 @@ pub fn start_source<
     scope: &'s Scope<'s, &'v ()>,
     site: &'e Site<L, R>,
     number: u32,
-    texts: Arc<Texts>,
+    desk: Arc<Desk>,
 ) -> Result<(), NoMemory> {
-    match scope.spawn(move || publish_all(site, number, &texts)) {
+    match scope.spawn(move || publish_all(site, number, &desk)) {
         Ok(_) => Ok(()),
         Err(_) => Err(NoMemory),
     }
@@ -51,57 +48,73 @@ pub fn start_source<
 fn publish_all<
     L: Ledgers + Send + Sync + 'static,
     R: Print + Clock + Threads + Wait + Copy + Send + Sync + 'static,
->(site: &Site<L, R>, number: u32, texts: &Texts) {
+>(site: &Site<L, R>, number: u32, desk: &Desk) {
     match site.submitter() {
         Ok(mut submitter) => {
-            publish_each(site, number, texts, &mut submitter);
+            publish_each(site, number, desk, &mut submitter);
             // There is room for each source's. Were it refused, the end of the publisher would say that the submitter
             // is missing.
             let _ = site.hand_in(submitter);
         }
-        Err(refusal) => refuse_each(site, number, texts, &refusal),
+        Err(refusal) => refuse_each(site, number, desk, &Err(refusal)),
     }
 }
 
-/// Publishes each text, and says what came of it.
+/// Publishes each text, and says what came of it. Whoever reads the answer finds the text counted.
 fn publish_each<L: Ledgers + Send, R: Print + Clock + Wait + Copy + Send + Sync + 'static>(
     site: &Site<L, R>,
     number: u32,
-    texts: &Texts,
+    desk: &Desk,
     submitter: &mut Submitter<L, Echoes<R>>,
 ) {
     for _ in site.rt.forever() {
-        let Some(handed) = texts.pop(&site.rt) else {
+        let Some(handed) = desk.texts.pop(&site.rt) else {
             return;
         };
-        publish(site, number, &handed, submitter);
+        desk.begin(&site.rt, handed.call);
+        let published = publish(site, &handed, submitter);
+        desk.end(&site.rt, published.is_ok());
+        answer(site, number, handed.call, &published);
+        desk.rest(&site.rt);
     }
 }
 
-/// Publishes a text, and says what came of it. Whoever reads the answer finds it counted.
+/// Publishes a text.
 fn publish<L: Ledgers + Send, R: Print + Clock + Wait + Copy + Send + Sync + 'static>(
     site: &Site<L, R>,
-    number: u32,
     handed: &Handed,
     submitter: &mut Submitter<L, Echoes<R>>,
-) {
+) -> Result<Published, Refusal> {
     let Handed { call, text } = handed;
-    let published = match call {
+    match call {
         Call::Submit => submitter
             .submit(&site.rt, site.alloc, text.as_slice())
             .map(|lag| Published { lag, dropped: 0 }),
         Call::Publish => submitter.publish(&site.rt, site.alloc, text.as_slice()),
-    };
-    site.discount(*call);
+    }
+}
+
+/// Says what came of a text. If a subscription lost it, the longest backlog is that of its full buffer. The screen keeps
+/// what has failed, and the terminal looks there.
+fn answer<L: Ledgers + Send, R: Print + Clock + Wait + Copy + Send + Sync + 'static>(
+    site: &Site<L, R>,
+    number: u32,
+    call: Call,
+    published: &Result<Published, Refusal>,
+) {
+    let Site {
+        publisher,
+        screen,
+        ..
+    } = site;
     let word = call.word();
     let _ = match published {
-        Ok(Published { lag, dropped: 0 }) => {
-            site.screen.say(format_args!("= {word} {number} {lag}"))
+        Ok(Published { lag, dropped: 0 }) => screen.say(format_args!("= {word} {number} {lag}")),
+        Ok(Published { dropped, .. }) => {
+            let lag = publisher.max_buffer_capacity();
+            screen.say(format_args!("= {word} {number} {lag}, {dropped} dropped"))
         }
-        Ok(Published { lag, dropped }) => site
-            .screen
-            .say(format_args!("= {word} {number} {lag}, {dropped} dropped")),
-        Err(refusal) => site.screen.say(format_args!("= {word} {number} {refusal}")),
+        Err(refusal) => screen.say(format_args!("= {word} {number} {refusal}")),
     };
 }
 
@@ -109,15 +122,15 @@ fn publish<L: Ledgers + Send, R: Print + Clock + Wait + Copy + Send + Sync + 'st
 fn refuse_each<L: Ledgers + Send, R: Print + Clock + Wait + Copy + Send + Sync + 'static>(
     site: &Site<L, R>,
     number: u32,
-    texts: &Texts,
-    refusal: &Refusal,
+    desk: &Desk,
+    refused: &Result<Published, Refusal>,
 ) {
     for _ in site.rt.forever() {
-        let Some(handed) = texts.pop(&site.rt) else {
+        let Some(handed) = desk.texts.pop(&site.rt) else {
             return;
         };
-        site.discount(handed.call);
-        let word = handed.call.word();
-        let _ = site.screen.say(format_args!("= {word} {number} {refusal}"));
+        desk.end(&site.rt, false);
+        answer(site, number, handed.call, refused);
+        desk.rest(&site.rt);
     }
 }

@@ -3,14 +3,15 @@ mod acting;
 mod ending;
 mod leaving;
 mod publishing;
+mod settling;
 
+use crate::desk::Desk;
 use crate::echo::Echoes;
 use crate::fault::ConsoleFault;
 use crate::input::Heard;
 use crate::order::Order;
 use crate::report::say_left;
 use crate::site::Site;
-use crate::source::Texts;
 use commands::{Command, OutputFault, Reply};
 use flow_rules::{Ending, Name, Refusal};
 use inbox::Queue;
@@ -24,18 +25,19 @@ use std::time::Clock;
 const PAUSE: u64 = 1;
 
 /// What `help` prints.
-const HELP: [&str; 19] = [
+const HELP: [&str; 20] = [
     "sub NAME N          subscribes with this name, and requests N items",
-    "sub NAME N drop     the same, of one that loses a text if publish finds its buffer full",
+    "sub NAME N drop     as above, for a subscriber that loses a text if publish finds its buffer full",
     "request NAME N      the latest of this name requests N items more; an N below 1 is a bad request",
     "cancel NAME         cancels the latest of this name",
     "leave NAME          frees the latest of this name once it has ended, and says how it did",
-    "offer TEXT          publishes, and drops the text where there is no room",
-    "retry TEXT          publishes, tries once more where there is no room, and then drops it there",
-    "submit SOURCE TEXT  a thread of this source publishes, after its texts before, and waits for room",
-    "publish SOURCE TEXT the same, and waits only for room at those without drop; the others lose the text",
-    "close               each subscriber completes after its items",
-    "fail C              closes with the error C, before the items that wait",
+    "offer TEXT          publishes, and drops the text for each subscriber whose buffer is full",
+    "retry TEXT          publishes; if a buffer is full, tries it once more and then drops the text",
+    "submit SOURCE TEXT  a thread of this source publishes, after its earlier texts, and waits for room",
+    "publish SOURCE TEXT as above, but waits only for subscribers without drop; the others lose the text",
+    "wait                waits until the sources have published what they can, and says which still wait",
+    "close               as wait; then each subscriber completes after its items",
+    "fail C              as wait; then closes with the error C, which overtakes the items that wait",
     "lag                 the longest backlog of any subscriber",
     "stats               how much was published, and how each live subscription stands",
     "subscribers         how many subscriptions are live",
@@ -65,7 +67,7 @@ pub struct Named<L: Ledgers + Send, R: Print + Clock + Wait + Copy + Send + Sync
 struct Source {
     /// The number that it has on the terminal.
     number: u32,
-    texts: Arc<Texts>,
+    desk: Arc<Desk>,
 }
 
 /// What the terminal has for itself: its own source, its subscriptions, and the sources that it has started.
@@ -73,6 +75,8 @@ struct Source {
 pub struct Terminal<'e, L: Ledgers + Send, R: Print + Clock + Wait + Copy + Send + Sync + 'static> {
     site: &'e Site<L, R>,
     submitter: Submitter<L, Echoes<R>>,
+    /// How many publications it has made itself.
+    offered: u64,
     named: Vec<Named<L, R>>,
     sources: Vec<Source>,
 }
@@ -87,6 +91,7 @@ impl<
         Ok(Terminal {
             site,
             submitter: site.submitter()?,
+            offered: 0,
             named: Vec::new(site.alloc),
             sources: Vec::new(site.alloc),
         })
@@ -155,6 +160,10 @@ impl<
                 Ok(left) => say_left(&self.site.screen, &left)?,
                 Err(refusal) => self.refuse(refusal)?,
             },
+            Ok(Order::Wait) => match self.wait() {
+                Ok(answer) => self.site.screen.say(format_args!("= {answer}"))?,
+                Err(refusal) => self.refuse(refusal)?,
+            },
             Ok(Order::Comment) => {}
             Ok(look) => self.look(look)?,
             Err(mistake) => {
@@ -181,8 +190,8 @@ impl<
             Command::Retry(text) => self.retry(text.as_bytes()),
             Command::Request(name, number) => self.request(name, number),
             Command::Cancel(name) => self.cancel(name),
-            Command::Close => self.close(Ending::Normal),
-            Command::Fail(code) => self.close(Ending::Failed(code)),
+            Command::Close => self.close_after_all(Ending::Normal),
+            Command::Fail(code) => self.close_after_all(Ending::Failed(code)),
             _ => Err(Refusal::BadCommand),
         }
     }
