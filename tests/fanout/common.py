@@ -1,10 +1,16 @@
 """What the rows of fanout have in common: the program, and what was found wrong."""
+import os
+import select
 import sys
 import time
 
-from drive import Driver
+from drive import SECONDS, Driver
 
 driver = Driver(sys.argv[1], sys.argv[2])
+# How long a lossy sink is waited for that is not to be given up.
+LINGER = str(SECONDS)
+# A library that has each read and write move some of the bytes only.
+moody = os.path.join(driver.folder, 'moody.so')
 wrong = []
 
 
@@ -26,6 +32,42 @@ def feed(stdin, data):
         stdin.close()
     except BrokenPipeError:
         pass
+
+
+def wait_for(holds, seconds=SECONDS):
+    """Waits until this holds, and tells whether it does."""
+    until = time.monotonic() + seconds
+    while time.monotonic() < until and not holds():
+        time.sleep(0.01)
+    return holds()
+
+
+def read_until(descriptor, holds):
+    """What is read until this holds of it, or for as long as anything may take."""
+    found = b''
+    until = time.monotonic() + SECONDS
+    while not holds(found) and select.select([descriptor], [], [], max(0, until - time.monotonic()))[0]:
+        part = os.read(descriptor, 65536)
+        if not part:
+            break
+        found += part
+    return found
+
+
+def is_full(name):
+    """Whether a named pipe takes no more."""
+    writer = os.open(driver.path(name), os.O_WRONLY | os.O_NONBLOCK)
+    try:
+        return not select.select([], [writer], [], 0)[1]
+    finally:
+        os.close(writer)
+
+
+def drain(reader):
+    """What is in a pipe, of which no writer is left."""
+    os.set_blocking(reader, True)
+    with open(reader, 'rb') as pipe:
+        return pipe.read()
 
 
 def read_slowly(stream, found):

@@ -1,10 +1,11 @@
 """Rows about files, sources and ends: what fails ends alone, and the program ends in any case."""
+import json
 import os
 import signal
 import threading
 import time
 
-from common import driver, expect, feed, split_lines
+from common import LINGER, SECONDS, driver, expect, feed, split_lines, wait_for
 
 
 def appends():
@@ -22,12 +23,22 @@ def full_disk():
     run = driver.run(data, '/dev/full', 'copy')
     expect('full', 'the status', run.status, 3)
     expect('full', 'the copy', driver.read('copy'), data)
-    expect('full', 'its end', run.sink('/dev/full')['end'].startswith('write: '), True)
+    full = run.sink('/dev/full')
+    expect('full', 'what it has written', (full['lines'], full['bytes'], full['lost']), (0, 0, 100000))
+    expect('full', 'its end', full['end'], 'cannot write: No space left on device')
     expect('full', "the other's end", run.sink('copy')['end'], 'complete')
     run = driver.run(data, 'no/such/folder', 'copy')
     expect('no folder', 'the status', run.status, 3)
     expect('no folder', 'the copy', driver.read('copy'), data)
-    expect('no folder', 'its end', run.sink('no/such/folder')['end'].startswith('open: '), True)
+    expect('no folder', 'its end', run.sink('no/such/folder')['end'], 'cannot open: No such file or directory')
+
+
+def nothing_to_write():
+    """A full disk is no failure if nothing has to be written."""
+    run = driver.run(b'', '/dev/full')
+    expect('nothing', 'the status', run.status, 0)
+    row = run.sink('/dev/full')
+    expect('nothing', 'what is reported', (row['lines'], row['bytes'], row['end']), (0, 0, 'complete'))
 
 
 def reader_leaves():
@@ -40,9 +51,9 @@ def reader_leaves():
     process.stdout.close()
     feeder.join()
     said = process.stderr.read()
-    expect('gone', 'the status', process.wait(60), 3)
+    expect('gone', 'the status', process.wait(SECONDS), 3)
     expect('gone', 'the copy', driver.read('copy'), data)
-    expect('gone', 'what is said', b'"write: broken pipe"' in said, True)
+    expect('gone', 'what is said', b'"cannot write: Broken pipe"' in said and said.startswith(b'fanout: -: Broken pipe\n'), True)
 
 
 def all_fail():
@@ -50,11 +61,44 @@ def all_fail():
     process = driver.start('/dev/full')
     process.stdin.write(b'a line\n')
     process.stdin.flush()
-    begun = time.monotonic()
-    status = process.wait(20)
-    expect('all fail', 'the status', status, 3)
-    expect('all fail', 'the end within 5 seconds', time.monotonic() - begun < 5, True)
+    expect('all fail', 'the status', process.wait(SECONDS), 3)
+    row = json.loads(process.stderr.read().splitlines()[-1])['sources'][0]
+    expect('all fail', 'the source', (row['lines'], row['end']), (1, 'not ended'))
     process.stdin.close()
+
+
+def stopped_source():
+    """A source that hears that no sink is left has not failed. It may come to its end before that, unless it has none: so it is a pipe that
+    is written as long as it is read."""
+    os.mkfifo(driver.path('much'))
+    process = driver.start('--from', 'much', '/dev/full')
+    feeder = threading.Thread(target=write_on, args=('much', b'a line\n' * 10000))
+    feeder.start()
+    run = driver.end(process)
+    feeder.join()
+    expect('stopped', 'the status', run.status, 3)
+    expect('stopped', 'its end', run.source('much')['end'] in ('no sink was left', 'not ended'), True)
+    expect('stopped', 'what is said before the report', run.said.splitlines()[:-1], [b'fanout: /dev/full: No space left on device'])
+    sink = run.sink('/dev/full')
+    expect('stopped', 'written and lost', (sink['lines'], sink['lost']), (0, run.source('much')['lines']))
+
+
+def write_on(name, data):
+    """Writes this again and again, until nobody reads it."""
+    try:
+        with open(driver.path(name), 'wb', buffering=0) as pipe:
+            while True:
+                pipe.write(data)
+    except BrokenPipeError:
+        pass
+
+
+def both_fail():
+    """If a source and a sink fail, the status is that of the source."""
+    driver.write('input', b'there\n')
+    run = driver.run(b'', '--from', 'nowhere', '--from', 'input', '/dev/full', 'copy')
+    expect('both', 'the status', run.status, 1)
+    expect('both', 'the copy', driver.read('copy'), b'there\n')
 
 
 def no_input():
@@ -64,7 +108,36 @@ def no_input():
     run = driver.run(b'', '--from', 'nowhere', '--from', 'input', 'copy')
     expect('no input', 'the status', run.status, 1)
     expect('no input', 'the copy', driver.read('copy'), b'there\n')
-    expect('no input', 'its end', run.source('nowhere')['end'].startswith('open: '), True)
+    expect('no input', 'its end', run.source('nowhere')['end'], 'cannot open: No such file or directory')
+    expect('no input', 'what is said', run.said.startswith(b'fanout: nowhere: No such file or directory\n'), True)
+    os.mkdir(driver.path('folder'))
+    run = driver.run(b'', '--from', 'folder', '--from', 'input', 'copy')
+    expect('no input', 'the status of a folder', run.status, 1)
+    expect('no input', 'the end of a folder', run.source('folder')['end'], 'cannot read: Is a directory')
+
+
+def last_lines():
+    """The last line of one of several sources goes on at its end, with a line feed of its own; a single source is copied as it is."""
+    for name in ('first', 'second'):
+        os.mkfifo(driver.path(name))
+    process = driver.start('--from', 'first', '--from', 'second', 'ended', '--lossy', 'ended too', '--linger', LINGER)
+    first = open(driver.path('first'), 'wb', buffering=0)
+    second = open(driver.path('second'), 'wb', buffering=0)
+    first.write(b'one')
+    first.close()
+    wait_for(lambda: driver.read('ended') == driver.read('ended too') == b'one\n')
+    expect('last lines', 'the file while a source is open', driver.read('ended'), b'one\n')
+    expect('last lines', 'the lossy file then', driver.read('ended too'), b'one\n')
+    second.write(b'x' * 4096)
+    second.close()
+    run = driver.end(process)
+    expect('last lines', 'the status', run.status, 0)
+    expect('last lines', 'the file', driver.read('ended'), b'one\n' + b'x' * 4096 + b'\n')
+    expect('last lines', 'the bytes of the sources', [row['bytes'] for row in run.report['sources']], [4, 4097])
+    expect('last lines', 'what is reported', [(row['lines'], row['bytes'], row['lost']) for row in run.report['sinks']], [(2, 4101, 0)] * 2)
+    driver.write('one', b'a\nb')
+    driver.run(b'', '--from', 'one', 'copy')
+    expect('last lines', 'the copy of one source', driver.read('copy'), b'a\nb')
 
 
 def two_sources():
@@ -96,17 +169,21 @@ def write_pipe(name, data):
 
 
 def many_sources():
-    """Sixty sources of short lines."""
+    """As many sources and sinks as there may be."""
     words = []
-    for number in range(60):
+    sinks = ['all%d' % number for number in range(64)]
+    for number in range(64):
         name = 'many%d' % number
         with open(driver.path(name), 'wb') as file:
             file.write(b''.join(b'%d %d\n' % (number, n) for n in range(1000)))
         words += ['--from', name]
-    run = driver.run(b'', *words, 'all')
+    run = driver.run(b'', *words, *sinks)
     expect('many', 'the status', run.status, 0)
-    found = split_lines(driver.read('all'))
-    for number in range(60):
+    found = split_lines(driver.read('all0'))
+    for name in sinks:
+        expect('many', 'whether %s is as the first' % name, driver.read(name) == driver.read('all0'), True)
+    expect('many', 'the lines of all', len(found), 64000)
+    for number in range(64):
         own = [line for line in found if line.startswith(b'%d ' % number)]
         expect('many', 'the lines of %d' % number, own == [b'%d %d\n' % (number, n) for n in range(1000)], True)
 
@@ -114,16 +191,15 @@ def many_sources():
 def signals():
     """A signal ends the program, and what was read before has been written; one that is stopped goes on."""
     for number in (signal.SIGTERM, signal.SIGINT, signal.SIGHUP):
-        process = driver.start('told', '-')
+        told = 'told%d' % number
+        process = driver.start(told, '-')
         process.stdin.write(b'one line\nand')
         process.stdin.flush()
         expect('signals', 'the output', process.stdout.read(9), b'one line\n')
-        until = time.monotonic() + 1
-        while time.monotonic() < until and not driver.read('told'):
-            time.sleep(0.01)
+        wait_for(lambda: driver.read(told))
         process.send_signal(number)
-        expect('signals', 'the status', process.wait(20), -number)
-        expect('signals', 'the file', driver.read('told'), b'one line\n')
+        expect('signals', 'the status', process.wait(SECONDS), -number)
+        expect('signals', 'the file', driver.read(told), b'one line\n')
         process.stdin.close()
     data = b''.join(b'%d\n' % n for n in range(200000))
     process = driver.start('told')

@@ -1,8 +1,8 @@
 """Rows about bytes and lines: what is written is what was read, however it is cut, and filters look at lines."""
+import os
 import random
-import time
 
-from common import driver, expect, split_lines
+from common import LINGER, driver, expect, moody, split_lines, wait_for
 
 
 def hostile():
@@ -31,7 +31,7 @@ def hostile():
 def copies():
     """Each sink has the bytes of the input, however it is cut."""
     for name, data in hostile().items():
-        run = driver.run(data, 'copy', '--to', '-', '--lossy', 'other', '--linger', '30', '--cap', '65536')
+        run = driver.run(data, 'copy', '--to', '-', '--lossy', 'other', '--linger', LINGER, '--cap', '65536')
         expect(name, 'the status', run.status, 0)
         expect(name, 'the copy', driver.read('copy'), data)
         expect(name, 'the output', run.output, data)
@@ -63,10 +63,8 @@ def pauses():
         process.stdin.write(b'line %d\nand' % number)
         process.stdin.flush()
         wanted = b''.join(b'%sline %d\n' % (b'and' if at else b'', at) for at in range(number + 1))
-        until = time.monotonic() + 1
-        while time.monotonic() < until and driver.read('paused') != wanted:
-            time.sleep(0.01)
-        expect('pauses', 'the file within a second', driver.read('paused'), wanted)
+        wait_for(lambda: driver.read('paused') == wanted)
+        expect('pauses', 'the file', driver.read('paused'), wanted)
     run = driver.end(process)
     expect('pauses', 'the status', run.status, 0)
     expect('pauses', 'the end', driver.read('paused').endswith(b'line 2\nand'), True)
@@ -175,3 +173,33 @@ def byte_by_byte(stdin, data):
     for byte in data:
         stdin.write(bytes([byte]))
         stdin.flush()
+
+
+def moods():
+    """Reads and writes that move some of the bytes, are interrupted, or are told that a descriptor doesn't block: each copy is whole."""
+    data = b''.join(b'%d %s\n' % (n, b'.' * (n * 37 % 9000)) for n in range(60)) + b'the end'
+    for seed in range(1, 6):
+        for name in ('moody', 'moodier'):
+            if os.path.exists(driver.path(name)):
+                os.remove(driver.path(name))
+        run = driver.run(data, 'moody', '-', '--lossy', 'moodier', '--cap', '4096', '--linger', LINGER,
+                         env={**os.environ, 'LD_PRELOAD': moody, 'MOODY': str(seed)})
+        expect('moods', 'the status', run.status, 0)
+        for what, found in (('the copy', driver.read('moody')), ('the output', run.output), ('the lossy copy', driver.read('moodier'))):
+            expect('moods', what, found == data, True)
+        for row in run.report['sources'] + run.report['sinks']:
+            expect('moods', 'what is reported', (row['lines'], row['bytes'], row['end']), (61, len(data), 'complete'))
+
+
+def long_lines():
+    """Two sources with sixty lines of 9,000 bytes each: every line is whole in every sink, and those of each source are in order."""
+    lines = {name: [b'%s %d ' % (name, n) + b'-' * 9000 + b'\n' for n in range(60)] for name in (b'a', b'b')}
+    for name, own in lines.items():
+        driver.write('long ' + name.decode(), b''.join(own))
+    run = driver.run(b'', '--from', 'long a', '--from', 'long b', 'long lines', '-')
+    expect('long lines', 'the status', run.status, 0)
+    expect('long lines', 'whether both sinks have the same', driver.read('long lines') == run.output, True)
+    found = split_lines(run.output)
+    for name, own in lines.items():
+        expect('long lines', 'the lines of %s' % name, [line for line in found if line.startswith(name)] == own, True)
+    expect('long lines', 'their number', len(found), 120)

@@ -1,5 +1,5 @@
 -- What an intake holds, and what a read and a cut do to it.
-use Rattle.std.specs.Prelude.{◌≡◌, ◌≢◌, ℕ, ◌+◌, ◌<◌, ◌≤◌, Bool, not, true, false, List, [], ◌++◌, length, slice_index}
+use Rattle.std.specs.Prelude.{◌≡◌, ◌≢◌, ℕ, ◌+◌, ◌<◌, ◌≤◌, Bool, not, true, false, List, [], ◌∷◌, ◌++◌, length, slice_index}
 use Rattle.fanout.specs.Piece.{HasNoLineFeed, ends_line, is_first, is_marked, most_of, piece_bytes}
 
 -- the bytes that wait, and whether the line of the last text goes on
@@ -18,6 +18,12 @@ pub record CutsOff (text : List ℕ) (old new : IntakeState) : Type 0 where
   pub longest : old.in_line ≡ false → (i : ℕ) → length (piece_bytes text) ≤ i
       → i < most_of (is_marked old.in_line old.waiting) → i < length old.waiting → slice_index old.waiting i ≢ 10
   pub goes_on : new.in_line ≡ not (ends_line (piece_bytes text))
+
+-- what waits at the end of a source with a line feed behind it, if a line has begun
+abbrev pub ended : Bool → List ℕ → List ℕ
+ended false [] = []
+ended false (b ∷ bs) = (b ∷ bs) ++ (10 ∷ [])
+ended true bytes = bytes ++ (10 ∷ [])
 
 -- nothing can be cut off before more bytes come, or at the end since nothing waits
 pub record NeedsMore (most : ℕ) (is_over : Bool) (old new : IntakeState) : Type 0 where

@@ -6,14 +6,18 @@ use std::sync::atomic::AtomicU64;
 use std::sync::atomic::Ordering::SeqCst;
 use std::sync::{Mutex, Wait};
 
-/// What a source has published.
+/// What a source has published. Lines and bytes are counted before they are published, and taken back if that is refused:
+/// so no sink has written a line that isn't counted.
 #[derive(Drop)]
 pub struct SourceCount {
     pub lines: AtomicU64,
-    pub pieces: AtomicU64,
     pub bytes: AtomicU64,
+    /// The pieces that were published.
+    pub pieces: AtomicU64,
     /// 1 once its thread runs.
     pub begun: AtomicU64,
+    /// 1 while it publishes what it has counted.
+    pub publishing: AtomicU64,
     /// 1 once it has ended, and 2 if that was before the end of its input.
     pub ended: AtomicU64,
     fault: Mutex<Option<EndFault>>,
@@ -42,9 +46,10 @@ impl SourceCount {
     fn new() -> SourceCount {
         SourceCount {
             lines: AtomicU64::new(0),
-            pieces: AtomicU64::new(0),
             bytes: AtomicU64::new(0),
+            pieces: AtomicU64::new(0),
             begun: AtomicU64::new(0),
+            publishing: AtomicU64::new(0),
             ended: AtomicU64::new(0),
             fault: Mutex::new(None),
         }
@@ -103,6 +108,9 @@ impl SinkCount {
 pub struct Board {
     pub sources: Vec<SourceCount>,
     pub sinks: Vec<SinkCount>,
+    /// Whether it is closed. A source or a sink ends, and says why, while holding this lock, and not once it is closed: so
+    /// the report tells of just those ends that were said.
+    pub is_closed: Mutex<bool>,
     /// The most pieces that may wait for a sink.
     pub room: u64,
 }
@@ -113,6 +121,7 @@ impl Board {
         let mut board = Board {
             sources: Vec::new(alloc),
             sinks: Vec::new(alloc),
+            is_closed: Mutex::new(false),
             room,
         };
         for _ in 0..sources {
@@ -122,6 +131,11 @@ impl Board {
             board.sinks.push(SinkCount::new())?;
         }
         Ok(board)
+    }
+
+    /// Closes it: what has not ended stays so.
+    pub fn close<R: Wait>(&self, rt: &R) {
+        *self.is_closed.lock(rt) = true;
     }
 
     /// How many lines the sources have published.
@@ -160,6 +174,13 @@ impl Board {
         self.sources
             .iter()
             .all(|source| source.ended.load(SeqCst) != 0)
+    }
+
+    /// Whether some source is publishing what it has counted.
+    pub fn is_publishing(&self) -> bool {
+        self.sources
+            .iter()
+            .any(|source| source.publishing.load(SeqCst) != 0)
     }
 
     /// Whether the threads of all sources and sinks run.

@@ -1,21 +1,21 @@
 //! Why a source or a sink ends early, and why the program does.
+use crate::cause::Cause;
 use flow_rules::{NoMemory, Refusal};
 use std::alloc::{AllocError, AllocFailed};
-use std::io;
 use thiserror::Error;
 
 /// Why a source or a sink ended before its end.
 #[derive(Clone, Copy, Debug, PartialEq, Eq, Drop, Error)]
 pub enum EndFault {
     /// The file can't be opened.
-    #[error("open: {0}")]
-    Open(io::ErrorKind),
+    #[error("cannot open: {0}")]
+    Open(Cause),
     /// Reading has failed.
-    #[error("read: {0}")]
-    Read(io::ErrorKind),
+    #[error("cannot read: {0}")]
+    Read(Cause),
     /// Writing has failed, or nobody reads any more.
-    #[error("write: {0}")]
-    Write(io::ErrorKind),
+    #[error("cannot write: {0}")]
+    Write(Cause),
     /// Memory was refused.
     #[error("out of memory")]
     Memory,

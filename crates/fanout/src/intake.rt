@@ -1,10 +1,10 @@
 //! The intake of a source: the bytes that were read of it and not published yet.
 ghost use Rattle.std.specs.Prelude.{◌≡◌, ◌≢◌, ℕ, ◌+◌, ◌-◌, ◌<◌, ◌≤◌, true, false, IfOk, IfNone, IfSome, OnErr, [], length, slice_index};
 ghost use Rattle.std.specs.Io.{StartsWith};
-ghost use Rattle.fanout.specs.Intake.{CutsOff, NeedsMore};
+ghost use Rattle.fanout.specs.Intake.{CutsOff, NeedsMore, ended};
 ghost use Rattle.fanout.specs.Piece.{is_marked, most_of};
 
-use crate::piece::{LONGEST, ends_line, is_marked, most_of, piece_length, text_of};
+use crate::piece::{LINE_FEED, LONGEST, ends_line, is_marked, most_of, piece_length, text_of};
 use flow_rules::{NoMemory, Text};
 use std::alloc::Global;
 use std::io;
@@ -74,6 +74,23 @@ impl Intake {
         let read = reader.read(&mut self.room[waiting..])?;
         self.end = waiting + read;
         Ok(read)
+    }
+
+    /// Ends the last line with a line feed, if a line has begun. [`cut`](Intake::cut) has answered `None` before, so it has
+    /// none.
+    pub fn end_line(&mut self)
+        requires { length self.old.waiting < LONGEST }
+        ensures ended { self.new.waiting ≡ ended self.old.in_line self.old.waiting }
+        ensures line { self.new.in_line ≡ self.old.in_line }
+    {
+        let waiting = self.end - self.start;
+        if waiting == 0 && !self.is_in_line {
+            return;
+        }
+        self.room.copy_within(self.start..self.end, 0);
+        self.room[waiting] = LINE_FEED;
+        self.start = 0;
+        self.end = waiting + 1;
     }
 
     /// Cuts the next text off; `None` if more bytes have to come first. At the end of the source what waits without a line

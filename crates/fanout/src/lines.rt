@@ -36,7 +36,7 @@ pub fn count_lines(bytes: &[u8]) -> usize
 }
 
 /// How many line feeds these bytes have.
-fn count_feeds(bytes: &[u8]) -> usize
+pub fn count_feeds(bytes: &[u8]) -> usize
     ensures { result ≡ count_by (is_byte 10) bytes.now }
 {
     let mut feeds = 0;

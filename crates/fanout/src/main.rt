@@ -2,14 +2,20 @@
 //! every line, and one that is lossy loses whole lines if its reader is slow, and stops nobody.
 #![tactic(auto)]
 
+mod arguments;
 mod board;
+mod cause;
+mod clash;
 mod doors;
 mod fault;
 mod filter;
 mod intake;
+mod limit;
 mod lines;
+mod notice;
 mod options;
 mod page;
+mod pen;
 mod piece;
 mod plan;
 mod policy;
@@ -21,30 +27,33 @@ mod site;
 mod source;
 mod strand;
 mod strands;
+mod tap;
 mod verdict;
 
+use arguments::command_words;
 use board::Board;
 use clap::error::ErrorKind;
+use clash::find_clash;
 use doors::Doors;
 use fault::{EndFault, FanoutFault};
+use notice::{say, say_given_up};
 use options::{WrongPlan, command_line, read_plan};
 use plan::{Format, Plan};
 use publisher::BlankPair;
 use report::report;
 use session::run_session;
 use site::Site;
-use std::alloc::{AllocError, Global};
 use std::fmt::Display;
 use std::marker::Brand;
 use std::process::ExitCode;
 use std::rt::Env;
 use std::sync::{Arc, Wait};
+use std::thread;
 use std::thread::Threads;
-use std::time::Clock;
-use std::{env, io, thread};
+use std::time::{Clock, Duration};
 use verdict::Verdict;
 
-/// The exit status if a source failed, or the program.
+/// The exit status if a source failed, the program, or its report.
 const FAULT: u8 = 1;
 
 /// The exit status of a wrong command line.
@@ -55,6 +64,9 @@ const SINK_FAULT: u8 = 3;
 
 /// How many seconds the threads of sources and sinks may take to start.
 const PATIENCE: u64 = 10;
+
+/// How many milliseconds a source may take, at the end, to hear that nothing more is published.
+const MOST_PUBLISHING: u32 = 5000;
 
 fn main(rt: HostRuntime) -> ExitCode {
     match run(rt) {
@@ -78,13 +90,12 @@ fn run<
         + Sync
         + 'static,
 >(rt: R) -> Result<u8, FanoutFault> {
-    let Some(words) = command_words(&rt)? else {
-        return Ok(fail(&rt, "an argument is not UTF-8", WRONG_USE));
-    };
+    rt.open_standard();
+    let (words, spelling) = command_words(&rt)?;
     let command = command_line(rt.alloc())?;
     let error = match command.try_get_matches_from(words.as_slice()) {
-        Ok(matches) => match read_plan(rt.alloc(), &matches) {
-            Ok(plan) => return start(rt, plan),
+        Ok(matches) => match read_plan(rt.alloc(), &matches, spelling) {
+            Ok(plan) => return start_checked(rt, plan),
             Err(WrongPlan::Memory) => return Err(FanoutFault::Memory),
             Err(wrong) => return Ok(fail(&rt, wrong.explain(), WRONG_USE)),
         },
@@ -101,22 +112,36 @@ fn run<
     }
 }
 
-/// Has a thread of its own hold the session, waits until that has ended, or need not be waited for, and reports.
-fn start<
-    R: Print + Eprint + Doors + Clock + AllocGlobal + Threads + Wait + Copy + Send + Sync + 'static,
+/// Starts the session, unless one file has two names.
+fn start_checked<
+    R: Eprint + Doors + Clock + AllocGlobal + Threads + Wait + Copy + Send + Sync + 'static,
 >(rt: R, plan: Plan) -> Result<u8, FanoutFault> {
+    if let Some(clash) = find_clash(&rt, rt.alloc(), &plan)? {
+        return Ok(fail(&rt, clash, WRONG_USE));
+    }
+    start(rt, plan)
+}
+
+/// Has a thread of its own hold the session, waits until that has ended, or need not be waited for, and reports.
+fn start<R: Doors + Clock + AllocGlobal + Threads + Wait + Copy + Send + Sync + 'static>(
+    rt: R,
+    plan: Plan,
+) -> Result<u8, FanoutFault> {
     let alloc = rt.alloc();
+    let limit = rt.limit();
     let board = Board::new(alloc, plan.sources.len(), plan.sinks.len(), plan.room())?;
     let site = Site {
         alloc,
         plan: Arc::new(alloc, plan)?,
         board: Arc::new(alloc, board)?,
+        limit,
         verdict: Arc::new(alloc, Verdict::new())?,
     };
     let theirs = Site {
         alloc,
         plan: Arc::try_clone(&site.plan)?,
         board: Arc::try_clone(&site.board)?,
+        limit,
         verdict: Arc::try_clone(&site.verdict)?,
     };
     let session = move || {
@@ -127,13 +152,22 @@ fn start<
         return Err(FanoutFault::Memory);
     }
     let ended = wait(&rt, &site);
-    tell(&rt, &site)?;
+    site.board.close(&rt);
+    settle(&rt, &site);
+    if ended.is_ok() {
+        give_up(&rt, &site);
+    }
+    let is_told = tell(&rt, &site)?;
     ended?;
-    Ok(status_of(&rt, &site))
+    Ok(if is_told {
+        status_of(&rt, &site)
+    } else {
+        FAULT
+    })
 }
 
 /// Holds the session, on a publisher of its own.
-fn hold<R: Print + Eprint + Doors + Clock + Threads + Wait + Copy + Send + Sync + 'static>(
+fn hold<R: Doors + Clock + Threads + Wait + Copy + Send + Sync + 'static>(
     rt: &R,
     site: &Site,
 ) -> Result<(), FanoutFault> {
@@ -162,7 +196,27 @@ fn wait<R: Clock + Wait>(rt: &R, site: &Site) -> Result<(), FanoutFault> {
     unreachable!()
 }
 
-/// For how many seconds something has been so.
+/// Says of each sink that has not ended, at the end, that it is given up.
+fn give_up<R: Doors + Clock + Wait>(rt: &R, site: &Site) {
+    for (sink, count) in site.plan.sinks.iter().zip(site.board.sinks.iter()) {
+        if !count.has_ended() {
+            say_given_up(rt, site, sink.path.as_slice());
+        }
+    }
+}
+
+/// Waits until no source publishes what it has counted. If all sinks have ended, no source does for long: each call is
+/// refused. A source that reads isn't waited for.
+fn settle<R: Clock>(rt: &R, site: &Site) {
+    for _ in 0..MOST_PUBLISHING {
+        if !site.board.is_publishing() {
+            return;
+        }
+        thread::sleep(rt, Duration::from_millis(1));
+    }
+}
+
+/// Counts for how many seconds a condition has held.
 fn count_if(is_so: bool, seconds: u64) -> u64 {
     if is_so { seconds.saturating_add(1) } else { 0 }
 }
@@ -177,13 +231,13 @@ fn are_others_over(plan: &Plan, board: &Board) -> bool {
             .all(|(sink, count)| sink.is_lossy || count.has_ended())
 }
 
-/// Writes the report on standard error.
-fn tell<R: Eprint + Wait>(rt: &R, site: &Site) -> Result<(), FanoutFault> {
-    if site.plan.format != Format::None {
-        let text = report(rt, site.alloc, &site.plan, &site.board)?;
-        let _ = eprint!(*rt; "{text}");
+/// Writes the report on standard error, and tells whether that could be done.
+fn tell<R: Doors + Clock + Wait>(rt: &R, site: &Site) -> Result<bool, FanoutFault> {
+    if site.plan.format == Format::None {
+        return Ok(true);
     }
-    Ok(())
+    let text = report(rt, site.alloc, &site.plan, &site.board)?;
+    Ok(say(rt, site.limit, text.as_str()).is_ok())
 }
 
 /// The exit status of a session that has ended, or whose sinks have.
@@ -207,18 +261,4 @@ fn status_of<R: Wait>(rt: &R, site: &Site) -> u8 {
 fn fail<R: Eprint, D: Display + Drop>(rt: &R, fault: D, status: u8) -> u8 {
     let _ = eprintln!(rt; "fanout: {fault}");
     status
-}
-
-/// The words of the command line, or `None` if one of them is not UTF-8.
-fn command_words<R: Env + AllocGlobal>(rt: &R) -> Result<Option<Vec<String>>, FanoutFault> {
-    match env::args(rt) {
-        Ok(words) => match words.collect::<Vec<String>>(rt.alloc()) {
-            Ok(words) => Ok(Some(words)),
-            Err(_) => Err(FanoutFault::Memory),
-        },
-        Err(error) => match error.kind() {
-            io::ErrorKind::OutOfMemory => Err(FanoutFault::Memory),
-            _ => Ok(None),
-        },
-    }
 }

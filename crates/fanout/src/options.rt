@@ -1,6 +1,7 @@
 //! What the command line says, as a plan.
 mod command;
 
+use crate::arguments::Spelling;
 use crate::filter::Rule;
 use crate::plan::{Format, MOST, Plan, STANDARD, SinkPlan};
 use clap::ArgMatches;
@@ -73,12 +74,16 @@ impl WrongPlan {
 }
 
 /// What the matches ask for.
-pub fn read_plan(alloc: Global, matches: &ArgMatches<'_>) -> Result<Plan, WrongPlan> {
+pub fn read_plan(
+    alloc: Global,
+    matches: &ArgMatches<'_>,
+    spelling: Spelling,
+) -> Result<Plan, WrongPlan> {
     let mut publisher = PublisherOptions::default();
     publisher.workers = number_of(matches, WORKERS, publisher.workers);
     publisher.capacity = number_of(matches, CAPACITY, TEXTS);
-    let sources = sources_of(alloc, matches)?;
-    let sinks = sinks_of(alloc, matches)?;
+    let sources = sources_of(alloc, matches, spelling)?;
+    let sinks = sinks_of(alloc, matches, spelling)?;
     if sources.len() > MOST || sinks.len() > MOST {
         return Err(WrongPlan::TooMany);
     }
@@ -109,30 +114,38 @@ fn format_of(matches: &ArgMatches<'_>) -> Format {
 }
 
 /// The files that are read.
-fn sources_of(alloc: Global, matches: &ArgMatches<'_>) -> Result<Vec<String>, WrongPlan> {
+fn sources_of(
+    alloc: Global,
+    matches: &ArgMatches<'_>,
+    spelling: Spelling,
+) -> Result<Vec<Vec<u8>>, WrongPlan> {
     let mut sources = Vec::new(alloc);
     for path in matches.get_strs(FROM).unwrap_or(&[]) {
-        sources.push(String::from_str(alloc, path)?)?;
+        sources.push(spelling.bytes_of(alloc, path)?)?;
     }
     if sources.is_empty() {
-        sources.push(String::from_str(alloc, STANDARD)?)?;
+        sources.push(Vec::from_slice(alloc, STANDARD)?)?;
     }
     Ok(sources)
 }
 
 /// The sinks, each with the filters that stand before it.
-fn sinks_of(alloc: Global, matches: &ArgMatches<'_>) -> Result<Vec<SinkPlan>, WrongPlan> {
+fn sinks_of(
+    alloc: Global,
+    matches: &ArgMatches<'_>,
+    spelling: Spelling,
+) -> Result<Vec<SinkPlan>, WrongPlan> {
     let mut sinks = Vec::new(alloc);
     let mut rules = Vec::new(alloc);
     for word in words_of(alloc, matches)?.as_slice() {
         match word.meaning {
             Meaning::Wanted | Meaning::Unwanted => rules.push(Rule {
-                word: Vec::from_slice(alloc, word.text.as_bytes())?,
+                word: spelling.bytes_of(alloc, word.text)?,
                 is_wanted: word.meaning == Meaning::Wanted,
             })?,
             Meaning::Waiting | Meaning::Lossy => {
                 sinks.push(SinkPlan {
-                    path: String::from_str(alloc, word.text)?,
+                    path: spelling.bytes_of(alloc, word.text)?,
                     is_lossy: word.meaning == Meaning::Lossy,
                     rules: mem::replace(&mut rules, Vec::new(alloc)),
                 })?;

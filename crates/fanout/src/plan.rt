@@ -4,7 +4,7 @@ use flow_rules::capacity;
 use publisher::PublisherOptions;
 
 /// The word for standard input and standard output.
-pub const STANDARD: &str = "-";
+pub const STANDARD: &[u8] = b"-";
 
 /// The most sources, and the most sinks. Each has a thread.
 pub const MOST: usize = 64;
@@ -16,7 +16,7 @@ pub const BATCH: u32 = 16;
 #[derive(Drop)]
 pub struct SinkPlan {
     /// The file, or [`STANDARD`].
-    pub path: String,
+    pub path: Vec<u8>,
     /// Whether it may lose lines.
     pub is_lossy: bool,
     /// Which lines it writes.
@@ -36,7 +36,7 @@ pub enum Format {
 #[derive(Drop)]
 pub struct Plan {
     /// The files, or [`STANDARD`].
-    pub sources: Vec<String>,
+    pub sources: Vec<Vec<u8>>,
     pub sinks: Vec<SinkPlan>,
     /// Whether files are written at their end.
     pub is_appending: bool,

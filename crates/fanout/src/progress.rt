@@ -1,5 +1,8 @@
 //! The line a second that says how fast lines come, and how many texts wait in the buffer of each sink.
+use crate::doors::Doors;
 use crate::fault::FanoutFault;
+use crate::notice::say;
+use crate::report::NameText;
 use crate::sink::name_of;
 use crate::site::Site;
 use crate::verdict::Verdict;
@@ -17,7 +20,7 @@ struct Pace {
 
 /// Tells each second how far a publisher is, until it is said that the work is over. If memory for that is refused, the
 /// program ends.
-pub fn watch<L: Ledgers + Send, B: Listener + Send, R: Eprint + Clock + Wait>(
+pub fn watch<L: Ledgers + Send, B: Listener + Send, R: Doors + Clock + Wait>(
     rt: &R,
     site: &Site,
     publisher: &Publisher<L, B>,
@@ -30,7 +33,7 @@ pub fn watch<L: Ledgers + Send, B: Listener + Send, R: Eprint + Clock + Wait>(
         }
         match line(rt, site, publisher, &mut pace) {
             Ok(line) => {
-                let _ = eprint!(*rt; "{line}");
+                let _ = say(rt, site.limit, line.as_str());
             }
             Err(fault) => {
                 site.verdict.say(rt, Err(fault));
@@ -57,7 +60,7 @@ fn line<L: Ledgers + Send, B: Listener + Send, R: Wait>(
     let stats = publisher.stats(rt, site.alloc)?;
     let most = publisher.max_buffer_capacity();
     for (number, sink) in site.plan.sinks.iter().enumerate() {
-        let path = sink.path.as_str();
+        let path = NameText(sink.path.as_slice());
         if site.board.has_ended(number) {
             write!(text, "; {path} ended")?;
         } else {

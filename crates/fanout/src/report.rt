@@ -4,6 +4,7 @@ mod quoting;
 use crate::board::Board;
 use crate::fault::EndFault;
 use crate::plan::{Format, Plan};
+pub use quoting::NameText;
 use quoting::{CsvText, JsonText};
 use std::alloc::{AllocError, Global};
 use std::fmt;
@@ -13,7 +14,7 @@ use std::sync::atomic::Ordering::SeqCst;
 /// What a source or a sink has done.
 #[derive(Clone, Copy)]
 struct Row<'a> {
-    name: &'a str,
+    name: &'a [u8],
     lines: u64,
     bytes: u64,
     end: End,
@@ -23,7 +24,6 @@ struct Row<'a> {
 #[derive(Clone, Copy)]
 struct More {
     left_out: u64,
-    lost: u64,
     backlog: u64,
 }
 
@@ -39,27 +39,33 @@ enum End {
 impl fmt::Display for End {
     fn fmt<W: fmt::Write>(&self, f: &mut fmt::Formatter<W>) -> fmt::Result {
         match self {
-            End::Open => f.write_str("open"),
+            End::Open => f.write_str("not ended"),
             End::Complete => f.write_str("complete"),
             End::Early(fault) => write!(f, "{fault}"),
         }
     }
 }
 
-/// The report in this format.
+/// The report in this format. What the sinks have done is looked at before the sources: so no sink has written more than
+/// the sources have published, and what a sink has written, left out and lost are all lines of all sources.
 pub fn report<R: Wait>(
     rt: &R,
     alloc: Global,
     plan: &Plan,
     board: &Board,
 ) -> Result<String, AllocError> {
+    let sinks = look_at_sinks(rt, alloc, plan, board)?;
     let mut text = String::new(alloc);
     begin(&mut text, plan.format)?;
-    add_sources(&mut text, rt, plan, board)?;
+    let lines = add_sources(&mut text, rt, plan, board)?;
     if plan.format == Format::Json {
         text.push_str("],\"sinks\":[")?;
     }
-    add_sinks(&mut text, rt, plan, board)?;
+    let mut is_first = true;
+    for (row, more) in sinks.iter() {
+        add_sink(&mut text, plan.format, *row, *more, lines, is_first)?;
+        is_first = false;
+    }
     if plan.format == Format::Json {
         text.push_str("]}\n")?;
     }
@@ -75,39 +81,40 @@ fn begin(text: &mut String, format: Format) -> Result<(), AllocError> {
     }
 }
 
-/// Adds a row for each source.
+/// Adds a row for each source, and tells how many lines they have published.
 fn add_sources<R: Wait>(
     text: &mut String,
     rt: &R,
     plan: &Plan,
     board: &Board,
-) -> Result<(), AllocError> {
+) -> Result<u64, AllocError> {
+    let mut lines = 0_u64;
     let mut is_first = true;
     for (name, count) in plan.sources.iter().zip(board.sources.iter()) {
         let row = Row {
-            name: name.as_str(),
+            name: name.as_slice(),
             lines: count.lines.load(SeqCst),
             bytes: count.bytes.load(SeqCst),
             end: end_of(count.ended.load(SeqCst), count.fault(rt)),
         };
+        lines = lines.saturating_add(row.lines);
         add_source(text, plan.format, row, is_first)?;
         is_first = false;
     }
-    Ok(())
+    Ok(lines)
 }
 
-/// Adds a row for each sink.
-fn add_sinks<R: Wait>(
-    text: &mut String,
+/// What each sink has done.
+fn look_at_sinks<'a, R: Wait>(
     rt: &R,
-    plan: &Plan,
+    alloc: Global,
+    plan: &'a Plan,
     board: &Board,
-) -> Result<(), AllocError> {
-    let lines = board.lines();
-    let mut is_first = true;
+) -> Result<Vec<(Row<'a>, More)>, AllocError> {
+    let mut rows = Vec::new(alloc);
     for (sink, count) in plan.sinks.iter().zip(board.sinks.iter()) {
         let row = Row {
-            name: sink.path.as_str(),
+            name: sink.path.as_slice(),
             lines: count.lines.load(SeqCst),
             bytes: count.bytes.load(SeqCst),
             end: end_of(count.ended.load(SeqCst), count.fault(rt)),
@@ -115,16 +122,13 @@ fn add_sinks<R: Wait>(
         if !count.has_ended() {
             let _waiting = board.look(count);
         }
-        let left_out = count.left_out.load(SeqCst);
         let more = More {
-            left_out,
-            lost: lines.saturating_sub(row.lines).saturating_sub(left_out),
+            left_out: count.left_out.load(SeqCst),
             backlog: count.backlog.load(SeqCst),
         };
-        add_sink(text, plan.format, row, more, is_first)?;
-        is_first = false;
+        rows.push((row, more))?;
     }
-    Ok(())
+    Ok(rows)
 }
 
 /// How one stands that has ended, or not, with this fault.
@@ -153,7 +157,8 @@ fn add_source(
         Format::Text => {
             write!(
                 text,
-                "fanout: source {name}: {lines} lines, {bytes} bytes, {end}\n"
+                "fanout: source {}: {lines} lines, {bytes} bytes, {end}\n",
+                NameText(name)
             )
         }
         Format::Csv => write!(text, "source,{},{lines},{bytes},,,,{end}\n", CsvText(name)),
@@ -169,12 +174,13 @@ fn add_source(
     }
 }
 
-/// Adds the row of a sink.
+/// Adds the row of a sink, of which all sources have published so many lines.
 fn add_sink(
     text: &mut String,
     format: Format,
     row: Row<'_>,
     more: More,
+    published: u64,
     is_first: bool,
 ) -> Result<(), AllocError> {
     let Row {
@@ -183,16 +189,14 @@ fn add_sink(
         bytes,
         end,
     } = row;
-    let More {
-        left_out,
-        lost,
-        backlog,
-    } = more;
+    let More { left_out, backlog } = more;
+    let lost = published.saturating_sub(lines).saturating_sub(left_out);
     match format {
         Format::Text => {
             write!(
                 text,
-                "fanout: sink {name}: {lines} lines, {bytes} bytes, {left_out} left out, "
+                "fanout: sink {}: {lines} lines, {bytes} bytes, {left_out} left out, ",
+                NameText(name)
             )?;
             write!(text, "{lost} lost, backlog {backlog}, {end}\n")
         }

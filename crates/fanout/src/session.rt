@@ -30,7 +30,7 @@ const MOST_TRIES: u32 = 100;
 /// name it. What is left of it tells of each sink; refused, if some sink has not ended, or memory was refused.
 pub fn run_session<
     L: Ledgers + Send + Sync + 'static,
-    R: Print + Eprint + Doors + Clock + Threads + Wait + Copy + Send + Sync + 'static,
+    R: Doors + Clock + Threads + Wait + Copy + Send + Sync + 'static,
 >(rt: &R, site: &Site, blanks: BlankPair) -> Result<Outcome<Inlets<R>>, FanoutFault>
     requires blanks { AreBlanksOf blanks L.publications L.drops L.history }
     ensures told { IfOk result (TellsAll (λ sink. sink.told)) }
@@ -64,10 +64,7 @@ fn end<L: SharedLedgers, B: Listener + Send + 'static, R: Wait>(
 }
 
 /// Subscribes the sinks, has all threads work, and hands in what goes back to the publisher.
-fn ship<
-    L: SharedLedgers,
-    R: Print + Eprint + Doors + Clock + Threads + Wait + Copy + Send + Sync + 'static,
->(
+fn ship<L: SharedLedgers, R: Doors + Clock + Threads + Wait + Copy + Send + Sync + 'static>(
     rt: &R,
     site: &Site,
     publisher: &Publisher<L, Inlets<R>>,
@@ -158,7 +155,7 @@ fn hand_in<L: SharedLedgers, B: Listener + Send>(
 fn oversee<
     L: SharedLedgers,
     B: Listener + Send + 'static,
-    R: Print + Eprint + Doors + Clock + Threads + Wait + Sync,
+    R: Doors + Clock + Threads + Wait + Sync,
 >(
     rt: &R,
     site: &Site,
@@ -182,11 +179,7 @@ fn oversee<
 }
 
 /// Has each source read and each sink written by a thread of its own, and waits for all.
-fn work<
-    L: SharedLedgers,
-    B: Listener + Send + 'static,
-    R: Print + Doors + Clock + Threads + Wait + Sync,
->(
+fn work<L: SharedLedgers, B: Listener + Send + 'static, R: Doors + Clock + Threads + Wait + Sync>(
     rt: &R,
     site: &Site,
     publisher: &Publisher<L, B>,
@@ -219,7 +212,7 @@ fn run_sources<
 fn run_sinks<
     L: SharedLedgers,
     B: Listener + Send + 'static,
-    R: Print + Doors + Clock + Threads + Wait + Sync,
+    R: Doors + Clock + Threads + Wait + Sync,
 >(rt: &R, site: &Site, publisher: &Publisher<L, B>, sinks: &mut [Sink<L, B>]) {
     let run = |number: usize, sink: &mut Sink<L, B>| run_sink(rt, site, number, sink);
     let threads = sinks.len().max(1);

@@ -1,8 +1,11 @@
 //! The sinks: each has a thread of its own, which writes the lines that its subscription is told.
 use crate::board::SinkCount;
+use crate::cause::Cause;
 use crate::doors::Doors;
 use crate::fault::{EndFault, FanoutFault};
+use crate::notice::say_fault;
 use crate::page::Page;
+use crate::pen::{Outlet, Pen};
 use crate::plan::{STANDARD, SinkPlan};
 use crate::site::Site;
 use crate::strands::Strands;
@@ -13,8 +16,8 @@ use std::alloc::Global;
 use std::io::Write;
 use std::sync::Wait;
 use std::sync::atomic::Ordering::SeqCst;
+use std::thread;
 use std::time::{Clock, Duration};
-use std::{fs, io, thread};
 
 /// How often a cancel is tried.
 const MOST_TRIES: u32 = 100;
@@ -36,8 +39,8 @@ pub fn name_of(alloc: Global, number: usize) -> Result<Name, FanoutFault> {
 }
 
 /// Writes the lines of the sink of this number up to the end, or until that fails: then its subscription is cancelled, and
-/// nobody waits for it any more.
-pub fn run_sink<L: Ledgers + Send, B: Listener + Send, R: Print + Doors + Clock + Wait>(
+/// nobody waits for it any more, and why is said at once.
+pub fn run_sink<L: Ledgers + Send, B: Listener + Send, R: Doors + Clock + Wait>(
     rt: &R,
     site: &Site,
     number: usize,
@@ -51,25 +54,36 @@ pub fn run_sink<L: Ledgers + Send, B: Listener + Send, R: Print + Doors + Clock 
         if ended.is_err() {
             cancel(rt, site, sink);
         }
+        let is_closed = site.board.is_closed.lock(rt);
+        if *is_closed {
+            return;
+        }
+        if let Err(fault) = ended {
+            say_fault(rt, site, plan.path.as_slice(), fault);
+        }
         count.end(rt, ended.err());
     }
 }
 
 /// Opens its file, and writes its lines.
-fn open_and_write<L: Ledgers + Send, B: Listener + Send, R: Print + Doors + Wait>(
+fn open_and_write<L: Ledgers + Send, B: Listener + Send, R: Doors + Clock + Wait>(
     rt: &R,
     site: &Site,
     plan: &SinkPlan,
     count: &SinkCount,
     sink: &mut Sink<L, B>,
 ) -> Result<(), EndFault> {
-    if plan.path.as_str() == STANDARD {
-        return write_told(rt, site, plan, count, io::writer(rt), sink);
-    }
-    match rt.create(plan.path.as_str(), site.plan.is_appending) {
-        Ok(file) => write_told(rt, site, plan, count, file, sink),
-        Err(error) => Err(EndFault::Open(error.kind())),
-    }
+    let path = plan.path.as_slice();
+    let outlet = if path == STANDARD {
+        Outlet::Output(rt.output())
+    } else {
+        match rt.create(path, site.plan.is_appending) {
+            Ok(file) => Outlet::File(file),
+            Err(error) => return Err(EndFault::Open(Cause::of(&error))),
+        }
+    };
+    let pen = Pen::new(rt, outlet, site.limit, plan.is_lossy);
+    write_told(rt, site, plan, count, pen, sink)
 }
 
 /// Writes its lines to this writer.

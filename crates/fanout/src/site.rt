@@ -19,6 +19,8 @@ pub struct Site {
     pub plan: Arc<Plan>,
     /// What each source and each sink has done.
     pub board: Arc<Board>,
+    /// How many bytes a file may have that is written, if that is limited.
+    pub limit: Option<u64>,
     /// Where it is said how the session ends.
     pub verdict: Arc<Verdict>,
 }

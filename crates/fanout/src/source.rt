@@ -1,22 +1,26 @@
 //! The sources: each has a thread of its own, which publishes what it reads, a few texts by one call, and none late.
-ghost use Rattle.std.specs.Prelude.{◌≡◌, ◌<◌, false, IfOk, OnOk, length};
+ghost use Rattle.std.specs.Prelude.{◌≡◌, ◌<◌, true, false, IfOk, OnOk, length};
 ghost use Rattle.fanout.specs.declared.piece.TheConstants.{LONGEST};
 
 use crate::board::SourceCount;
+use crate::cause::Cause;
 use crate::doors::Doors;
 use crate::fault::EndFault;
 use crate::intake::Intake;
 use crate::lines::lines_begun;
+use crate::notice::say_fault;
 use crate::piece::piece_of;
 use crate::plan::STANDARD;
 use crate::policy::publish_all;
 use crate::site::Site;
+use crate::tap::{Tap, Well};
 use flow_rules::{Listener, NoMemory, Refusal, Text};
 use publisher::{Ledgers, Submitter};
 use std::alloc::Global;
-use std::io::{ErrorKind, Read};
+use std::io::Read;
 use std::sync::Wait;
 use std::sync::atomic::Ordering::SeqCst;
+use std::time::Clock;
 
 /// How many texts are published by one call, at most.
 const AT_ONCE: usize = 8;
@@ -26,6 +30,13 @@ const AT_ONCE: usize = 8;
 struct Batch<'a> {
     texts: Vec<Text>,
     count: &'a SourceCount,
+}
+
+/// How much pieces have.
+#[derive(Clone, Copy)]
+struct Weight {
+    lines: u64,
+    bytes: u64,
 }
 
 impl<'a> Batch<'a> {
@@ -40,24 +51,40 @@ impl<'a> Batch<'a> {
         Ok(true)
     }
 
-    /// Counts the first of its pieces, which were published, and forgets all.
-    fn clear(&mut self, published: usize) {
-        let mut lines = 0_u64;
-        let mut bytes = 0_u64;
-        for text in self.texts.iter().take(published) {
+    /// How many lines and bytes its pieces from this one on have.
+    fn weight(&self, from: usize) -> Weight {
+        let mut weight = Weight { lines: 0, bytes: 0 };
+        for text in self.texts.iter().skip(from) {
             let text = text.as_bytes();
-            lines = lines.saturating_add(lines_begun(text) as u64);
-            bytes = bytes.saturating_add(piece_of(text).bytes.len() as u64);
+            weight.lines = weight.lines.saturating_add(lines_begun(text) as u64);
+            weight.bytes = weight
+                .bytes
+                .saturating_add(piece_of(text).bytes.len() as u64);
         }
+        weight
+    }
+
+    /// Counts its pieces, which are to be published.
+    fn begin(&self) {
+        let weight = self.weight(0);
+        self.count.publishing.store(1, SeqCst);
+        self.count.lines.fetch_add(weight.lines, SeqCst);
+        self.count.bytes.fetch_add(weight.bytes, SeqCst);
+    }
+
+    /// Takes back what was counted of the pieces that were not published, and forgets all.
+    fn end(&mut self, published: usize) {
+        let weight = self.weight(published);
+        self.count.lines.fetch_sub(weight.lines, SeqCst);
+        self.count.bytes.fetch_sub(weight.bytes, SeqCst);
         self.count.pieces.fetch_add(published as u64, SeqCst);
-        self.count.lines.fetch_add(lines, SeqCst);
-        self.count.bytes.fetch_add(bytes, SeqCst);
+        self.count.publishing.store(0, SeqCst);
         self.texts.clear();
     }
 }
 
-/// Publishes what the source of this number gives, up to the end, or until that fails.
-pub fn run_source<L: Ledgers + Send, B: Listener + Send, R: Doors + Wait>(
+/// Publishes what the source of this number gives, up to the end, or until that fails: why is said at once.
+pub fn run_source<L: Ledgers + Send, B: Listener + Send, R: Doors + Clock + Wait>(
     rt: &R,
     site: &Site,
     number: usize,
@@ -67,29 +94,40 @@ pub fn run_source<L: Ledgers + Send, B: Listener + Send, R: Doors + Wait>(
     let path = site.plan.sources.get(number);
     if let (Some(count), Some(path)) = (count, path) {
         count.begun.store(1, SeqCst);
-        let ended = open_and_read(rt, site, path.as_str(), count, submitter);
+        let path = path.as_slice();
+        let ended = open_and_read(rt, site, path, count, submitter);
+        let is_closed = site.board.is_closed.lock(rt);
+        if *is_closed {
+            return;
+        }
+        if let Err(fault) = ended {
+            say_fault(rt, site, path, fault);
+        }
         count.end(rt, ended.err());
     }
 }
 
 /// Opens a source, and publishes what it gives.
-fn open_and_read<L: Ledgers + Send, B: Listener + Send, R: Doors + Wait>(
+fn open_and_read<L: Ledgers + Send, B: Listener + Send, R: Doors + Clock + Wait>(
     rt: &R,
     site: &Site,
-    path: &str,
+    path: &[u8],
     count: &SourceCount,
     submitter: &mut Submitter<L, B>,
 ) -> Result<(), EndFault> {
-    if path == STANDARD {
-        return publish_read(rt, site, &mut rt.input(), count, submitter);
-    }
-    match rt.open(path) {
-        Ok(mut file) => publish_read(rt, site, &mut file, count, submitter),
-        Err(error) => Err(EndFault::Open(error.kind())),
-    }
+    let well = if path == STANDARD {
+        Well::Input(rt.input())
+    } else {
+        match rt.open(path) {
+            Ok(file) => Well::File(file),
+            Err(error) => return Err(EndFault::Open(Cause::of(&error))),
+        }
+    };
+    publish_read(rt, site, &mut Tap { rt, well }, count, submitter)
 }
 
-/// Publishes what this reader gives.
+/// Publishes what this reader gives. One of several sources ends with a line feed, so that no other line goes on with its
+/// last one.
 fn publish_read<L: Ledgers + Send, B: Listener + Send, R: Wait, I: Read>(
     rt: &R,
     site: &Site,
@@ -104,6 +142,9 @@ fn publish_read<L: Ledgers + Send, B: Listener + Send, R: Wait, I: Read>(
     };
     'reads: for _ in rt.forever() {
         let is_over = read_some(&mut intake, reader)?;
+        if is_over && site.plan.sources.len() > 1 {
+            intake.end_line();
+        }
         publish_cut(rt, site, &mut intake, &mut batch, is_over, submitter)?;
         if is_over {
             break;
@@ -112,20 +153,15 @@ fn publish_read<L: Ledgers + Send, B: Listener + Send, R: Wait, I: Read>(
     Ok(())
 }
 
-/// Reads some bytes, and tells whether the source has ended. A read that was interrupted gives none.
+/// Reads some bytes, and tells whether the source has ended.
 fn read_some<I: Read>(intake: &mut Intake, reader: &mut I) -> Result<bool, EndFault>
     requires { length intake.old.waiting < LONGEST }
+    ensures over { IfOk result
+        (λ is_over. is_over ≡ true → length intake.new.waiting < LONGEST) }
 {
     match intake.read(reader) {
         Ok(read) => Ok(read == 0),
-        Err(error) => {
-            let kind = error.kind();
-            if kind == ErrorKind::Interrupted {
-                Ok(false)
-            } else {
-                Err(EndFault::Read(kind))
-            }
-        }
+        Err(error) => Err(EndFault::Read(Cause::of(&error))),
     }
 }
 
@@ -152,8 +188,8 @@ fn publish_cut<L: Ledgers + Send, B: Listener + Send, R: Wait>(
     unreachable!()
 }
 
-/// Publishes the pieces of a batch, and empties it. Those that were published are counted, also if a later one is
-/// refused.
+/// Publishes the pieces of a batch, and empties it. They are counted before that, so that no sink has written a line that
+/// isn't counted; those that were refused are taken back.
 fn publish<L: Ledgers + Send, B: Listener + Send, R: Wait>(
     rt: &R,
     site: &Site,
@@ -161,13 +197,14 @@ fn publish<L: Ledgers + Send, B: Listener + Send, R: Wait>(
     submitter: &mut Submitter<L, B>,
 ) -> Result<(), EndFault> {
     let pieces = batch.texts.len();
+    batch.begin();
     match publish_all(rt, site.alloc, submitter, batch.texts.as_slice()) {
         Ok(()) => {
-            batch.clear(pieces);
+            batch.end(pieces);
             Ok(())
         }
         Err(part) => {
-            batch.clear(part.published);
+            batch.end(part.published);
             match part.refusal {
                 Refusal::NoMemory => Err(EndFault::Memory),
                 _ => Err(EndFault::Stopped),

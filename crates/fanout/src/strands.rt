@@ -3,7 +3,7 @@ use crate::board::{Board, SinkCount};
 use crate::fault::EndFault;
 use crate::filter::Rule;
 use crate::page::Page;
-use crate::piece::{LINE_FEED, piece_of};
+use crate::piece::piece_of;
 use crate::strand::{Deed, Sight, Stand};
 use flow_rules::{Item, NoMemory};
 use std::alloc::Global;
@@ -158,7 +158,7 @@ impl Strand {
     fn give_up<W: Write + Drop>(&mut self, page: &mut Page<'_, W>) -> Result<(), EndFault> {
         self.forget();
         if self.stand == Stand::Writing {
-            page.put(&[LINE_FEED])?;
+            page.break_off()?;
         }
         Ok(())
     }

@@ -30,6 +30,9 @@ pub(super) const CAPACITY: &str = "cap";
 /// The most threads that a publisher takes.
 const MOST_WORKERS: u64 = 8;
 
+/// The most texts that wait for a sink in its buffer.
+const MOST_TEXTS: u64 = 65_536;
+
 /// What `--version` prints after the name.
 const VERSION: &str = "0.1.0";
 
@@ -41,7 +44,7 @@ const HELP: &str = "Examples:
 Each sink gets the bytes of its lines, in their order. One that waits gets every
 line, and a lossy one loses whole lines if its reader is slow. A sink that fails
 ends alone. The status is 0, 1 if a source failed, 2 for a wrong command line,
-and 3 if a sink failed.";
+and 3 if a sink failed and no source did.";
 
 /// The command line.
 pub fn command_line<'a>(alloc: Global) -> Result<Command<'a>, AllocError> {
@@ -51,11 +54,11 @@ pub fn command_line<'a>(alloc: Global) -> Result<Command<'a>, AllocError> {
         .action(ArgAction::Append)
         .help("A sink that gets every line; - is standard output");
     let command = Command::new(alloc, "fanout")
-        .about("Ships lines to any number of sinks, of which no slow one stops the others")
+        .about("Copies lines to any number of sinks; a slow lossy sink never stops the others")
         .version(VERSION)
         .after_help(HELP)
         .arg(file)?
-        .arg(list(alloc, TO, "FILE", "The same"))?
+        .arg(list(alloc, TO, "FILE", "A sink that gets every line, as FILE"))?
         .arg(list(
             alloc,
             LOSSY,
@@ -66,13 +69,13 @@ pub fn command_line<'a>(alloc: Global) -> Result<Command<'a>, AllocError> {
             alloc,
             GREP,
             "TEXT",
-            "The next sink gets the lines alone that have TEXT",
+            "Pass only lines that contain TEXT to the next sink",
         ))?
         .arg(list(
             alloc,
             NOT,
             "TEXT",
-            "The next sink gets the lines alone that don't have TEXT",
+            "Pass only lines that do not contain TEXT to the next sink",
         ))?
         .arg(list(alloc, FROM, "FILE", "A source [standard input]"))?;
     add_settings(alloc, command)
@@ -92,24 +95,24 @@ fn add_settings<'a>(alloc: Global, command: Command<'a>) -> Result<Command<'a>, 
     let append = Arg::new(alloc, APPEND)
         .long(APPEND)
         .action(ArgAction::SetTrue)
-        .help("Writes behind what the files have");
+        .help("Append to the files instead of emptying them");
     let report = Arg::new(alloc, REPORT)
         .long(REPORT)
         .value_name("FORMAT")
         .action(ArgAction::Set)
         .value_parser(["text", "json", "csv", "none"].as_slice())
-        .help("How it is told at the end, on standard error, what came of each [text]");
+        .help("Format of the final report on standard error [text]");
     let progress = Arg::new(alloc, PROGRESS)
         .long(PROGRESS)
         .action(ArgAction::SetTrue)
-        .help("Tells each second how many lines came, and the texts that wait for each sink");
+        .help("Tell each second how many lines came, and the texts that wait for each sink");
     let linger = number(alloc, LINGER, "SECONDS", 0, u64::MAX).help(
         "How long a stuck lossy sink is waited for at the end [2]",
     );
     let workers = number(alloc, WORKERS, "W", 1, MOST_WORKERS).help(
         "How many threads hand lines to sinks, 1 to 8 [2]",
     );
-    let capacity = number(alloc, CAPACITY, "N", 1, u64::MAX).help(
+    let capacity = number(alloc, CAPACITY, "N", 1, MOST_TEXTS).help(
         "How many texts of up to 4096 bytes may wait for a sink, to a power of two [16]",
     );
     command
