@@ -49,7 +49,7 @@ measure() {
         none
     fi
     if compgen -G "crates/$crate/wrong-bodies/*.edit" >/dev/null; then
-        from_nothing . tools/wrong_bodies/try.py --jobs 1 --proved "$(tools/wrong_bodies/try.py --sum "$crate")" "$crate"
+        from_nothing . tools/wrong_bodies/try.py --all --jobs 1 --proved "$(tools/wrong_bodies/try.py --sum "$crate")" "$crate"
     else
         none
     fi

@@ -2,7 +2,7 @@
 
 usage: accidents.py PROGRAM NO_THREAD.so
 
-Each run has 20 seconds.
+Each run has ten minutes.
 """
 
 import contextlib
@@ -23,7 +23,7 @@ sys.path += [f"{HERE}/../refused_memory", f"{HERE}/.."]
 from definition import play
 from heed import heed_signals
 
-SECONDS = 20
+SECONDS = 600
 # The stack of each thread in bytes, and the descriptors: the three streams, and one more to load libraries by.
 STACK, DESCRIPTORS = 256 * 1024, 4
 THREADS = ["threads", "--workers", "4", "--cap", "4", "a:3", "b:3"]
@@ -72,6 +72,12 @@ def answer(script):
     return b"".join(play(io.BytesIO(script).readlines())[0])
 
 
+def shown(text):
+    """A text as a line for people shows it."""
+    known = {9: b"\\t", 10: b"\\n", 13: b"\\r", 34: b'\\"', 39: b"\\'", 92: b"\\\\"}
+    return b"".join(known.get(it, bytes([it]) if 32 <= it < 127 else b"\\x%02x" % it) for it in text)
+
+
 def bytes_of_names(accidents):
     """Each byte in a name and in a text: of a script, of an argument, and of a line from a thread."""
     script = b"cap 1\n"
@@ -86,7 +92,7 @@ def bytes_of_names(accidents):
         if re.fullmatch(rb"[A-Za-z0-9_-]+", name):
             wanted = 0, b"%s 1 x\n%s complete 1\ndrained 1\n" % (name, name), b""
         elif byte < 128:
-            wanted = 2, b"", b"lines_demo: refused 12 command\n"
+            wanted = 2, b"", shown(name + b":1") + b": a subscriber is NAME:D\nlines_demo: refused 12 command\n"
         else:
             wanted = 2, b"", b"lines_demo: an argument is not UTF-8\n"
         accidents.row("bytes", f"an argument with the byte {byte}", ["threads", "--workers", "1", "--cap", "1", name + b":1"], b"1 x\n", wanted)

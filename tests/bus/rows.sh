@@ -25,7 +25,7 @@ fault() {
 # runs STATUS ERROR: a run has to end so, with this as its last line on standard error, if it is to fail.
 runs() {
     status=0
-    timeout 20 "$program" >out 2>err || status=$?
+    timeout 600 "$program" >out 2>err || status=$?
     [ "$status" -eq "$1" ] || fault "status $status"
     cmp "$wanted" out >cmp 2>&1 || fault "standard output: $(cat cmp)"
     [ "$1" -eq 0 ] || [ "$(tail -n 1 err)" = "$2" ] || fault "standard error: $(cat err)"
@@ -47,7 +47,7 @@ row='refused memory'
 n=1
 while [ "$n" -le "$MOST" ]; do
     status=0
-    timeout 20 env REFUSE="$n" LD_PRELOAD="$work/refuse.so" "$program" >out 2>err || status=$?
+    timeout 600 env REFUSE="$n" LD_PRELOAD="$work/refuse.so" "$program" >out 2>err || status=$?
     grep -q '^request refused' err || break
     case $status in
     0) cmp -s "$wanted" out || fault "request $n: status 0, and it printed: $(cat out)" ;;

@@ -28,7 +28,7 @@ import subprocess
 import sys
 
 sys.dont_write_bytecode = True
-SECONDS = 20
+SECONDS = 600
 TOP = os.path.realpath(f"{os.path.dirname(os.path.realpath(__file__))}/../..")
 CONSOLE = f"{TOP}/crates/console/out/console"
 sys.path.insert(0, f"{TOP}/tests/console")

@@ -3,7 +3,7 @@ from 1 up to a session that meets no refusal, and judges each.
 
 usage: console.py PROGRAM REFUSE.so NO_THREAD.so
 
-All lines of a session are typed at once, and then the input ends. A session has to end by itself within twenty seconds, in one of the ways
+All lines of a session are typed at once, and then the input ends. A session has to end by itself within ten minutes, in one of the ways
 that docs/SCRIPTS.md names:
 
 - with status 0 and a report: each line was answered, by `refused 5 memory` too, and the report says of each subscriber the number of items
@@ -19,7 +19,7 @@ import subprocess
 import sys
 from concurrent.futures import ThreadPoolExecutor
 
-MOST, SECONDS = 20000, 20
+MOST, SECONDS = 20000, 600
 MEMORY = b"refused 5 memory"
 REPORT = re.compile(rb"= (\S+) (complete|error|cancelled|open|failed|memory) (\d+)")
 
@@ -101,7 +101,7 @@ def submits(source, *texts):
     return [(b"submit %d %s" % (source, text), None) for text in texts]
 
 
-LONG = b"x" * 4000
+LONG, WAIT = b"x" * 4000, rb"wait( \d waits for a \(2 of 2\),?)*"
 SUB_A, SUB_B = (b"sub a 99", rb"sub a"), (b"sub b 0", rb"sub b|refused 3 duplicate")
 SESSIONS = [
     Session("60 lines", [], SUB_A, *[(b"offer %d " % it + LONG[: it * 60], rb"offer \d+") for it in range(29)], *[(b"lag", rb"lag \d+")] * 30),
@@ -111,6 +111,11 @@ SESSIONS = [
         "comings and goings", ["--cap", "4", "--late"], SUB_A, SUB_B, (b"retry " + LONG, rb"retry \d+ calls \d+"), (b"cancel b", rb"ok|refused 10 unknown"),
         (b"leave b", rb"b cancelled \d+|refused (8 held|9 unsettled|10 unknown)"), (b"subscribers", rb"subscribers \d+"), (b"sub c 1", rb"sub c"),
         *submits(1, b"x"), (b"request c 0", rb"ok|refused 10 unknown"), (b"sub a 9", rb"refused 3 duplicate|sub a"), (b"fail 7", rb"ok"), (b"quit", None),
+    ),
+    Session(
+        "waits", ["--cap", "2", "--workers", "1"], (b"sub a 2", rb"sub a"), *submits(7, b"x", LONG), (b"wait", WAIT), *submits(8, b"y", b"z"),
+        *submits(7, b"v", b"w"), (b"wait", WAIT), (b"request a 9", rb"ok|refused 10 unknown"), (b"wait", WAIT), *submits(7, b"u"), (b"close", rb"ok"),
+        (b"wait", WAIT),
     ),
 ]
 

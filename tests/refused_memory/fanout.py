@@ -9,7 +9,7 @@ import sys
 import tempfile
 
 program, refuse, no_thread = (os.path.abspath(word) for word in sys.argv[1:4])
-SECONDS = 40
+SECONDS = 600
 LINES = [b'line %d %s\n' % (n, b'.' * (n % 90)) for n in range(300)] + [b'long ' + b'-' * 9000 + b'\n', b'the end']
 DATA = b''.join(LINES)
 

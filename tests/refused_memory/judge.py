@@ -2,7 +2,7 @@
 
 usage: judge.py PROGRAM REFUSE.so [--forget] SCRIPT..
 
-A run has to end by itself within ten seconds. By the definition of scripts, which stands once more in definition.py, memory may be
+A run has to end by itself within ten minutes. By the definition of scripts, which stands once more in definition.py, memory may be
 refused at each of certain points: in the call of a command, which is answered `refused 5 memory`, or in a callback, after which its
 subscriber is told nothing more. One request is refused in a run, so of a run
 
@@ -53,7 +53,7 @@ class Script:
     def run(self, hook, number):
         """The status, the output and standard error of the run whose request of this number is refused, and whether it was."""
         room = {**os.environ, "REFUSE": str(number), "LD_PRELOAD": hook}
-        how = {"stdout": subprocess.PIPE, "stderr": subprocess.PIPE, "timeout": 10, "env": room}
+        how = {"stdout": subprocess.PIPE, "stderr": subprocess.PIPE, "timeout": 600, "env": room}
         ran = subprocess.run(self.command, input=self.text, **how)
         said = ran.stderr.replace(b"request refused\n", b"")
         return ran.returncode, ran.stdout, said, said != ran.stderr
@@ -103,7 +103,7 @@ def sweep(hook, script):
         try:
             status, output, said, is_met = script.run(hook, number)
         except subprocess.TimeoutExpired:
-            return f"request {number}: it had not ended after ten seconds"
+            return f"request {number}: it had not ended after ten minutes"
         if not is_met:
             break
         outputs.add(output)

@@ -1,6 +1,6 @@
 #!/bin/sh
-# Runs native tests of texts, counts, pools, Hubs, cells and publishers with the Nth request for memory refused, for N from 1 up to a run
-# that meets none. Each run has to end by itself, within a minute, either well or with the error that a refusal gives.
+# Runs native tests of texts, counts, pools, Hubs, cells, publishers and inboxes with the Nth request for memory refused, for N from 1 up to a run
+# that meets none. Each run has to end by itself, within ten minutes, either well or with the error that a refusal gives.
 #
 # It fails, too, where a run does not say that its test was run, and where no request of a test was refused, as when the
 # library that refuses is not loaded; and where a text asks for more memory than it has to.
@@ -9,13 +9,14 @@
 set -eu
 cd "$(dirname "$0")/../.."
 . tests/program.sh
-for name in core_tests hub_tests publisher_tests day_tests; do
+for name in core_tests hub_tests publisher_tests day_tests inbox_tests; do
     need "$name" "${TESTS:-crates}/$name/out/${name}_tests"
 done
 core=${TESTS:-crates}/core_tests/out/core_tests_tests
 hub=${TESTS:-crates}/hub_tests/out/hub_tests_tests
 publisher=${TESTS:-crates}/publisher_tests/out/publisher_tests_tests
 days=${TESTS:-crates}/day_tests/out/day_tests_tests
+inboxes=${TESTS:-crates}/inbox_tests/out/inbox_tests_tests
 work=$(mktemp -d)
 trap 'rm -rf "$work"' EXIT
 gcc -shared -fPIC -O1 -Wall -Werror -o "$work/refuse.so" tests/refused_memory/refuse.c
@@ -27,7 +28,7 @@ failures=0
 # one PROGRAM TEST N: runs it, and prints `met`, `none`, or what went wrong.
 one() {
     status=0
-    timeout 60 env REFUSE="$3" LD_PRELOAD="$work/refuse.so" "$1" "$2" >"$work/out" 2>"$work/err" || status=$?
+    timeout 600 env REFUSE="$3" LD_PRELOAD="$work/refuse.so" "$1" "$2" >"$work/out" 2>"$work/err" || status=$?
     if [ "$status" -eq 0 ]; then
         # A program that ran one test says so.
         if ! grep -q '^test result: ok' "$work/out"; then
@@ -35,7 +36,7 @@ one() {
             return
         fi
     elif ! { [ "$status" -eq 101 ] &&
-        grep -qE '^error: (NoMemory|AllocError|AllocFailed|SpawnError)' "$work/err"; }; then
+        grep -qE '^error: (NoMemory|AllocError|AllocFailed|SpawnError|Refused \{ refusal: NoMemory,)' "$work/err"; }; then
         echo "status $status"
         return
     else
@@ -117,6 +118,10 @@ each "$hub" tests::hub::the_last_serial_number_is_given_once
 each "$hub" tests::hub::a_hub_serves_three_subscriptions_until_it_is_closed
 each "$core" tests::cells::a_life_is_whole_or_is_refused_memory
 each "$days" tests::a_refusal_changes_nothing_else
+for name in refusing::a_refused_call_changes_nothing errors::an_error_of_one_subscription_is_no_completion \
+    ends::an_inbox_is_told_of_an_error_and_of_its_cancel queues::a_cut_queue_gives_nothing; do
+    each "$inboxes" "tests::$name"
+done
 each "$publisher" tests::submitters::one_submitter_more_than_there_may_be_is_refused
 # Whoever asks for one submitter too many is refused memory first, if that is short.
 if ! grep -q ', of one submitter more$' "$work/errors"; then

@@ -2,7 +2,7 @@
 
 usage: threads.py PROGRAM REFUSE.so
 
-Two sources with 2 workers, and three with 4 workers and with 1. A run has to end by itself within ten seconds, in one of these ways:
+Two sources with 2 workers, and three with 4 workers and with 1. A run has to end by itself within ten minutes, in one of these ways:
 
 - with status 1, `lines_demo: refused 5 memory` or `lines_demo: memory` on standard error, and nothing on standard output;
 - with status 1, `lines_demo: refused 5 memory` and a beginning of a report, where the report could not be written;
@@ -70,9 +70,9 @@ class Run:
         for number in range(1, MOST):
             room = {**os.environ, "REFUSE": str(number), "LD_PRELOAD": hook}
             try:
-                ran = subprocess.run([program, *self.words], input=self.given, capture_output=True, timeout=10, env=room)
+                ran = subprocess.run([program, *self.words], input=self.given, capture_output=True, timeout=600, env=room)
             except subprocess.TimeoutExpired:
-                return f"request {number}: it had not ended after ten seconds"
+                return f"request {number}: it had not ended after ten minutes"
             said = ran.stderr.replace(b"request refused\n", b"")
             if said == ran.stderr:
                 break

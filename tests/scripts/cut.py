@@ -22,9 +22,9 @@ def answer(text):
 def wrong(program, text):
     """What is wrong with the program's answers, if anything is."""
     try:
-        ran = subprocess.run([program, "script"], input=text, capture_output=True, timeout=10)
+        ran = subprocess.run([program, "script"], input=text, capture_output=True, timeout=600)
     except subprocess.TimeoutExpired:
-        return "it had not ended after ten seconds"
+        return "it had not ended after ten minutes"
     if (ran.returncode, ran.stdout, ran.stderr) == (0, answer(text), b""):
         return None
     return f"status {ran.returncode}, output {ran.stdout!r:.200}, standard error {ran.stderr!r:.100}"

@@ -25,7 +25,7 @@ play() {
     rm -f "$work/log"
     status=0
     # shellcheck disable=SC2086
-    timeout 10 env "$@" STREAMS_LOG="$work/log" LD_PRELOAD="$work/streams.so" "$program" $words \
+    timeout 600 env "$@" STREAMS_LOG="$work/log" LD_PRELOAD="$work/streams.so" "$program" $words \
         <"$work/in" >"$work/out" 2>"$work/err" || status=$?
 }
 

@@ -2,14 +2,14 @@
 
 usage: rows.py PROGRAM
 
-A run has 20 seconds; one that has not ended then has failed.
+A run has ten minutes; one that has not ended then has failed.
 """
 
 import os
 import subprocess
 import sys
 
-SECONDS = 20
+SECONDS = 600
 OPTIONS = ["--workers", "1", "--cap", "4"]
 LONGEST = b"x" * 4096
 HERE = os.path.dirname(os.path.realpath(__file__))
@@ -35,12 +35,13 @@ class Rows:
         self.count += 1
         got = self.run(words, given, stdout)
         for what, is_now, wanted in zip(("status", "output", "standard error"), got, (status, output, said)):
-            if is_now != wanted:
+            if not (wanted(is_now) if callable(wanted) else is_now == wanted):
                 self.faults.append(f"{name}: {what} {is_now!r:.300}, where it should be {wanted!r:.300}")
 
     def refused(self, name, words, given, refusal):
-        """A row that is refused, before anything is published."""
-        self.row(name, words, given, b"", 2, b"lines_demo: refused " + refusal + b"\n")
+        """A row that is refused, before anything is published: a line says why, and then the word for machines."""
+        word = b"lines_demo: refused " + refusal
+        self.row(name, words, given, b"", 2, lambda said: said.endswith(b"\n") and [word] == said.split(b"\n")[1:-1] and not said.startswith((b"\n", word)))
 
     def wrong(self, name, words):
         """A command line that `clap` refuses, in its own words."""
@@ -213,7 +214,7 @@ def command_lines(rows):
 
 
 def explained(rows):
-    """What is said of a refusal beforehand, if that is asked for, and nothing of a run that isn't refused."""
+    """What is said of a refusal beforehand, whether that is asked for or not, and nothing of a run that isn't refused."""
     few, five = b"7 t\n", b"7 t\n" * 5
     for name, words, given, said, refusal in (
         ("a word of workers", options("x", 4) + ["a:1"], few, b"--workers: x: a number has digits alone", b"12 command"),
@@ -240,8 +241,10 @@ def explained(rows):
         ),
         ("a wait", options(1, 1) + ["b:9", "a:3"], five, b"a:3: it requests 3 of 5 items, and its buffer holds 1", b"11 wait"),
     ):
-        rows.row(f"{name}, explained", ["--explain", *words], given, b"", 2, said + b"\nlines_demo: refused " + refusal + b"\n")
-    rows.row("nothing to explain", ["--explain", *options(2, 1), "a:3"], EXAMPLE, b"a 1 q\na 2 p\na 2 r\na complete 3\ndrained 1\n")
+        for option in ([], ["--explain"]):
+            rows.row(f"{name}, explained", [*option, *words], given, b"", 2, said + b"\nlines_demo: refused " + refusal + b"\n")
+    for option in ([], ["--explain"]):
+        rows.row("nothing to explain", [*option, *options(2, 1), "a:3"], EXAMPLE, b"a 1 q\na 2 p\na 2 r\na complete 3\ndrained 1\n")
 
 
 def writers(rows):

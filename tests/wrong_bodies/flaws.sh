@@ -1,12 +1,14 @@
 #!/usr/bin/env bash
 # Plants flaws of its own in a tiny crate, and compares what try.py says of each: a bug is refused, and all else is reported.
 # All is tried over what a check kept of the crate without them: what has changed since has to be proved anew. What was refused is kept, and
-# is tried again as soon as the edit, the crate or a crate below it has changed.
-# It needs the toolchain's command `rt`, and takes some twenty checks of a crate of six functions and a few of one above it, three or four
+# is tried again as soon as the edit, the crate or a crate below it has changed. A line of the repository stands for what was refused on another
+# machine; one that is forged is found as soon as it is drawn.
+# It needs the toolchain's command `rt`, and takes some twenty checks of a crate of six functions and a few of one above it, four or five
 # minutes.
 set -eu
 try=$(cd "$(dirname "$0")/../.." && pwd)/tools/wrong_bodies/try.py
 work=$(mktemp -d)
+root=$work
 trap 'rm -rf "$work"' EXIT
 crate=$work/crates/tiny
 export XDG_CACHE_HOME="$work/cache"
@@ -105,13 +107,13 @@ edit() {
 
 # try: runs try.py on the tiny crate. The status has to be 1 where anything fails, and 0 else.
 try() {
-    try_kept --anew "$@"
+    try_kept --all "$@"
 }
 
 # try_kept: the same, but for what earlier runs saw refused.
 try_kept() {
     status=0
-    "$try" --root "$work" "$@" >"$work/said" 2>&1 || status=$?
+    "$try" --root "$root" "$@" >"$work/said" 2>&1 || status=$?
 }
 
 # is_kept NAME: what try_kept tries is refused, and this edit was not tried.
@@ -119,7 +121,7 @@ is_kept() {
     try_kept "$@"
     [ "$status" -eq 0 ]
     said "$1: refused: kept: "
-    said '1 of these kept from earlier runs'
+    said '1 of these kept from earlier runs on this machine, 0 by their lines'
     said '1 passed, 0 failed'
     if grep -q 'proved as it is' "$work/said"; then
         echo "$1 was tried again"
@@ -134,6 +136,38 @@ is_tried() {
     said "$1: refused: note: src/lib.rt:"
     said '0 of these kept from earlier runs'
     said '1 passed, 0 failed'
+}
+
+# at_a_commit TEXT WORD..: try_kept at one commit after another, each of which draws other lines, until it writes a line that begins so.
+at_a_commit() {
+    wanted=$1
+    shift
+    for _ in $(seq 200); do
+        git -C "$root" commit --quiet --allow-empty --message another
+        try_kept "$@"
+        if grep -q "^$wanted" "$work/said"; then
+            return
+        fi
+    done
+    echo "at none of 200 commits a line with: $wanted"
+    exit 1
+}
+
+# forge NAME: adds the line of this edit of the tiny crate that fits.
+forge() {
+    python3 - "$(dirname "$try")" "$root" "$1" >>"$root/crates/tiny/wrong-bodies/kept" <<'END'
+import sys
+
+sys.dont_write_bytecode = True
+_, tools, root, name = sys.argv
+sys.path.append(tools)
+from crate import Crate
+from kept import Kept
+
+crate, kept = Crate("tiny", [], [], root, [f"tiny/{name}"]), Kept(True)
+kept.recall(crate, root)
+print(name, kept.sum_of(crate.edits[0], crate))
+END
 }
 
 # said TEXT: it wrote a line that begins so.
@@ -205,25 +239,75 @@ said 'tiny/half_a_pair: it has no pair'
 said "tiny/another_end.txt: its name doesn't end in .edit"
 said '9 passed, 14 failed'
 
-# An edit that was refused is kept. It is tried again if it changes, if its crate does, and with --anew; one that was not refused always is.
-# What it says of a promise is no change.
-is_kept tiny/a_bug
+# An edit that was refused is kept. It is tried again if it changes, if its crate does, and with --all; one that was not refused always is.
+# What it says of a promise is no change. A line that fits no longer, or is another's, is ignored.
+lines=$crate/wrong-bodies/kept
+is_kept tiny/a_bug --write
+[ "$(grep -vc '^#' "$lines")" -eq 9 ]
+cp "$lines" "$work/lines"
+is_kept tiny/a_bug --write
+cmp "$lines" "$work/lines"
+is_tried tiny/a_bug --all
+said '0 lines taken, 1 tried (all), 0 ignored'
+said 'all 1 wrong bodies were tried'
 edit a_bug 'old: if a < b' 'new: if a == b'
 is_tried tiny/a_bug
+said ', 1 ignored'
 is_kept tiny/a_bug
 printf '%s\n' 'shows: least its only one' 'says: The answer is the smaller number.' >>"$crate/wrong-bodies/a_bug.edit"
-is_kept tiny/a_bug
+is_kept tiny/a_bug --write
+[ "$(diff "$work/lines" "$lines" | sed -n 's/^> \([^ ]*\) .*/\1/p')" = a_bug ]
+[ "$(grep -vc '^#' "$lines")" -eq 9 ]
 echo '// A comment more.' >>"$crate/src/lib.rt"
 is_tried tiny/a_bug
-is_tried tiny/a_bug --anew
+said ', 1 ignored'
 sed -i '/^\/\/ A comment more/d' "$crate/src/lib.rt"
 is_kept tiny/a_bug
-try_kept tiny/no_bug
+cp "$lines" "$work/lines"
+sed -n 's/^a_bug /no_bug /p' "$work/lines" >>"$lines"
+try_kept tiny/no_bug --write
 [ "$status" -eq 1 ]
 said 'tiny/no_bug: LET THROUGH'
-said '0 of these kept from earlier runs'
+said '0 of these kept from earlier runs on this machine, 0 by their lines'
+said ', 1 ignored'
+cmp "$lines" "$work/lines"
 edit a_bug 'old: if a < b' 'new: if a > b'
+is_kept tiny/a_bug --write
 sum=$("$try" --root "$work" --sum)
+
+# In a clone on another machine a line stands for a try, unless it is drawn by the commit. What is tried then is kept there.
+export GIT_CONFIG_GLOBAL=/dev/null GIT_AUTHOR_NAME=One GIT_COMMITTER_NAME=One GIT_AUTHOR_EMAIL=one@example GIT_COMMITTER_EMAIL=one@example
+root=$work/clone
+mkdir "$root"
+cp -r "$work/crates" "$work/crates.txt" "$root"
+git -C "$root" init --quiet
+export XDG_CACHE_HOME="$root/cache"
+at_a_commit '1 lines taken' tiny/a_bug
+[ "$status" -eq 0 ]
+said 'tiny/a_bug: refused: kept: by its line in wrong-bodies/kept'
+said '0 of these kept from earlier runs on this machine, 1 by their lines'
+said '1 passed, 0 failed'
+at_a_commit '0 lines taken, 1 tried' tiny/a_bug
+[ "$status" -eq 0 ]
+said 'tiny/a_bug: refused: note: src/lib.rt:'
+said '1 passed, 0 failed'
+is_kept tiny/a_bug
+
+# A forged line is believed only until it is drawn.
+forge no_bug
+at_a_commit '1 lines taken' tiny/no_bug --write
+[ "$status" -eq 0 ]
+grep -q '^no_bug ' "$root/crates/tiny/wrong-bodies/kept"
+at_a_commit '0 lines taken, 1 tried' tiny/no_bug --write
+[ "$status" -eq 1 ]
+said 'tiny/no_bug: LET THROUGH'
+said 'FALSE LINE: the prover does not refuse tiny/no_bug'
+said '0 passed, 1 failed'
+cmp "$root/crates/tiny/wrong-bodies/kept" "$lines"
+# The gate below refuses another repository in this one.
+rm -rf "$root"
+root=$work
+export XDG_CACHE_HOME="$work/cache"
 
 try tiny/no_such_edit
 [ "$status" -eq 1 ]
@@ -280,10 +364,13 @@ is_kept above/a_bug
 # Beside `rt ci`, by what that has printed so far: a crate waits until its libraries are proved, or until the run has ended.
 find "$crate/wrong-bodies" -type f ! -name a_bug.edit -delete
 echo 'rt: tiny proved' >"$work/ci"
-"$try" --root "$work" --anew --follow "$work/ci" >"$work/said" 2>&1 &
+"$try" --root "$work" --all --follow "$work/ci" >"$work/said" 2>&1 &
 trying=$!
-for _ in $(seq 60); do
-    grep -q '^tiny: ' "$work/said" || sleep 1
+for _ in $(seq 900); do
+    if grep -q '^tiny: ' "$work/said"; then
+        break
+    fi
+    sleep 1
 done
 said 'tiny: 1 of 1 refused'
 if grep -q '^above' "$work/said"; then

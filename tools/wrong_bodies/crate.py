@@ -27,7 +27,7 @@ class Crate:
         self.name, self.libraries, self.below, self.folder = name, libraries, below, f"{root}/crates/{name}"
         folder = f"{self.folder}/wrong-bodies"
         files = sorted(os.listdir(folder)) if os.path.isdir(folder) else []
-        edits = [Edit(f"{folder}/{it}", self.folder) for it in files if not it.endswith(".md")]
+        edits = [Edit(f"{folder}/{it}", self.folder) for it in files if it != "kept" and not it.endswith(".md")]
         is_wanted = lambda edit: not wanted or name in wanted or f"{name}/{edit.name}" in wanted
         self.edits = [it for it in edits if is_wanted(it)]
         self.checks, self.seconds, self.room = 0, 0.0, None
@@ -118,9 +118,14 @@ class Crate:
         good = [it for it in self.edits if it.why is None]
         for edit in good:
             edit.place(self.folder)
+            edit.is_tried = True
         for batch in batches(good, self.folder):
             self.try_batch(batch)
         shutil.rmtree(room)
+
+    def has_edit(self, name):
+        """Whether there is an edit of this name, be it wanted or not."""
+        return os.path.exists(f"{self.folder}/wrong-bodies/{name}.edit")
 
     def is_left(self):
         """Whether any edit is still to be tried."""

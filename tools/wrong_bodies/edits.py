@@ -56,8 +56,8 @@ class Edit:
         self.name = os.path.basename(file).removesuffix(".edit")
         self.texts, self.changes, self.is_refused, self.why = {}, [], False, None
         self.clauses, self.goals = [], []
-        # What it reads as, what it tells of a promise, and whether it was refused in an earlier run.
-        self.text, self.telling, self.is_kept = "", [], False
+        # What it reads as, what it tells of a promise, and whether it was refused in an earlier run, or tried in this one.
+        self.text, self.telling, self.is_kept, self.is_tried = "", [], False, False
         if not file.endswith(".edit"):
             self.why = "its name doesn't end in .edit"
             return

@@ -2,7 +2,8 @@
 ~/.cache/wrong_bodies.
 
 What is kept of an edit has the sum of all that its verdict stands on as its name: the edit, the sources of its crate and of those below,
-their lines of crates.txt, the toolchain, and the scripts beside this one. So it never goes stale. What was not refused is not kept.
+their lines of crates.txt, the toolchain, and the scripts beside this one that judge. So it never goes stale, and is the same on every
+machine. What was not refused is not kept.
 """
 
 import glob
@@ -14,6 +15,8 @@ import time
 
 from sources import sum_of
 
+# The scripts on which no verdict stands. They say what is tried and when, and keep what was refused.
+KEEPERS = ("try.py", "kept.py", "lines.py")
 # What nobody has asked for in as many seconds goes.
 MOST_AGE = 90 * 24 * 3600
 
@@ -21,29 +24,34 @@ MOST_AGE = 90 * 24 * 3600
 def tool_sum():
     """A sum of the toolchain's name and of the scripts that judge."""
     found = hashlib.sha256(subprocess.run(["rt", "version"], stdout=subprocess.PIPE, check=True).stdout)
-    for file in sorted(glob.glob(f"{os.path.dirname(os.path.realpath(__file__))}/*.py")):
-        with open(file, "rb") as it:
-            found.update(repr((os.path.basename(file), it.read())).encode())
+    folder = os.path.dirname(os.path.realpath(__file__))
+    for name in sorted(it for it in os.listdir(folder) if it.endswith(".py") and it not in KEEPERS):
+        with open(f"{folder}/{name}", "rb") as it:
+            found.update(repr((name, it.read())).encode())
     return found.hexdigest()
 
 
 class Kept:
-    """What earlier runs saw refused. With `is_anew` it has nothing to say, and keeps what this run sees."""
+    """What earlier runs saw refused. With `is_all` it has nothing to say, and keeps what this run sees."""
 
-    def __init__(self, is_anew):
+    def __init__(self, is_all):
         home = os.environ.get("XDG_CACHE_HOME") or os.path.expanduser("~/.cache")
-        self.is_anew, self.folder, self.tools = is_anew, f"{home}/wrong_bodies", tool_sum()
+        self.is_all, self.folder, self.tools = is_all, f"{home}/wrong_bodies", tool_sum()
 
-    def file_of(self, edit, crate, sources):
-        """Where the verdict on an edit of a crate is kept, whose sources and those below have this sum."""
-        words = (self.tools, sources, crate, edit.name, edit.text)
-        return f"{self.folder}/{hashlib.sha256(repr(words).encode()).hexdigest()}"
+    def sum_of(self, edit, crate):
+        """The sum of all that the verdict on an edit of the crate stands on, by the sum of the sources that was taken of the crate."""
+        words = (self.tools, crate.sources, crate.name, edit.name, edit.text)
+        return hashlib.sha256(repr(words).encode()).hexdigest()
+
+    def file_of(self, edit, crate):
+        """Where the verdict on an edit of the crate is kept."""
+        return f"{self.folder}/{self.sum_of(edit, crate)}"
 
     def recall(self, crate, root):
         """Notes of each edit of the crate whether it was refused before, with what was said then."""
         crate.sources = sum_of(root, [*crate.below, crate.name])
-        for edit in (it for it in crate.edits if it.why is None and not self.is_anew):
-            file = self.file_of(edit, crate.name, crate.sources)
+        for edit in (it for it in crate.edits if it.why is None and not self.is_all):
+            file = self.file_of(edit, crate)
             try:
                 with open(file, encoding="utf-8") as it:
                     edit.why = it.read()
@@ -62,7 +70,7 @@ class Kept:
             # Written apart and then renamed, so that no other run meets half of it.
             with tempfile.NamedTemporaryFile("w", encoding="utf-8", dir=self.folder, prefix="new-", delete=False) as it:
                 it.write(edit.why)
-            os.replace(it.name, self.file_of(edit, crate.name, crate.sources))
+            os.replace(it.name, self.file_of(edit, crate))
 
     def forget_old(self):
         """Removes what nobody has asked for in a long time."""

@@ -24,7 +24,10 @@ With --follow LOG it runs beside `rt ci`, which prints to LOG: a crate is tried 
 proved, or has ended, and over what it has built, if the sources are those of the start.
 
 What it saw refused is kept on this machine (kept.py), and is not tried again as long as all that the verdict stands on is the
-same; with --anew all are tried.
+same. The lines of crates/NAME/wrong-bodies/kept (lines.py) say the same of what was refused on another machine. They are only a text, so a
+tenth of them is drawn by the commit's hash and tried: if the prover doesn't refuse what a line says it did, that line is false, and the
+run fails. A line whose sum doesn't fit is ignored. With --all every edit is tried. With --write these files are written at the end: a line
+for each edit that is kept on this machine, and the lines that fit as they are; all others go.
 The last line is `N passed, M failed`. The status is 1 where anything failed, or where there was no edit to try.
 """
 
@@ -37,9 +40,11 @@ import time
 from concurrent.futures import ThreadPoolExecutor
 
 sys.dont_write_bytecode = True
-from crate import OF_CRATE, Crate, say
+from base import prove
+from crate import Crate, say
 from kept import Kept
-from sources import copy_crates, files_of, sum_of
+from lines import Lines, write_lines
+from sources import files_of, sum_of
 
 # What `rt ci` prints, or whoever runs it, once it has ended.
 END_OF_CI = re.compile(r"^([0-9]+ passed, [0-9]+ failed|rt ci has ended)$", re.M)
@@ -62,33 +67,6 @@ def crates_of(root, wanted):
     return sorted((it for it in crates if it.name in needed), key=lambda it: len(it.below))
 
 
-def is_built(crate, root):
-    """Whether the crate was built after its sources, and those of the crates below it, were last written."""
-    built = f"{root}/crates/{crate.name}/out/rlib/{crate.name}.rlib"
-    sources = (file for name in [*crate.below, crate.name] for file in files_of(f"{root}/crates/{name}"))
-    return os.path.isdir(built) and os.path.getmtime(built) >= max(map(os.path.getmtime, sources))
-
-
-def prove(crates, root, base, jobs, proved):
-    """Builds the crates below others in a copy, over what earlier checks kept, and proves the others there. Where the copy has
-    this sum of what was proved, only what isn't built is left to do. False where one is not proved."""
-    copy_crates({it.name: (*OF_CRATE, "out/rlib") for it in crates}, root, base)
-    low = {name for it in crates for name in it.below}
-    is_proved = sum_of(base, [it.name for it in crates]) == proved
-    if is_proved and all(is_built(it, base) for it in crates if it.name in low):
-        return True
-    for crate in crates:
-        if is_proved and crate.name not in low:
-            continue
-        crate.room = base
-        check = crate.run("rt", "lib" if crate.name in low else "check", "--jobs", str(jobs))
-        say(f"{crate.name}: {'proved' if check.is_proved else 'NOT PROVED'} as it is, {crate.seconds:.0f} seconds")
-        if not check.is_proved:
-            say(check.text)
-            return False
-    return True
-
-
 def try_crates(crates, root, jobs, proved, kept):
     """Tries the edits of the crates that are not kept, this many crates at a time; False if they are not proved as they are."""
 
@@ -108,10 +86,11 @@ def try_crates(crates, root, jobs, proved, kept):
     return True
 
 
-def without_kept(groups, root, kept):
+def without_kept(groups, root, kept, lines):
     """The groups of crates in which an edit is still to be tried. Of the crates of which none is, it says what became of their edits."""
     for crate in (it for group in groups for it in group if it.edits):
         kept.recall(crate, root)
+        lines.recall(crate, kept)
         if not crate.is_left():
             crate.report()
     needed = [{name for it in group if it.is_left() for name in [*it.below, it.name]} for group in groups]
@@ -140,10 +119,10 @@ def follow(log, root, groups, jobs, kept):
         return all([it.result() for it in runs])
 
 
-def try_groups(groups, root, given):
+def try_groups(groups, root, given, lines):
     """Tries these groups of crates as the command line has it, but for what is kept. False if a crate is not proved as it is."""
-    kept = Kept(given.anew)
-    groups = without_kept(groups, root, kept)
+    kept = Kept(given.all)
+    groups = without_kept(groups, root, kept, lines)
     if given.follow:
         are_proved = follow(given.follow, root, groups, given.jobs, kept)
     else:
@@ -152,12 +131,30 @@ def try_groups(groups, root, given):
     return are_proved
 
 
+def write(crates, root, let_through):
+    """Writes the lines of these crates, by what is kept on this machine by now and by the lines that fit, but none of what was let through."""
+    kept = Kept(False)
+    for crate in (it for name in crates for it in crates_of(root, [name]) if it.name == name):
+        kept.recall(crate, root)
+        write_lines(crate, kept, let_through)
+
+
+def report(edits, given, lines):
+    """Says what was taken for refused without a try, or that nothing was."""
+    kept = sum(edit.is_kept for _, edit in edits) - lines.taken
+    say(f"{kept} of these kept from earlier runs on this machine, {lines.taken} by their lines; --all tries them again")
+    lines.report()
+    if given.all and all(edit.is_tried for _, edit in edits):
+        say(f"all {len(edits)} wrong bodies were tried")
+
+
 def main():
     parser = argparse.ArgumentParser(description=__doc__, formatter_class=argparse.RawDescriptionHelpFormatter)
     parser.add_argument("--jobs", type=int, default=min(2, len(os.sched_getaffinity(0))), help="how many crates are tried at a time")
     parser.add_argument("--proved", metavar="SUM", help="the sum of sources that were proved as they are")
     parser.add_argument("--sum", action="store_true", help="print the sum of the sources, and try nothing")
-    parser.add_argument("--anew", action="store_true", help="try those that are kept, too")
+    parser.add_argument("--all", action="store_true", help="try those that are kept, too")
+    parser.add_argument("--write", action="store_true", help="write the lines crates/NAME/wrong-bodies/kept")
     parser.add_argument("--follow", metavar="LOG", help="run beside `rt ci`, which prints to this file")
     parser.add_argument("--root", default=f"{os.path.dirname(os.path.realpath(__file__))}/../..", help="another repository")
     parser.add_argument("wanted", nargs="*", metavar="NAME | NAME/EDIT", help="a crate, or one edit of it (all)")
@@ -171,15 +168,18 @@ def main():
     edits = [(it, edit) for group in groups for it in group for edit in it.edits]
     names = {name for it, edit in edits for name in (it.name, f"{it.name}/{edit.name}")}
     failed = [f"no edit {it}" for it in given.wanted if it not in names]
+    lines = Lines(root, given.all)
     if not edits:
         failed.append("no edit was tried")
-    elif not try_groups(groups, root, given):
+    elif not try_groups(groups, root, given, lines):
         failed.append("a crate is not proved as it is")
     else:
         failed += [f"{it.name}/{edit.name}" for it, edit in edits if not edit.is_refused]
+    report(edits, given, lines)
+    if given.write:
+        write([it.name for it in crates if it.edits], root, {f"{it.name}/{edit.name}" for it, edit in edits if not edit.is_refused})
     if failed:
         say(f"FAILED: {', '.join(failed)}")
-    say(f"{sum(edit.is_kept for _, edit in edits)} of these kept from earlier runs; --anew tries them again")
     say(f"{sum(edit.is_refused for _, edit in edits)} passed, {len(failed)} failed")
     return 1 if failed else 0
 

@@ -16,7 +16,9 @@ mod waits;
 use super::desks::has_told;
 use crate::Row;
 use feed_core::{Lane, Outlook};
-use flow_rules::{Collector, How, Listener, NoMemory, Shown, Signal, Subscriber, audit};
+use flow_rules::{
+    Collector, ErrorOrder, How, Listener, NoMemory, Shown, Signal, Subscriber, audit,
+};
 use parties::Parties;
 use std::alloc::Global;
 use std::process::Abort;
@@ -47,7 +49,22 @@ pub(super) fn left_of<B: Listener>(
     requires untold { B.told listener ≡ [] }
     requires unheard { B.replied listener ≡ [] }
 {
-    let mut parties = Parties::new(alloc, asked, listener)?;
+    left_in_order(rt, alloc, ErrorOrder::Overtake, listener, asked, rows)
+}
+
+// The same, where a closing error and the items are told in this order.
+pub(super) fn left_in_order<B: Listener>(
+    rt: &impl Abort,
+    alloc: Global,
+    order: ErrorOrder,
+    listener: B,
+    asked: usize,
+    rows: &[Row<'_>],
+) -> Result<Lane<B>, Fail>
+    requires untold { B.told listener ≡ [] }
+    requires unheard { B.replied listener ≡ [] }
+{
+    let mut parties = Parties::new_with(alloc, asked, order, listener)?;
     let wrong = parties.first_wrong(alloc, rows)?;
     assert!(rt; wrong.is_none(), "row {wrong:?} of its parties");
     Ok(parties.close().ok_or("it is still shared")?)

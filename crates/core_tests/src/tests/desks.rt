@@ -1,10 +1,11 @@
 //! The calls of a Desk, as rows, on listeners of each kind.
 ghost use Rattle.std.specs.Prelude.{◌≡◌, []};
 
+use super::cells::{Left, numbers};
 use super::play::{first_wrong, play};
 use super::subscribers::was_told;
 use crate::{Row, desk_of};
-use feed_core::Outlook;
+use feed_core::{Lane, Outlook};
 use flow_rules::{
     Collector, Fault, How, Listener, NoMemory, Shown, Subscriber, Tally, UNBOUNDED, audit,
 };
@@ -95,8 +96,8 @@ pub(super) fn has_told<S: Subscriber>(
     Ok(was_told(alloc, subscriber, told)? && audit(subscriber.told()))
 }
 
-/// Plays rows on listeners of each kind that are refused nothing, and compares what those were told that show it.
-pub(super) fn play_on_all(
+/// Plays rows on a collector, and compares what it was told.
+fn play_on_collectors(
     rt: &impl Abort,
     alloc: Global,
     asked: usize,
@@ -106,21 +107,65 @@ pub(super) fn play_on_all(
     let (collector, twin) = (Collector::new(alloc), Collector::new(alloc));
     let collector = play(rt, alloc, collector, twin, asked, rows)?;
     assert!(rt; has_told(alloc, &collector, told)?);
-    let (shown, twin) = (
-        Shown::new(Collector::new(alloc)),
-        Shown::new(Collector::new(alloc)),
-    );
+    Ok(())
+}
+
+/// Plays rows on a collector that shows what it was told, and compares it.
+fn play_on_shown(
+    rt: &impl Abort,
+    alloc: Global,
+    asked: usize,
+    rows: &[Row<'_>],
+    told: &[u8],
+) -> Result<(), Fail> {
+    let shown = Shown::new(Collector::new(alloc));
+    let twin = Shown::new(Collector::new(alloc));
     let shown = play(rt, alloc, shown, twin, asked, rows)?;
     assert!(rt; has_told(alloc, shown.subscriber(), told)?);
+    Ok(())
+}
+
+/// Plays rows on a subscriber in a box, and compares what it was told.
+fn play_on_boxed_subscribers(
+    rt: &impl Abort,
+    alloc: Global,
+    asked: usize,
+    rows: &[Row<'_>],
+    told: &[u8],
+) -> Result<(), Fail> {
     let boxed: Box<dyn Subscriber> = Box::new(alloc, Collector::new(alloc))?;
     let twin: Box<dyn Subscriber> = Box::new(alloc, Collector::new(alloc))?;
     assert!(rt; boxed.steady() && boxed.told().is_empty() && twin.told().is_empty());
     let boxed = play(rt, alloc, Shown::new(boxed), Shown::new(twin), asked, rows)?;
     assert!(rt; has_told(alloc, boxed.subscriber(), told)?);
+    Ok(())
+}
+
+/// Plays rows on a listener in a box, which doesn't show what it was told.
+fn play_on_boxed_listeners(
+    rt: &impl Abort,
+    alloc: Global,
+    asked: usize,
+    rows: &[Row<'_>],
+) -> Result<(), Fail> {
     let boxed: Box<dyn Listener> = Box::new(alloc, Tally::new())?;
     let twin: Box<dyn Listener> = Box::new(alloc, Tally::new())?;
     let _ = play(rt, alloc, boxed, twin, asked, rows)?;
     Ok(())
+}
+
+/// Plays rows on listeners of each kind that are refused nothing, and compares what those were told that show it.
+pub(super) fn play_on_all(
+    rt: &impl Abort,
+    alloc: Global,
+    asked: usize,
+    rows: &[Row<'_>],
+    told: &[u8],
+) -> Result<(), Fail> {
+    play_on_collectors(rt, alloc, asked, rows, told)?;
+    play_on_shown(rt, alloc, asked, rows, told)?;
+    play_on_boxed_subscribers(rt, alloc, asked, rows, told)?;
+    play_on_boxed_listeners(rt, alloc, asked, rows)
 }
 
 #[test]
@@ -154,26 +199,27 @@ fn leaves(
     alloc: Global,
     rows: &[Row<'_>],
     told: &[u8],
-    want: (u64, u64, u64, Option<How>, bool),
+    want: Left,
 ) -> Result<(), Fail> {
     let mut desk = desk_of(alloc, 4, Collector::new(alloc))?;
     let wrong = first_wrong(alloc, &mut desk, rows)?;
     assert!(rt; wrong.is_none(), "row {wrong:?}");
-    let lane = desk.into_lane();
-    assert!(rt;
-        (
-            lane.accepted,
-            lane.given,
-            lane.asked,
-            lane.ending,
-            lane.running
-        ) == want
-    );
-    let Some(subscriber) = lane.subscriber else {
-        assert!(rt; false, "no subscriber");
-        return Ok(());
+    is_left(rt, alloc, &desk.into_lane(), told, want)
+}
+
+/// Compares these numbers of what is left of a Desk, and what its subscriber was told.
+fn is_left(
+    rt: &impl Abort,
+    alloc: Global,
+    lane: &Lane<Collector>,
+    told: &[u8],
+    want: Left,
+) -> Result<(), Fail> {
+    assert!(rt; numbers(lane) == want);
+    let Some(subscriber) = &lane.subscriber else {
+        return Err(Fail::new("no subscriber"));
     };
-    assert!(rt; has_told(alloc, &subscriber, told)?);
+    assert!(rt; has_told(alloc, subscriber, told)?);
     Ok(())
 }
 

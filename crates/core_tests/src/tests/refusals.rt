@@ -2,6 +2,7 @@
 use flow_rules::{BadCapacity, Ending, Fault, How, IllegalArgument, Name, NoMemory, Refusal};
 use std::alloc::{AllocError, Global};
 use std::fmt::Display;
+use std::process::Abort;
 use std::test::Fail;
 
 /// Each refusal, with its number and its word.
@@ -72,25 +73,27 @@ fn unsettled(alloc: Global, names: &[&str]) -> Result<Refusal, Fail> {
     Ok(Refusal::Unsettled(unsettled))
 }
 
+/// Whether a refusal is explained by this line.
+fn explains(alloc: Global, refusal: Refusal, line: &str) -> Result<bool, AllocError> {
+    prints(alloc, &refusal.explain(), line)
+}
+
 #[test]
 fn a_refusal_is_explained_by_what_it_carries(rt: HostRuntime) -> Result<(), Fail> {
     let alloc = rt.alloc();
-    let held = Refusal::StillHeld(Name::parse("source-3")?);
-    assert!(rt; prints(alloc, &held.explain(), "source-3 is still held")?);
-    let one = unsettled(alloc, &["a"])?;
-    assert!(rt; prints(alloc, &one.explain(), "not ended: a")?);
-    let two = unsettled(alloc, &["a", "b-2"])?;
-    assert!(rt; prints(alloc, &two.explain(), "not ended: a, b-2")?);
-    let closed = Refusal::Closed(Ending::Normal);
-    assert!(rt; prints(alloc, &closed.explain(), "the publisher is closed")?);
-    let failed = Refusal::Closed(Ending::Failed(7));
-    assert!(rt;
-        prints(
-            alloc,
-            &failed.explain(),
-            "the publisher is closed with the error 7"
-        )?
-    );
+    let name = Name::parse("source-3")?;
+    assert!(rt; explains(alloc, Refusal::StillHeld(name), "source-3 is still held")?);
+    assert!(rt; explains(alloc, unsettled(alloc, &["a"])?, "not ended: a")?);
+    assert!(rt; explains(alloc, unsettled(alloc, &["a", "b-2"])?, "not ended: a, b-2")?);
+    for (ending, line) in [
+        (Ending::Normal, "the publisher is closed"),
+        (
+            Ending::Failed(7),
+            "the publisher is closed with the error 7",
+        ),
+    ] {
+        assert!(rt; explains(alloc, Refusal::Closed(ending), line)?, "{line}");
+    }
     Ok(())
 }
 
@@ -98,21 +101,10 @@ fn a_refusal_is_explained_by_what_it_carries(rt: HostRuntime) -> Result<(), Fail
 #[test]
 fn an_explanation_fits_each_call_that_is_refused_so(rt: HostRuntime) -> Result<(), Fail> {
     let alloc = rt.alloc();
-    assert!(rt;
-        prints(
-            alloc,
-            &Refusal::TooMany.explain(),
-            "there are as many as there may be"
-        )?
-    );
-    let exhausted = Refusal::Exhausted;
-    assert!(rt;
-        prints(
-            alloc,
-            &exhausted.explain(),
-            "as many were made as there may ever be"
-        )?
-    );
+    let many = "there are as many as there may be";
+    assert!(rt; explains(alloc, Refusal::TooMany, many)?);
+    let exhausted = "as many were made as there may ever be";
+    assert!(rt; explains(alloc, Refusal::Exhausted, exhausted)?);
     Ok(())
 }
 
@@ -132,26 +124,40 @@ fn each_refusal_is_explained_in_words_of_its_own(rt: HostRuntime) -> Result<(), 
     Ok(())
 }
 
+/// Compares what each of these values prints.
+fn are_printed<T: Display>(rt: &impl Abort, alloc: Global, rows: &[(T, &str)]) -> Result<(), Fail> {
+    for (value, line) in rows {
+        assert!(rt; prints(alloc, value, line)?, "{line}");
+    }
+    Ok(())
+}
+
+const ENDINGS: [(Ending, &str); 2] = [
+    (Ending::Normal, "closed"),
+    (Ending::Failed(7), "closed with the error 7"),
+];
+
+const FAULTS: [(Fault, &str); 2] = [
+    (Fault::IllegalArgument, "a request that is not positive"),
+    (Fault::IllegalState, "a second subscribing"),
+];
+
+const ENDS: [(How, &str); 5] = [
+    (
+        How::Errored(Fault::Published(7)),
+        "ended with an error: the publisher was closed with the error 7",
+    ),
+    (How::Completed, "completed"),
+    (How::Cancelled, "cancelled"),
+    (How::Failed(7), "a callback failed with the code 7"),
+    (How::OutOfMemory, "a callback ran out of memory"),
+];
+
 #[test]
 fn ends_and_faults_are_printed_in_words(rt: HostRuntime) -> Result<(), Fail> {
-    let alloc = rt.alloc();
-    assert!(rt; prints(alloc, &Ending::Normal, "closed")?);
-    assert!(rt; prints(alloc, &Ending::Failed(7), "closed with the error 7")?);
-    let published = "ended with an error: the publisher was closed with the error 7";
-    assert!(rt; prints(alloc, &How::Errored(Fault::Published(7)), published)?);
-    assert!(rt;
-        prints(
-            alloc,
-            &Fault::IllegalArgument,
-            "a request that is not positive"
-        )?
-    );
-    assert!(rt; prints(alloc, &Fault::IllegalState, "a second subscribing")?);
-    assert!(rt; prints(alloc, &How::Completed, "completed")?);
-    assert!(rt; prints(alloc, &How::Cancelled, "cancelled")?);
-    assert!(rt; prints(alloc, &How::Failed(7), "a callback failed with the code 7")?);
-    assert!(rt; prints(alloc, &How::OutOfMemory, "a callback ran out of memory")?);
-    Ok(())
+    are_printed(&rt, rt.alloc(), &ENDINGS)?;
+    are_printed(&rt, rt.alloc(), &FAULTS)?;
+    are_printed(&rt, rt.alloc(), &ENDS)
 }
 
 /// Refused with this, and with what was handed in.

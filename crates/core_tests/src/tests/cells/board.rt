@@ -44,6 +44,11 @@ impl Board {
         self.given.load(SeqCst)
     }
 
+    // Whether the subscription has ended.
+    pub fn has_ended(&self) -> bool {
+        self.ended.load(SeqCst)
+    }
+
     // Whether there never was a second task beside one.
     pub fn had_one_at_most(&self) -> bool {
         !self.doubled.load(SeqCst)
@@ -70,7 +75,7 @@ impl Board {
 pub fn run_all<R: Wait>(rt: &R, board: &Board, mut seen: Seen) {
     for _ in rt.forever() {
         if !board.run(rt, &mut seen) {
-            if board.ended.load(SeqCst) {
+            if board.has_ended() {
                 break;
             }
             thread::yield_now();

@@ -113,52 +113,70 @@ fn cancelled(
     Ok((producer, handle, task))
 }
 
-// Closed with its own handle, what is left counts what that did; while a task is alive, the producer comes back.
-#[test]
-fn its_own_handle_counts(rt: HostRuntime) -> Result<(), Fail> {
-    let alloc = rt.alloc();
-    let (one, of_one, alive) = cancelled(&rt, alloc)?;
-    let (other, of_other, task) = cancelled(&rt, alloc)?;
-    assert!(rt; close(one, of_one).is_err());
-    drop(alive);
+// Runs a turn of a task, which ends it as cancelled.
+fn ends(rt: &impl Abort, alloc: Global, task: Task<Told>) -> Result<(), Fail> {
     let mut seen = Seen::new(alloc)?;
-    assert!(rt;
-        matches!(
-            task.turn(&mut seen, &mut Patience::hurries()),
-            Turn::Ended(How::Cancelled, _)
-        )
-    );
-    let Ok(lane) = close(other, of_other) else {
+    let turn = task.turn(&mut seen, &mut Patience::hurries());
+    assert!(rt; matches!(turn, Turn::Ended(How::Cancelled, _)));
+    Ok(())
+}
+
+// Compares what is left of a cancelled subscription with what its handle did.
+fn counts(rt: &impl Abort, left: Result<Lane<Told>, Producer<Told>>) -> Result<(), Fail> {
+    let Ok(lane) = left else {
         return Err(Fail::new("it is still shared"));
     };
     assert!(rt; numbers(&lane) == (0, 0, 2, Some(How::Cancelled), false));
     Ok(())
 }
 
+// While a task is alive, the producer comes back from a close.
+fn is_kept_by_its_task(rt: &impl Abort, alloc: Global) -> Result<(), Fail> {
+    let (producer, handle, _alive) = cancelled(rt, alloc)?;
+    assert!(rt; close(producer, handle).is_err());
+    Ok(())
+}
+
+// Closed with its own handle, what is left counts what that did; while a task is alive, the producer comes back.
+#[test]
+fn its_own_handle_counts(rt: HostRuntime) -> Result<(), Fail> {
+    let alloc = rt.alloc();
+    is_kept_by_its_task(&rt, alloc)?;
+    let (producer, handle, task) = cancelled(&rt, alloc)?;
+    ends(&rt, alloc, task)?;
+    counts(&rt, close(producer, handle))
+}
+
+// One at rest is not shared.
+fn is_alone_at_rest(rt: &impl Abort, alloc: Global) -> Result<(), Fail> {
+    let (producer, handle) = at_rest(rt, alloc)?;
+    assert!(rt; !is_shared(&producer, &handle));
+    Ok(())
+}
+
+// Closes a subscription that is shared, and once more. Its producer, which comes back from each close.
+fn comes_back_twice(
+    rt: &impl Abort,
+    producer: Producer<Told>,
+    handle: Handle<Told>,
+) -> Result<Producer<Told>, Fail> {
+    assert!(rt; is_shared(&producer, &handle));
+    let Err(producer) = close(producer, handle) else {
+        return Err(Fail::new("it is shared"));
+    };
+    match close_again(producer) {
+        Err(producer) => Ok(producer),
+        Ok(_) => Err(Fail::new("it is still shared")),
+    }
+}
+
 // While its task is alive it is shared, and the producer comes back from each close; once that has ended it is left with what its handle did.
 #[test]
 fn one_whose_task_is_alive_is_shared(rt: HostRuntime) -> Result<(), Fail> {
     let alloc = rt.alloc();
-    let (resting, of_resting) = at_rest(&rt, alloc)?;
-    assert!(rt; !is_shared(&resting, &of_resting));
-    let (one, of_one, task) = cancelled(&rt, alloc)?;
-    assert!(rt; is_shared(&one, &of_one));
-    let Err(one) = close(one, of_one) else {
-        return Err(Fail::new("it is shared"));
-    };
-    let Err(one) = close_again(one) else {
-        return Err(Fail::new("it is still shared"));
-    };
-    let mut seen = Seen::new(alloc)?;
-    assert!(rt;
-        matches!(
-            task.turn(&mut seen, &mut Patience::hurries()),
-            Turn::Ended(How::Cancelled, _)
-        )
-    );
-    let Ok(lane) = close_again(one) else {
-        return Err(Fail::new("nobody shares it"));
-    };
-    assert!(rt; numbers(&lane) == (0, 0, 2, Some(How::Cancelled), false));
-    Ok(())
+    is_alone_at_rest(&rt, alloc)?;
+    let (producer, handle, task) = cancelled(&rt, alloc)?;
+    let producer = comes_back_twice(&rt, producer, handle)?;
+    ends(&rt, alloc, task)?;
+    counts(&rt, close_again(producer))
 }

@@ -1,6 +1,5 @@
 //! A closing error that waits for the items: of a Desk, and over a lock-free table.
-use super::is_told;
-use super::parties::Parties;
+use super::{is_told, left_in_order};
 use crate::Row;
 use crate::tests::desks::has_told;
 use crate::tests::play::first_wrong;
@@ -103,10 +102,7 @@ fn a_late_error_over_a_table(rt: HostRuntime) -> Result<(), Fail> {
     let alloc = rt.alloc();
     for (number, (rows, told)) in LIVES.iter().enumerate() {
         let listener = Shown::new(Collector::new(alloc));
-        let mut parties = Parties::new_with(alloc, 2, ErrorOrder::AfterItems, listener)?;
-        let wrong = parties.first_wrong(alloc, rows)?;
-        assert!(rt; wrong.is_none(), "row {wrong:?} at {number}");
-        let lane = parties.close().ok_or("it is still shared")?;
+        let lane = left_in_order(&rt, alloc, ErrorOrder::AfterItems, listener, 2, rows)?;
         assert!(rt; is_told(alloc, &lane, Some(told))?, "at {number}");
     }
     Ok(())

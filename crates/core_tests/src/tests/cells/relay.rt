@@ -11,9 +11,16 @@ use std::sync::{Arc, Wait};
 use std::test::Fail;
 use std::thread;
 use std::thread::{JoinHandle, Threads};
+use std::time::{Clock, Instant};
 
-// How many items are put.
+// How many items are put, if there is time for them.
 const ITEMS: u64 = 100_000;
+
+// For how many seconds they are put at most: on busy processors each may wait for another thread's turn.
+const TIME: u64 = 10;
+
+// How many items are put between two looks at the clock.
+const BETWEEN_LOOKS: u64 = 64;
 
 // How many items may be requested and not given.
 const MOST_AHEAD: u64 = 8;
@@ -50,22 +57,36 @@ fn put_one<R: Wait>(
     Ok(())
 }
 
-// Puts the items in order, and closes.
-fn put_all<R: Wait>(
+// Whether the time is over. It isn't if the clock doesn't tell.
+fn is_late<R: Clock>(rt: &R, start: &Instant) -> bool {
+    match start.elapsed(rt) {
+        Ok(time) => time.as_secs() >= TIME,
+        Err(_) => false,
+    }
+}
+
+// Puts the items in order while there is time, and closes. How many it put.
+fn put_all<R: Clock + Wait>(
     rt: &R,
     board: &Board,
     mut putting: Putting<InOrder>,
     text: &Text,
-) -> Result<Producer<InOrder>, NoMemory> {
+    start: Instant,
+) -> Result<(Producer<InOrder>, u64), NoMemory> {
+    let mut many = 0;
     for serial in 0..ITEMS {
+        if serial % BETWEEN_LOOKS == 0 && is_late(rt, &start) {
+            break;
+        }
         put_one(rt, board, &mut putting, item_of(serial, text)?)?;
+        many = serial + 1;
     }
     putting.producer.ready()?;
     board.post(rt, putting.producer.end(Ending::Normal));
-    Ok(putting.producer)
+    Ok((putting.producer, many))
 }
 
-// Requests as many items as are put, a few ahead of those that are given.
+// Requests items, a few ahead of those that are given, until the subscription has ended or all are requested.
 fn request_all<R: Wait>(
     rt: &R,
     board: &Board,
@@ -73,7 +94,7 @@ fn request_all<R: Wait>(
 ) -> Result<Handle<InOrder>, NoMemory> {
     let mut asked = 0;
     for _ in rt.forever() {
-        if asked >= ITEMS {
+        if asked >= ITEMS || board.has_ended() {
             break;
         }
         if asked >= board.given().saturating_add(MOST_AHEAD) {
@@ -99,12 +120,14 @@ fn start_runner<R: Threads + Wait + Send + Copy + 'static>(
     Ok(thread::spawn(&rt, move || run_all(&rt, &board, seen))?)
 }
 
-// Shares a subscription between a thread that puts, one that requests, and two that run its task. What is left of it.
-fn relay<R: Threads + Wait + Send + Copy + 'static>(
+// Shares a subscription between a thread that puts, one that requests, and two that run its task. What is left of it, and how
+// many items were put.
+fn relay<R: Clock + Threads + Wait + Send + Copy + 'static>(
     rt: R,
     alloc: Global,
     asked: usize,
-) -> Result<Lane<InOrder>, Fail> {
+) -> Result<(Lane<InOrder>, u64), Fail> {
+    let start = Instant::now(&rt)?;
     let Ok((producer, handle, task)) = Cell::new(alloc, capacity(asked)?, InOrder::new()) else {
         return Err(NoMemory.into());
     };
@@ -113,16 +136,19 @@ fn relay<R: Threads + Wait + Send + Copy + 'static>(
     let board = Arc::new(alloc, Board::of(task))?;
     let putting = Putting::new(producer);
     let (of_producer, of_handle) = (Arc::try_clone(&board)?, Arc::try_clone(&board)?);
-    let puts = thread::spawn(&rt, move || put_all(&rt, &of_producer, putting, &text))?;
+    let puts = thread::spawn(
+        &rt,
+        move || put_all(&rt, &of_producer, putting, &text, start),
+    )?;
     let requests = thread::spawn(&rt, move || request_all(&rt, &of_handle, handle))?;
     let runner = start_runner(rt, alloc, &board)?;
     let other = start_runner(rt, alloc, &board)?;
-    let producer = puts.join(&rt)?;
+    let (producer, many) = puts.join(&rt)?;
     let handle = requests.join(&rt)?;
     runner.join(&rt);
     other.join(&rt);
     match close(producer, handle) {
-        Ok(lane) if board.had_one_at_most() => Ok(lane),
+        Ok(lane) if board.had_one_at_most() => Ok((lane, many)),
         _ => Err(Fail::new("a second task")),
     }
 }
@@ -130,11 +156,16 @@ fn relay<R: Threads + Wait + Send + Copy + 'static>(
 #[test]
 fn four_threads_share_a_subscription(rt: HostRuntime) -> Result<(), Fail> {
     for asked in [1, 4, 64] {
-        let lane = relay(rt, rt.alloc(), asked)?;
-        assert!(rt; numbers(&lane) == (ITEMS, ITEMS, ITEMS, Some(How::Completed), false));
+        let (lane, many) = relay(rt, rt.alloc(), asked)?;
+        let requested = lane.asked;
+        assert!(rt; numbers(&lane) == (many, many, requested, Some(How::Completed), false));
+        assert!(rt;
+            many <= requested && requested <= ITEMS,
+            "{requested} requested of {many}"
+        );
         assert!(rt;
             lane.subscriber
-                .is_some_and(|listener| listener.has_all(ITEMS))
+                .is_some_and(|listener| listener.has_all(many))
         );
     }
     Ok(())

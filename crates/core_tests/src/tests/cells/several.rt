@@ -3,7 +3,7 @@ ghost use Rattle.std.specs.Prelude.{◌≡◌, ◌≤◌, [], length};
 
 use super::in_order::InOrder;
 use feed_cell::{Cell, Handle, Patience, Producer, Task, Turn, close};
-use feed_core::Seen;
+use feed_core::{Lane, Seen};
 use flow_rules::{
     Ending, Feed, Item, Listener, MOST_PUBLICATIONS, NoMemory, PutAll, Text, capacity,
 };
@@ -127,35 +127,52 @@ fn new_one(
     Ok((batching, handle))
 }
 
+// Ends it, and runs the task that this starts.
+fn is_ended(rt: &impl Abort, alloc: Global, batching: &mut Batching<InOrder>) -> Result<(), Fail> {
+    batching.producer.ready()?;
+    let task = batching.producer.end(Ending::Normal);
+    runs(rt, alloc, task.ok_or("the end started no task")?)
+}
+
+// Whether the listener that is left was told all.
+fn has_all(left: Result<Lane<InOrder>, Producer<InOrder>>) -> Result<bool, Fail> {
+    let Ok(lane) = left else {
+        return Err(Fail::new("it is still shared"));
+    };
+    match &lane.subscriber {
+        Some(listener) => Ok(listener.has_all(ITEMS)),
+        None => Err(Fail::new("its subscriber is lost")),
+    }
+}
+
+// Whether a listener is told all in batches of this many, with room for this many.
+fn are_told(rt: &impl Abort, alloc: Global, places: usize, many: u64) -> Result<bool, Fail> {
+    let (mut batching, handle) = new_one(rt, alloc, places)?;
+    puts_all(rt, alloc, &mut batching, many)?;
+    is_ended(rt, alloc, &mut batching)?;
+    has_all(close(batching.producer, handle))
+}
+
 #[test]
 fn batches_are_told_in_order(rt: HostRuntime) -> Result<(), Fail> {
     for (places, many) in [(1, 1), (4, 4), (4, 3), (256, 64), (256, 20)] {
-        let (mut batching, handle) = new_one(&rt, rt.alloc(), places)?;
-        puts_all(&rt, rt.alloc(), &mut batching, many)?;
-        batching.producer.ready()?;
-        let task = batching
-            .producer
-            .end(Ending::Normal)
-            .ok_or("the end started no task")?;
-        runs(&rt, rt.alloc(), task)?;
-        let lane = close(batching.producer, handle)
-            .ok()
-            .ok_or("it is still shared")?;
-        let listener = lane.subscriber.ok_or("its subscriber is lost")?;
         assert!(rt;
-            listener.has_all(ITEMS),
+            are_told(&rt, rt.alloc(), places, many)?,
             "batches of {many} with room for {places}"
         );
     }
     Ok(())
 }
 
-#[test]
-fn a_batch_comes_back_from_an_end_that_is_closed(rt: HostRuntime) -> Result<(), Fail> {
-    let (mut batching, _handle) = new_one(&rt, rt.alloc(), 4)?;
+// Puts three items after an end, which come back.
+fn gives_back(
+    rt: &impl Abort,
+    alloc: Global,
+    batching: &mut Batching<InOrder>,
+) -> Result<(), Fail> {
     batching.producer.ready()?;
     let _task = batching.producer.end(Ending::Normal);
-    match batching.put_all(batch(rt.alloc(), 0, 3)?)? {
+    match batching.put_all(batch(alloc, 0, 3)?)? {
         Some(PutAll::Gone(back)) => assert!(rt; back.len() == 3, "not all came back"),
         _ => return Err("a closed end took them".into()),
     }
@@ -163,29 +180,44 @@ fn a_batch_comes_back_from_an_end_that_is_closed(rt: HostRuntime) -> Result<(), 
 }
 
 #[test]
-fn a_second_batch_starts_no_second_task(rt: HostRuntime) -> Result<(), Fail> {
+fn a_batch_comes_back_from_an_end_that_is_closed(rt: HostRuntime) -> Result<(), Fail> {
     let (mut batching, _handle) = new_one(&rt, rt.alloc(), 4)?;
-    let Some(
-        PutAll::Accepted {
+    gives_back(&rt, rt.alloc(), &mut batching)
+}
+
+// Puts two batches into a buffer that has room for both, and one for which there is none.
+fn starts_one(
+    rt: &impl Abort,
+    alloc: Global,
+    batching: &mut Batching<InOrder>,
+) -> Result<(), Fail> {
+    let first = batching.put_all(batch(alloc, 0, 2)?)?;
+    let is_started = matches!(
+        &first,
+        Some(PutAll::Accepted {
             lag: 2,
-            start: Some(_task),
-        },
-    ) = batching.put_all(batch(rt.alloc(), 0, 2)?)?
-    else {
-        return Err("the first batch".into());
-    };
-    let Some(
-        PutAll::Accepted {
+            start: Some(_),
+        },)
+    );
+    assert!(rt; is_started, "the first batch");
+    let second = batching.put_all(batch(alloc, 2, 4)?)?;
+    let is_put = matches!(
+        &second,
+        Some(PutAll::Accepted {
             lag: 4,
             start: None,
-        },
-    ) = batching.put_all(batch(rt.alloc(), 2, 4)?)?
-    else {
-        return Err("the second batch".into());
-    };
+        },)
+    );
+    assert!(rt; is_put, "the second batch");
     assert!(rt;
-        batching.put_all(batch(rt.alloc(), 4, 5)?)?.is_none(),
+        batching.put_all(batch(alloc, 4, 5)?)?.is_none(),
         "there is no room"
     );
     Ok(())
+}
+
+#[test]
+fn a_second_batch_starts_no_second_task(rt: HostRuntime) -> Result<(), Fail> {
+    let (mut batching, _handle) = new_one(&rt, rt.alloc(), 4)?;
+    starts_one(&rt, rt.alloc(), &mut batching)
 }

@@ -24,23 +24,41 @@ fn requested(handle: &mut Handle<Collector>) -> Result<Task<Collector>, Fail> {
     Ok(handle.request(1).ok_or("a request starts no task")?)
 }
 
-// In how many turns of a subscription that gets no item, one after the other, this patience learned something.
-fn lessons(alloc: Global, mut patience: Patience) -> Result<u32, Fail> {
-    let Ok((_producer, mut handle, task)) = Cell::new(alloc, capacity(64)?, Collector::new(alloc))
-    else {
+// The parties of a subscription with room for 64 items, whose task rested once.
+fn at_rest(
+    alloc: Global,
+    seen: &mut Seen,
+) -> Result<(Putting<Collector>, Handle<Collector>), Fail> {
+    let Ok((producer, handle, task)) = Cell::new(alloc, capacity(64)?, Collector::new(alloc)) else {
         return Err(Fail::new("no memory for a subscription"));
     };
-    let mut seen = Seen::new(alloc)?;
-    rests(task, &mut seen, &mut Patience::hurries())?;
+    let putting = Putting::new(producer);
+    rests(task, seen, &mut Patience::hurries())?;
+    Ok((putting, handle))
+}
+
+// In how many turns of a subscription that gets no item, one after the other, this patience learned something.
+fn learned(
+    handle: &mut Handle<Collector>,
+    seen: &mut Seen,
+    patience: &mut Patience,
+) -> Result<u32, Fail> {
     let mut lessons: u32 = 0;
     for _ in 0..TURNS {
-        let before = patience;
-        rests(requested(&mut handle)?, &mut seen, &mut patience)?;
-        if patience != before {
+        let before = *patience;
+        rests(requested(handle)?, seen, patience)?;
+        if *patience != before {
             lessons = lessons.saturating_add(1);
         }
     }
     Ok(lessons)
+}
+
+// The same, of a new subscription.
+fn lessons(alloc: Global, mut patience: Patience) -> Result<u32, Fail> {
+    let mut seen = Seen::new(alloc)?;
+    let (_putting, mut handle) = at_rest(alloc, &mut seen)?;
+    learned(&mut handle, &mut seen, &mut patience)
 }
 
 // Waits in vain become shorter, but there is a shortest one.
@@ -57,20 +75,13 @@ fn one_who_hurries_learns_nothing(rt: HostRuntime) -> Result<(), Fail> {
     Ok(())
 }
 
-// What two items in a row leave of a patience after a wait in vain behind them, and what this leaves of the longest.
-fn after_two_items(alloc: Global, mut patience: Patience) -> Result<(Patience, Patience), Fail> {
-    let Ok((producer, mut handle, task)) = Cell::new(alloc, capacity(64)?, Collector::new(alloc))
-    else {
-        return Err(Fail::new("no memory for a subscription"));
-    };
-    let mut putting = Putting::new(producer);
-    let mut seen = Seen::new(alloc)?;
-    let mut longest = Patience::waits();
-    rests(task, &mut seen, &mut Patience::hurries())?;
-    rests(requested(&mut handle)?, &mut seen, &mut longest)?;
-    for _ in 0..TURNS {
-        rests(requested(&mut handle)?, &mut seen, &mut patience)?;
-    }
+// Puts two items in a row, and runs the task that the first one starts.
+fn put_two(
+    alloc: Global,
+    putting: &mut Putting<Collector>,
+    seen: &mut Seen,
+    patience: &mut Patience,
+) -> Result<(), Fail> {
     let Put::Accepted {
         start: Some(task),
         ..
@@ -81,7 +92,17 @@ fn after_two_items(alloc: Global, mut patience: Patience) -> Result<(Patience, P
     let Put::Accepted { start: None, .. } = putting.put(item_with(alloc, b"y")?)? else {
         return Err(Fail::new("another item starts a task"));
     };
-    rests(task, &mut seen, &mut patience)?;
+    rests(task, seen, patience)
+}
+
+// What two items in a row leave of a patience after a wait in vain behind them, and what this leaves of the longest.
+fn after_two_items(alloc: Global, mut patience: Patience) -> Result<(Patience, Patience), Fail> {
+    let mut seen = Seen::new(alloc)?;
+    let mut longest = Patience::waits();
+    let (mut putting, mut handle) = at_rest(alloc, &mut seen)?;
+    rests(requested(&mut handle)?, &mut seen, &mut longest)?;
+    learned(&mut handle, &mut seen, &mut patience)?;
+    put_two(alloc, &mut putting, &mut seen, &mut patience)?;
     Ok((patience, longest))
 }
 
