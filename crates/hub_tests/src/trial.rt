@@ -1,7 +1,7 @@
 //! A Hub as tests call it: its calls as rows, with what each has to answer.
 mod by_policy;
 mod places;
-mod several;
+mod publishing;
 mod why;
 
 ghost use Rattle.std.specs.Prelude.{◌≡◌, ◌≤◌, IfOk};
@@ -18,7 +18,7 @@ use close_count::Count;
 use feed_core::Desk;
 use flow_rules::{Collector, DropHandler, Ending, Feed, Name, NoMemory, Refusal, Text, capacity};
 pub use places::Spot;
-use publisher_hub::{Hub, OnFull, USUAL_LIVE, Unpublished, Work};
+use publisher_hub::{Hub, Need, OnFull, USUAL_LIVE, Work};
 use std::alloc::Global;
 use test_kit::Notes;
 pub use why::Why;
@@ -104,8 +104,17 @@ impl<F: Feed> Trial<F> {
     {
         match ask {
             Ask::MaySubscribe(letter, number) => Ok(self.may_subscribe(letter)? == number),
-            Ask::Publishes(want) => Ok(self.publish_again() == want),
-            Ask::PublishesSeveral(many, want) => Ok(self.publish_several_again(many) == want),
+            Ask::Publishes(want) => {
+                Ok(
+                    self.publish(1, Need::All)
+                        .map(|publication| publication.lag)
+                        == want,
+                )
+            }
+            Ask::PublishesSeveral(many, want) => {
+                let answer = self.publish(many, Need::All);
+                Ok(answer.map(|publication| (publication.many, publication.lag)) == want)
+            }
             Ask::Offers(want) => Ok(self.offer_again() == want),
             Ask::Shows(many, lag, room) => Ok(self.show() == (many, lag, room)),
             Ask::Names(letters) => self.are_names(letters),
@@ -133,17 +142,6 @@ impl<F: Feed> Trial<F> {
         }
     }
 
-    /// What a publication answers, or its second call where memory was refused to the first, which has changed nothing.
-    fn publish_again(&mut self) -> Result<u64, Why>
-        requires sound { IsSound (hub_of F.meaning self.old.hub) }
-        ensures sound { IsSound (hub_of F.meaning self.new.hub) }
-    {
-        match self.publish() {
-            Err(Why::Number(5)) => self.publish(),
-            answer => answer,
-        }
-    }
-
     /// What an offer without a handler answers, or its second call where memory was refused to the first.
     fn offer_again(&mut self) -> Result<i64, Why>
         requires sound { IsSound (hub_of F.meaning self.old.hub) }
@@ -152,19 +150,6 @@ impl<F: Feed> Trial<F> {
         match self.offer(None) {
             Err(Why::Number(5)) => self.offer(None),
             answer => answer,
-        }
-    }
-
-    /// What a publication answers.
-    fn publish(&mut self) -> Result<u64, Why>
-        requires sound { IsSound (hub_of F.meaning self.old.hub) }
-        ensures sound { IsSound (hub_of F.meaning self.new.hub) }
-    {
-        let text = text_of(self.alloc)?;
-        match self.hub.publish(0, text, &mut self.due) {
-            Ok(lag) => Ok(lag),
-            Err(Unpublished::NoRoom(_)) => Err(Why::Full),
-            Err(Unpublished::Refused(refusal)) => Err(refusal.into()),
         }
     }
 

@@ -2,5 +2,4 @@
 pub mod Batches
 pub mod GivenBack
 pub mod SentTexts
-pub mod TextsBack
 pub mod TogetherSums

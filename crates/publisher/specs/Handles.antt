@@ -8,7 +8,7 @@ use Rattle.flow_rules.specs.declared.refusal.Refusal.TheVariants.{Closed, Duplic
 use Rattle.publisher_hub.specs.declared.hub.publish.Unpublished.{Unpublished}
 use Rattle.publisher_hub.specs.declared.hub.publish.Unpublished.TheVariants.{NoRoom, Refused}
 use Rattle.publisher.specs.Note.{known_by}
-use Rattle.publisher.specs.declared.state.look.Need.{Need}
+use Rattle.publisher_hub.specs.declared.policy.Need.{Need}
 
 -- a subscription: its number, how many subscriptions were made before it, and its handle
 pub record SubscriptionState : Type 0 where
@@ -87,9 +87,9 @@ IsHubRefusal _ = ⊥
 
 abbrev pub IsHubReason : Unpublished → Type 0
 IsHubReason (Refused refusal) = IsHubRefusal refusal
-IsHubReason (NoRoom text) = ⊤
+IsHubReason NoRoom = ⊤
 
--- why a text was not published, and whose room it needs
+-- why a text was not published, and whose room is needed
 pub record NotPublishedState : Type 0 where
   pub reason : Unpublished
   pub need : Need

@@ -1,22 +1,18 @@
 -- What a publication looks for, and what it adds to a submitter's shares; and how several are made one after the other.
-use Rattle.std.specs.Prelude.{◌≡◌, ℕ, zero, suc, ◌+◌, ◌<◌, ◌⊎◌, ℤ, pos, negsuc, Bool, true, Option, None, Some, IsSome, List, [], ◌∷◌, drop, length, slice_get}
+use Rattle.std.specs.Prelude.{◌≡◌, ℕ, ◌<◌, ℤ, pos, negsuc, Bool, true, Option, None, IsSome, List, [], ◌∷◌, drop, length}
 use Rattle.feed_cell.specs.Offering.{DoesCall}
 use Rattle.feed_cell.specs.Parties.{ProducerState, TaskState}
 use Rattle.flow_rules.specs.declared.feed.standing.Standing.{Standing}
-use Rattle.flow_rules.specs.declared.refusal.Refusal.TheVariants.{NoMemory}
 use Rattle.publisher_hub.specs.Looking.{IsRoom, IsRoomForWaiters, LooksAtAll}
-use Rattle.publisher_hub.specs.Publishing.{PublishesByPolicy, RefusesByPolicy, RefusesItem}
-use Rattle.publisher_hub.specs.Several.{PublishesSeveral}
+use Rattle.publisher_hub.specs.Publishing.{PublishesTexts, RefusesTexts, both, nothing_published}
 use Rattle.publisher_hub.specs.declared.entry.Entry.{Entry}
 use Rattle.publisher_hub.specs.declared.hub.Hub.{Hub}
-use Rattle.publisher_hub.specs.declared.hub.publish.Unpublished.{Unpublished}
-use Rattle.publisher_hub.specs.declared.hub.publish.Unpublished.TheVariants.{Refused}
-use Rattle.publisher_hub.specs.declared.hub.several.PublishedFirst.{PublishedFirst}
-use Rattle.publisher_hub.specs.declared.policy.Published.{Published}
+use Rattle.publisher_hub.specs.declared.hub.publish.Publication.{Publication}
+use Rattle.publisher_hub.specs.declared.policy.Need.{Need}
+use Rattle.publisher_hub.specs.declared.policy.Need.TheVariants.{All, Waiters}
 use Rattle.publisher_hub.specs.declared.work.Work.{Work}
+use Rattle.publisher.specs.Handles.{NotPublishedState}
 use Rattle.publisher.specs.State.{PublisherState, producer_end}
-use Rattle.publisher.specs.declared.state.look.Need.{Need}
-use Rattle.publisher.specs.declared.state.look.Need.TheVariants.{All, Waiters}
 use Rattle.publisher.specs.declared.state.publish.Stopped.{Stopped}
 
 -- this says whether looks showed room at those whose room is needed
@@ -39,69 +35,31 @@ abbrev pub drop_of : ℤ → ℕ
 drop_of (pos lag) = 0
 drop_of (negsuc drops) = 1
 
--- a publication that this many subscriptions lost counts once as one that found a buffer full, if any did
-abbrev pub loss_of : ℕ → ℕ
-loss_of zero = 0
-loss_of (suc dropped) = 1
+-- texts of this source were published in their order, by these publications, the last one first, each of which needs this
+-- room; and this is what they did together
+abbrev pub PublishesBy : Need → ℕ → List (List ℕ) → List Publication → Publication
+    → Hub ProducerState → Hub ProducerState → List (Work TaskState) → List (Work TaskState) → Type 0
+PublishesBy need source texts [] all old new due_old due_new =
+    (all ≡ nothing_published) × ((new ≡ old) × (due_new ≡ due_old))
+PublishesBy need source texts (last ∷ publications) all old new due_old due_new =
+    (middle : Hub ProducerState) × ((due : List (Work TaskState)) × ((before : Publication)
+    × (PublishesBy need source texts publications before old middle due_old due
+    × (PublishesTexts producer_end DoesCall need source (drop before.many texts)
+    middle new due due_new last
+    × (all ≡ both before last)))))
 
--- this many of these texts were published by this source, in their order, in these batches, the last batch first: of each
--- as many at once as had room at all; this is the lag after the last, or 0
-abbrev pub PublishesBatches : ℕ → List (List ℕ) → List PublishedFirst → ℕ → Hub ProducerState
-    → Hub ProducerState → List (Work TaskState) → List (Work TaskState) → ℕ → Type 0
-PublishesBatches source texts [] n old new due_old due_new lag =
-    (n ≡ 0) × ((new ≡ old) × ((due_new ≡ due_old) × (lag ≡ 0)))
-PublishesBatches source texts (last ∷ batches) n old new due_old due_new lag =
-    (middle : Hub ProducerState) × ((due : List (Work TaskState)) × ((before : ℕ)
-    × ((lag_before : ℕ)
-    × (PublishesBatches source texts batches before old middle due_old due lag_before
-    × (PublishesSeveral producer_end DoesCall source (drop before texts) middle new due due_new last
-    × ((n ≡ before + last.many) × (lag ≡ last.lag)))))))
-
--- the first n of these texts were published by this source, in their order, each by policy; this is the lag after the
--- last, or 0, and this many of them at least one subscription lost
-abbrev pub PublishesEach : ℕ → List (List ℕ) → ℕ → Hub ProducerState → Hub ProducerState
-    → List (Work TaskState) → List (Work TaskState) → ℕ → ℕ → Type 0
-PublishesEach source texts zero old new due_old due_new lag lost =
-    (new ≡ old) × ((due_new ≡ due_old) × ((lag ≡ 0) × (lost ≡ 0)))
-PublishesEach source texts (suc n) old new due_old due_new lag lost =
-    (middle : Hub ProducerState) × ((due : List (Work TaskState)) × ((before : ℕ)
-    × ((lost_before : ℕ) × ((text : List ℕ) × ((published : Published)
-    × ((slice_get texts n ≡ Some text)
-    × (PublishesEach source texts n old middle due_old due before lost_before
-    × (PublishesByPolicy producer_end DoesCall source text middle new due due_new published
-    × ((lag ≡ published.lag) × (lost ≡ lost_before + loss_of published.dropped))))))))))
-
--- the first n of these texts were published by this source, in their order, each as a publication of its own: several at
--- once if the room of all is needed, and then none is lost; else one by one
-abbrev pub PublishesFirst : Need → ℕ → List (List ℕ) → ℕ → Hub ProducerState → Hub ProducerState
-    → List (Work TaskState) → List (Work TaskState) → ℕ → ℕ → Type 0
-PublishesFirst All source texts n old new due_old due_new lag lost =
-    ((batches : List PublishedFirst)
-    × PublishesBatches source texts batches n old new due_old due_new lag) × (lost ≡ 0)
-PublishesFirst Waiters source texts n old new due_old due_new lag lost =
-    PublishesEach source texts n old new due_old due_new lag lost
-
--- why a text was not published, if this room is needed
-abbrev pub RefusesNeeded : Need → List ℕ → Hub ProducerState → Hub ProducerState → Unpublished
-    → Type 0
-RefusesNeeded All text old new why = RefusesItem producer_end DoesCall text old new why
-RefusesNeeded Waiters text old new why = RefusesByPolicy producer_end DoesCall text old new why
-
--- a share of a text was not published: memory for the share was refused, and nothing has changed; or its publication
--- was refused, as any
-abbrev pub RefusesShared : Need → List ℕ → PublisherState → PublisherState → Unpublished → Type 0
-RefusesShared need text old new why = ((new ≡ old) × (why ≡ Refused NoMemory))
-    ⊎ RefusesNeeded need text old.hub new.hub why
+-- the first of these texts were published by this source, in their order, which did this
+abbrev pub PublishesFirst : Need → ℕ → List (List ℕ) → Publication
+    → Hub ProducerState → Hub ProducerState → List (Work TaskState) → List (Work TaskState) → Type 0
+PublishesFirst need source texts all old new due_old due_new = (publications : List Publication)
+    × PublishesBy need source texts publications all old new due_old due_new
 
 -- the first of these texts were published, and the next one was not
-pub record StopsAt (need : Need) (source : ℕ) (texts : List (List ℕ)) (stopped : Stopped)
-    (old new : PublisherState) (due_old due_new : List (Work TaskState)) : Type 0 where
-  pub less : stopped.published < length texts
-  pub text : List ℕ
-  pub next : slice_get texts stopped.published ≡ Some text
+pub record StopsAt (need : Need) (source : ℕ) (texts : List (List ℕ))
+    (stopped : Stopped NotPublishedState) (old new : PublisherState)
+    (due_old due_new : List (Work TaskState)) : Type 0 where
+  pub less : stopped.before.many < length texts
   pub middle : PublisherState
-  pub lag : ℕ
-  pub first : PublishesFirst need source texts stopped.published old.hub middle.hub due_old due_new
-      lag stopped.lost
-  pub why : RefusesShared need text middle new stopped.why.reason
+  pub first : PublishesFirst need source texts stopped.before old.hub middle.hub due_old due_new
+  pub why : RefusesTexts producer_end DoesCall need middle.hub new.hub stopped.why.reason
   pub needs : stopped.why.need ≡ need

@@ -4,8 +4,9 @@ use Rattle.flow_rules.specs.declared.refusal.Refusal.{Refusal}
 use Rattle.flow_rules.specs.declared.refusal.Refusal.TheVariants.{Closed, LineTooLong}
 use Rattle.flow_rules.specs.declared.text.TheConstants.Text.{LONGEST}
 use Rattle.publisher.specs.Handles.{SubmitterState, after_refusal}
-use Rattle.publisher.specs.Publishing.{drop_of, loss_of}
-use Rattle.publisher.specs.declared.submitter.several.PublishedPart.{PublishedPart}
+use Rattle.publisher_hub.specs.Publishing.{loss_of}
+use Rattle.publisher.specs.Publishing.{drop_of}
+use Rattle.publisher.specs.declared.submitter.batch.PublishedPart.{PublishedPart}
 
 -- a submitter that knows of the close is refused with that ending, and nothing has changed
 abbrev pub RefusesKnown : {A : Type 0} → Result A Refusal → SubmitterState → SubmitterState → Type 0

@@ -76,7 +76,7 @@ pub use publisher_hub::{
     Figures, MOST_ENTRIES, MOST_LIVE, MOST_SOURCES, OnFull, Published, USUAL_LIVE,
 };
 pub use refused::Refused;
-pub use state::{PublishedAll, Stats};
-pub use submitter::{PublishedPart, Submitter, Unsent};
+pub use state::Stats;
+pub use submitter::{PublishedAll, PublishedPart, Submitter, Unsent};
 pub use subscription::Subscription;
 pub use watch_each::{Look, WatchEach};

@@ -1,8 +1,8 @@
 //! A submitter: a source of publications, and what it learns of the close.
 //!
 //! It waits here, outside the lock, as long as there is no room. What is published behind the lock stands in `state`.
-mod by_policy;
-mod several;
+mod batch;
+mod send;
 
 ghost use Rattle.std.specs.Arc.{arc_value};
 ghost use Rattle.once_cell.specs.Once.{cell_name};
@@ -10,20 +10,19 @@ ghost use Rattle.std.specs.Prelude.{◌≡◌, ◌+◌, ◌<◌, ◌≤◌, ◌�
 ghost use Rattle.flow_rules.specs.declared.refusal.Refusal.TheVariants as Refusal;
 ghost use Rattle.flow_rules.specs.declared.text.TheConstants.Text.{LONGEST};
 ghost use Rattle.publisher.specs.Handles.{IsHubRefusal, RefusesPublication, after_refusal};
-ghost use Rattle.publisher.specs.Submitting.{CountsOffer, RefusesKnown, RefusesLong};
+ghost use Rattle.publisher.specs.Submitting.{CountsOffer, CountsPublished, RefusesKnown, RefusesLong};
 
 use crate::dispatcher::Dispatcher;
 use crate::ledgers::Ledgers;
 use crate::note::Note;
 use crate::state::{Own, Refused};
-use crossbeam_utils::Backoff;
+pub use batch::{PublishedAll, PublishedPart, Unsent};
 use feed_cell::Task;
 use flow_rules::{
     DropHandler, Ending, FailHandler, LastFailure, Listener, NoMemory, Refusal, Text,
 };
 use once_cell::race::OnceBox;
-use publisher_hub::Work;
-pub use several::{PublishedPart, Unsent};
+use publisher_hub::{Need, Publication, Published, Work};
 use std::alloc::Global;
 use std::fmt;
 use std::marker::Model;
@@ -112,10 +111,37 @@ impl<L: Ledgers + Send, B: Listener + Send, F: FailHandler + Send> Submitter<L, 
         ensures unchanged { IfErr result (λ refusal. self.new ≡ after_refusal refusal self.old) }
         ensures refusals { IfErr result (λ refusal. RefusesPublication refusal self.new.known) }
     {
-        let text = self.admit(alloc, text)?;
-        match self.submit_text(rt, text) {
-            Ok(lag) => Ok(lag),
-            Err(refused) => Err(self.hear(alloc, refused)),
+        let texts = [self.admit(alloc, text)?];
+        match self.send(rt, &texts, Need::All) {
+            Ok(done) => Ok(done.lag),
+            Err(stopped) => Err(self.hear(alloc, stopped.why)),
+        }
+    }
+
+    /// Publishes a text to all live subscriptions, as each of them said when it was subscribed. It waits, as
+    /// [`submit`](Submitter::submit) does, as long as one that says [`OnFull::Wait`](crate::OnFull::Wait) has no room,
+    /// and never for one that says [`OnFull::Drop`](crate::OnFull::Drop): if the buffer of such a subscription is full,
+    /// it loses the text, and that is counted as a drop. (`SubmissionPublisher` has no such method.) The answer is the
+    /// longest backlog of any subscription that got the text, in items, and how many lost it.
+    ///
+    /// It is refused as [`submit`](Submitter::submit) is.
+    pub fn publish<R: Wait>(
+        &mut self,
+        rt: &R,
+        alloc: Global,
+        text: &[u8],
+    ) -> Result<Published, Refusal>
+        ensures known { RefusesKnown result self.old self.new }
+        ensures long { RefusesLong result self.old text.now }
+        ensures ok { IfOk result
+            (λ published. CountsPublished text.now published.dropped self.old self.new) }
+        ensures unchanged { IfErr result (λ refusal. self.new ≡ after_refusal refusal self.old) }
+        ensures refusals { IfErr result (λ refusal. RefusesPublication refusal self.new.known) }
+    {
+        let texts = [self.admit(alloc, text)?];
+        match self.send(rt, &texts, Need::Waiters) {
+            Ok(Publication { lag, dropped, .. }) => Ok(Published { lag, dropped }),
+            Err(stopped) => Err(self.hear(alloc, stopped.why)),
         }
     }
 
@@ -213,39 +239,6 @@ impl<L: Ledgers + Send, B: Listener + Send, F: FailHandler + Send> Submitter<L, 
             return Err(Refusal::LineTooLong);
         }
         Ok(Text::new(alloc, text)?)
-    }
-
-    /// Publishes a text, and waits as long as there is no room.
-    fn submit_text<R: Wait>(&mut self, rt: &R, text: Text) -> Result<u64, Refused>
-        ensures ok { OnOk result (self.new ≡ record self.old {
-          published = self.old.published + 1;
-          sent = self.old.sent ++ text ∷ [];
-        }) }
-        ensures unchanged { OnErr result (self.new ≡ self.old) }
-    {
-        let Submitter {
-            dispatcher,
-            own,
-            due,
-            ..
-        } = self;
-        let mut text = text;
-        let mut looks = 0;
-        let backoff = Backoff::new();
-        for _ in rt.forever() {
-            let published = dispatcher
-                .shared
-                .lock_to_publish(rt)
-                .publish(own, text, due);
-            dispatcher.start_all(rt, due);
-            let no_room = match published {
-                Ok(lag) => return Ok(lag),
-                Err(why) => why.no_room()?,
-            };
-            looks = dispatcher.pause(rt, looks, &backoff, &no_room);
-            text = no_room.into_text();
-        }
-        unreachable!()
     }
 
     /// Learns what a refusal of the Hub tells of the close. The answer is the refusal, with the ending that all learn;

@@ -4,7 +4,7 @@ pub mod AnsweredOffer
 pub mod Backlogs
 pub mod FullBuffers
 pub mod OneSubscription
+pub mod OneText
 pub mod SecondTries
-pub mod WholeByPolicy
 pub mod WholeOffer
 pub mod WholePublication

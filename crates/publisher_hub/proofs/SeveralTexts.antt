@@ -6,4 +6,5 @@ pub mod Items
 pub mod OneSubscription
 pub mod Refused
 pub mod Rooms
+pub mod Shown
 pub mod Whole

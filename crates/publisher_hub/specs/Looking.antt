@@ -13,6 +13,8 @@ use Rattle.publisher_hub.specs.Policy.{is_waited_for}
 use Rattle.publisher_hub.specs.declared.entry.Entry.{Entry}
 use Rattle.publisher_hub.specs.declared.hub.Hub.{Hub}
 use Rattle.publisher_hub.specs.declared.hub.room.Room.{Room}
+use Rattle.publisher_hub.specs.declared.policy.Need.{Need}
+use Rattle.publisher_hub.specs.declared.policy.Need.TheVariants.{All, Waiters}
 
 -- an end that was looked at any number of times, and may have been made ready
 pub record Follows (e f : End) : Type 0 where
@@ -67,6 +69,16 @@ pub record IsRoom (room : Bool) (capacity : ℕ) (glances : List (Option Standin
 -- of the subscriptions that looks showed to be full, the numbers of those that publications wait for
 abbrev pub full_waiters : {F : Type 0} → ℕ → List (Entry F) → List (Option Standing) → List ℕ
 full_waiters capacity entries glances = filter (is_waited_for entries) (full capacity glances)
+
+-- of the subscriptions that looks showed to be full, the numbers of those whose room is needed
+abbrev pub full_needed : {F : Type 0} → Need → ℕ → List (Entry F) → List (Option Standing) → List ℕ
+full_needed All capacity entries glances = full capacity glances
+full_needed Waiters capacity entries glances = full_waiters capacity entries glances
+
+-- whether those have room whose room is needed
+abbrev pub room_for : Need → Room → Bool
+room_for All room = room.everywhere
+room_for Waiters room = room.for_waiters
 
 -- this says whether looks showed no full buffer of those that publications wait for
 pub record IsRoomForWaiters {F : Type 0} (room : Bool) (capacity : ℕ) (entries : List (Entry F))

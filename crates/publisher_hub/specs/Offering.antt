@@ -14,6 +14,7 @@ use Rattle.publisher_hub.specs.Hub.{HubState, Progress}
 use Rattle.publisher_hub.specs.Lists.{Each, gather}
 use Rattle.publisher_hub.specs.Looking.{Follows, StaysRetired}
 use Rattle.publisher_hub.specs.declared.entry.Entry.{Entry}
+use Rattle.publisher_hub.specs.declared.hub.stamp.Stamp.{Stamp}
 
 -- a live subscription was looked at, and accepted the item
 pub record HasGrown (x : Item) (old new : EntryState) : Type 0 where
@@ -56,6 +57,15 @@ abbrev pub IsOffered : Item → EntryState → EntryState → Type 0
 IsOffered x old new =
     StaysRetired old new ⊎ (HasGrown x old new ⊎ (HasEnded x old new ⊎ HasDropped x old new))
 
+-- the item with these numbers and this text
+abbrev pub item_of : Stamp → List ℕ → Item
+item_of stamp text = record {
+  source = stamp.source;
+  seq = stamp.seq;
+  serial = stamp.serial;
+  text = text;
+}
+
 -- the item that a source publishes next
 pub record IsNextItem (progress : Progress) (x : Item) : Type 0 where
   pub serial : x.serial ≡ progress.next
@@ -89,11 +99,11 @@ abbrev pub ReachesAllFrom : ℕ → List ℕ → HubState → HubState → Type 
 ReachesAllFrom source text old new =
     (x : Item) × (((x.source ≡ source) × (x.text ≡ text)) × ReachesAll x old new)
 
--- another publication was counted, and it was of this source
-pub record CountsOne (source : ℕ) (old new : Progress) : Type 0 where
-  pub next : new.next ≡ old.next + 1
+-- this many more publications were counted, and they were of this source
+pub record Counts (source many : ℕ) (old new : Progress) : Type 0 where
+  pub next : new.next ≡ old.next + many
   pub counts : (count : ℕ) → slice_get old.counts source ≡ Some count
-      → new.counts ≡ slice_set old.counts source (count + 1)
+      → new.counts ≡ slice_set old.counts source (count + many)
   pub capacity : new.capacity ≡ old.capacity
   pub ending : new.ending ≡ old.ending
 

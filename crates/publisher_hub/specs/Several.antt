@@ -1,5 +1,5 @@
 -- What a publication of several texts does to each subscription of a Hub, and to the Hub.
-use Rattle.std.specs.Prelude.{◌≡◌, ◌⊎◌, ℕ, ◌+◌, ◌-◌, ◌<◌, ◌≤◌, true, false, min, max, fold, Option, None, Some, List, [], ◌∷◌, ◌++◌, length, slice_get, slice_set, take, Vec}
+use Rattle.std.specs.Prelude.{◌≡◌, ◌⊎◌, ℕ, ◌+◌, ◌-◌, ◌<◌, ◌≤◌, true, false, min, max, fold, Option, None, Some, List, [], ◌∷◌, ◌++◌, length, slice_get, take, Vec}
 use Rattle.std.specs.declared.alloc.Global.{Global}
 use Rattle.flow_rules.specs.Call.{Call}
 use Rattle.flow_rules.specs.Feed as Feed
@@ -12,15 +12,13 @@ use Rattle.flow_rules.specs.declared.item.TheConstants.{MOST_PUBLICATIONS}
 use Rattle.publisher_hub.specs.Becoming.{Called}
 use Rattle.publisher_hub.specs.Entry.{EntryState}
 use Rattle.publisher_hub.specs.Gathering.{work_of}
-use Rattle.publisher_hub.specs.Hub.{HubState, Progress, hub_of}
+use Rattle.publisher_hub.specs.Hub.{HubState, hub_of}
 use Rattle.publisher_hub.specs.Lists.{Each, EachBy, gather, greatest}
 use Rattle.publisher_hub.specs.Looking.{Prepares, StaysRetired, rooms}
 use Rattle.publisher_hub.specs.Offering.{IsNextItem, ReachesAll, progress_after}
-use Rattle.publisher_hub.specs.Publishing.{RefusesItem}
 use Rattle.publisher_hub.specs.declared.entry.Entry.{Entry}
 use Rattle.publisher_hub.specs.declared.hub.Hub.{Hub}
-use Rattle.publisher_hub.specs.declared.hub.publish.Unpublished.{Unpublished}
-use Rattle.publisher_hub.specs.declared.hub.several.PublishedFirst.{PublishedFirst}
+use Rattle.publisher_hub.specs.declared.hub.publish.Publication.{Publication}
 use Rattle.publisher_hub.specs.declared.work.Work.{Work}
 
 -- the items of a source with these texts, in order: the first has this number among those of its source, and this serial
@@ -122,13 +120,6 @@ ReachesAllFromTexts source texts old new =
     (seq : ℕ) × ((slice_get old.progress.counts source ≡ Some seq)
     × ReachesAllBy (items_from source seq old.progress.next texts) old new)
 
--- this many more publications were counted, and they were of this source
-pub record CountsSeveral (source many : ℕ) (old new : Progress) : Type 0 where
-  pub next : new.next ≡ old.next + many
-  pub counts : (count : ℕ) → slice_get old.counts source ≡ Some count
-      → new.counts ≡ slice_set old.counts source (count + many)
-  pub rest : new ≡ record old { next = new.next; counts = new.counts }
-
 -- a subscription after several items were offered to its end, by what that answered: one that takes no more items is
 -- retired before the first of them
 abbrev pub entry_after_puts : {F T : Type 0} → ℕ → PutAll T → F → Entry F → Entry F
@@ -152,25 +143,22 @@ module _ {F T : Type 0} (meaning : F → End) (does : F → Call T → F → Typ
   -- as had room at each of those that go on, and as may ever be published; and then each of those was offered all of
   -- these items at once
   pub record PublishesSeveral (source : ℕ) (texts : List (List ℕ)) (old new : Hub F)
-      (due_old due_new : List (Work T)) (first : PublishedFirst) : Type 0 where
+      (due_old due_new : List (Work T)) (publication : Publication) : Type 0 where
     pub seq : ℕ
     pub counted : slice_get old.counts.items source ≡ Some seq
     pub items : List Item
-    pub are : items ≡ items_from source seq old.next (take first.many texts)
+    pub are : items ≡ items_from source seq old.next (take publication.many texts)
     pub glances : List (Option Standing)
     pub puts : List (Option (PutAll T))
     pub middle : List (Entry F)
     pub looked : EachBy (Prepares meaning does old.next) glances old.entries.items middle
-    pub as_many : first.many
+    pub as_many : publication.many
         ≡ fold min (min (length texts) (MOST_PUBLICATIONS - old.next)) (rooms old.capacity glances)
-    pub some : 0 < first.many
+    pub some : 0 < publication.many
     pub each_put : EachBy (PutsSeveralTo old.next items) puts middle new.entries.items
     pub reaches : ReachesAllBy items (hub_of meaning old) (hub_of meaning new)
     pub no_dropping : new.dropping ≡ old.dropping
     pub due : due_new ≡ due_old ++ started_all puts
-    pub greatest_lag : first.lag ≡ greatest (lags_all puts)
-
-  -- the first of these texts was not published, nor any after it: nothing has changed but by looks
-  abbrev pub RefusesFirst : List (List ℕ) → Hub F → Hub F → Unpublished → Type 0
-  RefusesFirst texts old new why = (text : List ℕ)
-      × ((slice_get texts 0 ≡ Some text) × RefusesItem meaning does text old new why)
+    pub greatest_lag : publication.lag ≡ greatest (lags_all puts)
+    pub dropped : publication.dropped ≡ 0
+    pub lost : publication.lost ≡ 0

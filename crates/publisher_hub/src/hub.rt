@@ -3,16 +3,17 @@
 //! whoever calls it sees to it that the calls come one after the other, and that the tasks they start are run.
 
 mod admit;
-mod by_policy;
 mod close;
 mod gathering;
 mod look;
 mod offer;
 mod prepare;
+mod publication;
 mod publish;
 mod retire;
 mod room;
 mod several;
+mod stamp;
 mod stats;
 mod subscribe;
 
@@ -29,8 +30,7 @@ use crate::hub::gathering::Gathering;
 use crate::policy::OnFull;
 use close_count::Opening;
 use flow_rules::{Ending, Feed, MOST_PUBLICATIONS, Name, NoMemory, Refusal, capacity};
-pub use publish::Unpublished;
-pub use several::PublishedFirst;
+pub use publish::{Publication, Unpublished};
 pub use stats::Figures;
 use std::alloc::Global;
 

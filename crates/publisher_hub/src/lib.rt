@@ -7,7 +7,7 @@
 //! hub.may_subscribe(name, USUAL_LIVE, &mut due)?;
 //! let entry = hub.admit(name, desk, None, USUAL_LIVE, &mut due)?; // 0
 //! let source = hub.next_source()?;                                // 0
-//! let lag = hub.publish(source, text, &mut due)?;                 // 1
+//! let done = hub.publish(source, &[text], Need::All, &mut due)?;  // 1 text, with lag 1
 //! let opening = hub.end(Ending::Normal, &mut due)?;               // none was set
 //! let second = hub.next_serial();                                 // 1
 //! ```
@@ -21,8 +21,8 @@ mod work;
 
 pub use entry::AtClose;
 pub use hub::{
-    Figures, Hub, MOST_ENTRIES, MOST_LIVE, MOST_SOURCES, PublishedFirst, USUAL_LIVE, Unpublished,
+    Figures, Hub, MOST_ENTRIES, MOST_LIVE, MOST_SOURCES, Publication, USUAL_LIVE, Unpublished,
 };
 pub use laws::lent_feeds_keep_hubs_sound;
-pub use policy::{OnFull, Published};
+pub use policy::{Need, OnFull, Published};
 pub use work::Work;

@@ -1,10 +1,10 @@
-//! What a subscription says of publications that find its buffer full, and the answer to a publication that heeds it.
-//! What a Hub does by it stands in hub/by_policy.rt.
+//! What a subscription says of publications that find its buffer full, and whose room a publication needs. What a Hub
+//! does by it stands in hub/publish.rt.
 ghost use Rattle.std.specs.Prelude.{◌≡◌};
 ghost use Rattle.publisher_hub.specs.Policy.{waits};
 
-/// What becomes of an item that finds the buffer of a subscription full, if it is published by
-/// [`Hub::publish_by_policy`](crate::Hub::publish_by_policy). A subscription says it once, when it is added.
+/// What becomes of an item that finds the buffer of a subscription full, if its publication needs the room of
+/// [`Need::Waiters`] alone. A subscription says it once, when it is added.
 #[derive(Clone, Copy, Debug, PartialEq, Eq)]
 pub enum OnFull {
     /// It is published to nobody until there is room: this subscription loses nothing.
@@ -23,6 +23,15 @@ impl OnFull {
             OnFull::Drop => false,
         }
     }
+}
+
+/// Whose room a publication needs.
+#[derive(Clone, Copy, Debug, PartialEq, Eq)]
+pub enum Need {
+    /// That of all live subscriptions.
+    All,
+    /// That of those that say [`OnFull::Wait`].
+    Waiters,
 }
 
 /// What a publication that heeds each subscription's [`OnFull`] did.

@@ -3,10 +3,10 @@ ghost use Rattle.feed_core.specs.Feed.{end_of};
 ghost use Rattle.publisher_hub.specs.Hub.{hub_of};
 ghost use Rattle.publisher_hub.specs.Sound.{IsSound};
 
-use super::{Ask, Trial, Why, name_of, text_of};
+use super::{Ask, Trial, Why, name_of};
 use feed_core::Desk;
 use flow_rules::{Collector, Refusal, capacity};
-use publisher_hub::{OnFull, Published, USUAL_LIVE, Unpublished};
+use publisher_hub::{Need, OnFull, USUAL_LIVE};
 
 /// A call, and what it has to answer.
 #[derive(Clone, Copy)]
@@ -29,7 +29,10 @@ impl Trial<Desk<Collector>> {
     {
         match row {
             Row::Adds(letter, on_full) => self.add(letter, on_full),
-            Row::Publishes(want) => Ok(self.publish_twice() == want),
+            Row::Publishes(want) => {
+                let answer = self.publish(1, Need::Waiters);
+                Ok(answer.map(|publication| (publication.lag, publication.dropped)) == want)
+            }
             Row::HasRoom(want) => Ok(self.hub.has_room_for_waiters() == want),
             Row::Asks(ask) => self.answers(ask),
         }
@@ -58,29 +61,5 @@ impl Trial<Desk<Collector>> {
             &mut self.due,
         )?;
         Ok(true)
-    }
-
-    /// What a publication by policy answers, or its second call if memory was refused to the first.
-    fn publish_twice(&mut self) -> Result<(u64, u32), Why>
-        requires sound { IsSound (hub_of end_of self.old.hub) }
-        ensures sound { IsSound (hub_of end_of self.new.hub) }
-    {
-        match self.publish_by_policy() {
-            Err(Why::Number(5)) => self.publish_by_policy(),
-            answer => answer,
-        }
-    }
-
-    /// What a publication by policy answers.
-    fn publish_by_policy(&mut self) -> Result<(u64, u32), Why>
-        requires sound { IsSound (hub_of end_of self.old.hub) }
-        ensures sound { IsSound (hub_of end_of self.new.hub) }
-    {
-        let text = text_of(self.alloc)?;
-        match self.hub.publish_by_policy(0, text, &mut self.due) {
-            Ok(Published { lag, dropped }) => Ok((lag, dropped)),
-            Err(Unpublished::NoRoom(_)) => Err(Why::Full),
-            Err(Unpublished::Refused(refusal)) => Err(refusal.into()),
-        }
     }
 }

@@ -14,12 +14,15 @@ use Rattle.publisher_hub.specs.Hub.{hub_of}
 use Rattle.publisher_hub.specs.Lists.{EachBy}
 use Rattle.publisher_hub.specs.Looking.{Prepares, full, full_by}
 use Rattle.publisher_hub.specs.Gathering.{started}
-use Rattle.publisher_hub.specs.Publishing.{Publishes, RefusesItem, RefusesOffer, WhyNotOffered, WhyRefused}
+use Rattle.publisher_hub.specs.Publishing.{PublishesOne, PublishesTexts, RefusesOffer, RefusesTexts}
 use Rattle.publisher_hub.specs.Sound.{IsSound}
 use Rattle.publisher_hub.specs.declared.entry.Entry.{Entry}
 use Rattle.publisher_hub.specs.declared.hub.Hub.{Hub}
+use Rattle.publisher_hub.specs.declared.hub.publish.Publication.{Publication}
 use Rattle.publisher_hub.specs.declared.hub.publish.Unpublished.TheVariants.{NoRoom, Refused}
+use Rattle.publisher_hub.specs.declared.policy.Need.TheVariants as Need
 use Rattle.publisher_hub.specs.declared.work.Work.{Work}
+use Rattle.publisher_hub.proofs.PartialRounds.Progress.{same_some}
 use Rattle.publisher_hub.proofs.Publications.WholePublication.{below_most, known_of}
 use Rattle.lines_demo.specs.Prelude.{Item, Ending, How, Refusal, DeskState, is_gone, lag_of}
 use Rattle.lines_demo.specs.Script.Publishing.{drop_count, greatest_lag, is_full, lag_with, next_item, publication_refusal, refusal_or_wait, submit_refusal, subscription_after_offer}
@@ -129,27 +132,10 @@ pub record SubmitRefused (old new : Hub DeskState) (refusal : Refusal) : Type 0 
   pub why : (stock : ℕ) (woken : List ℕ) (beginning : Beginning)
       → (refusal ≡ Refusal.NoMemory) ⊎ (submit_refusal (state_of old stock woken beginning) ≡ Some refusal)
 
--- why it was refused is why an offer is
-why_refused : (text : List ℕ) (old new : Hub DeskState) (refusal : Refusal) → WhyRefused end_of DoesCall text old new (Refused refusal)
-    → WhyNotOffered end_of DoesCall old new refusal
-why_refused text old new Refusal.NoMemory why = why
-why_refused text old new (Refusal.Closed ending) why = why
-why_refused text old new Refusal.Exhausted why = why
-why_refused text old new Refusal.BadCapacity why = why
-why_refused text old new Refusal.Duplicate why = why
-why_refused text old new Refusal.TooMany why = why
-why_refused text old new Refusal.LineTooLong why = why
-why_refused text old new Refusal.BadWorkers why = why
-why_refused text old new (Refusal.StillHeld name) why = why
-why_refused text old new (Refusal.Unsettled names) why = why
-why_refused text old new Refusal.Unknown why = why
-why_refused text old new Refusal.WouldWait why = why
-why_refused text old new Refusal.BadCommand why = why
-
-pub submit_refused : (text : List ℕ) (old new : Hub DeskState) (refusal : Refusal) → IsScriptHub old
-    → RefusesItem end_of DoesCall text old new (Refused refusal) → SubmitRefused old new refusal
-submit_refused text old new refusal is refuses =
-    let plain : RefusesOffer end_of DoesCall old new refusal = record { unchanged = refuses.unchanged; why = why_refused text old new refusal refuses.why } in
+pub submit_refused : (old new : Hub DeskState) (refusal : Refusal) → IsScriptHub old
+    → RefusesTexts end_of DoesCall Need.All old new (Refused refusal) → SubmitRefused old new refusal
+submit_refused old new refusal is refuses =
+    let plain : RefusesOffer end_of DoesCall old new refusal = record { unchanged = refuses.unchanged; why = refuses.why } in
     let refused = offer_refused old new refusal is plain in
     record { far = refused.far; sees = refused.sees; why = λ stock woken beginning. by stock woken beginning (refused.why stock woken beginning) } where
       by : (stock : ℕ) (woken : List ℕ) (beginning : Beginning)
@@ -159,13 +145,13 @@ submit_refused text old new refusal is refuses =
       by stock woken beginning (inr why) = inr (ap (λ (r : Option Refusal). refusal_or_wait r (list_any is_full (map subscription_of old.entries.items))) why)
 
 -- a submission would wait if any buffer is full
-pub submit_waits : (text back : List ℕ) (old new : Hub DeskState) → IsScriptHub old
-    → RefusesItem end_of DoesCall text old new (NoRoom back) → SubmitRefused old new Refusal.WouldWait
-submit_waits text back old new is refuses =
-    let open_still = refuses.why.1.0 in
-    let glances = refuses.why.1.1.0 in
-    let prepared = refuses.why.1.1.1.0 in
-    let some = refuses.why.1.1.1.1 in
+pub submit_waits : (old new : Hub DeskState) → IsScriptHub old
+    → RefusesTexts end_of DoesCall Need.All old new NoRoom → SubmitRefused old new Refusal.WouldWait
+submit_waits old new is refuses =
+    let open_still = refuses.why.0 in
+    let glances = refuses.why.1.0 in
+    let prepared = refuses.why.1.1.0 in
+    let some : 0 < length (full old.capacity glances) = refuses.why.1.1.1 in
     let counted = full_counted old glances new.entries.items is open_still.0 prepared in
     let waits : list_any is_full (map subscription_of old.entries.items) ≡ true = some_passes is_full (map subscription_of old.entries.items) (omega arith) in
     record {
@@ -186,17 +172,20 @@ pub record HubSubmitted (text : List ℕ) (old new : Hub DeskState) (due : List 
   pub answers : (stock : ℕ) (woken : List ℕ) (beginning : Beginning)
       → lag ≡ greatest_lag (next_item (state_of old stock woken beginning) text) (map subscription_of old.entries.items)
 
-pub hub_submitted : (text : List ℕ) (old new : Hub DeskState) (due_old due : List (Work Unit)) (lag : ℕ) → IsScriptHub old → due_old ≡ []
+submitted_alone : (text : List ℕ) (old new : Hub DeskState) (due_old due : List (Work Unit)) (publication : Publication) → IsScriptHub old → due_old ≡ []
     → IsSound (hub_of end_of new)
-    → Publishes end_of DoesCall SOURCE text old new due_old due lag → HubSubmitted text old new due lag
-hub_submitted text old new due_old due lag is no_due sound p = record {
+    → PublishesOne end_of DoesCall Need.All SOURCE (text ∷ []) old new due_old due publication → HubSubmitted text old new due publication.lag
+submitted_alone text old new due_old due publication is no_due sound p = record {
   published = published;
   allowed = λ stock woken beginning.
       ap (λ (r : Option Refusal). refusal_or_wait r (list_any is_full (map subscription_of old.entries.items))) (published.allowed stock woken beginning)
-      ∙ ap (refusal_or_wait None) (none_passes is_full (map subscription_of old.entries.items) (sym (first.missed ∙ ap drop_count looked.same) ∙ ap length p.no_drop));
+      ∙ ap (refusal_or_wait None) (none_passes is_full (map subscription_of old.entries.items) (sym (first.missed ∙ ap drop_count looked.same) ∙ ap length (p.no_drop refl)));
   answers = λ stock woken beginning.
-      p.greatest_lag ∙ first.lag ∙ ap (greatest_lag p.item) looked.same ∙ ap (λ i. greatest_lag i (map subscription_of old.entries.items)) (next_item_is old p.item text is p.reaches.next p.from p.words);
+      p.greatest_lag ∙ first.lag ∙ ap (greatest_lag p.item) looked.same ∙ ap (λ i. greatest_lag i (map subscription_of old.entries.items)) (next_item_is old p.item text is p.reaches.next p.from words);
 } where
+  words : p.item.text ≡ text
+  words = sym (same_some p.words)
+
   looked : ListSeesSame old.entries.items p.middle
   looked = prepared_all_same old.next p.glances old.entries.items p.middle is.entries p.looked
 
@@ -207,10 +196,17 @@ hub_submitted text old new due_old due lag is no_due sound p = record {
   due_is = p.due ∙ ap (λ before. before ++ started p.puts) no_due
 
   published : HubPublished text old new due
-  published = hub_published text old new p.item due is sound p.from p.words p.reaches
+  published = hub_published text old new p.item due is sound p.from words p.reaches
       (first.same ∙ ap (map (λ s. subscription_after_offer p.item s)) looked.same)
       first.entries
       (ap numbers_of due_is ∙ first.started ∙ ap (λ before. newly_woken before (map subscription_of new.entries.items)) looked.same)
+
+pub hub_submitted : (text : List ℕ) (old new : Hub DeskState) (due_old due : List (Work Unit)) (publication : Publication) → IsScriptHub old → due_old ≡ []
+    → IsSound (hub_of end_of new)
+    → PublishesTexts end_of DoesCall Need.All SOURCE (text ∷ []) old new due_old due publication → HubSubmitted text old new due publication.lag
+hub_submitted text old new due_old due publication is no_due sound (inl alone) = submitted_alone text old new due_old due publication is no_due sound alone.1
+hub_submitted text old new due_old due publication is no_due sound (inr at_once) =
+    let several : 1 < 1 = at_once.0.1 in absurd (omega arith)
 
 -- ---- how great a lag is
 

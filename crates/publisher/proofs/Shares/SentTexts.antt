@@ -22,15 +22,6 @@ module _ (before texts : List (List ℕ)) (n : ℕ) where
   pub none_sent : before ≡ before ++ take 0 texts
   none_sent = sym (append-nil before)
 
-  -- one more was sent
-  pub one_sent : (sent later : List (List ℕ)) (text : List ℕ) → slice_get texts n ≡ Some text → sent ≡ before ++ take n texts
-      → later ≡ sent ++ text ∷ [] → later ≡ before ++ take (n + 1) texts
-  one_sent sent later text at was now =
-      let more : take (suc n) texts ≡ take n texts ++ text ∷ [] = take_next n texts text at in
-      let number : n + 1 ≡ suc n = omega arith in
-      now ∙ ap (λ l. l ++ text ∷ []) was ∙ append_assoc before (take n texts) (text ∷ []) ∙ ap (λ l. before ++ l) (sym more)
-      ∙ ap (λ k. before ++ take k texts) (sym number)
-
   -- more of those that were left
   pub more_sent : (sent later : List (List ℕ)) (m : ℕ) → n ≤ length texts → sent ≡ before ++ take n texts → later ≡ sent ++ take m (drop n texts)
       → later ≡ before ++ take (n + m) texts

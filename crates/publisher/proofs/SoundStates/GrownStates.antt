@@ -17,12 +17,12 @@ use Rattle.publisher_hub.specs.Entry.{entry_of}
 use Rattle.publisher_hub.specs.Hub.{HubState, Progress, hub_at_start, hub_of}
 use Rattle.publisher_hub.specs.Offering.{ReachesAll}
 use Rattle.publisher_hub.specs.OpeningTicket.{AddsTicket}
-use Rattle.publisher_hub.specs.Publishing.{dropping_after, offer_answer}
+use Rattle.publisher_hub.specs.Publishing.{dropping_after, loss_of, offer_answer}
 use Rattle.publisher_hub.specs.Sound.{IsAccepted, IsSound}
 use Rattle.publisher_hub.specs.declared.hub.Hub.{Hub}
 use Rattle.publisher_hub.proofs.PartialRounds.Progress.{same_some}
 use Rattle.history.specs.History.{Kept}
-use Rattle.publisher.specs.Publishing.{drop_of, loss_of}
+use Rattle.publisher.specs.Publishing.{drop_of}
 use Rattle.publisher.specs.Spending.{last_after}
 use Rattle.publisher.specs.State.{IsCountedAtClose, IsState, PARTS, Sums, producer_end}
 use Rattle.publisher.specs.Tickets.{AreOfOneCount, IsOfCount}

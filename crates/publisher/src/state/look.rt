@@ -18,15 +18,7 @@ use super::{NoRoom, Reason, State};
 use crate::ledgers::Ledgers;
 use crate::turned::EndedTask;
 use flow_rules::{Listener, Name, Standing};
-
-/// Whose room a publication needs.
-#[derive(Clone, Copy)]
-pub enum Need {
-    /// That of all live subscriptions.
-    All,
-    /// That of those that say [`OnFull::Wait`](publisher_hub::OnFull::Wait).
-    Waiters,
-}
+use publisher_hub::Need;
 
 /// A subscription has ended: a look showed it.
 #[must_use]

@@ -1,125 +1,127 @@
-//! Publications: of one text, of several in a row, and the offer of one.
+//! Publications: of texts in order, and the offer of one.
 //!
 //! What a submitter owns of them stands in `sources`, whether there is room in `look`, and what comes of a publication in
 //! vain in `unpublished`. Nothing here waits.
-mod by_policy;
-mod several;
 mod unpublished;
 
-ghost use Rattle.std.specs.Prelude.{◌≡◌, ◌+◌, ◌≤◌, [], ◌∷◌, ◌++◌, IfErr, IfOk, OnErr, OnOk, is_none, length, take};
+ghost use Rattle.std.specs.Prelude.{◌≡◌, ◌+◌, ◌<◌, ◌≤◌, [], ◌∷◌, ◌++◌, IfErr, IfOk, OnErr, OnOk, is_none, length, take};
 ghost use Rattle.feed_cell.specs.Offering.{DoesCall};
-ghost use Rattle.publisher_hub.specs.Publishing.{OffersItem, Publishes, RefusesItem, RefusesOffer};
+ghost use Rattle.publisher_hub.specs.Publishing.{OffersItem, PublishesTexts, RefusesOffer, RefusesTexts, loss_of};
+ghost use Rattle.publisher_hub.specs.declared.policy.Need.TheVariants as Need;
+ghost use Rattle.publisher.specs.Content.{pages_of};
 ghost use Rattle.publisher.specs.Publishing.{PublishesFirst, StopsAt, drop_of};
 ghost use Rattle.publisher.specs.State.{producer_end};
-ghost use Rattle.publisher.specs.declared.state.look.Need.TheVariants as Need;
 
-use super::{Need, Own, State};
+use super::{Own, State};
 use crate::ledgers::Ledgers;
 use feed_cell::Task;
 use flow_rules::{DropHandler, Listener, Text};
-use publisher_hub::Work;
+use history::{History, HistoryId, Pass};
+use publisher_hub::{Need, Publication, Work};
 use std::snapshot::Snapshot;
 use std::sync::ledger::{Book, Ledger, Share};
 pub use unpublished::{NoRoom, NotPublished, Refused};
 
-/// What a publication of several texts that heeds each subscription's [`OnFull`](publisher_hub::OnFull) did.
-#[derive(Clone, Copy, Debug, PartialEq, Eq)]
-pub struct PublishedAll {
-    /// The greatest lag of a subscription that accepted the last text, in items; 0 if none did, or if there is no text.
-    pub lag: u64,
-    /// How many of the texts at least one subscription lost.
-    pub lost: usize,
-}
-
-/// Says how far a list of texts was published, in order.
+/// Says how far texts were published, in order, before one was not.
 #[derive(Drop)]
-pub struct Stopped {
-    /// How many were published before the first that was not.
-    pub published: usize,
-    /// How many of these at least one subscription lost.
-    pub lost: usize,
+pub struct Stopped<W: Drop> {
+    /// What was published before.
+    pub before: Publication,
     /// Why that one was not.
-    pub why: NotPublished,
+    pub why: W,
 }
 
 impl<L: Ledgers, B: Listener> State<L, B> {
-    /// Publishes a text to all live subscriptions at once, if all have room. Only then the submitter's share rises, by
-    /// one, and the text is the last that it sent.
+    /// Publishes texts in order, up to one that is not published, each time as many at once as the Hub does. The answer
+    /// is what became of them.
     pub fn publish(
-        &mut self,
-        own: &mut Own<L>,
-        text: Text,
-        due: &mut Vec<Work<Task<B>>>,
-    ) -> Result<u64, NotPublished>
-        ensures ok { IfOk result (λ lag. Publishes producer_end DoesCall own.old.source text
-            self.old.hub self.new.hub due.old.items due.new.items lag) }
-        ensures refusals { IfErr result
-            (λ why. RefusesItem producer_end DoesCall text self.old.hub self.new.hub why.reason) }
-        ensures need { IfErr result (λ why. why.need ≡ Need.All) }
-        ensures nothing_due { OnErr result (due.new.items ≡ due.old.items) }
-        ensures one_more { OnOk result
-            (own.new.publications.amount ≡ own.old.publications.amount + 1) }
-        ensures none { OnErr result (own.new.publications.amount ≡ own.old.publications.amount) }
-        ensures sent { OnOk result (own.new.pass.sent ≡ own.old.pass.sent ++ text ∷ []) }
-        ensures none_sent { OnErr result (own.new.pass.sent ≡ own.old.pass.sent) }
-        ensures source { own.new.source ≡ own.old.source }
-        ensures drops { own.new.drops.amount ≡ own.old.drops.amount }
-    {
-        let State {
-            hub,
-            published,
-            history,
-            ..
-        } = self;
-        let said = Snapshot::of(&text);
-        let lag = match hub.publish(own.source, text, due) {
-            Ok(lag) => lag,
-            Err(reason) => {
-                let need = Need::All;
-                return Err(NotPublished { reason, need });
-            }
-        };
-        published.add(&mut own.publications, 1);
-        history.write(&mut own.pass, said);
-        Ok(lag)
-    }
-
-    /// Publishes texts in order, up to one that is not published: several at once if the room of all is needed, and else
-    /// one by one, as [`publish_by_policy`](State::publish_by_policy) does. The answer has the lag after the last, or 0
-    /// if there is no text.
-    pub fn publish_all(
         &mut self,
         own: &mut Own<L>,
         texts: &[Text],
         need: Need,
         due: &mut Vec<Work<Task<B>>>,
-    ) -> Result<PublishedAll, Stopped>
-        ensures ok { IfOk result (λ all. PublishesFirst need own.old.source texts.now
-            (length texts.now) self.old.hub self.new.hub due.old.items due.new.items all.lag
-            all.lost) }
+    ) -> Result<Publication, Stopped<NotPublished>>
+        ensures ok { IfOk result (λ all. PublishesFirst need own.old.source texts.now all
+            self.old.hub self.new.hub due.old.items due.new.items) }
+        ensures whole { IfOk result (λ all. all.many ≡ length texts.now) }
         ensures stopped { IfErr result (λ stopped. StopsAt need own.old.source texts.now stopped
             self.old self.new due.old.items due.new.items) }
         ensures all { OnOk result (own.new.publications.amount
             ≡ own.old.publications.amount + length texts.now) }
         ensures some { IfErr result (λ stopped. own.new.publications.amount
-            ≡ own.old.publications.amount + stopped.published) }
+            ≡ own.old.publications.amount + stopped.before.many) }
         ensures lost { IfOk result
             (λ all. own.new.drops.amount ≡ own.old.drops.amount + all.lost) }
         ensures lost_before { IfErr result
-            (λ stopped. own.new.drops.amount ≡ own.old.drops.amount + stopped.lost) }
+            (λ stopped. own.new.drops.amount ≡ own.old.drops.amount + stopped.before.lost) }
         ensures few { IfOk result (λ all. all.lost ≤ length texts.now) }
-        ensures few_before { IfErr result (λ stopped. stopped.lost ≤ stopped.published) }
+        ensures few_before { IfErr result (λ stopped. stopped.before.lost ≤ stopped.before.many) }
         ensures none_lost { need ≡ Need.All → IfOk result (λ all. all.lost ≡ 0) }
-        ensures none_lost_before { need ≡ Need.All → IfErr result (λ stopped. stopped.lost ≡ 0) }
+        ensures none_lost_before { need ≡ Need.All
+            → IfErr result (λ stopped. stopped.before.lost ≡ 0) }
+        ensures one { length texts.now ≡ 1
+            → IfOk result (λ all. all.lost ≡ loss_of all.dropped) }
         ensures sent { OnOk result (own.new.pass.sent ≡ own.old.pass.sent ++ texts.now) }
         ensures sent_before { IfErr result (λ stopped. own.new.pass.sent
-            ≡ own.old.pass.sent ++ take stopped.published texts.now) }
+            ≡ own.old.pass.sent ++ take stopped.before.many texts.now) }
         ensures source { own.new.source ≡ own.old.source }
     {
-        match need {
-            Need::All => self.publish_in_batches(own, texts, due),
-            Need::Waiters => self.publish_each(own, texts, due),
+        let mut done = Publication::nothing();
+        while done.many < texts.len() {
+            match self.publish_first(own, &texts[done.many..], need, due) {
+                Ok(first) => done.add(&first),
+                Err(why) => return Err(Stopped { before: done, why }),
+            }
         }
+        Ok(done)
+    }
+
+    /// Publishes the first of some texts: as many as the Hub does at once. Only then the submitter's share rises, by
+    /// their number, that of the drops by how many of them any subscription lost, and they are the last that it sent.
+    fn publish_first(
+        &mut self,
+        own: &mut Own<L>,
+        texts: &[Text],
+        need: Need,
+        due: &mut Vec<Work<Task<B>>>,
+    ) -> Result<Publication, NotPublished>
+        requires some { 0 < length texts.now }
+        ensures ok { IfOk result (λ first. PublishesTexts producer_end DoesCall need
+            own.old.source texts.now self.old.hub self.new.hub due.old.items due.new.items first) }
+        ensures within { IfOk result (λ first. first.many ≤ length texts.now) }
+        ensures any { IfOk result (λ first. 0 < first.many) }
+        ensures loss { IfOk result (λ first. first.lost ≡ loss_of first.dropped) }
+        ensures none_lost { need ≡ Need.All → IfOk result (λ first. first.lost ≡ 0) }
+        ensures refusals { IfErr result (λ why. RefusesTexts producer_end DoesCall need
+            self.old.hub self.new.hub why.reason) }
+        ensures need { IfErr result (λ why. why.need ≡ need) }
+        ensures nothing_due { OnErr result (due.new.items ≡ due.old.items) }
+        ensures more { IfOk result (λ first.
+            own.new.publications.amount ≡ own.old.publications.amount + first.many) }
+        ensures none { OnErr result (own.new.publications.amount ≡ own.old.publications.amount) }
+        ensures lost { IfOk result
+            (λ first. own.new.drops.amount ≡ own.old.drops.amount + first.lost) }
+        ensures none_dropped { OnErr result (own.new.drops.amount ≡ own.old.drops.amount) }
+        ensures sent { IfOk result (λ first.
+            own.new.pass.sent ≡ own.old.pass.sent ++ take first.many texts.now) }
+        ensures none_sent { OnErr result (own.new.pass.sent ≡ own.old.pass.sent) }
+        ensures source { own.new.source ≡ own.old.source }
+    {
+        let State {
+            hub,
+            published,
+            dropping,
+            history,
+            ..
+        } = self;
+        let first = match hub.publish(own.source, texts, need, due) {
+            Ok(first) => first,
+            Err(reason) => return Err(NotPublished { reason, need }),
+        };
+        published.add(&mut own.publications, first.many as u64);
+        write_all(history, &mut own.pass, &texts[..first.many]);
+        dropping.add(&mut own.drops, first.lost as u64);
+        Ok(first)
     }
 
     /// Gives a text to all live subscriptions that have room, and drops it at the others. Only then the submitter's
@@ -173,5 +175,17 @@ fn count_drop<D: Ledger>(dropping: &mut Book<D>, drops: &mut Share<D>, answer: i
 {
     if answer < 0 {
         dropping.add(drops, 1);
+    }
+}
+
+/// Writes texts of one source into the history, in order.
+fn write_all<P: HistoryId>(history: &mut History<P>, pass: &mut Pass<P>, texts: &[Text])
+    ensures pass { pass.new ≡ record pass.old { sent = pass.old.sent ++ texts.now } }
+    ensures history { history.new ≡ record history.old {
+      log = history.old.log ++ pages_of pass.old.source texts.now;
+    } }
+{
+    for text in texts {
+        history.write(pass, Snapshot::of(text));
     }
 }

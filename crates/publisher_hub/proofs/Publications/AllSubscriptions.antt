@@ -15,9 +15,9 @@ use Rattle.flow_rules.specs.declared.refusal.NoMemory.{NoMemory}
 use Rattle.publisher_hub.specs.Entry.{EntryState, entry_of}
 use Rattle.publisher_hub.specs.Hub.{HubState}
 use Rattle.publisher_hub.specs.Lists.{Each, EachBy}
-use Rattle.publisher_hub.specs.Looking.{Follows, IsReadied, Prepares, Readies, full, full_by, full_waiters}
+use Rattle.publisher_hub.specs.Looking.{IsReadied, Prepares, Readies, full, full_by, full_waiters}
 use Rattle.publisher_hub.specs.Gathering.{missed, missed_by}
-use Rattle.publisher_hub.specs.Offering.{PutsTo, IsOffered}
+use Rattle.publisher_hub.specs.Offering.{PutsTo}
 use Rattle.publisher_hub.specs.Policy.{LosesNothing, is_waited_for}
 use Rattle.publisher_hub.specs.Sound.{IsSound}
 use Rattle.publisher_hub.specs.Steps.{CanAllPut}
@@ -27,7 +27,7 @@ use Rattle.publisher_hub.proofs.AnswerLists.Gathering.{gather_nothing, gathers_n
 use Rattle.publisher_hub.proofs.Soundness.LeavingOut.{filtered_to}
 use Rattle.publisher_hub.proofs.Subscribed.AfterLooks.{follows_ready}
 use Rattle.publisher_hub.proofs.PartialRounds.Next.{get_before_map}
-use Rattle.publisher_hub.proofs.Publications.OneSubscription.{not_both, prepared_can_take, prepared_offered}
+use Rattle.publisher_hub.proofs.Publications.OneSubscription.{not_both, prepared_can_take}
 use Rattle.publisher_hub.proofs.PartialRounds.Progress.{same_some}
 use Rattle.publisher_hub.proofs.AnswerLists.Places.{stood_by, there}
 
@@ -146,6 +146,16 @@ module _ {F T : Type 0} (meaning : F → End) (does : F → Call T → F → Typ
         closing_prepared standing readied.0 next old sees.middle middle offered.before is sees.sees readied.1.1 offered.was (meaning sees.sees.before) was ∙ of_hub.0 in
         absurd (room_stays (meaning offered.before) offered.means.0 x back (meaning offered.after) (offered.means.1.unclosed closing) (omega arith) offered.means.2)
 
+  -- to prepare a subscription counts no drop
+  pub prepares_dropped : (next : ℕ) (glance : Option Standing) (old new : Entry F) → Prepares meaning does next glance old new
+      → new.dropped ≡ old.dropped
+  prepares_dropped next None old new stays = ap (λ (entry : Entry F). entry.dropped) stays.1
+  prepares_dropped next (Some standing) old new sees = by standing.ended refl where
+    by : (ended : Bool) → standing.ended ≡ ended → new.dropped ≡ old.dropped
+    by true is = ap (λ (entry : Entry F). entry.dropped) (sees.ended is ∙ sees.sees.ended is)
+    by false is = ap (λ (entry : Entry F). entry.dropped) ((sees.stays is).1.1.now)
+        ∙ ap (λ (entry : Entry F). entry.dropped) (sees.sees.stays is)
+
   module _ (capacity next : ℕ) (x : Item) (glances : List (Option Standing)) (puts : List (Option (Put T))) (xs middle ys : List (Entry F))
       (prepared : EachBy (Prepares meaning does next) glances xs middle) (given : EachBy (PutsTo meaning does x) puts middle ys) where
     -- what stood at a place before the looks, and after them
@@ -176,22 +186,6 @@ module _ {F T : Type 0} (meaning : F → End) (does : F → Call T → F → Typ
           puts_to = second.became;
         }
 
-    -- all subscriptions were offered the item
-    pub all_offered : x.serial ≡ next
-        → ((k : ℕ) (old : Entry F) → slice_get xs k ≡ Some old → (e : End) → (entry_of meaning old).feed ≡ Some e → e.closing ≡ None)
-        → Each (IsOffered x) (map (entry_of meaning) xs) (map (entry_of meaning) ys)
-    all_offered serial unclosed = record {
-      as_long = length-map ys (entry_of meaning) ∙ given.as_long ∙ prepared.as_long ∙ sym (length-map xs (entry_of meaning));
-      each = λ k old new at at'.
-          let before = get_before_map (entry_of meaning) xs k old at in
-          let after = get_before_map (entry_of meaning) ys k new at' in
-          let was = stood k after.0 after.1.0 in
-          let same : was.old ≡ before.0 = same_some (sym was.at ∙ before.1.0) in
-          subst (λ (entry : EntryState). IsOffered x old entry) after.1.1
-          (subst (λ (entry : EntryState). IsOffered x entry (entry_of meaning after.0)) (ap (λ (entry : Entry F). entry_of meaning entry) same ∙ before.1.1)
-          (prepared_offered meaning does next x serial was.glance was.put was.old was.seen after.0 (unclosed k was.old was.at) was.prepares was.puts_to));
-    }
-
     -- if the looks showed room everywhere, no subscription missed the item
     pub nobody_missed : ((k : ℕ) (old : Entry F) → slice_get xs k ≡ Some old → (e : End) → (entry_of meaning old).feed ≡ Some e → (e.closing ≡ None) × (e.capacity ≡ capacity))
         → full capacity glances ≡ [] → missed puts ≡ []
@@ -209,29 +203,13 @@ module _ {F T : Type 0} (meaning : F → End) (does : F → Call T → F → Typ
 
     -- one that did not miss the item has counted no drop
     kept_count : (k : ℕ) (y : Entry F) (was : Stood k y) → missed_by (0 + k) was.put ≡ [] → y.dropped ≡ was.old.dropped
-    kept_count k y was none = put_dropped was.put was.seen y none was.puts_to ∙ prepares_dropped was.glance was.old was.seen was.prepares where
+    kept_count k y was none = put_dropped was.put was.seen y none was.puts_to ∙ prepares_dropped next was.glance was.old was.seen was.prepares where
       put_dropped : (put : Option (Put T)) (old new : Entry F) → missed_by (0 + k) put ≡ [] → PutsTo meaning does x put old new
           → new.dropped ≡ old.dropped
       put_dropped None old new none puts_to = ap (λ (entry : Entry F). entry.dropped) puts_to.1
       put_dropped (Some (Accepted lag start)) old new none puts_to = ap (λ (entry : Entry F). entry.dropped) puts_to.now
       put_dropped (Some (Full back)) old new none puts_to = cc
       put_dropped (Some (Gone back)) old new none puts_to = ap (λ (entry : Entry F). entry.dropped) puts_to.now
-
-      prepares_dropped : (glance : Option Standing) (old new : Entry F) → Prepares meaning does next glance old new
-          → new.dropped ≡ old.dropped
-      prepares_dropped None old new stays = ap (λ (entry : Entry F). entry.dropped) stays.1
-      prepares_dropped (Some standing) old new sees = by standing.ended refl where
-        by : (ended : Bool) → standing.ended ≡ ended → new.dropped ≡ old.dropped
-        by true is = ap (λ (entry : Entry F). entry.dropped) (sees.ended is ∙ sees.sees.ended is)
-        by false is = ap (λ (entry : Entry F). entry.dropped) ((sees.stays is).1.1.now)
-            ∙ ap (λ (entry : Entry F). entry.dropped) (sees.sees.stays is)
-
-    -- if no subscription missed the item, no drop was counted
-    pub no_drop_counted : missed puts ≡ [] → (k : ℕ) (y : Entry F) → slice_get ys k ≡ Some y
-        → (old : Entry F) × ((slice_get xs k ≡ Some old) × (y.dropped ≡ old.dropped))
-    no_drop_counted none k y at =
-        let was = stood k y at in
-        (was.old, (was.at, kept_count k y was (gathers_nothing missed_by puts 0 k was.put none was.said)))
 
     -- one that is waited for, and that no look showed to be full, has lost nothing
     pub waiters_kept : ((k : ℕ) (old : Entry F) → slice_get xs k ≡ Some old → (e : End) → (entry_of meaning old).feed ≡ Some e → (e.closing ≡ None) × (e.capacity ≡ capacity))

@@ -12,7 +12,7 @@ use Rattle.publisher_hub.specs.Entry.{EntryState, entry_of}
 use Rattle.publisher_hub.specs.Hub.{HubState, Progress, hub_of}
 use Rattle.publisher_hub.specs.Lists.{EachBy}
 use Rattle.publisher_hub.specs.Gathering.{lag_by, lags, missed, missed_by}
-use Rattle.publisher_hub.specs.Offering.{CountsOne, PutsTo, ReachesAll, ReachesAllFrom, backlog_by, backlogs, held_in, progress_after}
+use Rattle.publisher_hub.specs.Offering.{Counts, PutsTo, ReachesAll, ReachesAllFrom, backlog_by, backlogs, held_in, progress_after}
 use Rattle.publisher_hub.specs.Publishing.{OffersItem}
 use Rattle.publisher_hub.specs.declared.entry.Entry.{Entry}
 use Rattle.publisher_hub.specs.declared.hub.Hub.{Hub}
@@ -54,7 +54,7 @@ module _ {F T : Type 0} (meaning : F → End) (does : F → Call T → F → Typ
 
 -- an item that reached all was counted, and nothing else of the numbers changed but that of the drops
 pub counts_one : (source : ℕ) (x : Item) (old new : HubState) → x.source ≡ source → ReachesAll x old new
-    → CountsOne source old.progress new.progress
+    → Counts source 1 old.progress new.progress
 counts_one source x old new from reaches =
     let progress_is : new.progress ≡ progress_after x new.progress.dropping old.progress = ap (λ (s : HubState). s.progress) reaches.rest in
     record {
@@ -72,7 +72,7 @@ counts_one source x old new from reaches =
 -- what an offer did, as a caller asks for it
 pub offer_shows : {F T : Type 0} (meaning : F → End) (does : F → Call T → F → Type 0) {source : ℕ} {text : List ℕ} {declines : Bool} {old new : Hub F} {due_old due_new : List (Work T)} {answer : ℤ}
     → OffersItem meaning does source text declines old new due_old due_new answer
-    → ReachesAllFrom source text (hub_of meaning old) (hub_of meaning new) × CountsOne source (hub_of meaning old).progress (hub_of meaning new).progress
+    → ReachesAllFrom source text (hub_of meaning old) (hub_of meaning new) × Counts source 1 (hub_of meaning old).progress (hub_of meaning new).progress
 offer_shows meaning does {source} {text} {declines} {old} {new} offers = (
   (offers.item, ((offers.from, offers.words), offers.reaches)),
   counts_one source offers.item (hub_of meaning old) (hub_of meaning new) offers.from offers.reaches,

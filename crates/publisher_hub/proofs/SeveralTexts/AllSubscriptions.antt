@@ -5,6 +5,7 @@ use Rattle.std.proofs.lemmas.List.{length-map}
 use Rattle.flow_rules.specs.Call.{Call}
 use Rattle.flow_rules.specs.Feed.{End, MayStart}
 use Rattle.flow_rules.specs.declared.feed.put_all.PutAll.{PutAll}
+use Rattle.flow_rules.specs.declared.feed.put_all.PutAll.TheVariants.{Accepted, Gone}
 use Rattle.flow_rules.specs.declared.feed.standing.Standing.{Standing}
 use Rattle.flow_rules.specs.declared.item.Item.{Item}
 use Rattle.flow_rules.specs.declared.item.TheConstants.{MOST_PUBLICATIONS}
@@ -12,13 +13,14 @@ use Rattle.publisher_hub.specs.Entry.{EntryState, entry_of}
 use Rattle.publisher_hub.specs.Hub.{HubState}
 use Rattle.publisher_hub.specs.Lists.{Each, EachBy}
 use Rattle.publisher_hub.specs.Looking.{Prepares, rooms}
+use Rattle.publisher_hub.specs.Policy.{LosesNothing}
 use Rattle.publisher_hub.specs.Several.{CanAllPutSeveral, CanPutSeveral, HasRoomFor, PutsSeveralTo}
 use Rattle.publisher_hub.specs.Sound.{IsCounted, IsSound}
 use Rattle.publisher_hub.specs.declared.entry.Entry.{Entry}
 use Rattle.publisher_hub.proofs.AnswerLists.Places.{stood_by}
 use Rattle.publisher_hub.proofs.PartialRounds.Next.{get_before_map}
 use Rattle.publisher_hub.proofs.PartialRounds.Progress.{same_some}
-use Rattle.publisher_hub.proofs.Publications.AllSubscriptions.{held_prepared}
+use Rattle.publisher_hub.proofs.Publications.AllSubscriptions.{held_prepared, prepares_dropped}
 use Rattle.publisher_hub.proofs.Publications.OneSubscription.{not_both, prepared_can_take, prepared_live}
 use Rattle.publisher_hub.proofs.SeveralTexts.OneSubscription.{HasBetween, prepared_several}
 use Rattle.publisher_hub.proofs.SeveralTexts.Rooms.{least_room}
@@ -94,3 +96,25 @@ module _ {F T : Type 0} (meaning : F → End) (does : F → Call T → F → Typ
         (subst (λ (entry : EntryState). HasBetween x items entry (entry_of meaning after.0)) (ap (λ (entry : Entry F). entry_of meaning entry) same ∙ before.1.1)
         (prepared_several meaning does next x items serial first.answer second.answer first.entry second.entry after.0 (unclosed k first.entry first.at) first.became second.became));
   }
+
+  -- no subscription loses an item
+  pub nothing_lost : (next : ℕ) (items : List Item) (glances : List (Option Standing)) (puts : List (Option (PutAll T))) (xs middle ys : List (Entry F))
+      → EachBy (Prepares meaning does next) glances xs middle → EachBy (PutsSeveralTo meaning does next items) puts middle ys
+      → Each LosesNothing (map (entry_of meaning) xs) (map (entry_of meaning) ys)
+  nothing_lost next items glances puts xs middle ys prepared given = record {
+    as_long = length-map ys (entry_of meaning) ∙ given.as_long ∙ prepared.as_long ∙ sym (length-map xs (entry_of meaning));
+    each = λ k old new at at' _.
+        let before = get_before_map (entry_of meaning) xs k old at in
+        let after = get_before_map (entry_of meaning) ys k new at' in
+        let second = stood_by (PutsSeveralTo meaning does next items) puts middle ys k after.0 given after.1.0 in
+        let first = stood_by (Prepares meaning does next) glances xs middle k second.entry prepared second.at in
+        let same : first.entry ≡ before.0 = same_some (sym first.at ∙ before.1.0) in
+        ap (λ (entry : EntryState). entry.dropped) (sym after.1.1) ∙ puts_dropped second.answer second.entry after.0 second.became
+        ∙ prepares_dropped meaning does next first.answer first.entry second.entry first.became
+        ∙ ap (λ (entry : Entry F). entry.dropped) same ∙ ap (λ (entry : EntryState). entry.dropped) before.1.1;
+  } where
+    puts_dropped : (put : Option (PutAll T)) (old new : Entry F) → PutsSeveralTo meaning does next items put old new
+        → new.dropped ≡ old.dropped
+    puts_dropped None old new stays = ap (λ (entry : Entry F). entry.dropped) stays.1
+    puts_dropped (Some (Accepted lag start)) old new offered = ap (λ (entry : Entry F). entry.dropped) offered.now
+    puts_dropped (Some (Gone back)) old new offered = ap (λ (entry : Entry F). entry.dropped) offered.now

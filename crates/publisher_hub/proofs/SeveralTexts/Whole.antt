@@ -1,5 +1,5 @@
 -- A publication of several texts, from what each of its steps says.
-use Rattle.std.proofs.Common.{◌≡◌, ℕ, zero, suc, ◌+◌, ◌-◌, ◌<◌, ◌≤◌, Option, None, Some, List, [], ◌∷◌, ◌++◌, length, map, set, take, refl, ap, sym, subst, ◌∙◌, arith}
+use Rattle.std.proofs.Common.{◌≡◌, ℕ, zero, suc, ◌+◌, ◌-◌, ◌<◌, ◌≤◌, Option, None, Some, List, [], ◌∷◌, ◌++◌, length, map, take, refl, ap, sym, subst, ◌∙◌, arith}
 use Rattle.std.specs.Prelude.{Vec, fold, min, slice_get}
 use Rattle.std.specs.declared.alloc.Global.{Global}
 use Rattle.std.proofs.lemmas.List.{length-take-le}
@@ -10,11 +10,11 @@ use Rattle.flow_rules.specs.declared.feed.standing.Standing.{Standing}
 use Rattle.flow_rules.specs.declared.item.Item.{Item}
 use Rattle.flow_rules.specs.declared.item.TheConstants.{MOST_PUBLICATIONS}
 use Rattle.publisher_hub.specs.Entry.{entry_of}
-use Rattle.publisher_hub.specs.Hub.{HubState, Progress, hub_of}
+use Rattle.publisher_hub.specs.Hub.{HubState, hub_of}
 use Rattle.publisher_hub.specs.Lists.{EachBy}
 use Rattle.publisher_hub.specs.Looking.{IsLookedAt, Prepares, full, rooms}
 use Rattle.publisher_hub.specs.Publishing.{IsRefused}
-use Rattle.publisher_hub.specs.Several.{CountsSeveral, GathersAll, PublishesSeveral, PutsSeveralTo, ReachesAllBy, items_from, started_all}
+use Rattle.publisher_hub.specs.Several.{GathersAll, PublishesSeveral, PutsSeveralTo, ReachesAllBy, items_from, started_all}
 use Rattle.publisher_hub.specs.Sound.{IsSound}
 use Rattle.publisher_hub.specs.declared.entry.Entry.{Entry}
 use Rattle.publisher_hub.specs.declared.hub.Hub.{Hub}
@@ -55,19 +55,6 @@ all_of_source : (source seq serial : ℕ) (texts : List (List ℕ)) (i : ℕ) (x
 all_of_source source seq serial [] i x at = cc
 all_of_source source seq serial (text ∷ texts) zero x at = ap (λ (item : Item). item.source) (sym (same_some at))
 all_of_source source seq serial (text ∷ texts) (suc i) x at = all_of_source source (seq + 1) (serial + 1) texts i x at
-
--- what was counted, if the Hub has come this far
-pub counts_several : (source seq many : ℕ) (old new : HubState) → slice_get old.progress.counts source ≡ Some seq
-    → new.progress ≡ progress_later source seq many old.progress → CountsSeveral source many old.progress new.progress
-counts_several source seq many old new there is =
-    let next : new.progress.next ≡ old.progress.next + many = ap (λ (p : Progress). p.next) is in
-    let counts : new.progress.counts ≡ set old.progress.counts source (seq + many) = ap (λ (p : Progress). p.counts) is in
-    record {
-      next = next;
-      counts = λ count at. counts ∙ ap (λ n. set old.progress.counts source (n + many)) (same_some (sym there ∙ at));
-      rest = is ∙ ap (λ n. record old.progress { next = n; counts = set old.progress.counts source (seq + many) }) (sym next)
-          ∙ ap (λ ns. record old.progress { next = new.progress.next; counts = ns }) (sym counts);
-    }
 
 module _ {F T : Type 0} (meaning : F → End) (does : F → Call T → F → Type 0) where
   -- how many texts fit, by the Hub as it was before the looks
@@ -124,7 +111,7 @@ module _ {F T : Type 0} (meaning : F → End) (does : F → Call T → F → Typ
       → hub_of meaning new ≡ record (hub_of meaning given) { progress = progress_later source seq many (hub_of meaning given).progress }
       → new.entries ≡ given.entries
       → IsSound (hub_of meaning new)
-      × PublishesSeveral meaning does source texts old new due_old due_new (record { many = many; lag = lag })
+      × PublishesSeveral meaning does source texts old new due_old due_new (record { many = many; lost = 0; dropped = 0; lag = lag })
   publishes_several old seen given new source seq many lag texts due_old due_seen due_new glances puts sound within there unclosed fits looked prepared due_same gave gathers rest_given rest_new entries_same =
       let some = fits.some in
       let few = fits.few in
@@ -152,5 +139,7 @@ module _ {F T : Type 0} (meaning : F → End) (does : F → Call T → F → Typ
           no_dropping = ap (λ (s : HubState). s.progress.dropping) is;
           due = gathers.due ∙ ap (λ works. works ++ started_all puts) due_same;
           greatest_lag = gathers.greatest_lag;
+          dropped = refl;
+          lost = refl;
         },
       )

@@ -5,9 +5,11 @@ ghost use Rattle.std.specs.Vec.{vec_capacity};
 ghost use Rattle.flow_rules.specs.declared.item.Item.{Item};
 ghost use Rattle.flow_rules.specs.declared.item.TheConstants.{MOST_PUBLICATIONS};
 ghost use Rattle.publisher_hub.specs.Gathering.{AreShares, back_by, dropped_by, lag_by, missed_by, started_by, work_of};
+ghost use Rattle.publisher_hub.specs.Offering.{item_of};
 
+use crate::hub::stamp::Stamp;
 use crate::work::Work;
-use flow_rules::{Item, NoMemory, Put};
+use flow_rules::{Item, NoMemory, Put, Text};
 use std::alloc::Global;
 
 /// What a publication gathers as it goes round. Its room is kept for the next one.
@@ -34,10 +36,10 @@ impl Gathering {
         }
     }
 
-    /// Makes this many shares of an item, and forgets what was gathered before.
+    /// Makes this many shares of the item with this text, and forgets what was gathered before.
     #[inline(always)]
-    pub fn begin(&mut self, item: &Item, many: usize) -> Result<(), NoMemory>
-        ensures shares { OnOk result (AreShares item.now self.new.shares.items) }
+    pub fn begin(&mut self, stamp: Stamp, text: &Text, many: usize) -> Result<(), NoMemory>
+        ensures shares { OnOk result (AreShares (item_of stamp text.now) self.new.shares.items) }
         ensures as_many { OnOk result (vec_len self.new.shares ≡ many) }
         ensures missed { OnOk result (self.new.missed.items ≡ []) }
         ensures room { OnOk result (many ≤ vec_capacity self.new.missed) }
@@ -48,7 +50,7 @@ impl Gathering {
         self.forget();
         self.missed.reserve(many)?;
         self.shares.reserve(many)?;
-        let made = share_out(&mut self.shares, item, many);
+        let made = share_out(&mut self.shares, stamp, text, many);
         if made.is_err() {
             self.drop_shares();
         }
@@ -161,16 +163,16 @@ impl Gathering {
     }
 }
 
-/// Puts this many shares of an item into an empty list that has room for them.
+/// Puts this many shares of the item with this text into an empty list that has room for them.
 #[inline(always)]
-fn share_out(shares: &mut Vec<Item>, item: &Item, many: usize) -> Result<(), NoMemory>
+fn share_out(shares: &mut Vec<Item>, stamp: Stamp, text: &Text, many: usize) -> Result<(), NoMemory>
     requires empty { shares.old.items ≡ [] }
     requires room { many ≤ vec_capacity shares.old }
-    ensures shares { OnOk result (AreShares item.now shares.new.items) }
+    ensures shares { OnOk result (AreShares (item_of stamp text.now) shares.new.items) }
     ensures as_many { OnOk result (vec_len shares.new ≡ many) }
 {
     for _ in 0..many {
-        shares.push_reserved(item.share()?);
+        shares.push_reserved(stamp.item(text.share()?));
     }
     Ok(())
 }

@@ -7,7 +7,7 @@ ghost use Rattle.publisher_hub.specs.Entry.{entry_of};
 ghost use Rattle.publisher_hub.specs.Gathering.{AreShares, HasRoomAgain, Second, missed, AddsAgain, AreRevisited, GathersAgain};
 ghost use Rattle.publisher_hub.specs.Hub.{hub_of};
 ghost use Rattle.publisher_hub.specs.Lists.{EachBy};
-ghost use Rattle.publisher_hub.specs.Offering.{CountsOne, ReachesAllFrom, PutsAgain};
+ghost use Rattle.publisher_hub.specs.Offering.{Counts, ReachesAllFrom, PutsAgain};
 ghost use Rattle.publisher_hub.specs.Publishing.{OffersItem, PassesAgain, RefusesOffer, dropping_after, offer_answer};
 ghost use Rattle.publisher_hub.specs.Sound.{AreNumbers, IsSound};
 ghost use Rattle.publisher_hub.specs.Steps.{CanEachRetry, CanRetry};
@@ -42,7 +42,7 @@ impl<F: Feed> Hub<F> {
             due.old.items due.new.items answer) }
         ensures reached { OnOk result (ReachesAllFrom source text
             (hub_of F.meaning self.old) (hub_of F.meaning self.new)) }
-        ensures counted { OnOk result (CountsOne source
+        ensures counted { OnOk result (Counts source 1
             (hub_of F.meaning self.old).progress (hub_of F.meaning self.new).progress) }
         ensures refusals { IfErr result (λ refusal.
             RefusesOffer F.meaning F.does self.old self.new refusal) }
@@ -68,24 +68,25 @@ impl<F: Feed> Hub<F> {
             due.old.items due.new.items answer) }
         ensures reached { OnOk result (ReachesAllFrom source text
             (hub_of F.meaning self.old) (hub_of F.meaning self.new)) }
-        ensures counted { OnOk result (CountsOne source
+        ensures counted { OnOk result (Counts source 1
             (hub_of F.meaning self.old).progress (hub_of F.meaning self.new).progress) }
         ensures refusals { IfErr result (λ refusal.
             RefusesOffer F.meaning F.does self.old self.new refusal) }
         ensures nothing_due { OnErr result (due.new.items ≡ due.old.items) }
         ensures no_share { self.new.gathering.shares.items ≡ [] }
     {
-        let item = self.next_item(source, text);
-        let _ = self.prepare_publication(&item, due)?;
+        let stamp = self.next_stamp(source);
+        let _ = self.prepare_publication(stamp, &text, due)?;
         if let Some(refusal) = self.refusal() {
             self.gathering.drop_shares();
             return Err(refusal);
         }
-        self.put(&item, due);
+        self.put(stamp, &text, due);
+        let item = stamp.item(text);
         self.retry(&item, handler, due);
         self.count_drops();
         self.gathering.drop_shares();
-        self.count_published(&item);
+        self.count(stamp, 1);
         Ok(self.answer())
     }
 

@@ -1,13 +1,15 @@
 //! How the live subscriptions of a Hub are made ready for a call that may start tasks: each is looked at, and has what
 //! a started task needs if it goes on. No task is started here.
-ghost use Rattle.std.specs.Prelude.{◌≡◌, IfOk, IsOk, OnErr, OnOk, vec_capacity, ◌<◌, vec_len, List, Option, map, ◌+◌, ◌≤◌};
+ghost use Rattle.std.specs.Prelude.{◌≡◌, [], IfOk, IsOk, OnErr, OnOk, vec_capacity, ◌<◌, vec_len, List, Option, map, ◌+◌, ◌≤◌};
 ghost use Rattle.flow_rules.specs.declared.feed.standing.Standing.{Standing};
 ghost use Rattle.publisher_hub.specs.Entry.{entry_of};
 ghost use Rattle.publisher_hub.specs.Hub.{hub_of};
 ghost use Rattle.publisher_hub.specs.Lists.{Each, EachBy};
 ghost use Rattle.publisher_hub.specs.Looking.{FailsToPrepare, FindsRoom, IsLookedAt, PreparesInPart, MayPrepare, Prepares, ShowsRoom};
+ghost use Rattle.publisher_hub.specs.Offering.{item_of};
 ghost use Rattle.publisher_hub.specs.Overview.{CountsRoom};
 ghost use Rattle.publisher_hub.specs.Policy.{waits};
+ghost use Rattle.publisher_hub.specs.Publishing.{CanPublish};
 ghost use Rattle.publisher_hub.specs.Readiness.{AreReady};
 ghost use Rattle.publisher_hub.specs.Sound.{IsSound, AreLive};
 ghost use Rattle.publisher_hub.specs.Steps.{AreHere, IsHere};
@@ -16,8 +18,9 @@ ghost use Rattle.publisher_hub.specs.Subscribing.{IsPrepared, IsPreparedInPart};
 use crate::entry::Entry;
 use crate::hub::Hub;
 use crate::hub::room::Room;
+use crate::hub::stamp::Stamp;
 use crate::work::Work;
-use flow_rules::{Feed, NoMemory};
+use flow_rules::{Feed, NoMemory, Text};
 
 impl<F: Feed> Hub<F> {
     /// Looks at all live subscriptions, retires those that have ended, and makes each that goes on ready for one task.
@@ -42,6 +45,33 @@ impl<F: Feed> Hub<F> {
             ..
         } = self;
         prepare_all(entries, live, *next, *capacity)
+    }
+
+    /// Takes all that a publication needs, and looks at each live subscription. The answer is what that showed of their
+    /// room.
+    pub(super) fn prepare_publication(
+        &mut self,
+        stamp: Stamp,
+        text: &Text,
+        due: &mut Vec<Work<F::Task>>,
+    ) -> Result<Room, NoMemory>
+        requires sound { IsSound (hub_of F.meaning self.old) }
+        ensures ok { IfOk result (FindsRoom F.meaning F.does self.old self.new) }
+        ensures exact { OnErr result (PreparesInPart F.meaning F.does self.old self.new) }
+        ensures looked { IsLookedAt (hub_of F.meaning self.old) (hub_of F.meaning self.new) }
+        ensures sound { IsSound (hub_of F.meaning self.new) }
+        ensures due { due.new.items ≡ due.old.items }
+        ensures ready { OnOk result (CanPublish (item_of stamp text.now) self.new due.new) }
+        ensures no_share { OnErr result (self.new.gathering.shares.items ≡ []) }
+    {
+        self.gathering.forget();
+        due.reserve(self.live.len())?;
+        self.gathering.begin(stamp, text, self.live.len())?;
+        let prepared = self.prepare_live();
+        if prepared.is_err() {
+            self.gathering.drop_shares();
+        }
+        prepared
     }
 
     /// Looks at all live subscriptions, retires those that have ended, makes the others ready for one task each, and

@@ -1,9 +1,10 @@
 //! What looks at the live subscriptions show of their room: of all, and of those that publications wait for.
 ghost use Rattle.std.specs.Prelude.{◌≡◌, true, false, min, fold, [], ◌∷◌, ℕ};
 ghost use Rattle.flow_rules.specs.declared.item.TheConstants.{MOST_PUBLICATIONS};
-ghost use Rattle.publisher_hub.specs.Looking.{full_by, room_by};
+ghost use Rattle.publisher_hub.specs.Looking.{full_by, room_by, room_for};
 ghost use Rattle.publisher_hub.specs.Overview.{CountsRoom};
 
+use crate::policy::Need;
 use flow_rules::{MOST_PUBLICATIONS, Standing};
 
 /// What looks at the live subscriptions showed of their room.
@@ -30,6 +31,16 @@ impl Room {
             everywhere: true,
             for_waiters: true,
             least: MOST_PUBLICATIONS,
+        }
+    }
+
+    /// Tells whether those have room whose room is needed.
+    pub fn has(self, need: Need) -> bool
+        ensures { result ≡ room_for need self }
+    {
+        match need {
+            Need::All => self.everywhere,
+            Need::Waiters => self.for_waiters,
         }
     }
 

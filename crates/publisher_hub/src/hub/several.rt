@@ -1,70 +1,50 @@
 //! How several texts are published at once: as many as have room at every live subscription, each of which is looked at
 //! once and is offered all of them at once.
-ghost use Rattle.std.specs.Prelude.{◌≡◌, ◌⊎◌, ◌+◌, ◌-◌, ◌<◌, ◌≤◌, ◌++◌, min, max, fold, List, Option, Some, IfOk, IfErr, OnOk, OnErr, map, length, slice_get, slice_set, take, ℕ, vec_len, vec_capacity};
+ghost use Rattle.std.specs.Prelude.{◌≡◌, ◌+◌, ◌-◌, ◌<◌, ◌≤◌, min, List, Option, IfOk, IfErr, OnOk, OnErr, map, length, vec_len, vec_capacity};
 ghost use Rattle.flow_rules.specs.declared.feed.put_all.PutAll.{PutAll};
 ghost use Rattle.flow_rules.specs.declared.item.Item.{Item};
 ghost use Rattle.flow_rules.specs.declared.item.TheConstants.{MOST_PUBLICATIONS};
-ghost use Rattle.flow_rules.specs.declared.refusal.Refusal.TheVariants as Refusal;
 ghost use Rattle.publisher_hub.specs.Entry.{entry_of};
 ghost use Rattle.publisher_hub.specs.Hub.{hub_of};
-ghost use Rattle.publisher_hub.specs.Lists.{EachBy, greatest};
+ghost use Rattle.publisher_hub.specs.Lists.{EachBy};
 ghost use Rattle.publisher_hub.specs.Looking.{FindsRoom, IsLookedAt, PreparesInPart};
-ghost use Rattle.publisher_hub.specs.Offering.{backlogs};
-ghost use Rattle.publisher_hub.specs.Several.{AddsAll, AreBatches, CanAllPutSeveral, CanPutSeveral, CountsSeveral, GathersAll, PublishesSeveral, PutsSeveralTo, ReachesAllFromTexts, RefusesFirst, items_from};
+ghost use Rattle.publisher_hub.specs.Offering.{Counts};
+ghost use Rattle.publisher_hub.specs.Publishing.{RefusesTexts};
+ghost use Rattle.publisher_hub.specs.Several.{AddsAll, AreBatches, CanAllPutSeveral, CanPutSeveral, GathersAll, PublishesSeveral, PutsSeveralTo, items_from};
 ghost use Rattle.publisher_hub.specs.Sound.{IsSound, AreLive};
 ghost use Rattle.publisher_hub.specs.declared.hub.TheConstants.{MOST_SOURCES};
-ghost use Rattle.publisher_hub.specs.declared.hub.publish.Unpublished.TheVariants.{NoRoom, Refused};
+ghost use Rattle.publisher_hub.specs.declared.policy.Need.TheVariants as Need;
 ghost use Rattle.publisher_hub.specs.declared.work.Work.{Work};
 
 use super::gathering::push_started;
 use super::prepare::reserve_due;
 use crate::entry::Entry;
 use crate::hub::room::Room;
-use crate::hub::{Hub, Unpublished};
+use crate::hub::stamp::Stamp;
+use crate::hub::{Hub, Publication, Unpublished};
 use crate::work::Work;
 use flow_rules::{Feed, Item, MOST_PUBLICATIONS, NoMemory, PutAll, Refusal, Text};
 use std::alloc::Global;
 
-/// What a publication of several texts did.
-#[derive(Clone, Copy, Debug, PartialEq, Eq)]
-pub struct PublishedFirst {
-    /// How many of the texts were published, from the first on: at least one.
-    pub many: usize,
-    /// The greatest lag of a live subscription after the last of these, in items, or 0 if there are no subscriptions.
-    pub lag: u64,
-}
-
 impl<F: Feed> Hub<F> {
-    /// Publishes the first of some texts to all live subscriptions, one after the other: as many as there is room for at
-    /// each of them, and as may still be published. (`SubmissionPublisher` has no such method.)
-    ///
-    /// Each of them is a publication of its own, as [`publish`](Hub::publish) makes one. But each subscription is looked
-    /// at once for all of them, and sees none before the last is there. Refused 2 if the Hub is closed, and 13 once
-    /// [`MOST_PUBLICATIONS`](flow_rules::MOST_PUBLICATIONS) were made; else `NoRoom` if a buffer is full, with a share of
-    /// the first text; and 5 if a growth is refused. Then no list and no count has changed.
-    pub fn publish_several(
+    /// Publishes the first of several texts to all live subscriptions, one after the other: as many as there is room for
+    /// at each of them, and as may still be published. (`SubmissionPublisher` has no such method.)
+    pub(super) fn publish_several(
         &mut self,
         source: u32,
         texts: &[Text],
         due: &mut Vec<Work<F::Task>>,
-    ) -> Result<PublishedFirst, Unpublished>
+    ) -> Result<Publication, Unpublished>
         requires sound { IsSound (hub_of F.meaning self.old) }
         requires source { source < MOST_SOURCES }
         requires some { 0 < length texts.now }
         ensures sound { IsSound (hub_of F.meaning self.new) }
-        ensures ok { IfOk result (λ first. PublishesSeveral F.meaning F.does source texts.now
-            self.old self.new due.old.items due.new.items first) }
-        ensures within { IfOk result (λ first. first.many ≤ length texts.now) }
-        ensures reached { IfOk result (λ first. ReachesAllFromTexts source
-            (take first.many texts.now) (hub_of F.meaning self.old) (hub_of F.meaning self.new)) }
-        ensures counted { IfOk result (λ first. CountsSeveral source first.many
+        ensures ok { IfOk result (λ publication. PublishesSeveral F.meaning F.does source texts.now
+            self.old self.new due.old.items due.new.items publication) }
+        ensures counted { IfOk result (λ publication. Counts source publication.many
             (hub_of F.meaning self.old).progress (hub_of F.meaning self.new).progress) }
-        ensures lag { IfOk result (λ first.
-            first.lag ≡ greatest (backlogs (hub_of F.meaning self.new).entries)) }
-        ensures due { OnOk result ((works : List (Work F.Task))
-            × (due.new.items ≡ due.old.items ++ works)) }
         ensures refusals { IfErr result (λ why.
-            RefusesFirst F.meaning F.does texts.now self.old self.new why) }
+            RefusesTexts F.meaning F.does Need.All self.old self.new why) }
         ensures nothing_due { OnErr result (due.new.items ≡ due.old.items) }
         ensures gathering { self.new.gathering ≡ self.old.gathering }
     {
@@ -76,17 +56,22 @@ impl<F: Feed> Hub<F> {
             return Err(Unpublished::Refused(refusal));
         }
         if !room.everywhere {
-            return Err(no_room_for(&texts[0]));
+            return Err(Unpublished::NoRoom);
         }
         let many = self.fitting(texts.len(), room.least);
-        let seq = self.count_of(source);
-        let batches = match self.batches(*due.allocator(), source, seq, &texts[..many]) {
+        let stamp = self.next_stamp(source);
+        let batches = match self.batches(*due.allocator(), stamp, &texts[..many]) {
             Ok(batches) => batches,
             Err(NoMemory) => return Err(Unpublished::Refused(Refusal::NoMemory)),
         };
         let lag = self.put_several(batches, due);
-        self.count_several(source, seq, many);
-        Ok(PublishedFirst { many, lag })
+        self.count(stamp, many);
+        Ok(Publication {
+            many,
+            lost: 0,
+            dropped: 0,
+            lag,
+        })
     }
 
     /// Makes room for the tasks that may be started, and looks at each live subscription. The answer is what that showed
@@ -106,15 +91,6 @@ impl<F: Feed> Hub<F> {
         self.prepare_live()
     }
 
-    /// Tells how many items of a source were published.
-    fn count_of(&self, source: u32) -> u64
-        requires sound { IsSound (hub_of F.meaning self.now) }
-        requires source { source < MOST_SOURCES }
-        ensures { slice_get self.now.counts.items source ≡ Some result }
-    {
-        self.counts[source as usize]
-    }
-
     /// Counts how many of this many texts can be published if every live subscription has this room.
     fn fitting(&self, texts: usize, room: u64) -> usize
         requires few { self.now.next ≤ MOST_PUBLICATIONS }
@@ -124,24 +100,23 @@ impl<F: Feed> Hub<F> {
         (texts as u64).min(left).min(room) as usize
     }
 
-    /// Makes the next items of a source with these texts, once for each live subscription.
+    /// Makes the items with these texts, of which the first has this stamp, once for each live subscription.
     fn batches(
         &self,
         alloc: Global,
-        source: u32,
-        seq: u64,
+        stamp: Stamp,
         texts: &[Text],
     ) -> Result<Vec<Vec<Item>>, NoMemory>
-        requires few { self.now.next + length texts.now ≤ MOST_PUBLICATIONS }
-        requires few_of_source { seq + length texts.now ≤ MOST_PUBLICATIONS }
-        ensures ok { IfOk result (λ batches.
-            AreBatches (items_from source seq self.now.next texts.now) batches.items) }
+        requires few { stamp.serial + length texts.now ≤ MOST_PUBLICATIONS }
+        requires few_of_source { stamp.seq + length texts.now ≤ MOST_PUBLICATIONS }
+        ensures ok { IfOk result (λ batches. AreBatches
+            (items_from stamp.source stamp.seq stamp.serial texts.now) batches.items) }
         ensures as_many { IfOk result (λ batches. vec_len batches ≡ vec_len self.now.live) }
     {
         let many = self.live.len();
         let mut batches = Vec::with_capacity(alloc, many)?;
         for _ in 0..many {
-            batches.push_reserved(items_of(alloc, source, seq, self.next, texts)?);
+            batches.push_reserved(items_of(alloc, stamp, texts)?);
         }
         Ok(batches)
     }
@@ -170,56 +145,21 @@ impl<F: Feed> Hub<F> {
         } = self;
         put_batches(entries, live, *next, batches, due)
     }
-
-    /// Counts this many more publications of a source.
-    fn count_several(&mut self, source: u32, seq: u64, many: usize)
-        requires there { slice_get self.old.counts.items source ≡ Some seq }
-        requires few { self.old.next + many ≤ MOST_PUBLICATIONS }
-        requires few_of_source { seq + many ≤ MOST_PUBLICATIONS }
-        ensures rest { hub_of F.meaning self.new ≡ record (hub_of F.meaning self.old) {
-          progress = record (hub_of F.meaning self.old).progress {
-            next = self.old.next + many;
-            counts = slice_set self.old.counts.items source (seq + many);
-          };
-        } }
-        ensures entries { self.new.entries ≡ self.old.entries }
-        ensures gathering { self.new.gathering ≡ self.old.gathering }
-    {
-        self.next += many as u64;
-        self.counts[source as usize] = seq + many as u64;
-    }
 }
 
-/// Gives up a text for which a live subscription has no room. A share of it comes back, unless memory is refused for
-/// that.
-fn no_room_for(text: &Text) -> Unpublished
-    ensures { (result ≡ NoRoom text.now) ⊎ (result ≡ Refused Refusal.NoMemory) }
-{
-    match text.share() {
-        Ok(share) => Unpublished::NoRoom(share),
-        Err(NoMemory) => Unpublished::Refused(Refusal::NoMemory),
-    }
-}
-
-/// Makes items of a source with shares of these texts, in order. The first has this number among those of its source,
-/// and this serial number.
-fn items_of(
-    alloc: Global,
-    source: u32,
-    seq: u64,
-    serial: u64,
-    texts: &[Text],
-) -> Result<Vec<Item>, NoMemory>
-    requires few { serial + length texts.now ≤ MOST_PUBLICATIONS }
-    requires few_of_source { seq + length texts.now ≤ MOST_PUBLICATIONS }
-    ensures { IfOk result (λ items. items.items ≡ items_from source seq serial texts.now) }
+/// Makes items with shares of these texts, in order, of which the first has this stamp.
+fn items_of(alloc: Global, stamp: Stamp, texts: &[Text]) -> Result<Vec<Item>, NoMemory>
+    requires few { stamp.serial + length texts.now ≤ MOST_PUBLICATIONS }
+    requires few_of_source { stamp.seq + length texts.now ≤ MOST_PUBLICATIONS }
+    ensures { IfOk result (λ items.
+        items.items ≡ items_from stamp.source stamp.seq stamp.serial texts.now) }
 {
     let mut items = Vec::with_capacity(alloc, texts.len())?;
     for (place, text) in texts.iter().enumerate() {
         items.push_reserved(Item {
-            source,
-            seq: seq + place as u64,
-            serial: serial + place as u64,
+            source: stamp.source,
+            seq: stamp.seq + place as u64,
+            serial: stamp.serial + place as u64,
             text: text.share()?,
         });
     }

@@ -7,7 +7,7 @@ ghost use Rattle.commands.specs.Reply.{reply_or_refusal};
 use super::Session;
 use commands::Reply;
 use flow_rules::{DropHandler, Item, Listener, Name, Refusal, Text};
-use publisher_hub::Unpublished;
+use publisher_hub::{Need, Unpublished};
 use std::alloc::Global;
 
 /// The source of all items of a script.
@@ -62,13 +62,13 @@ impl<B: Listener> Session<B> {
             (reply_or_refusal result) self.new }
     {
         let text = text_of(alloc, text)?;
-        match self.hub.publish(SOURCE, text, &mut self.due) {
-            Ok(lag) => {
+        match self.hub.publish(SOURCE, &[text], Need::All, &mut self.due) {
+            Ok(publication) => {
                 self.woken.push_all(&mut self.due);
-                Ok(Reply::Submitted(lag as i64))
+                Ok(Reply::Submitted(publication.lag as i64))
             }
             Err(Unpublished::Refused(refusal)) => Err(refusal),
-            Err(Unpublished::NoRoom(_)) => Err(Refusal::WouldWait),
+            Err(Unpublished::NoRoom) => Err(Refusal::WouldWait),
         }
     }
 }

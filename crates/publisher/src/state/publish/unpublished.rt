@@ -1,14 +1,13 @@
-//! What comes of a publication in vain: a refusal of the Hub, or a text that found no room.
+//! What comes of a publication in vain: a refusal of the Hub, or a buffer without room.
 //!
 //! Each comes as a value that only such a publication gives. So whoever learns from a refusal how the publisher is closed
 //! can't have made that up, and a submitter can't wait for other room than that which it tried.
-ghost use Rattle.std.specs.Prelude.{◌≡◌, IfErr, IfOk};
+ghost use Rattle.std.specs.Prelude.{◌≡◌, IfErr, IfOk, OnOk};
 ghost use Rattle.publisher_hub.specs.declared.hub.publish.Unpublished.TheVariants as Unpublished;
 ghost use Rattle.publisher.specs.Handles.{IsHubRefusal};
 
-use crate::state::Need;
-use flow_rules::{Refusal, Text};
-use publisher_hub::Unpublished;
+use flow_rules::Refusal;
+use publisher_hub::{Need, Unpublished};
 use std::marker::Model;
 
 /// A refusal of the Hub. Only a publication that the Hub refused gives one.
@@ -56,43 +55,34 @@ impl Model for NotPublished {
     ghost invariant = { λ it. IsHubReason it.reason };
 }
 
-/// A text for which a publication found no room, and whose room it needs. Only a publication in vain gives one, and only
-/// with one a submitter waits for room: so it waits for that of whom it tried.
+/// A publication found no room, and needs this room. Only a publication in vain gives one, and only with one a submitter
+/// waits for room: so it waits for that of whom it tried.
 #[must_use]
 #[derive(Drop)]
 pub struct NoRoom {
-    text: Text,
     need: Need,
 }
 
 impl NotPublished {
-    /// Gives the text back if a live subscription whose room it needs had none for it, and else the refusal.
+    /// Says whose room was missing, if a live subscription whose room is needed had none, and else the refusal.
     pub fn no_room(self) -> Result<NoRoom, Refused>
-        ensures back { IfOk result (λ no_room. self.reason ≡ Unpublished.NoRoom no_room.text) }
+        ensures full { OnOk result (self.reason ≡ Unpublished.NoRoom) }
         ensures need { IfOk result (λ no_room. no_room.need ≡ self.need) }
         ensures refused { IfErr result (λ refusal. self.reason ≡ Unpublished.Refused refusal) }
     {
         let NotPublished { reason, need } = self;
         match reason {
-            Unpublished::NoRoom(text) => Ok(NoRoom { text, need }),
+            Unpublished::NoRoom => Ok(NoRoom { need }),
             Unpublished::Refused(refusal) => Err(Refused(refusal)),
         }
     }
 }
 
 impl NoRoom {
-    /// Tells whose room the text needs.
+    /// Tells whose room is needed.
     pub fn need(&self) -> Need
         ensures { result ≡ self.now.need }
     {
         self.need
-    }
-
-    /// Gives the text back, to try again.
-    pub fn into_text(self) -> Text
-        ensures { result ≡ self.text }
-    {
-        let NoRoom { text, need: _ } = self;
-        text
     }
 }

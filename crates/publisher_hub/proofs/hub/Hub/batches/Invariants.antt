@@ -7,5 +7,5 @@ abbrev pub invariant-loop : goal.invariant-loop
 invariant-loop g l = record {
   many : vec_len l.batches ≡ l.counter;
   room : l.many ≤ vec_capacity l.batches;
-  batches : AreBatches (items_from l.source l.seq l.self.next l.texts) l.batches.items;
+  batches : AreBatches (items_from l.stamp.source l.stamp.seq l.stamp.serial l.texts) l.batches.items;
 }

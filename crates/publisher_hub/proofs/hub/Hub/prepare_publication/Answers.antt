@@ -1,6 +1,7 @@
 -- If memory is refused before the looks, nothing has changed; after them all that was taken is still there.
 use Rattle.std.proofs.Common.{◌≡◌, ◌∙◌, Result, Ok, Err, OnErr, OnOk, true, false, is_err, refl, rules, subst, sym, inl}
 use Rattle.publisher_hub.specs.Hub.{hub_of}
+use Rattle.publisher_hub.specs.Offering.{item_of}
 use Rattle.publisher_hub.specs.Publishing.{CanPublish}
 use Rattle.publisher_hub.proofs.Subscribed.AfterLooks.{each_untouched}
 use Rattle.publisher_hub.proofs.PartialRounds.Progress.{same_some}
@@ -30,7 +31,7 @@ returns-in_err-begin-clause-looked g c = record {
 
 pub returns-else-is_err-clause-ready : goal.returns-else-is_err-clause-ready
 returns-else-is_err-clause-ready g c =
-    subst (λ hub. OnOk c.prepare_live-prepared.result (CanPublish c.args.item.now hub c.reserve.new.self)) (sym c.prepare_live-prepared.ensures.rest) (search rules)
+    subst (λ hub. OnOk c.prepare_live-prepared.result (CanPublish (item_of c.args.stamp c.args.text.now) hub c.reserve.new.self)) (sym c.prepare_live-prepared.ensures.rest) (search rules)
 
 pub returns-in_err-reserve-clause-exact : goal.returns-in_err-reserve-clause-exact
 returns-in_err-reserve-clause-exact g c =

@@ -2,7 +2,7 @@
 use Rattle.std.proofs.Common.{◌≡◌, ◌+◌, ◌∙◌, ap, arith, length, length-append, rules, subst}
 use Rattle.flow_rules.specs.declared.item.Item.{Item}
 use Rattle.publisher_hub.specs.Gathering.{back_by, missed_by, started_by}
-use Rattle.publisher_hub.specs.Offering.{PutsTo}
+use Rattle.publisher_hub.specs.Offering.{PutsTo, item_of}
 use Rattle.publisher_hub.proofs.PartialRounds.Shares.{shares_back, takes_a_place}
 use Rattle.publisher_hub.proofs.hub.publish.put_one.Goals as goal
 
@@ -10,7 +10,7 @@ pub returns-clause-puts : goal.returns-clause-puts
 returns-clause-puts g c =
     let meaning = g.F.Feed.meaning in
     let does = g.F.Feed.does in
-    let item = c.args.item.now in
+    let item = item_of c.args.stamp c.args.text.now in
     let answer = c.put-answer.result in
     let taken = c.take_share-share.ensures in
     let puts_to = subst (λ (share : Item). PutsTo meaning does share answer c.args.entry.now c.put-answer.new.self) (taken.share item c.requires.shares) c.put-answer.ensures in (

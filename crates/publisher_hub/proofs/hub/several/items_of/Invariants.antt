@@ -5,7 +5,7 @@ use Rattle.publisher_hub.proofs.hub.several.items_of.Given as goal
 
 abbrev pub invariant-loop-place : goal.invariant-loop-place
 invariant-loop-place l = record {
-  items : l.items.items ≡ items_from l.source l.seq l.serial (take l.place l.texts);
+  items : l.items.items ≡ items_from l.stamp.source l.stamp.seq l.stamp.serial (take l.place l.texts);
   many : vec_len l.items ≡ l.place;
   room : length l.texts ≤ vec_capacity l.items;
 }

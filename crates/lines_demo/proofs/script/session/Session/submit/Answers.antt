@@ -2,7 +2,8 @@ use Rattle.std.proofs.Common.{rules, ◌≡◌, ◌<◌, ◌^◌, [], true, leng
 use Rattle.std.proofs.lemmas.Int.{to_z_pos}
 use Rattle.std.proofs.lemmas.Result.{err_from_is_err_and}
 use Rattle.feed_core.specs.Feed.{DoesCall, end_of}
-use Rattle.publisher_hub.specs.Publishing.{RefusesItem}
+use Rattle.publisher_hub.specs.Publishing.{RefusesTexts}
+use Rattle.publisher_hub.specs.declared.policy.Need.TheVariants as Need
 use Rattle.lines_demo.specs.Prelude.{Refusal}
 use Rattle.lines_demo.specs.Script.Publishing.{submit_refusal, submitted_reply}
 use Rattle.lines_demo.specs.Script.State.{SessionState}
@@ -23,19 +24,19 @@ push_all-requires g c =
     let old = c.self.inside.hub in
     let new = c.publish.new.self in
     let is = c.self.invariant.2 in
-    let all = hub_submitted c.in_ok-text.text old new c.self.inside.due.items c.publish.new.due.items c.in-Ok.lag is.publisher c.self.invariant.3 c.in-Ok.ensures.sound c.in-Ok.ensures.ok in
+    let all = hub_submitted c.in_ok-text.text old new c.self.inside.due.items c.publish.new.due.items c.in-Ok.publication is.publisher c.self.invariant.3 c.in-Ok.ensures.sound c.in-Ok.ensures.ok in
     record { room = published_room old new (length c.self.inside.stock.items) c.self.inside.woken c.self.inside.beginning is c.in_ok-text.text c.publish.new.due.items all.published }
 
 -- what was submitted
 submitted : (g : Over) (c : goal.After-push_all g)
-    → HubSubmitted c.in_ok-text.text c.self.inside.hub c.publish.new.self c.publish.new.due.items c.in-Ok.lag
+    → HubSubmitted c.in_ok-text.text c.self.inside.hub c.publish.new.self c.publish.new.due.items c.in-Ok.publication.lag
 submitted g c =
-    hub_submitted c.in_ok-text.text c.self.inside.hub c.publish.new.self c.self.inside.due.items c.publish.new.due.items c.in-Ok.lag c.self.invariant.2.publisher c.self.invariant.3 c.in-Ok.ensures.sound c.in-Ok.ensures.ok
+    hub_submitted c.in_ok-text.text c.self.inside.hub c.publish.new.self c.self.inside.due.items c.publish.new.due.items c.in-Ok.publication c.self.invariant.2.publisher c.self.invariant.3 c.in-Ok.ensures.sound c.in-Ok.ensures.ok
 
 -- its lag is small
-small : (g : Over) (c : goal.After-push_all g) → c.in-Ok.lag < 2 ^ 63
+small : (g : Over) (c : goal.After-push_all g) → c.in-Ok.publication.lag < 2 ^ 63
 small g c =
-    let few = lag_small c.self.inside.hub c.publish.new.self (length c.self.inside.stock.items) c.self.inside.woken c.self.inside.beginning c.self.invariant.2 c.in_ok-text.text c.publish.new.due.items c.in-Ok.lag (submitted g c) in
+    let few = lag_small c.self.inside.hub c.publish.new.self (length c.self.inside.stock.items) c.self.inside.woken c.self.inside.beginning c.self.invariant.2 c.in_ok-text.text c.publish.new.due.items c.in-Ok.publication.lag (submitted g c) in
     omega arith
 
 pub overflow_cast-result : goal.overflow_cast-result
@@ -53,14 +54,14 @@ invariant_of-self g c =
 
 pub returns-in-Ok : goal.returns-in-Ok
 returns-in-Ok g c =
-    submitted_replies c.self.inside.hub c.publish.new.self (length c.self.inside.stock.items) c.self.inside.woken c.self.inside.beginning c.self.invariant.2 c.args.text.now c.in_ok-text.text c.publish.new.due.items c.in-Ok.lag
-    c.in_ok-text.ensures (submitted g c) c.args.self.now c.self.view_is c.push_all.new.self c.push_all.ensures.woken (to_z w64 c.in-Ok.lag) (to_z_pos w64 c.in-Ok.lag (small g c))
+    submitted_replies c.self.inside.hub c.publish.new.self (length c.self.inside.stock.items) c.self.inside.woken c.self.inside.beginning c.self.invariant.2 c.args.text.now c.in_ok-text.text c.publish.new.due.items c.in-Ok.publication.lag
+    c.in_ok-text.ensures (submitted g c) c.args.self.now c.self.view_is c.push_all.new.self c.push_all.ensures.woken (to_z w64 c.in-Ok.publication.lag) (to_z_pos w64 c.in-Ok.publication.lag (small g c))
 
 -- it was refused
 refused : (g : Over) (c : goal.In-Err-Refused g) → SubmitRefused c.self.inside.hub c.publish.new.self c.in-Err-Refused.refusal
 refused g c =
-    submit_refused c.in_ok-text.text c.self.inside.hub c.publish.new.self c.in-Err-Refused.refusal c.self.invariant.2.publisher
-    (subst (λ why. RefusesItem end_of DoesCall c.in_ok-text.text c.self.inside.hub c.publish.new.self why) c.in-Err-Refused.field-0-is c.in-Err-Refused.ensures.refusals)
+    submit_refused c.self.inside.hub c.publish.new.self c.in-Err-Refused.refusal c.self.invariant.2.publisher
+    (subst (λ why. RefusesTexts end_of DoesCall Need.All c.self.inside.hub c.publish.new.self why) c.in-Err-Refused.field-0-is c.in-Err-Refused.ensures.refusals)
 
 pub invariant_of-self-in-Err-Refused : goal.invariant_of-self-in-Err-Refused
 invariant_of-self-in-Err-Refused g c =
@@ -77,8 +78,8 @@ returns-in-Err-Refused g c =
 -- it would wait
 waits : (g : Over) (c : goal.In-Err-NoRoom g) → SubmitRefused c.self.inside.hub c.publish.new.self Refusal.WouldWait
 waits g c =
-    submit_waits c.in_ok-text.text c.in-Err-NoRoom.field-0-0 c.self.inside.hub c.publish.new.self c.self.invariant.2.publisher
-    (subst (λ why. RefusesItem end_of DoesCall c.in_ok-text.text c.self.inside.hub c.publish.new.self why) c.in-Err-NoRoom.field-0-is c.in-Err-NoRoom.ensures.refusals)
+    submit_waits c.self.inside.hub c.publish.new.self c.self.invariant.2.publisher
+    (subst (λ why. RefusesTexts end_of DoesCall Need.All c.self.inside.hub c.publish.new.self why) c.in-Err-NoRoom.field-0-is c.in-Err-NoRoom.ensures.refusals)
 
 pub invariant_of-self-in-Err-NoRoom : goal.invariant_of-self-in-Err-NoRoom
 invariant_of-self-in-Err-NoRoom g c =
@@ -89,7 +90,7 @@ invariant_of-self-in-Err-NoRoom g c =
 
 pub returns : goal.returns
 returns g c =
-    let against = submit_waits c.in_ok-text.text c.in-Err-NoRoom.field-0-0 c.self.inside.hub c.publish.new.self c.self.invariant.2.publisher
-    (subst (λ why. RefusesItem end_of DoesCall c.in_ok-text.text c.self.inside.hub c.publish.new.self why) c.in-Err-NoRoom.field-0-is c.in-Err-NoRoom.ensures.refusals) in
+    let against = submit_waits c.self.inside.hub c.publish.new.self c.self.invariant.2.publisher
+    (subst (λ why. RefusesTexts end_of DoesCall Need.All c.self.inside.hub c.publish.new.self why) c.in-Err-NoRoom.field-0-is c.in-Err-NoRoom.ensures.refusals) in
     not_submitted_replies c.self.inside.hub c.publish.new.self (length c.self.inside.stock.items) c.self.inside.woken c.self.inside.beginning c.self.invariant.2 c.args.text.now c.in_ok-text.text Refusal.WouldWait
     c.in_ok-text.ensures c.in-Err-NoRoom.ensures.sound against c.args.self.now c.self.view_is

@@ -1,6 +1,6 @@
--- A publication by policy, from what each of its steps says: it is an offer without second tries.
-use Rattle.std.proofs.Common.{rules, ◌≡◌, ℕ, ◌<◌, ◌≤◌, true, Option, None, Some, List, [], ◌++◌, length, map, refl, ap, sym, subst, ◌∙◌, arith}
-use Rattle.std.specs.Prelude.{Vec, slice_get, vec_len}
+-- A publication of one text, from what each of its steps says: it is an offer without second tries.
+use Rattle.std.proofs.Common.{rules, ◌≡◌, ℕ, ◌<◌, ◌≤◌, true, false, Option, None, Some, List, [], ◌++◌, length, map, refl, ap, sym, subst, ◌∙◌, arith}
+use Rattle.std.specs.Prelude.{Vec, filter, slice_get, vec_len}
 use Rattle.std.specs.declared.alloc.Global.{Global}
 use Rattle.std.proofs.lemmas.List.{length-map}
 use Rattle.flow_rules.specs.Call.{Call}
@@ -12,21 +12,36 @@ use Rattle.publisher_hub.specs.Entry.{entry_of}
 use Rattle.publisher_hub.specs.Gathering.{Gathers, missed, stands, started}
 use Rattle.publisher_hub.specs.Hub.{HubState, hub_of}
 use Rattle.publisher_hub.specs.Lists.{EachBy}
-use Rattle.publisher_hub.specs.Looking.{IsLookedAt, Prepares, full_waiters}
-use Rattle.publisher_hub.specs.Offering.{CountsOne, PutsTo, ReachesAllFrom, progress_after}
-use Rattle.publisher_hub.specs.Publishing.{IsRefused, PublishesByPolicy, dropping_after}
+use Rattle.publisher_hub.specs.Looking.{IsLookedAt, Prepares, ShowsRoom, full_needed, full_waiters, room_for}
+use Rattle.publisher_hub.specs.Offering.{PutsTo, progress_after}
+use Rattle.publisher_hub.specs.Policy.{is_waited_for}
+use Rattle.publisher_hub.specs.Publishing.{IsRefused, PublishesOne, dropping_after, loss_of}
 use Rattle.publisher_hub.specs.Sound.{IsSound, MOST_ENTRIES}
 use Rattle.publisher_hub.specs.declared.entry.Entry.{Entry}
 use Rattle.publisher_hub.specs.declared.hub.gathering.Gathering.{Gathering}
 use Rattle.publisher_hub.specs.declared.hub.Hub.{Hub}
 use Rattle.publisher_hub.specs.declared.hub.TheConstants.{MOST_SOURCES}
-use Rattle.publisher_hub.specs.declared.policy.Published.{Published}
+use Rattle.publisher_hub.specs.declared.hub.publish.Publication.{Publication}
+use Rattle.publisher_hub.specs.declared.hub.room.Room.{Room}
+use Rattle.publisher_hub.specs.declared.policy.Need.{Need}
+use Rattle.publisher_hub.specs.declared.policy.Need.TheVariants.{All, Waiters}
 use Rattle.publisher_hub.specs.declared.work.Work.{Work}
-use Rattle.publisher_hub.proofs.Publications.AllSubscriptions.{waiters_kept}
-use Rattle.publisher_hub.proofs.Publications.Backlogs.{counts_one}
+use Rattle.publisher_hub.proofs.Publications.AllSubscriptions.{nobody_missed, waiters_kept}
 use Rattle.publisher_hub.proofs.Publications.FullBuffers.{declined, missed_few, passes_declined}
 use Rattle.publisher_hub.proofs.Publications.WholeOffer.{leaves}
 use Rattle.publisher_hub.proofs.Publications.WholePublication.{known_of}
+
+-- if no buffer is full whose room is needed, none is that publications wait for
+no_waiter_full : {F : Type 0} (need : Need) (capacity : ℕ) (entries : List (Entry F)) (glances : List (Option Standing)) → full_needed need capacity entries glances ≡ []
+    → full_waiters capacity entries glances ≡ []
+no_waiter_full All capacity entries glances none = ap (λ numbers. filter (is_waited_for entries) numbers) none
+no_waiter_full Waiters capacity entries glances none = none
+
+-- what was found of room says whether those have room whose room is needed
+pub room_needed : {F : Type 0} (need : Need) (room : Room) (capacity : ℕ) (entries : List (Entry F)) (glances : List (Option Standing)) → ShowsRoom room capacity entries glances
+    → (room_for need room ≡ true → full_needed need capacity entries glances ≡ []) × (room_for need room ≡ false → 0 < length (full_needed need capacity entries glances))
+room_needed All room capacity entries glances shows = (shows.all.there, shows.all.missing)
+room_needed Waiters room capacity entries glances shows = (shows.waiters.there, shows.waiters.missing)
 
 module _ {F T : Type 0} (meaning : F → End) (does : F → Call T → F → Type 0) where
   -- no more lose an item than there are subscriptions
@@ -40,12 +55,12 @@ module _ {F T : Type 0} (meaning : F → End) (does : F → Call T → F → Typ
       let mapped : length (map (entry_of meaning) entries) ≡ length entries = length-map entries (entry_of meaning) in
       omega arith
 
-  pub publishes_by_policy : (old seen given counted new : Hub F) (gathering : Gathering) (x : Item) (source : ℕ) (text : List ℕ) (due_old due_seen due_new : Vec (Work T) Global)
-      (glances : List (Option Standing)) (puts : List (Option (Put T))) (published : Published)
-      → IsSound (hub_of meaning old) → source < MOST_SOURCES → x.source ≡ source → x.text ≡ text → x.serial ≡ old.next
+  pub publishes_one : (need : Need) (old seen given counted new : Hub F) (gathering : Gathering) (x : Item) (source : ℕ) (texts : List (List ℕ)) (due_old due_seen due_new : Vec (Work T) Global)
+      (glances : List (Option Standing)) (puts : List (Option (Put T))) (publication : Publication)
+      → IsSound (hub_of meaning old) → source < MOST_SOURCES → x.source ≡ source → slice_get texts 0 ≡ Some x.text → x.serial ≡ old.next
       → slice_get old.counts.items source ≡ Some x.seq
       → IsLookedAt (hub_of meaning old) (hub_of meaning seen)
-      → EachBy (Prepares meaning does old.next) glances old.entries.items seen.entries.items → full_waiters old.capacity old.entries.items glances ≡ []
+      → EachBy (Prepares meaning does old.next) glances old.entries.items seen.entries.items → full_needed need old.capacity old.entries.items glances ≡ []
       → due_seen.items ≡ due_old.items → IsRefused (hub_of meaning seen).progress None
       → EachBy (PutsTo meaning does x) puts seen.entries.items given.entries.items → Gathers x puts given.gathering due_seen due_new
       → hub_of meaning given ≡ record (hub_of meaning seen) { entries = (hub_of meaning given).entries }
@@ -54,10 +69,10 @@ module _ {F T : Type 0} (meaning : F → End) (does : F → Call T → F → Typ
       → counted ≡ record given { gathering = gathering; dropping = dropping_after gathering.drops given.dropping }
       → hub_of meaning new ≡ record (hub_of meaning counted) { progress = progress_after x (hub_of meaning counted).progress.dropping (hub_of meaning counted).progress }
       → new.entries ≡ counted.entries → new.gathering.lag ≡ counted.gathering.lag → new.gathering.drops ≡ counted.gathering.drops
-      → published.lag ≡ new.gathering.lag → published.dropped ≡ new.gathering.drops
-      → IsSound (hub_of meaning new) × PublishesByPolicy meaning does source text old new due_old.items due_new.items published
-  publishes_by_policy old seen given counted new gathering x source text due_old due_seen due_new glances puts published sound within from words serial seq looked prepared room due_same open_still
-      gave gathers rest_given drops lag same_missed same_shares counted_is rest_new entries_same lag_same drops_same answers_lag answers_drops =
+      → publication ≡ record { many = 1; lost = loss_of new.gathering.drops; dropped = new.gathering.drops; lag = new.gathering.lag }
+      → IsSound (hub_of meaning new) × PublishesOne meaning does need source texts old new due_old.items due_new.items publication
+  publishes_one need old seen given counted new gathering x source texts due_old due_seen due_new glances puts publication sound within from words serial seq looked prepared room due_same open_still
+      gave gathers rest_given drops lag same_missed same_shares counted_is rest_new entries_same lag_same drops_same answers =
       let long : length puts ≡ length given.entries.items = gave.answered ∙ sym gave.as_long in
       let tried : Hub F = record given { gathering = gathering } in
       let passes =
@@ -69,6 +84,7 @@ module _ {F T : Type 0} (meaning : F → End) (does : F → Call T → F → Typ
       let entries_new : new.entries ≡ given.entries = entries_same ∙ ap (λ (h : Hub F). h.entries) counted_is in
       let gave_new : EachBy (PutsTo meaning does x) puts seen.entries.items new.entries.items =
       subst (λ (v : Vec (Entry F) Global). EachBy (PutsTo meaning does x) puts seen.entries.items v.items) (sym entries_new) gave in
+      let known = known_of meaning does (hub_of meaning old) old.entries.items sound refl unclosed in
       let many : vec_len given.gathering.missed ≡ length given.gathering.missed.items = search rules in (
         left.sound,
         record {
@@ -82,20 +98,15 @@ module _ {F T : Type 0} (meaning : F → End) (does : F → Call T → F → Typ
           room = room;
           each_put = gave_new;
           reaches = left.reaches;
-          waiters = waiters_kept meaning does old.capacity old.next x glances puts old.entries.items seen.entries.items new.entries.items prepared gave_new
-              (known_of meaning does (hub_of meaning old) old.entries.items sound refl unclosed) room;
+          waiters = waiters_kept meaning does old.capacity old.next x glances puts old.entries.items seen.entries.items new.entries.items prepared gave_new known
+              (no_waiter_full need old.capacity old.entries.items glances room);
+          no_drop = λ all. nobody_missed meaning does old.capacity old.next x glances puts old.entries.items seen.entries.items new.entries.items prepared gave_new known
+              (subst (λ n. full_needed n old.capacity old.entries.items glances ≡ []) all room);
           counted = left.counted ∙ ap (λ (ns : List ℕ). dropping_after (length ns) old.dropping) none.drops;
           due = gathers.due ∙ ap (λ works. works ++ started puts) due_same;
-          greatest_lag = answers_lag ∙ lag_same ∙ ap (λ (h : Hub F). h.gathering.lag) counted_is ∙ lag ∙ gathers.lag;
-          lost = answers_drops ∙ drops_same ∙ ap (λ (h : Hub F). h.gathering.drops) counted_is ∙ drops ∙ many ∙ ap length gathers.missed;
+          many = ap (λ (p : Publication). p.many) answers;
+          greatest_lag = ap (λ (p : Publication). p.lag) answers ∙ lag_same ∙ ap (λ (h : Hub F). h.gathering.lag) counted_is ∙ lag ∙ gathers.lag;
+          dropped = ap (λ (p : Publication). p.dropped) answers ∙ drops_same ∙ ap (λ (h : Hub F). h.gathering.drops) counted_is ∙ drops ∙ many ∙ ap length gathers.missed;
+          lost = ap (λ (p : Publication). p.lost) answers ∙ ap loss_of (sym (ap (λ (p : Publication). p.dropped) answers));
         },
       )
-
-  -- what a caller reads of it
-  pub policy_shows : {source : ℕ} {text : List ℕ} {old new : Hub F} {due_old due_new : List (Work T)} {published : Published}
-      → PublishesByPolicy meaning does source text old new due_old due_new published
-      → ReachesAllFrom source text (hub_of meaning old) (hub_of meaning new) × CountsOne source (hub_of meaning old).progress (hub_of meaning new).progress
-  policy_shows {source} {text} {old} {new} publishes = (
-    (publishes.item, ((publishes.from, publishes.words), publishes.reaches)),
-    counts_one source publishes.item (hub_of meaning old) (hub_of meaning new) publishes.from publishes.reaches,
-  )

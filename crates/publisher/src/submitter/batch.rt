@@ -1,20 +1,28 @@
-//! The publication of several texts by one call.
+//! The publication of a batch of texts by one call.
 //!
-//! It is `submit`, or `publish`, in all but how often it takes the lock. How the texts are published behind it stands
-//! in `state`.
+//! It is `submit`, or `publish`, in all but how often it takes the lock.
 ghost use Rattle.std.specs.Prelude.{◌≡◌, ◌+◌, ◌<◌, ◌≤◌, ◌++◌, None, Err, IfErr, IfOk, IfSome, OnOk, length, take};
 ghost use Rattle.flow_rules.specs.declared.refusal.Refusal.TheVariants as Refusal;
 ghost use Rattle.publisher.specs.Handles.{IsHubRefusal, RefusesPublication, after_refusal};
-ghost use Rattle.publisher.specs.Submitting.{CountsAll, CountsFirst, CountsPart};
-ghost use Rattle.publisher.specs.declared.state.look.Need.TheVariants as Need;
+ghost use Rattle.publisher.specs.Submitting.{CountsAll, CountsPart};
+ghost use Rattle.publisher_hub.specs.declared.policy.Need.TheVariants as Need;
 
 use super::Submitter;
 use crate::ledgers::Ledgers;
-use crate::state::{Need, PublishedAll, Refused, Stopped};
-use crossbeam_utils::Backoff;
+use crate::state::Stopped;
 use flow_rules::{FailHandler, Listener, Refusal, Text};
+use publisher_hub::{Need, Publication};
 use std::alloc::Global;
 use std::sync::Wait;
+
+/// What a publication of several texts that heeds each subscription's [`OnFull`](crate::OnFull) did.
+#[derive(Clone, Copy, Debug, PartialEq, Eq)]
+pub struct PublishedAll {
+    /// The greatest lag of a subscription that accepted the last text, in items; 0 if none did, or if there is no text.
+    pub lag: u64,
+    /// How many of the texts at least one subscription lost.
+    pub lost: usize,
+}
 
 /// Says how far a list of texts was published, in order, before one was refused. Neither that text nor those after it
 /// were published.
@@ -36,14 +44,6 @@ pub struct PublishedPart {
     pub lost: usize,
     /// Why that one was refused.
     pub refusal: Refusal,
-}
-
-/// How far a list of texts was published before the Hub refused one.
-#[derive(Drop)]
-struct Halted {
-    published: usize,
-    lost: usize,
-    refused: Refused,
 }
 
 impl<L: Ledgers + Send, B: Listener + Send, F: FailHandler + Send> Submitter<L, B, F> {
@@ -161,88 +161,13 @@ impl<L: Ledgers + Send, B: Listener + Send, F: FailHandler + Send> Submitter<L, 
                 refusal: Refusal::Closed(ending),
             });
         }
-        match self.send_texts(rt, texts, need) {
-            Ok(all) => Ok(all),
-            Err(
-                Halted {
-                    published,
-                    lost,
-                    refused,
-                },
-            ) => Err(PublishedPart {
-                published,
-                lost,
-                refusal: self.hear(alloc, refused),
+        match self.send(rt, texts, need) {
+            Ok(Publication { lag, lost, .. }) => Ok(PublishedAll { lag, lost }),
+            Err(Stopped { before, why }) => Err(PublishedPart {
+                published: before.many,
+                lost: before.lost,
+                refusal: self.hear(alloc, why),
             }),
         }
-    }
-
-    /// Publishes texts in order, and waits as long as a subscription whose room is needed has none. A refusal comes with
-    /// how many were published before, and how many of these at least one subscription lost.
-    fn send_texts<R: Wait>(
-        &mut self,
-        rt: &R,
-        texts: &[Text],
-        need: Need,
-    ) -> Result<PublishedAll, Halted>
-        ensures ok { IfOk result
-            (λ all. CountsAll texts.now all.lost self.old self.new) }
-        ensures few { IfOk result (λ all. all.lost ≤ length texts.now) }
-        ensures partly { IfErr result
-            (λ halted. CountsFirst texts.now halted.published halted.lost self.old self.new) }
-        ensures less { IfErr result (λ halted. halted.published < length texts.now) }
-        ensures few_before { IfErr result (λ halted. halted.lost ≤ halted.published) }
-        ensures none_lost { need ≡ Need.All → IfOk result (λ all. all.lost ≡ 0) }
-        ensures none_lost_before { need ≡ Need.All → IfErr result (λ halted. halted.lost ≡ 0) }
-    {
-        let Submitter {
-            dispatcher,
-            own,
-            due,
-            ..
-        } = self;
-        let mut published = 0;
-        let mut lost = 0;
-        let mut looks = 0;
-        let backoff = Backoff::new();
-        for _ in rt.forever() {
-            let left = &texts[published..];
-            let sent = dispatcher
-                .shared
-                .lock_to_publish(rt)
-                .publish_all(own, left, need, due);
-            dispatcher.start_all(rt, due);
-            let no_room = match sent {
-                Ok(all) => {
-                    return Ok(PublishedAll {
-                        lag: all.lag,
-                        lost: lost + all.lost,
-                    });
-                }
-                Err(
-                    Stopped {
-                        published: more,
-                        lost: more_lost,
-                        why,
-                    },
-                ) => {
-                    published += more;
-                    lost += more_lost;
-                    match why.no_room() {
-                        Ok(no_room) => no_room,
-                        Err(refused) => {
-                            return Err(Halted {
-                                published,
-                                lost,
-                                refused,
-                            });
-                        }
-                    }
-                }
-            };
-            looks = dispatcher.pause(rt, looks, &backoff, &no_room);
-            drop(no_room);
-        }
-        unreachable!()
     }
 }

@@ -1,6 +1,6 @@
 use Rattle.std.proofs.Common.{◌≡◌, ◌++◌, take}
 use Rattle.publisher.specs.Content.{pages_of}
-use Rattle.publisher.proofs.state.publish.several.write_all.Given as goal
+use Rattle.publisher.proofs.state.publish.write_all.Given as goal
 
 -- the texts so far are written, and the pass knows it
 abbrev pub invariant-loop-text : goal.invariant-loop-text

@@ -1,0 +1,72 @@
+//! How a submitter publishes: as far as there is room, behind the lock; and outside it, it waits for more.
+//!
+//! All calls of a submitter that wait go through this one. What is published behind the lock stands in `state`.
+ghost use Rattle.std.specs.Prelude.{◌≡◌, ◌<◌, ◌≤◌, IfErr, IfOk, length};
+ghost use Rattle.publisher.specs.Submitting.{CountsAll, CountsFirst};
+ghost use Rattle.publisher_hub.specs.Publishing.{loss_of};
+ghost use Rattle.publisher_hub.specs.declared.policy.Need.TheVariants as Need;
+
+use super::Submitter;
+use crate::ledgers::Ledgers;
+use crate::state::{Refused, Stopped};
+use crossbeam_utils::Backoff;
+use flow_rules::{FailHandler, Listener, Text};
+use publisher_hub::{Need, Publication};
+use std::sync::Wait;
+
+impl<L: Ledgers + Send, B: Listener + Send, F: FailHandler + Send> Submitter<L, B, F> {
+    /// Publishes texts in order, and waits as long as a subscription whose room is needed has none. A refusal comes with
+    /// what was published before.
+    pub(super) fn send<R: Wait>(
+        &mut self,
+        rt: &R,
+        texts: &[Text],
+        need: Need,
+    ) -> Result<Publication, Stopped<Refused>>
+        ensures ok { IfOk result (λ all. CountsAll texts.now all.lost self.old self.new) }
+        ensures few { IfOk result (λ all. all.lost ≤ length texts.now) }
+        ensures one { length texts.now ≡ 1 → IfOk result (λ all. all.lost ≡ loss_of all.dropped) }
+        ensures partly { IfErr result (λ stopped.
+            CountsFirst texts.now stopped.before.many stopped.before.lost self.old self.new) }
+        ensures less { IfErr result (λ stopped. stopped.before.many < length texts.now) }
+        ensures few_before { IfErr result (λ stopped. stopped.before.lost ≤ stopped.before.many) }
+        ensures none_lost { need ≡ Need.All → IfOk result (λ all. all.lost ≡ 0) }
+        ensures none_lost_before { need ≡ Need.All
+            → IfErr result (λ stopped. stopped.before.lost ≡ 0) }
+    {
+        let Submitter {
+            dispatcher,
+            own,
+            due,
+            ..
+        } = self;
+        let mut done = Publication::nothing();
+        let mut looks = 0;
+        let backoff = Backoff::new();
+        for _ in rt.forever() {
+            let left = &texts[done.many..];
+            let sent = dispatcher
+                .shared
+                .lock_to_publish(rt)
+                .publish(own, left, need, due);
+            dispatcher.start_all(rt, due);
+            let why = match sent {
+                Ok(more) => {
+                    done.add(&more);
+                    return Ok(done);
+                }
+                Err(Stopped { before, why }) => {
+                    done.add(&before);
+                    why
+                }
+            };
+            let no_room = match why.no_room() {
+                Ok(no_room) => no_room,
+                Err(why) => return Err(Stopped { before: done, why }),
+            };
+            looks = dispatcher.pause(rt, looks, &backoff, &no_room);
+            drop(no_room);
+        }
+        unreachable!()
+    }
+}
