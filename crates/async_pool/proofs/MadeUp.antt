@@ -3,7 +3,7 @@
 use Rattle.std.proofs.Common.{◌++◌, ℕ, List, [], ◌∷◌, Option, inr, refl, replicate, sym, subst}
 use Rattle.std.proofs.lemmas.List.{append-nil, length-replicate}
 use Rattle.crossbeam_queue.specs.Fifo.{Held}
-use Rattle.async_pool.specs.declared.log.Log.{Log}
+use Rattle.async_pool.specs.declared.rule.Log.{Log}
 use Rattle.async_pool.specs.Rule.{Moment, log}
 use Rattle.async_pool.specs.Source.{WereDrained, WereEmpty}
 use Rattle.async_pool.specs.Bag.{Bag}

@@ -3,7 +3,7 @@ use Rattle.std.proofs.Common.{◌≡◌, ℕ, ◌≤◌, List, [], ◌∷◌, �
 use Rattle.std.specs.Prelude.{MatchOption}
 use Rattle.crossbeam_queue.specs.Fifo as array
 use Rattle.crossbeam_deque.specs.Tasks as deque
-use Rattle.async_pool.specs.declared.log.Log.{Log}
+use Rattle.async_pool.specs.declared.rule.Log.{Log}
 use Rattle.async_pool.specs.Rule.{IsKept, log}
 
 nothing : {J : Type 0} (items : List J) → length items ≤ 0 → items ≡ []

@@ -3,7 +3,7 @@
 use Rattle.std.specs.Prelude.{◌≡◌, ◌≤◌, ◌==◌, ℕ, List, [], ◌∷◌, ◌++◌, if◌then◌else◌, length, map}
 use mathlib.Core.Option.{some}
 use lib.ListN.{get_elem?}
-use Rattle.async_pool.specs.declared.log.Log.{Log}
+use Rattle.async_pool.specs.declared.rule.Log.{Log}
 
 module _ {J : Type 0} where
   -- the job of a step; a step is the number of the pass that made it, with its job

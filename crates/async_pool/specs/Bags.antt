@@ -4,7 +4,7 @@ use Rattle.std.proofs.lemmas.List.{map-append, append-nil}
 use mathlib.Core.Option.{some, some-ne-none, some-injective}
 use lib.ListN.{get_elem?}
 use Rattle.crossbeam_queue.proofs.Lists.{at_set, at_snoc}
-use Rattle.async_pool.specs.declared.log.Log.{Log}
+use Rattle.async_pool.specs.declared.rule.Log.{Log}
 use Rattle.async_pool.specs.Rule.{IsKept, Moment, log}
 use Rattle.async_pool.specs.Bag.{Bag, job_of, jobs_by}
 

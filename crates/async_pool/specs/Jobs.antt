@@ -4,7 +4,7 @@ use Rattle.crossbeam_queue.specs.Passes.{IsPassOf, view}
 use Rattle.async_pool.specs.Rule.{after_take, log}
 use Rattle.async_pool.specs.Source.{WereDrained}
 use Rattle.async_pool.specs.Queue.{queue_view}
-use Rattle.async_pool.specs.declared.log.Log.{Log}
+use Rattle.async_pool.specs.declared.rule.Log.{Log}
 use Rattle.async_pool.specs.declared.jobs.Jobs.{Jobs}
 use Rattle.async_pool.specs.declared.taker.Taker.{Taker}
 

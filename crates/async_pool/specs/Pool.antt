@@ -7,9 +7,9 @@ use Rattle.async_pool.specs.Rule.{log}
 use Rattle.async_pool.specs.Source.{WereEmpty}
 use Rattle.async_pool.specs.declared.crew.TheConstants.{MOST_WORKERS}
 use Rattle.async_pool.specs.declared.inbox.TheConstants.{CAPACITY}
-use Rattle.async_pool.specs.declared.log.Log.{Log}
+use Rattle.async_pool.specs.declared.rule.Log.{Log}
 use Rattle.async_pool.specs.declared.pool.Pool.{Pool}
-use Rattle.async_pool.specs.declared.shutdown.Shutdown.{Ghosts}
+use Rattle.async_pool.specs.declared.rule.Shutdown.{Ghosts}
 use Rattle.async_pool.specs.declared.thief.Thief.{Thief}
 
 -- a job may come back: the pool was shut, or the inbox was full at one moment

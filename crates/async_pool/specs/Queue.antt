@@ -1,7 +1,7 @@
 -- What clauses see of a worker's queue.
 use Rattle.std.specs.Prelude.{◌≡◌}
 use Rattle.crossbeam_deque.specs.Handles.{worker_deque, worker_view}
-use Rattle.async_pool.specs.declared.log.Log.{Log}
+use Rattle.async_pool.specs.declared.rule.Log.{Log}
 use Rattle.async_pool.specs.declared.queue.Queue.{Queue}
 
 module _ {J Q : Type 0} where

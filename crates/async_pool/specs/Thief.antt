@@ -3,7 +3,7 @@ use Rattle.std.specs.Prelude.{◌≡◌, ⊤, List, [], ◌∷◌, Option, Some,
 use Rattle.std.specs.Global.{Global}
 use Rattle.crossbeam_deque.specs.Handles.{IsPassOf, Pass, stealer_deque, worker_deque}
 use Rattle.crossbeam_utils.specs.Padded.{padded_value}
-use Rattle.async_pool.specs.declared.log.Log.{Log}
+use Rattle.async_pool.specs.declared.rule.Log.{Log}
 use Rattle.async_pool.specs.declared.queue.Queue.{Queue}
 use Rattle.async_pool.specs.declared.thief.Thief.{Thief}
 

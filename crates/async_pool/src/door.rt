@@ -6,7 +6,7 @@
 //! look. Each step gives a value for which the next one asks, so in another order they don't compile.
 ghost use Rattle.std.specs.Prelude.{◌≡◌, true};
 
-use crate::shutdown::Shutdown;
+use crate::rule::Shutdown;
 use std::marker::PhantomData;
 use std::sync::atomic::AtomicU64;
 use std::sync::atomic::Ordering::SeqCst;

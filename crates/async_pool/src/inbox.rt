@@ -3,8 +3,7 @@ ghost use Rattle.std.specs.Prelude.{◌≡◌};
 ghost use Rattle.crossbeam_queue.specs.Passes.{ruled_capacity};
 ghost use Rattle.async_pool.specs.declared.inbox.TheConstants.{CAPACITY};
 
-use crate::log::Log;
-use crate::rule::Rule;
+use crate::rule::{Log, Rule};
 use crate::under::{Puts, Takes, Under};
 use crossbeam_queue::{Pass, RuledArrayQueue};
 use std::alloc::{AllocError, Global};

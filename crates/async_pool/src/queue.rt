@@ -2,8 +2,7 @@
 ghost use Rattle.std.specs.Prelude.{◌≡◌};
 ghost use Rattle.crossbeam_deque.specs.Handles.{worker_flavor};
 
-use crate::log::Log;
-use crate::rule::Rule;
+use crate::rule::{Log, Rule};
 use crate::thief::Thief;
 use crate::under::{Puts, Takes, Under};
 use crossbeam_deque::Worker;

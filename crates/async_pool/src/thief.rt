@@ -3,8 +3,7 @@ ghost use Rattle.std.specs.Prelude.{◌≡◌};
 ghost use Rattle.crossbeam_deque.specs.Handles.{stealer_flavor};
 ghost use Rattle.crossbeam_utils.specs.Padded.{padded_value};
 
-use crate::log::Log;
-use crate::rule::Rule;
+use crate::rule::{Log, Rule};
 use crate::under::{Takes, Under};
 use crossbeam_deque::{Pass, Steal, Stealer};
 use crossbeam_utils::CachePadded;

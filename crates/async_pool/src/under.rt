@@ -1,7 +1,6 @@
 //! What each step on the inbox and on a worker's queue tells, under a rule. All of this is for the proofs: the program
 //! makes no value of these types.
-use crate::log::Log;
-use crate::rule::Rule;
+use crate::rule::{Log, Rule};
 use crossbeam_deque::protocol as deque;
 use crossbeam_queue::protocol as array;
 use std::marker::PhantomData;
