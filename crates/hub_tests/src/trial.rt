@@ -40,7 +40,7 @@ pub enum Ask<'a> {
     /// An item is published with this lag, or to nobody.
     Publishes(Result<u64, Why>),
     /// Of this many texts the first ones are published at once: this many, with this lag; or none.
-    PublishesSeveral(usize, Result<(usize, u64), Why>),
+    PublishesBatch(usize, Result<(usize, u64), Why>),
     /// An offer of an item without a handler answers this, or is made to nobody.
     Offers(Result<i64, Why>),
     /// So many are live, so many items wait for one of them at most, and all have room or not.
@@ -111,7 +111,7 @@ impl<F: Feed> Trial<F> {
                         == want,
                 )
             }
-            Ask::PublishesSeveral(many, want) => {
+            Ask::PublishesBatch(many, want) => {
                 let answer = self.publish(many, Need::All);
                 Ok(answer.map(|publication| (publication.many, publication.lag)) == want)
             }

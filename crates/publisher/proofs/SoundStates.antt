@@ -5,4 +5,4 @@ pub mod GrownStates
 pub mod Histories
 pub mod KeptStates
 pub mod ReclaimedStates
-pub mod SeveralStates
+pub mod BatchStates

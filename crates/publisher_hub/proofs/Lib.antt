@@ -1,6 +1,6 @@
 pub mod AnswerLists
 pub mod PartialRounds
 pub mod Publications
-pub mod SeveralTexts
+pub mod BatchTexts
 pub mod Soundness
 pub mod Subscribed

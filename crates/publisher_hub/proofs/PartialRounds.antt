@@ -6,7 +6,7 @@ pub mod Next
 pub mod Preparing
 pub mod Progress
 pub mod Putting
-pub mod PuttingSeveral
+pub mod PuttingBatches
 pub mod Retrying
 pub mod Rooms
 pub mod Shares

@@ -15,7 +15,7 @@ pub mod Policy
 pub mod Publishing
 pub mod Readiness
 pub mod Reclaiming
-pub mod Several
+pub mod Batch
 pub mod Sound
 pub mod Stats
 pub mod Steps

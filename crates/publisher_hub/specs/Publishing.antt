@@ -14,7 +14,7 @@ use Rattle.publisher_hub.specs.Lists.{Each, EachBy, greatest}
 use Rattle.publisher_hub.specs.Looking.{IsLookedAt, Prepares, PreparesAll, PreparesInPart, full_needed}
 use Rattle.publisher_hub.specs.Offering.{PutsTo, PutsAgain, ReachesAll}
 use Rattle.publisher_hub.specs.Policy.{LosesNothing}
-use Rattle.publisher_hub.specs.Several.{PublishesSeveral}
+use Rattle.publisher_hub.specs.Batch.{PublishesBatch}
 use Rattle.publisher_hub.specs.declared.entry.Entry.{Entry}
 use Rattle.publisher_hub.specs.declared.hub.gathering.Gathering.{Gathering}
 use Rattle.publisher_hub.specs.declared.hub.Hub.{Hub}
@@ -56,7 +56,7 @@ both first later = record {
   lag = later.lag;
 }
 
--- texts go at once if there are several and each needs room at all subscriptions; else the first goes alone
+-- texts go at once, as a batch, if there are several and each needs room at all subscriptions; else the first goes alone
 abbrev pub GoAtOnce : Need → List (List ℕ) → Type 0
 GoAtOnce need texts = (need ≡ All) × (1 < length texts)
 
@@ -105,7 +105,7 @@ module _ {F T : Type 0} (meaning : F → End) (does : F → Call T → F → Typ
       ((GoAtOnce need texts → ⊥)
       × PublishesOne need source texts old new due_old due_new publication)
       ⊎ (GoAtOnce need texts
-      × PublishesSeveral meaning does source texts old new due_old due_new publication)
+      × PublishesBatch meaning does source texts old new due_old due_new publication)
 
   -- the second pass: the handler is asked about those that missed the item; without a handler their drops stand
   pub record PassesAgain (item : Item) (declines : Bool)

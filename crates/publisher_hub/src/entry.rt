@@ -9,7 +9,7 @@ ghost use Rattle.publisher_hub.specs.Entry.{entry_of};
 ghost use Rattle.publisher_hub.specs.Looking.{FailsToPrepare, Glances, IsReadied, Prepares};
 ghost use Rattle.publisher_hub.specs.Offering.{PutsTo, PutsAgain};
 ghost use Rattle.publisher_hub.specs.Readiness.{IsReady};
-ghost use Rattle.publisher_hub.specs.Several.{CanPutSeveral, PutsSeveralTo};
+ghost use Rattle.publisher_hub.specs.Batch.{CanPutBatch, PutsBatchTo};
 ghost use Rattle.publisher_hub.specs.Steps.{CanTake, HasAcceptedFew, IsHere};
 ghost use Rattle.publisher_hub.specs.Subscribing.{Doubled};
 ghost use Rattle.publisher_hub.specs.Reclaiming.{TakesEnded};
@@ -130,13 +130,13 @@ impl<F: Feed> Entry<F> {
         }
     }
 
-    /// Offers several items at once to a subscription that isn't retired, after a look that showed room for all of them.
+    /// Offers a batch of items to a subscription that isn't retired, after a look that showed room for all of them.
     /// If it takes no more items, it is retired at the next serial number, before the first of them.
     #[must_use]
     pub fn put_all(&mut self, items: Vec<Item>, next: u64) -> Option<PutAll<F::Task>>
         requires some { 0 < length items.items }
-        requires can { CanPutSeveral (length items.items) (entry_of F.meaning self.old) }
-        ensures { PutsSeveralTo F.meaning F.does next items.items result self.old self.new }
+        requires can { CanPutBatch (length items.items) (entry_of F.meaning self.old) }
+        ensures { PutsBatchTo F.meaning F.does next items.items result self.old self.new }
     {
         if self.retired {
             return None;

@@ -3,6 +3,7 @@
 //! whoever calls it sees to it that the calls come one after the other, and that the tasks they start are run.
 
 mod admit;
+mod batch;
 mod close;
 mod gathering;
 mod look;
@@ -12,7 +13,6 @@ mod publication;
 mod publish;
 mod retire;
 mod room;
-mod several;
 mod stamp;
 mod stats;
 mod subscribe;

@@ -15,7 +15,7 @@ use Rattle.history.specs.declared.rule.Entry.{Entry as Page}
 use Rattle.publisher_hub.specs.Entry.{EntryState, entry_of}
 use Rattle.publisher_hub.specs.Hub.{HubState, hub_at_start, hub_of}
 use Rattle.publisher_hub.specs.Offering.{ReachesAll}
-use Rattle.publisher_hub.specs.Several.{ReachesAllBy, ReachesAllInTurn, items_from}
+use Rattle.publisher_hub.specs.Batch.{ReachesAllBy, ReachesAllInTurn, items_from}
 use Rattle.publisher_hub.specs.Sound.{IsAccepted}
 use Rattle.publisher_hub.specs.Subscribing.{AdmitsWith, ClosesNew, first_entry_with}
 use Rattle.publisher_hub.specs.Vacant.{TakesPlace}

@@ -19,7 +19,7 @@ use Rattle.publisher_hub.specs.Hub.{HubState}
 use Rattle.publisher_hub.specs.Lists.{Each}
 use Rattle.publisher_hub.specs.Looking.{IsKept}
 use Rattle.publisher_hub.specs.Offering.{IsOffered}
-use Rattle.publisher_hub.specs.Several.{IsGivenAnother}
+use Rattle.publisher_hub.specs.Batch.{IsGivenAnother}
 use Rattle.publisher_hub.specs.Sound.{IsAccepted}
 use Rattle.publisher_hub.specs.Subscribing.{WasDoubled}
 use Rattle.publisher_hub.proofs.PartialRounds.Progress.{same_some}

@@ -15,7 +15,7 @@ use publisher_hub::{Need, Publication};
 use std::alloc::Global;
 use std::sync::Wait;
 
-/// What a publication of several texts that heeds each subscription's [`OnFull`](crate::OnFull) did.
+/// What a publication of a batch of texts that heeds each subscription's [`OnFull`](crate::OnFull) did.
 #[derive(Clone, Copy, Debug, PartialEq, Eq)]
 pub struct PublishedAll {
     /// The greatest lag of a subscription that accepted the last text, in items; 0 if none did, or if there is no text.

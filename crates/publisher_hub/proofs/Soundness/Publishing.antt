@@ -1,4 +1,4 @@
--- A sound Hub stays sound if items are published, one or several by one call.
+-- A sound Hub stays sound if items are published, one or a batch of them by one call.
 use Rattle.std.proofs.Common.{◌≡◌, ◌⊎◌, ℕ, suc, ◌<◌, Some, List, [], ◌∷◌, ◌++◌, refl, ap, sym, subst, ◌∙◌, inl, inr, arith}
 use Rattle.std.specs.Prelude.{slice_get}
 use Rattle.flow_rules.specs.Feed.{End}
@@ -6,7 +6,7 @@ use Rattle.flow_rules.specs.declared.item.Item.{Item}
 use Rattle.publisher_hub.specs.Entry.{EntryState}
 use Rattle.publisher_hub.specs.Hub.{HubState, Progress}
 use Rattle.publisher_hub.specs.Offering.{IsOffered, ReachesAll}
-use Rattle.publisher_hub.specs.Several.{IsGivenAnother, ReachesAllBy, ReachesAllInTurn, ReachesAllToo}
+use Rattle.publisher_hub.specs.Batch.{IsGivenAnother, ReachesAllBy, ReachesAllInTurn, ReachesAllToo}
 use Rattle.publisher_hub.specs.Sound.{IsAccepted, IsSound}
 use Rattle.publisher_hub.specs.declared.hub.TheConstants.{MOST_SOURCES}
 use Rattle.publisher_hub.proofs.AnswerLists.Places.{stood_at}
@@ -96,7 +96,7 @@ sound_too old new x source sound reaches = sound_left old new x source sound (re
   dropping : new.progress.dropping ≡ old.progress.dropping
   dropping = ap (λ (s : HubState). s.progress.dropping) reaches.rest
 
--- so it does after several, one after the other
+-- so it does after a batch, one after the other
 pub sound_in_turn : (items : List Item) (old new : HubState)
     → ((i : ℕ) (x : Item) → slice_get items i ≡ Some x → x.source < MOST_SOURCES)
     → IsSound old → ReachesAllInTurn items old new → IsSound new
@@ -104,7 +104,7 @@ sound_in_turn [] old new sources sound same = subst (λ (hub : HubState). IsSoun
 sound_in_turn (x ∷ items) old new sources sound (middle, (first, others)) =
     sound_in_turn items middle new (λ i y at. sources (suc i) y at) (sound_too old middle x (sources 0 x refl) sound first) others
 
--- a sound Hub stays sound if several items are published by one call
+-- a sound Hub stays sound if a batch of items is published by one call
 pub sound_by : (items : List Item) (old new : HubState)
     → ((i : ℕ) (x : Item) → slice_get items i ≡ Some x → x.source < MOST_SOURCES)
     → IsSound old → ReachesAllBy items old new → IsSound new

@@ -1,5 +1,5 @@
 //! How texts are published, if each live subscription has room whose room is needed, and else not at all. What becomes of
-//! an item that finds a full buffer stands in offer.rt, and how several texts go at once in several.rt.
+//! an item that finds a full buffer stands in offer.rt, and how a batch goes in batch.rt.
 //!
 //! The steps that each text goes through are inlined, here, in gathering.rt and in [`Text::new`]: the calls would take a
 //! fifth of a publication's time, since a called function reads an item in other parts than those that it was just
@@ -14,7 +14,7 @@ ghost use Rattle.publisher_hub.specs.Lists.{Each, EachBy, greatest};
 ghost use Rattle.publisher_hub.specs.Offering.{Counts, PutsTo, backlogs, item_of};
 ghost use Rattle.publisher_hub.specs.Policy.{LosesNothing};
 ghost use Rattle.publisher_hub.specs.Publishing.{CanPublish, GoAtOnce, IsRefused, PublishesOne, PublishesTexts, RefusesTexts, loss_of};
-ghost use Rattle.publisher_hub.specs.Several.{ReachesAllFromTexts};
+ghost use Rattle.publisher_hub.specs.Batch.{ReachesAllFromTexts};
 ghost use Rattle.publisher_hub.specs.Sound.{IsSound, AreLive, MOST_ENTRIES};
 ghost use Rattle.publisher_hub.specs.Steps.{CanAllPut, CanPut};
 ghost use Rattle.publisher_hub.specs.declared.policy.Need.TheVariants as Need;
@@ -68,7 +68,7 @@ impl<F: Feed> Hub<F> {
     /// (`SubmissionPublisher.submit`, without waiting). Of the others, each whose buffer is full loses the text, and its
     /// count of drops grows by one.
     ///
-    /// Several texts that need the room of all are published one after the other: as many as there is room for at each
+    /// Texts that need the room of all are published one after the other: as many as there is room for at each
     /// subscription, and as may still be published. Each of them is a publication of its own. But each subscription is
     /// looked at once for all of them, and sees none before the last is there.
     ///
@@ -108,7 +108,7 @@ impl<F: Feed> Hub<F> {
         ensures gathering { GoAtOnce need texts.now → self.new.gathering ≡ self.old.gathering }
     {
         if go_at_once(need, texts) {
-            self.publish_several(source, texts, due)
+            self.publish_batch(source, texts, due)
         } else {
             self.publish_one(source, texts, need, due)
         }

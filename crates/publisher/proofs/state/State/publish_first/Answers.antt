@@ -4,7 +4,7 @@ use Rattle.publisher_hub.specs.Hub.{hub_of}
 use Rattle.publisher.specs.Content.{pages_of}
 use Rattle.publisher.specs.State.{producer_end}
 use Rattle.publisher.proofs.SoundStates.KeptStates.{state_stays, stays_looked}
-use Rattle.publisher.proofs.SoundStates.SeveralStates.{state_published}
+use Rattle.publisher.proofs.SoundStates.BatchStates.{state_published}
 use Rattle.publisher.proofs.state.State.publish_first.Goals as goal
 
 pub invariant_of-self : goal.invariant_of-self

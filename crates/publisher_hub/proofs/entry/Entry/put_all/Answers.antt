@@ -1,7 +1,7 @@
 -- The end that is there has room for the items, and what it answered says what becomes of the subscription.
 use Rattle.std.proofs.Common.{◌∙◌, option_map, ap, length, refl, subst, sym}
 use Rattle.flow_rules.specs.Feed.{End}
-use Rattle.publisher_hub.specs.Several.{HasRoomFor}
+use Rattle.publisher_hub.specs.Batch.{HasRoomFor}
 use Rattle.publisher_hub.proofs.PartialRounds.Progress.{same_some}
 use Rattle.publisher_hub.proofs.entry.Entry.put_all.Goals.{in-Accepted, in-Gone}
 use Rattle.publisher_hub.proofs.entry.Entry.put_all.Goals as goal

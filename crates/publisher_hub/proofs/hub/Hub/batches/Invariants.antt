@@ -1,6 +1,6 @@
 use Rattle.std.proofs.Common.{◌≡◌, ◌≤◌, vec_len}
 use Rattle.std.specs.Vec.{vec_capacity}
-use Rattle.publisher_hub.specs.Several.{AreBatches, items_from}
+use Rattle.publisher_hub.specs.Batch.{AreBatches, items_from}
 use Rattle.publisher_hub.proofs.hub.Hub.batches.Given as goal
 
 abbrev pub invariant-loop : goal.invariant-loop

@@ -1,26 +1,26 @@
 -- Texts are published at once or alone, and a caller reads the same of both.
 use Rattle.std.proofs.lemmas.Result.{IfOk-weaker}
 use Rattle.std.proofs.Common.{inl, inr}
-use Rattle.publisher_hub.proofs.SeveralTexts.Shown.{one_counted, one_shown, several_shown}
+use Rattle.publisher_hub.proofs.BatchTexts.Shown.{one_counted, one_shown, batch_shown}
 use Rattle.publisher_hub.proofs.hub.Hub.publish.Goals as goal
 
 pub returns-then-go_at_once-clause-ok : goal.returns-then-go_at_once-clause-ok
-returns-then-go_at_once-clause-ok g c = IfOk-weaker c.publish_several.result _ _ (λ publication several. inr (c.go_at_once.ensures.yes c.if-go_at_once.true, several)) c.publish_several.ensures.ok
+returns-then-go_at_once-clause-ok g c = IfOk-weaker c.publish_batch.result _ _ (λ publication batch. inr (c.go_at_once.ensures.yes c.if-go_at_once.true, batch)) c.publish_batch.ensures.ok
 
 pub returns-then-go_at_once-clause-within : goal.returns-then-go_at_once-clause-within
-returns-then-go_at_once-clause-within g c = IfOk-weaker c.publish_several.result _ _ (λ publication several. (several_shown g.F.Feed.meaning g.F.Feed.does c.args.need c.args.source c.args.texts.now c.args.self.now c.publish_several.new.self c.args.due.now.items c.publish_several.new.due.items publication several).within) c.publish_several.ensures.ok
+returns-then-go_at_once-clause-within g c = IfOk-weaker c.publish_batch.result _ _ (λ publication batch. (batch_shown g.F.Feed.meaning g.F.Feed.does c.args.need c.args.source c.args.texts.now c.args.self.now c.publish_batch.new.self c.args.due.now.items c.publish_batch.new.due.items publication batch).within) c.publish_batch.ensures.ok
 
 pub returns-then-go_at_once-clause-reached : goal.returns-then-go_at_once-clause-reached
-returns-then-go_at_once-clause-reached g c = IfOk-weaker c.publish_several.result _ _ (λ publication several. (several_shown g.F.Feed.meaning g.F.Feed.does c.args.need c.args.source c.args.texts.now c.args.self.now c.publish_several.new.self c.args.due.now.items c.publish_several.new.due.items publication several).reached) c.publish_several.ensures.ok
+returns-then-go_at_once-clause-reached g c = IfOk-weaker c.publish_batch.result _ _ (λ publication batch. (batch_shown g.F.Feed.meaning g.F.Feed.does c.args.need c.args.source c.args.texts.now c.args.self.now c.publish_batch.new.self c.args.due.now.items c.publish_batch.new.due.items publication batch).reached) c.publish_batch.ensures.ok
 
 pub returns-then-go_at_once-clause-waiters : goal.returns-then-go_at_once-clause-waiters
-returns-then-go_at_once-clause-waiters g c = IfOk-weaker c.publish_several.result _ _ (λ publication several. (several_shown g.F.Feed.meaning g.F.Feed.does c.args.need c.args.source c.args.texts.now c.args.self.now c.publish_several.new.self c.args.due.now.items c.publish_several.new.due.items publication several).waiters) c.publish_several.ensures.ok
+returns-then-go_at_once-clause-waiters g c = IfOk-weaker c.publish_batch.result _ _ (λ publication batch. (batch_shown g.F.Feed.meaning g.F.Feed.does c.args.need c.args.source c.args.texts.now c.args.self.now c.publish_batch.new.self c.args.due.now.items c.publish_batch.new.due.items publication batch).waiters) c.publish_batch.ensures.ok
 
 pub returns-then-go_at_once-clause-lag : goal.returns-then-go_at_once-clause-lag
-returns-then-go_at_once-clause-lag g c = IfOk-weaker c.publish_several.result _ _ (λ publication several. (several_shown g.F.Feed.meaning g.F.Feed.does c.args.need c.args.source c.args.texts.now c.args.self.now c.publish_several.new.self c.args.due.now.items c.publish_several.new.due.items publication several).lag) c.publish_several.ensures.ok
+returns-then-go_at_once-clause-lag g c = IfOk-weaker c.publish_batch.result _ _ (λ publication batch. (batch_shown g.F.Feed.meaning g.F.Feed.does c.args.need c.args.source c.args.texts.now c.args.self.now c.publish_batch.new.self c.args.due.now.items c.publish_batch.new.due.items publication batch).lag) c.publish_batch.ensures.ok
 
 pub returns-then-go_at_once-clause-due : goal.returns-then-go_at_once-clause-due
-returns-then-go_at_once-clause-due g c = IfOk-weaker c.publish_several.result _ _ (λ publication several. (several_shown g.F.Feed.meaning g.F.Feed.does c.args.need c.args.source c.args.texts.now c.args.self.now c.publish_several.new.self c.args.due.now.items c.publish_several.new.due.items publication several).due) c.publish_several.ensures.ok
+returns-then-go_at_once-clause-due g c = IfOk-weaker c.publish_batch.result _ _ (λ publication batch. (batch_shown g.F.Feed.meaning g.F.Feed.does c.args.need c.args.source c.args.texts.now c.args.self.now c.publish_batch.new.self c.args.due.now.items c.publish_batch.new.due.items publication batch).due) c.publish_batch.ensures.ok
 
 pub returns-else-go_at_once-clause-ok : goal.returns-else-go_at_once-clause-ok
 returns-else-go_at_once-clause-ok g c = IfOk-weaker c.publish_one.result _ _ (λ publication one. inl (c.go_at_once.ensures.no c.if-go_at_once.false, one)) c.publish_one.ensures.ok
