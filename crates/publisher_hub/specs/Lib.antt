@@ -1,7 +1,9 @@
 pub mod Adding
+pub mod Batch
 pub mod Becoming
 pub mod Closing
 pub mod Entry
+pub mod Facts
 pub mod Gathering
 pub mod Hub
 pub mod Lending
@@ -15,7 +17,6 @@ pub mod Policy
 pub mod Publishing
 pub mod Readiness
 pub mod Reclaiming
-pub mod Batch
 pub mod Sound
 pub mod Stats
 pub mod Steps

@@ -27,7 +27,6 @@ ghost use Rattle.publisher_hub.specs.Sound.{IsSound};
 
 use crate::entry::Entry;
 use crate::hub::gathering::Gathering;
-use crate::policy::OnFull;
 use close_count::Opening;
 use flow_rules::{Ending, Feed, MOST_PUBLICATIONS, Name, NoMemory, Refusal, capacity};
 pub use publish::{Publication, Unpublished};
@@ -46,6 +45,19 @@ pub const MOST_ENTRIES: usize = 4_294_967_295;
 
 /// How many sources a Hub has at most: submitters, if threads publish.
 pub const MOST_SOURCES: usize = 256;
+
+/// What a Hub knows of a subscription without its end.
+#[derive(Clone, Copy, Debug, PartialEq, Eq)]
+pub struct Facts {
+    /// The name that its subscriber subscribed with.
+    pub name: Name,
+    /// What it said of its full buffer.
+    pub on_full: OnFull,
+    /// The next serial number when it was made.
+    pub since: u64,
+    /// How many publications were dropped at it because its buffer was full, after the second tries.
+    pub dropped: u64,
+}
 
 /// The subscriptions of one publisher, and the numbers of its publications (`SubmissionPublisher`, Java SE 17).
 ///
@@ -165,53 +177,22 @@ impl<F: Feed> Hub<F> {
 
 /// What a Hub shows of a subscription.
 impl<F: Feed> Hub<F> {
-    ghost use Rattle.publisher_hub.specs.Entry.{EntryState};
+    ghost use Rattle.publisher_hub.specs.Facts.{facts_of};
     ghost use Rattle.publisher_hub.specs.Lending.{feed_at, lends_feed_at, lends_feed_if};
 
-    /// Counts the publications that were dropped at the subscription of this number because its buffer was full, after
-    /// the second tries. `None` if no subscription has this number.
-    pub fn dropped(&self, entry: u32) -> Option<u64>
-        ensures { result ≡ option_map (λ (entry : EntryState). entry.dropped)
-            (slice_get (hub_of F.meaning self.now).entries entry) }
-    {
-        match self.entries.get(entry as usize) {
-            Some(it) => Some(it.dropped),
-            None => None,
-        }
-    }
-
-    /// Gives the next serial number when the subscription of this number was made, and `None` if no subscription has
-    /// this number.
-    pub fn since(&self, entry: u32) -> Option<u64>
-        ensures { result ≡ option_map (λ (entry : EntryState). entry.since)
-            (slice_get (hub_of F.meaning self.now).entries entry) }
-    {
-        match self.entries.get(entry as usize) {
-            Some(it) => Some(it.since),
-            None => None,
-        }
-    }
-
-    /// Gives the name that the subscriber of this number subscribed with, and `None` if no subscription has this
+    /// Gives what is known of the subscription of this number without its end, and `None` if no subscription has this
     /// number.
-    pub fn name_of(&self, entry: u32) -> Option<Name>
-        ensures { result ≡ option_map (λ (entry : EntryState). entry.name)
+    pub fn facts(&self, entry: u32) -> Option<Facts>
+        ensures { result ≡ option_map facts_of
             (slice_get (hub_of F.meaning self.now).entries entry) }
     {
         match self.entries.get(entry as usize) {
-            Some(it) => Some(it.name),
-            None => None,
-        }
-    }
-
-    /// Tells what the subscription of this number said of its full buffer, and `None` if no subscription has this
-    /// number.
-    pub fn on_full(&self, entry: u32) -> Option<OnFull>
-        ensures { result ≡ option_map (λ (entry : EntryState). entry.on_full)
-            (slice_get (hub_of F.meaning self.now).entries entry) }
-    {
-        match self.entries.get(entry as usize) {
-            Some(it) => Some(it.on_full),
+            Some(it) => Some(Facts {
+                name: it.name,
+                on_full: it.on_full,
+                since: it.since,
+                dropped: it.dropped,
+            }),
             None => None,
         }
     }

@@ -21,7 +21,8 @@ mod work;
 
 pub use entry::AtClose;
 pub use hub::{
-    Figures, Hub, MOST_ENTRIES, MOST_LIVE, MOST_SOURCES, Publication, USUAL_LIVE, Unpublished,
+    Facts, Figures, Hub, MOST_ENTRIES, MOST_LIVE, MOST_SOURCES, Publication, USUAL_LIVE,
+    Unpublished,
 };
 pub use laws::lent_feeds_keep_hubs_sound;
 pub use policy::{Need, OnFull, Published};

@@ -1,7 +1,7 @@
 -- What the look-up shows decides.
 use Rattle.std.proofs.Common.{refl}
 use Rattle.publisher_hub.proofs.AnswerLists.Places.{stored_nowhere, stored_there}
-use Rattle.publisher_hub.proofs.hub.Hub.name_of.Goals as goal
+use Rattle.publisher_hub.proofs.hub.Hub.facts.Goals as goal
 
 pub returns-in-Some : goal.returns-in-Some
 returns-in-Some g c =
