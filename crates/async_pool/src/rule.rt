@@ -1,7 +1,6 @@
 //! What the inbox and each worker's queue are proved for: any rule that each step keeps, such as that of the pool, first
 //! in, first out. The program makes no value of what stands here.
 ghost use Rattle.std.specs.Prelude.{Bool, List};
-ghost use Rattle.async_pool.specs.Rule.{IsKept};
 
 use std::collections::LinkedList;
 
@@ -19,6 +18,9 @@ pub struct Log<J> {
 /// tells is known by that step alone: no call ever learns that the rule holds of anything, so no proof can make a
 /// moment up, or one moment of another.
 pub trait Rule<J> {
+    ghost use Rattle.async_pool.specs.Rule.{IsKept};
+    ghost use Rattle.async_pool.specs.declared.rule.Log.{Log};
+
     ghost holds: { List J → List (Log J) → Type 0 };
 
     /// What a step tells of what the queue held at its moment, to a pass that knows this.
