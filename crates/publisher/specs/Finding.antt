@@ -2,6 +2,7 @@
 use Rattle.std.specs.Prelude.{◌≡◌, ◌⊎◌, ℕ, ◌<◌, Bool, true, false, not, count_by, Option, None, Some, IsSome, List, length, slice_get, slice_set}
 use Rattle.feed_cell.specs.Parties.{ProducerState}
 use Rattle.publisher_hub.specs.Entry.{EntryState, entry_of}
+use Rattle.publisher_hub.specs.Facts.{facts_of}
 use Rattle.publisher_hub.specs.Hub.{HubState, OnlyEntriesChange, hub_of}
 use Rattle.publisher_hub.specs.Lists.{Each}
 use Rattle.publisher_hub.specs.Sound.{IsSound}
@@ -51,10 +52,7 @@ ends_of founds = count_by (λ found. not (is_reclaimed found)) founds
 -- both ends of the subscription of this number, of which this is stored, with what is known of it
 pub record IsTakenOf {B : Type 0} (counted : Option ℕ) (number : ℕ) (entry : EntryState)
     (taken : Taken B) : Type 0 where
-  pub name : taken.name ≡ entry.name
-  pub on_full : taken.on_full ≡ entry.on_full
-  pub since : taken.since ≡ entry.since
-  pub dropped : taken.dropped ≡ entry.dropped
+  pub facts : taken.facts ≡ facts_of entry
   pub late : (taken.late ≡ true → IsLate counted number)
       × (IsLate counted number → taken.late ≡ true)
   pub producer : entry.feed ≡ Some taken.producer.end

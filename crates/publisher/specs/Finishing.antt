@@ -36,13 +36,13 @@ pub record IsNothing {B H : Type 0} (outcome : Outcome B H) : Type 0 where
 pub record IsCountedIn {B : Type 0} (published dropping : ℕ) (taken : Taken B) : Type 0 where
   pub ordered : IsOrdered taken.producer.end.accepted
   pub items : (i : ℕ) (x : Item) → slice_get taken.producer.end.accepted i ≡ Some x
-      → (taken.since ≤ x.serial) × (x.serial < published)
-  pub counted : taken.since + (length taken.producer.end.accepted + taken.dropped) ≤ published
+      → (taken.facts.since ≤ x.serial) × (x.serial < published)
+  pub counted : taken.facts.since + (length taken.producer.end.accepted + taken.facts.dropped) ≤ published
   -- one that was closed, or goes on by the last look at it, took part to the end
   pub whole : (taken.producer.end.over ≡ false) ⊎ IsSome taken.producer.end.closing
-      → taken.since + (length taken.producer.end.accepted + taken.dropped) ≡ published
-  pub drops : taken.dropped ≤ dropping
-  pub late : taken.late ≡ true → taken.since ≡ published
+      → taken.facts.since + (length taken.producer.end.accepted + taken.facts.dropped) ≡ published
+  pub drops : taken.facts.dropped ≤ dropping
+  pub late : taken.late ≡ true → taken.facts.since ≡ published
 
 -- what was found of the subscriptions that were handed in, of a publisher that published this many items; and once its
 -- last ticket was spent, each from before the close has ended

@@ -24,10 +24,10 @@ module _ {B : Type 0} (told : B → List Signal) (replied : B → List Reply) wh
   pub record IsLaneOfTaken (number : ℕ) (taken : Taken B) (left : NamedLane B) : Type 0 where
     pub number_is : left.entry ≡ number
     pub made_before : left.made_before ≡ taken.owner.made_before
-    pub name : left.name ≡ taken.name
-    pub on_full : left.on_full ≡ taken.on_full
-    pub since : left.since ≡ taken.since
-    pub dropped : left.dropped ≡ taken.dropped
+    pub name : left.name ≡ taken.facts.name
+    pub on_full : left.on_full ≡ taken.facts.on_full
+    pub since : left.since ≡ taken.facts.since
+    pub dropped : left.dropped ≡ taken.facts.dropped
     pub late : left.late ≡ taken.late
     pub owner : HasOwnersPart taken.owner.handle left.lane
     pub lane : IsLeftOf told replied taken.producer.end None left.lane
@@ -41,7 +41,7 @@ module _ {B : Type 0} (told : B → List Signal) (replied : B → List Reply) wh
   -- a subscription was closed, if both its ends were there
   abbrev pub ClosesOne : ℕ → Found B → Closed B → Type 0
   ClosesOne number (Found.Both taken) (Closed.Lane left) = IsLeftOfTaken number taken left
-  ClosesOne number (Found.Both taken) (Closed.Held name) = name ≡ taken.name
+  ClosesOne number (Found.Both taken) (Closed.Held name) = name ≡ taken.facts.name
   ClosesOne number (Found.Missing name) (Closed.Missing other) = other ≡ name
   ClosesOne number Found.Reclaimed Closed.Reclaimed = ⊤
   ClosesOne number _ _ = ⊥

@@ -11,9 +11,12 @@ use Rattle.feed_core.specs.Lane.{LaneState}
 use Rattle.feed_core.specs.Prelude.{Signal}
 use Rattle.flow_rules.specs.declared.feed.standing.Standing.{Standing}
 use Rattle.flow_rules.specs.declared.refusal.Refusal.{Refusal}
+use Rattle.publisher_hub.specs.Entry.{entry_of}
+use Rattle.publisher_hub.specs.Facts.{facts_of}
 use Rattle.publisher_hub.specs.Looking.{LooksAtOne}
 use Rattle.publisher_hub.specs.Reclaiming.{TakesEndedAt}
 use Rattle.publisher_hub.specs.declared.entry.Entry.{Entry}
+use Rattle.publisher_hub.specs.declared.hub.Facts.{Facts}
 use Rattle.publisher.specs.Finishing.{IsCountedIn}
 use Rattle.publisher.specs.Handles.{SubscriptionState}
 use Rattle.publisher.specs.Outcome.{IsLane}
@@ -23,7 +26,6 @@ use Rattle.publisher.specs.State.{PublisherState, producer_end}
 use Rattle.publisher.specs.Tickets.{IsLate}
 use Rattle.publisher.specs.declared.outcome.NamedLane.{NamedLane}
 use Rattle.publisher.specs.declared.finishing.find.Taken.{Taken}
-use Rattle.publisher.specs.declared.state.take_out.Known.{Known}
 
 -- a ticket that came out was spent; what is left of it is kept if it was the last
 abbrev pub IsSpent : Option Ticket → PublisherState → PublisherState → Type 0
@@ -48,22 +50,11 @@ pub record ShowsEnd (number : ℕ) (ended : Bool) (old new : PublisherState) : T
   pub ended_is : ended ≡ has_ended_by glance
   pub rest : new ≡ record old { hub = new.hub }
 
--- this is known of the subscription of this number
-pub record Knows (state : PublisherState) (number : ℕ) (known : Known) : Type 0 where
+-- the Hub knows this of the subscription of this number
+pub record Knows (state : PublisherState) (number : ℕ) (facts : Facts) : Type 0 where
   pub entry : Entry ProducerState
   pub stands : slice_get state.hub.entries.items number ≡ Some entry
-  pub name : known.name ≡ entry.name
-  pub on_full : known.on_full ≡ entry.on_full
-  pub since : known.since ≡ entry.since
-  pub dropped : known.dropped ≡ entry.dropped
-  pub late : (known.late ≡ true → IsLate state.counted number)
-      × (IsLate state.counted number → known.late ≡ true)
-
--- with both ends of a subscription stands what is known of it
-abbrev pub IsKnown : {B : Type 0} → Known → Taken B → Type 0
-IsKnown known taken = (taken.name ≡ known.name) × ((taken.on_full ≡ known.on_full)
-    × ((taken.since ≡ known.since)
-    × ((taken.dropped ≡ known.dropped) × (taken.late ≡ known.late))))
+  pub facts_are : facts ≡ facts_of (entry_of producer_end entry)
 
 -- both ends of the subscription with this owner's end, which has ended, were taken out, with what is known of it, and
 -- it was counted as reclaimed
@@ -72,7 +63,9 @@ pub record Reclaims {B : Type 0} (owner : SubscriptionState) (taken : Taken B)
   pub middle : PublisherState
   pub looks : ShowsEnd owner.entry true old middle
   pub takes : TakesEnd owner.entry (Some taken.producer) middle new
-  pub known : (known : Known) × (Knows middle owner.entry known × IsKnown known taken)
+  pub known : Knows middle owner.entry taken.facts
+  pub late : (taken.late ≡ true → IsLate middle.counted owner.entry)
+      × (IsLate middle.counted owner.entry → taken.late ≡ true)
   pub owner_is : taken.owner ≡ owner
   pub over : taken.producer.end.over ≡ true
   pub counted : IsCountedIn old.hub.next old.hub.dropping taken

@@ -6,7 +6,8 @@ ghost use Rattle.std.specs.Prelude.{◌≡◌, IfSome, Some};
 use crate::ledgers::Ledgers;
 use crate::shared::Shared;
 use crate::turned::EndedTask;
-use flow_rules::{FailHandler, Listener, Name};
+use flow_rules::{FailHandler, Listener};
+use publisher_hub::Facts;
 use std::sync::Wait;
 
 impl<L: Ledgers, B: Listener, F: FailHandler> Shared<L, B, F> {
@@ -23,17 +24,18 @@ impl<L: Ledgers, B: Listener, F: FailHandler> Shared<L, B, F> {
     /// Tells the handler, if there is one, that the `onNext` of a subscription that has ended failed with this code. The
     /// lock of the publisher is free meanwhile.
     pub fn tell_failure<R: Wait>(&self, rt: &R, ended: &EndedTask, code: u32) {
-        let name = self.lock(rt).name_of(ended);
-        tell(&mut *self.handler.lock(rt), name, code);
+        let facts = self.lock(rt).facts_of_ended(ended);
+        tell(&mut *self.handler.lock(rt), facts, code);
     }
 }
 
-/// Tells the handler, if there is one, that the subscriber of this name failed with this code, if there is such a
-/// subscriber.
-fn tell<F: FailHandler>(handler: &mut Option<F>, name: Option<Name>, code: u32)
-    ensures { IfSome handler.new (λ told. IfSome name (λ name. F.last told ≡ Some (name, code))) }
+/// Tells the handler, if there is one, that the subscriber of which this is known failed with this code, if there is
+/// such a subscriber.
+fn tell<F: FailHandler>(handler: &mut Option<F>, facts: Option<Facts>, code: u32)
+    ensures { IfSome handler.new
+        (λ told. IfSome facts (λ facts. F.last told ≡ Some (facts.name, code))) }
 {
-    if let (Some(handler), Some(name)) = (handler, name) {
-        handler.on_fail(name, code);
+    if let (Some(handler), Some(facts)) = (handler, facts) {
+        handler.on_fail(facts.name, code);
     }
 }

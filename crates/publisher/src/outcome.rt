@@ -6,7 +6,7 @@ ghost use Rattle.publisher.specs.Failing.{IsFirstFailure, NoneFails, failure_of}
 
 use feed_core::Lane;
 use flow_rules::{FailHandler, How, LastFailure, Name};
-use publisher_hub::OnFull;
+use publisher_hub::{Facts, OnFull};
 
 /// What is left of a publisher that was finished.
 #[derive(Drop)]
@@ -73,6 +73,37 @@ impl<B, F: FailHandler> Outcome<B, F> {
 }
 
 impl<B> NamedLane<B> {
+    /// Adds its lane to what is known of the subscription of this number.
+    pub(crate) fn of(
+        entry: u32,
+        made_before: u64,
+        facts: Facts,
+        late: bool,
+        lane: Lane<B>,
+    ) -> NamedLane<B>
+        ensures { result ≡ record {
+          name = facts.name;
+          entry = entry;
+          made_before = made_before;
+          on_full = facts.on_full;
+          since = facts.since;
+          dropped = facts.dropped;
+          late = late;
+          lane = lane;
+        } }
+    {
+        NamedLane {
+            name: facts.name,
+            entry,
+            made_before,
+            on_full: facts.on_full,
+            since: facts.since,
+            dropped: facts.dropped,
+            late,
+            lane,
+        }
+    }
+
     /// Gives its subscriber, with what that was told; `None` only if a turn is running. The numbers beside it are read
     /// before.
     pub fn into_subscriber(self) -> Option<B>

@@ -27,6 +27,7 @@ ghost use Rattle.publisher_hub.specs.Sound.{IsSound};
 
 use crate::entry::Entry;
 use crate::hub::gathering::Gathering;
+use crate::policy::OnFull;
 use close_count::Opening;
 use flow_rules::{Ending, Feed, MOST_PUBLICATIONS, Name, NoMemory, Refusal, capacity};
 pub use publish::{Publication, Unpublished};

@@ -7,6 +7,7 @@ use Rattle.std.proofs.lemmas.Option.{same_Some}
 use Rattle.feed_cell.specs.Parties.{ProducerState}
 use Rattle.publisher.specs.Handles.{SubscriptionState}
 use Rattle.publisher_hub.specs.Entry.{EntryState, entry_of}
+use Rattle.publisher_hub.specs.Facts.{facts_of}
 use Rattle.publisher_hub.specs.Hub.{HubState, hub_of}
 use Rattle.publisher_hub.specs.Lists.{Each}
 use Rattle.publisher_hub.specs.Sound.{IsSound}
@@ -210,21 +211,17 @@ module _ {B : Type 0} (counted : Option ℕ) (number : ℕ) (owner : Option Subs
   pub finds_both : (other : SubscriptionState) (taken : Taken B) → owner ≡ Some other
       → TakesOutAt producer_end number (Some taken.producer) old new → taken.owner ≡ other
       → ((taken.late ≡ true → IsLate counted number) × (IsLate counted number → taken.late ≡ true))
-      → ((entry : Entry ProducerState) → slice_get old.entries.items number ≡ Some entry → (taken.name ≡ entry.name)
-      × (taken.on_full ≡ entry.on_full) × (taken.since ≡ entry.since) × (taken.dropped ≡ entry.dropped))
+      → ((entry : Entry ProducerState) → slice_get old.entries.items number ≡ Some entry
+      → taken.facts ≡ facts_of (entry_of producer_end entry))
       → FindsOne counted number owner (Found.Both taken) old new
   finds_both other taken handed takes owner_is late reads =
       let entry = there old.entries.items number within in
       let after = takes.there entry.0 entry.1 in
-      let known = reads entry.0 entry.1 in
       record {
         entry = entry.0;
         stands = entry.1;
         is = record {
-          name = known.0;
-          on_full = known.1;
-          since = known.2;
-          dropped = known.3;
+          facts = reads entry.0 entry.1;
           late = late;
           producer =
               ap (option_map producer_end) after.1.0.0;

@@ -10,6 +10,7 @@ use Rattle.flow_rules.specs.Feed.{End}
 use Rattle.flow_rules.specs.declared.ending.Ending.{Ending}
 use Rattle.publisher_hub.specs.Entry.{EntryState, entry_of, until_of}
 use Rattle.publisher_hub.specs.Hub.{HubState, hub_of}
+use Rattle.publisher_hub.specs.declared.hub.Facts.{Facts}
 use Rattle.publisher_hub.specs.Lists.{Each}
 use Rattle.publisher_hub.specs.Sound.{IsAccepted}
 use Rattle.publisher_hub.specs.declared.entry.Entry.{Entry}
@@ -61,8 +62,8 @@ pub counted_of : {B : Type 0} (hub : HubState) (counted : Option ℕ) (sums : Su
 counted_of hub counted sums k entry taken is same stands of =
     let stored = is.sound.entries k entry stands in
     let count = stored.counted taken.producer.end of.producer in
-    let since = of.since in
-    let dropped = of.dropped in
+    let since = ap (λ (f : Facts). f.since) of.facts in
+    let dropped = ap (λ (f : Facts). f.dropped) of.facts in
     let many = count.count in
     let until = count.until in
     record {

@@ -13,11 +13,13 @@ use Rattle.flow_rules.specs.Feed.{End, Looked}
 use Rattle.flow_rules.specs.declared.feed.standing.Standing.{Standing}
 use Rattle.flow_rules.specs.declared.refusal.Refusal.{Refusal}
 use Rattle.publisher_hub.specs.Entry.{EntryState, entry_of}
+use Rattle.publisher_hub.specs.Facts.{facts_of}
 use Rattle.publisher_hub.specs.Hub.{HubState, hub_of}
 use Rattle.publisher_hub.specs.Looking.{LooksAtOne}
 use Rattle.publisher_hub.specs.Reclaiming.{TakesEnded, TakesEndedAt}
 use Rattle.publisher_hub.specs.Sound.{IsSound}
 use Rattle.publisher_hub.specs.declared.entry.Entry.{Entry}
+use Rattle.publisher_hub.specs.declared.hub.Facts.{Facts}
 use Rattle.publisher_hub.specs.declared.hub.Hub.{Hub}
 use Rattle.publisher_hub.proofs.PartialRounds.Next.{get_before_map, get_mapped}
 use Rattle.publisher.specs.Census.{CensusState}
@@ -30,7 +32,6 @@ use Rattle.publisher.specs.Standing.{has_ended_by}
 use Rattle.publisher.specs.State.{IsState, PublisherState, Sums, producer_end}
 use Rattle.publisher.specs.Tickets.{IsLate, IsOfCount}
 use Rattle.publisher.specs.declared.finishing.find.Taken.{Taken}
-use Rattle.publisher.specs.declared.state.take_out.Known.{Known}
 use Rattle.publisher.proofs.BothEnds.FindingRounds.{read_of}
 use Rattle.publisher.proofs.SoundStates.GrownStates.{state_with_last}
 use Rattle.publisher.proofs.SoundStates.KeptStates.{Stays, state_stays, stays_left, tickets_stay}
@@ -113,25 +114,17 @@ module _ (old new : Hub ProducerState) (number : ℕ) (taken : Option (ProducerS
       )
 
 -- what is known of a subscription, by what its Hub shows of it
-pub knows_of : (state : PublisherState) (number : ℕ) (known : Known)
-    → Some known.name ≡ option_map (λ (e : EntryState). e.name) (slice_get (hub_of producer_end state.hub).entries number)
-    → Some known.on_full ≡ option_map (λ (e : EntryState). e.on_full) (slice_get (hub_of producer_end state.hub).entries number)
-    → Some known.since ≡ option_map (λ (e : EntryState). e.since) (slice_get (hub_of producer_end state.hub).entries number)
-    → Some known.dropped ≡ option_map (λ (e : EntryState). e.dropped) (slice_get (hub_of producer_end state.hub).entries number)
-    → ((known.late ≡ true → IsLate state.counted number) × (IsLate state.counted number → known.late ≡ true)) → Knows state number known
-knows_of state number known name on_full since dropped late = by (slice_get (hub_of producer_end state.hub).entries number) refl where
-  by : (at : Option EntryState) → slice_get (hub_of producer_end state.hub).entries number ≡ at → Knows state number known
-  by None at = let no : Some known.name ≡ None = name ∙ ap (option_map (λ (e : EntryState). e.name)) at in cc
+pub knows_of : (state : PublisherState) (number : ℕ) (facts : Facts)
+    → Some facts ≡ option_map facts_of (slice_get (hub_of producer_end state.hub).entries number) → Knows state number facts
+knows_of state number facts shown = by (slice_get (hub_of producer_end state.hub).entries number) refl where
+  by : (at : Option EntryState) → slice_get (hub_of producer_end state.hub).entries number ≡ at → Knows state number facts
+  by None at = let no : Some facts ≡ None = shown ∙ ap (option_map facts_of) at in cc
   by (Some stored) at =
       let raw = get_before_map (entry_of producer_end) state.hub.entries.items number stored at in
       record {
         entry = raw.0;
         stands = raw.1.0;
-        name = read_of (λ (e : EntryState). e.name) state.hub number raw.0 _ known.name refl name raw.1.0;
-        on_full = read_of (λ (e : EntryState). e.on_full) state.hub number raw.0 _ known.on_full refl on_full raw.1.0;
-        since = read_of (λ (e : EntryState). e.since) state.hub number raw.0 _ known.since refl since raw.1.0;
-        dropped = read_of (λ (e : EntryState). e.dropped) state.hub number raw.0 _ known.dropped refl dropped raw.1.0;
-        late = late;
+        facts_are = read_of facts_of state.hub number raw.0 _ facts refl shown raw.1.0;
       }
 
 -- a look at a producer's end changes nothing of what it accepted; one that has ended took part to the end only if it
@@ -142,8 +135,8 @@ looked_counted : {B : Type 0} (published dropping : ℕ) (taken later : Taken B)
 looked_counted published dropping taken later same look over is =
     let accepted = ap (λ (e : End). e.accepted) look.rest in
     let closing = ap (λ (e : End). e.closing) look.rest in
-    let since = ap (λ (t : Taken _). t.since) same in
-    let dropped = ap (λ (t : Taken _). t.dropped) same in
+    let since = ap (λ (t : Taken _). t.facts.since) same in
+    let dropped = ap (λ (t : Taken _). t.facts.dropped) same in
     let many = ap length accepted in
     record {
       ordered = λ i j x y at on less. is.ordered i j x y (sym (ap (λ l. slice_get l i) accepted) ∙ at)
@@ -174,28 +167,19 @@ takes_still number producer old new census ends = record {
   by (Some ticket) spent = spent
 
 -- what is taken out of a sound publisher has ended, and counts what was published while it took part
-module _ {B : Type 0} (known : Known) (owner : SubscriptionState) (producer : ProducerState) (taken : Taken B)
+module _ {B : Type 0} (owner : SubscriptionState) (taken : Taken B)
     (middle new : PublisherState) (sums : Sums) (is : IsState (hub_of producer_end middle.hub) sums)
-    (same : sums.counted ≡ middle.counted) (knows : Knows middle owner.entry known)
-    (ends : TakesEnd owner.entry (Some producer) middle new)
-    (taken_is : taken ≡ record {
-      name = known.name;
-      on_full = known.on_full;
-      since = known.since;
-      dropped = known.dropped;
-      late =
-          known.late;
-      producer = producer;
-      owner = owner;
-    }) where
+    (same : sums.counted ≡ middle.counted) (knows : Knows middle owner.entry taken.facts)
+    (late : (taken.late ≡ true → IsLate middle.counted owner.entry) × (IsLate middle.counted owner.entry → taken.late ≡ true))
+    (ends : TakesEnd owner.entry (Some taken.producer) middle new) (owner_is : taken.owner ≡ owner) where
   -- what the look at it showed
   pub record IsOver (before : ProducerState) : Type 0 where
     pub was : knows.entry.feed ≡ Some before
-    pub look : Looked before.end producer.end
-    pub over : producer.end.over ≡ true
+    pub look : Looked before.end taken.producer.end
+    pub over : taken.producer.end.over ≡ true
 
   over_by : (glance : Option Standing) (after : Entry ProducerState)
-      → TakesEnded producer_end DoesCall middle.hub.next glance (Some (producer, ends.ticket)) knows.entry after
+      → TakesEnded producer_end DoesCall middle.hub.next glance (Some (taken.producer, ends.ticket)) knows.entry after
       → (before : ProducerState) × IsOver before
   over_by None after both = elim both [ ]
   over_by (Some standing) after both = (
@@ -206,29 +190,15 @@ module _ {B : Type 0} (known : Known) (owner : SubscriptionState) (producer : Pr
   shown : (before : ProducerState) × IsOver before
   shown = let there = ends.takes.there knows.entry knows.stands in over_by there.0 there.1 there.2.0
 
-  pub over_is : taken.producer.end.over ≡ true
-  over_is = ap (λ (t : Taken B). t.producer.end.over) taken_is ∙ shown.1.over
-
   -- the two ends with the producer's end as it was before the look
   abbrev earlier : Taken B
   earlier = record taken { producer = shown.0 }
 
   of : IsTakenOf middle.counted owner.entry (entry_of producer_end knows.entry) earlier
-  of = record {
-    name = ap (λ (t : Taken B). t.name) taken_is ∙ knows.name;
-    on_full = ap (λ (t : Taken B). t.on_full) taken_is ∙ knows.on_full;
-    since = ap (λ (t : Taken B). t.since) taken_is ∙ knows.since;
-    dropped = ap (λ (t : Taken B). t.dropped) taken_is ∙ knows.dropped;
-    late = (
-      λ late. knows.late.0 (sym (ap (λ (t : Taken B). t.late) taken_is) ∙ late),
-      λ late. ap (λ (t : Taken B). t.late) taken_is ∙ knows.late.1 late,
-    );
-    producer = ap (option_map producer_end) shown.1.was;
-  }
+  of = record { facts = knows.facts_are; late = late; producer = ap (option_map producer_end) shown.1.was }
 
   pub counted_is : IsCountedIn middle.hub.next middle.hub.dropping taken
-  counted_is = looked_counted middle.hub.next middle.hub.dropping earlier taken refl
-      (subst (λ (p : ProducerState). Looked shown.0.end p.end) (sym (ap (λ (t : Taken B). t.producer) taken_is)) shown.1.look) over_is
+  counted_is = looked_counted middle.hub.next middle.hub.dropping earlier taken refl shown.1.look shown.1.over
       (counted_of (hub_of producer_end middle.hub) middle.counted sums owner.entry (entry_of producer_end knows.entry)
       earlier is same (get_mapped (entry_of producer_end) middle.hub.entries.items owner.entry knows.entry knows.stands) of)
 
@@ -242,23 +212,11 @@ module _ {B : Type 0} (known : Known) (owner : SubscriptionState) (producer : Pr
       record {
         middle = middle;
         looks = shows;
-        takes = takes_still owner.entry (Some taken.producer) middle new census
-            (subst (λ (p : ProducerState). TakesEnd owner.entry (Some p) middle new) (sym (ap (λ (t : Taken B). t.producer) taken_is)) ends);
-        known = (
-          known,
-          (
-            knows,
-            (
-              ap (λ (t : Taken B). t.name) taken_is,
-              (
-                ap (λ (t : Taken B). t.on_full) taken_is,
-                (ap (λ (t : Taken B). t.since) taken_is, (ap (λ (t : Taken B). t.dropped) taken_is, ap (λ (t : Taken B). t.late) taken_is)),
-              ),
-            ),
-          ),
-        );
-        owner_is = ap (λ (t : Taken B). t.owner) taken_is;
-        over = over_is;
+        takes = takes_still owner.entry (Some taken.producer) middle new census ends;
+        known = knows;
+        late = late;
+        owner_is = owner_is;
+        over = shown.1.over;
         counted = subst (λ n. IsCountedIn n old.hub.dropping taken) next
             (subst (λ n. IsCountedIn middle.hub.next n taken) dropping counted_is);
         census = counts ∙ ap (λ (c : CensusState). record c { reclaimed = c.reclaimed + 1 })

@@ -75,10 +75,7 @@ fn close_one<B: Listener>(number: u32, found: Found<B>) -> Closed<B>
         Found::Reclaimed => return Closed::Reclaimed,
     };
     let Taken {
-        name,
-        on_full,
-        since,
-        dropped,
+        facts,
         late,
         producer,
         owner,
@@ -90,21 +87,12 @@ fn close_one<B: Listener>(number: u32, found: Found<B>) -> Closed<B>
     } = owner;
     let part = OwnersPart::of(&handle);
     let Ok(lane) = close(producer, handle) else {
-        return Closed::Held(name);
+        return Closed::Held(facts.name);
     };
     if !part.is_in(&lane) {
-        return Closed::Held(name);
+        return Closed::Held(facts.name);
     }
-    Closed::Lane(NamedLane {
-        name,
-        entry: number,
-        made_before,
-        on_full,
-        since,
-        dropped,
-        late,
-        lane,
-    })
+    Closed::Lane(NamedLane::of(number, made_before, facts, late, lane))
 }
 
 /// What the owner of a subscription did with its handle.

@@ -14,19 +14,13 @@ use crate::owner::OwnersEnd;
 use crate::subscription::Subscription;
 use feed_cell::Producer;
 use flow_rules::{FailHandler, Listener, Name};
-use publisher_hub::{Hub, OnFull};
+use publisher_hub::{Facts, Hub};
 
 /// The two ends of a subscription, with what its publisher knows of it.
 #[derive(Drop)]
 pub struct Taken<B: Listener> {
-    /// The name that its subscriber subscribed with.
-    pub name: Name,
-    /// What it said of its full buffer.
-    pub on_full: OnFull,
-    /// The serial number of the next publication when it was subscribed.
-    pub since: u64,
-    /// How many publications found its buffer full.
-    pub dropped: u64,
+    /// What the Hub knows of it.
+    pub facts: Facts,
     /// Whether it was subscribed after the close.
     pub late: bool,
     /// The publisher's end.
@@ -148,23 +142,17 @@ fn find_one<B: Listener>(
     ensures finds { FindsOne counted number owner result hub.old hub.new }
     ensures sound { IsSound (hub_of producer_end hub.new) }
 {
-    let name = hub.name_of(number).unwrap();
-    let on_full = hub.on_full(number).unwrap();
-    let since = hub.since(number).unwrap();
-    let dropped = hub.dropped(number).unwrap();
+    let facts = hub.facts(number).unwrap();
     let Some(owner) = owner else {
         return if hub.has_feed(number) {
-            Found::Missing(name)
+            Found::Missing(facts.name)
         } else {
             Found::Reclaimed
         };
     };
     match hub.take_feed(number) {
         Some(producer) => Found::Both(Taken {
-            name,
-            on_full,
-            since,
-            dropped,
+            facts,
             late: is_late(counted, number),
             producer,
             owner,

@@ -61,24 +61,13 @@ fn close_ended<B: Listener, R: Wait>(rt: &R, number: u32, taken: Taken<B>) -> Na
     ensures { IsLaneOfTaken B.told B.replied number taken result }
 {
     let Taken {
-        name,
-        on_full,
-        since,
-        dropped,
+        facts,
         late,
         producer,
         owner,
     } = taken;
-    NamedLane {
-        name,
-        entry: number,
-        made_before: owner.made_before,
-        on_full,
-        since,
-        dropped,
-        late,
-        lane: close_alone(rt, producer, owner.handle),
-    }
+    let lane = close_alone(rt, producer, owner.handle);
+    NamedLane::of(number, owner.made_before, facts, late, lane)
 }
 
 /// Closes a subscription that nobody else shares. No thread has its task any more and the handle is its own, so the

@@ -5,7 +5,7 @@
 ghost use Rattle.std.specs.Prelude.{◌≡◌, ◌↔◌, Bool, List, Option, IsErr, IsOk, IsSome, None, length, option_map, slice_get, true};
 ghost use Rattle.feed_cell.specs.Offering.{DoesCall};
 ghost use Rattle.flow_rules.specs.declared.feed.standing.Standing.{Standing};
-ghost use Rattle.publisher_hub.specs.Entry.{EntryState};
+ghost use Rattle.publisher_hub.specs.Facts.{facts_of};
 ghost use Rattle.publisher_hub.specs.Hub.{hub_of};
 ghost use Rattle.publisher_hub.specs.Lists.{greatest};
 ghost use Rattle.publisher_hub.specs.Looking.{LooksAtAll, LooksAtOne, living, waiting};
@@ -18,7 +18,7 @@ use super::{NoRoom, Reason, State};
 use crate::ledgers::Ledgers;
 use crate::turned::EndedTask;
 use flow_rules::{Listener, Name, Standing};
-use publisher_hub::Need;
+use publisher_hub::{Facts, Need};
 
 /// A subscription has ended: a look showed it.
 #[must_use]
@@ -80,12 +80,12 @@ impl<L: Ledgers, B: Listener> State<L, B> {
         }
     }
 
-    /// Gives the name that the subscriber of a subscription that has ended subscribed with. Its number is its own still.
-    pub fn name_of(&self, ended: &EndedTask) -> Option<Name>
-        ensures { result ≡ option_map (λ (entry : EntryState). entry.name)
+    /// Gives what the Hub knows of a subscription that has ended. Its number is its own still.
+    pub fn facts_of_ended(&self, ended: &EndedTask) -> Option<Facts>
+        ensures { result ≡ option_map facts_of
             (slice_get (hub_of producer_end self.now.hub).entries ended.now.entry) }
     {
-        self.hub.name_of(ended.entry())
+        self.hub.facts(ended.entry())
     }
 
     /// Looks at the subscription of this number, if it is live.

@@ -19,47 +19,8 @@ use crate::submitter::Submitter;
 use crate::subscription::Subscription;
 use feed_cell::{Producer, is_shared};
 use flow_rules::{FailHandler, Listener, Name, Refusal};
-use publisher_hub::OnFull;
+use publisher_hub::Facts;
 use std::alloc::Global;
-
-/// What a publisher knows of a subscription without its ends.
-#[derive(Drop)]
-pub struct Known {
-    name: Name,
-    /// What it said of its full buffer.
-    on_full: OnFull,
-    /// The serial number of the next publication when it was subscribed.
-    since: u64,
-    /// How many publications found its buffer full.
-    dropped: u64,
-    /// Whether it was subscribed after the close.
-    late: bool,
-}
-
-impl Known {
-    /// Adds both ends of the subscription to what is known of it.
-    fn with<B: Listener>(self, producer: Producer<B>, owner: OwnersEnd<B>) -> Taken<B>
-        ensures { result ≡ record {
-          name = self.name;
-          on_full = self.on_full;
-          since = self.since;
-          dropped = self.dropped;
-          late = self.late;
-          producer = producer;
-          owner = owner;
-        } }
-    {
-        Taken {
-            name: self.name,
-            on_full: self.on_full,
-            since: self.since,
-            dropped: self.dropped,
-            late: self.late,
-            producer,
-            owner,
-        }
-    }
-}
 
 impl<L: Ledgers, B: Listener> State<L, B> {
     /// Takes the producer's end of a subscription out, if that has ended, for its owner's end, which this is. Its ticket
@@ -81,30 +42,36 @@ impl<L: Ledgers, B: Listener> State<L, B> {
     {
         let entry = owner.entry;
         let has_ended = self.has_ended(entry);
-        let Some(known) = self.known(entry) else {
+        let Some(facts) = self.facts(entry) else {
             return Err((Refusal::NoMemory, owner));
         };
         if !has_ended {
-            return Err((unsettled(alloc, known.name), owner));
+            return Err((unsettled(alloc, facts.name), owner));
         }
         let is_held = match self.hub.feed(entry) {
             Some(producer) => { is_shared(producer, &owner.handle) | !self.census.is_let_go(entry) }
             None => false,
         };
         if is_held {
-            return Err((Refusal::StillHeld(known.name), owner));
+            return Err((Refusal::StillHeld(facts.name), owner));
         }
+        let late = is_late(self.counted, entry);
         match self.take_end(entry) {
             Some(producer) => {
                 self.census.reclaim(entry);
-                Ok(known.with(producer, owner))
+                Ok(Taken {
+                    facts,
+                    late,
+                    producer,
+                    owner,
+                })
             }
-            None => Err((unsettled(alloc, known.name), owner)),
+            None => Err((unsettled(alloc, facts.name), owner)),
         }
     }
 
-    /// Gives what is known of the subscription of this number, if there is one, and not all were reclaimed.
-    fn known(&self, entry: u32) -> Option<Known>
+    /// Gives what the Hub knows of the subscription of this number, if there is one, and not all were reclaimed.
+    fn facts(&self, entry: u32) -> Option<Facts>
         ensures known { IfSome result (Knows self.now entry) }
         ensures unreclaimed { IsSome result
             → self.now.census.reclaimed < self.now.census.made }
@@ -112,13 +79,7 @@ impl<L: Ledgers, B: Listener> State<L, B> {
         if self.census.unreclaimed() == 0 {
             return None;
         }
-        Some(Known {
-            name: self.hub.name_of(entry)?,
-            on_full: self.hub.on_full(entry)?,
-            since: self.hub.since(entry)?,
-            dropped: self.hub.dropped(entry)?,
-            late: is_late(self.counted, entry),
-        })
+        self.hub.facts(entry)
     }
 
     /// Looks at the subscription of this number. If that shows that it has ended, its producer's end is taken out, its
