@@ -1,6 +1,10 @@
 //! What a Hub stores, how it is made and what it shows of itself: the subscriptions of one publisher, each held by its
 //! producer's end, and the numbers of its publications. It runs no subscriber, waits for nobody and takes no lock:
 //! whoever calls it sees to it that the calls come one after the other, and that the tasks they start are run.
+//!
+//! A round over the live subscriptions is three functions, as `end_live`, `end_all` and [`Entry::end`] are: one that
+//! borrows the list and the numbers out of the Hub, the loop, and what is done at one subscription. The prover takes a
+//! loop that changes what it has borrowed only in a function that was lent just that.
 
 mod admit;
 mod batch;
