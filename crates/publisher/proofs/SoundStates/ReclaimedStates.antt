@@ -1,6 +1,6 @@
 -- What stands behind a publisher's lock once a subscription that has ended was taken out.
 use Rattle.std.proofs.Common.{◌≡◌, ◌⊎◌, inl, inr, ℕ, ◌+◌, Bool, true, false, is_some, Option, None, Some, option_map, List, map, length, refl, sym, ap, subst, ◌∙◌, arith}
-use Rattle.std.specs.Prelude.{IsSome, slice_get}
+use Rattle.std.specs.Prelude.{IfSome, IsSome, slice_get}
 use Rattle.std.proofs.lemmas.List.{map-set}
 use Rattle.close_count.specs.Count.{CountId}
 use Rattle.close_count.specs.Spent.{count_of_spent}
@@ -126,6 +126,12 @@ knows_of state number facts shown = by (slice_get (hub_of producer_end state.hub
         stands = raw.1.0;
         facts_are = read_of facts_of state.hub number raw.0 _ facts refl shown raw.1.0;
       }
+
+-- so it is of one of which its Hub may show nothing
+pub knows_shown : (state : PublisherState) (number : ℕ) (shown : Option Facts)
+    → shown ≡ option_map facts_of (slice_get (hub_of producer_end state.hub).entries number) → IfSome shown (Knows state number)
+knows_shown state number None is = tt
+knows_shown state number (Some facts) is = knows_of state number facts is
 
 -- a look at a producer's end changes nothing of what it accepted; one that has ended took part to the end only if it
 -- was closed

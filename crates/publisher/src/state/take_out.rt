@@ -45,6 +45,7 @@ impl<L: Ledgers, B: Listener> State<L, B> {
         let Some(facts) = self.facts(entry) else {
             return Err((Refusal::NoMemory, owner));
         };
+        let late = is_late(self.counted, entry);
         if !has_ended {
             return Err((unsettled(alloc, facts.name), owner));
         }
@@ -55,7 +56,6 @@ impl<L: Ledgers, B: Listener> State<L, B> {
         if is_held {
             return Err((Refusal::StillHeld(facts.name), owner));
         }
-        let late = is_late(self.counted, entry);
         match self.take_end(entry) {
             Some(producer) => {
                 self.census.reclaim(entry);
