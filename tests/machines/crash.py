@@ -30,7 +30,8 @@ class Crash:
         require('whether all that was saved comes', wait_for(lambda: self.saved <= set(receiver.lines()), receiver.moved))
 
     def look(self, told, order):
-        """Finds the places of the lines that machine B was never told, and of those that it was told twice, and how often the first copies go back."""
+        """Finds the places of the lines that machine B was never told, and of those that it was told twice, and at how many places the first
+        copies go back."""
         self.order = order
         self.at = {line: place for place, line in enumerate(order)}
         came = [self.at[line] for line in told if line in self.at]
@@ -57,8 +58,8 @@ class Crash:
         require('how many lines behind the first lost one were saved, or with machine B', len(behind), 0)
 
     def told_again(self):
-        """NATS: nothing is lost, and what comes twice is one piece, up to the last line that machine B had. What was under way comes again, late.
-        On a busy machine so does what waits for longer than `ack_wait`."""
+        """NATS: nothing is lost, and what comes twice is one piece, up to the last line that machine B had. What was under way may come behind
+        later lines. On a busy machine what waits for longer than `ack_wait` comes again, too."""
         require('how many are lost', len(self.lost), 0)
         require('whether the order of a.log is broken at %d places' % self.breaks, self.breaks > 1, False)
         if not self.stage.outlives_ack_wait():

@@ -142,7 +142,8 @@ def killed_amid(row, broker, rule, lost_later=False, **variables):
 
 
 def killed_behind_a_save(row, broker, rule, **variables):
-    """Machine B stands still, and another one doesn't. The broker is killed when the other one has lines that are not saved, and a quarter is."""
+    """Machine B stands still, and another one doesn't. The broker is killed when a quarter is saved, and the other one has lines that are not:
+    machine B loses all behind the save, but what machine A sends again."""
     with Stage(f'{top}/{row}', program, broker, **variables) as stage:
         count = count_of(broker)
         sent = make_lines(count)
