@@ -5,7 +5,7 @@ The lines have places: those that they have in the copy `a.log` of machine A, wh
 from collections import Counter
 
 from machine import wait_for
-from stage import require
+from stage import all_of, require
 
 # How many lines mosquitto_pub sends before it waits for an acknowledgement.
 IN_FLIGHT = 20
@@ -25,9 +25,10 @@ class Crash:
         stage.broker.kill()
         self.saved = stage.saved()
 
-    def wait_for_saves(self, receiver):
-        """Waits until machine B has what was saved, which may come behind lines that are sent later."""
-        require('whether all that was saved comes', wait_for(lambda: self.saved <= set(receiver.lines()), receiver.moved))
+    def wait(self, receiver, sent):
+        """Waits until machine B has what may come behind lines that are sent later: with mosquitto what was saved, with NATS what was under way."""
+        wanted = set(all_of(sent)) if self.stage.broker.name == 'nats' else self.saved
+        require('whether all comes that has to', wait_for(lambda: wanted <= set(receiver.lines()), receiver.moved))
 
     def look(self, told, order):
         """Finds the places of the lines that machine B was never told, and of those that it was told twice, and at how many places the first
@@ -58,13 +59,14 @@ class Crash:
         require('how many lines behind the first lost one were saved, or with machine B', len(behind), 0)
 
     def told_again(self):
-        """NATS: nothing is lost, and what comes twice is one piece, up to the last line that machine B had. What was under way may come behind
-        later lines. On a busy machine what waits for longer than `ack_wait` comes again, too."""
+        """NATS: nothing is lost, and what comes twice is one piece, up to the last line that machine B had, and what machine A sends again.
+        What was under way may come behind later lines. On a busy machine what waits for longer than `ack_wait` comes again, too."""
         require('how many are lost', len(self.lost), 0)
         require('whether the order of a.log is broken at %d places' % self.breaks, self.breaks > 1, False)
-        if not self.stage.outlives_ack_wait():
-            require('whether the lines that came twice are one piece', one_piece(self.twice))
-            require('whether it ends with what machine B had', not self.twice or self.twice[-1] >= self.places(self.had)[-1])
+        if self.twice and not self.stage.outlives_ack_wait():
+            again = [place for n, place in enumerate(self.twice) if place - n != self.twice[0]]
+            require('whether %d lines that came twice behind a piece are more than were in flight' % len(again), len(again) > IN_FLIGHT, False)
+            require('whether the last of them is behind what machine B had', self.twice[-1] >= self.places(self.had)[-1])
 
     def beginning(self):
         """RabbitMQ: machine B has the beginning of a.log, without a gap, and what came twice is one piece."""

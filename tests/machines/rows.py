@@ -131,7 +131,7 @@ def killed_amid(row, broker, rule, lost_later=False, **variables):
             require('whether machine A says that a sink failed', status not in (0, None))
             Machine.run(sender, 'redis-again')
             require('the status of machine A', sender.wait(), 0)
-        crash.wait_for_saves(receiver)
+        crash.wait(receiver, sent)
         found = settle(stage, receiver, sent)
         require('how many lines of no source came', found['foreign'], 0)
         crash.look(receiver.told(), sender.lines('a.log'))
@@ -169,7 +169,7 @@ def killed_behind_a_save(row, broker, rule, **variables):
         sender.feed(part(sent, fed / 100, 1))
         require('the status of machine A', sender.close(), 0)
         require('what machine A kept', judge(sender.lines('a.log'), sent), EXACT)
-        crash.wait_for_saves(receiver)
+        crash.wait(receiver, sent)
         found = settle(stage, receiver, sent)
         require('how many lines of no source came', found['foreign'], 0)
         crash.look(receiver.told(), sender.lines('a.log'))
@@ -254,7 +254,7 @@ def killed_full(row, broker, kept, **variables):
             require('whether machine B comes back', wait_for(lambda: stage.probe('probe: back') and b'probe: back' in receiver.lines()))
         if broker == 'nats':
             # It sends again what machine B has not acknowledged, after a while.
-            require('whether all lines come', wait_for(lambda: judge(receiver.told(), sent)['lost'] == 0))
+            crash.wait(receiver, sent)
         found = settle(stage, receiver, sent)
         crash.look(receiver.told(), sender.lines('a.log'))
         came = count_of(broker) - found['lost']
