@@ -15,7 +15,7 @@ from heed import heed_signals
 
 TOP = os.path.realpath(f'{here}/../..')
 # How many seconds a wait may take during which nothing moves, and how many at all.
-STILL = 60
+STILL = 180
 MOST = 900
 
 
@@ -54,9 +54,18 @@ class Broker:
         with open(f'{self.folder}/said', 'ab') as said:
             self.process = subprocess.Popen(['nice', '-n', '10', f'{TOP}/tools/machines.sh', 'serve', self.name, self.folder],
                                             stdin=subprocess.DEVNULL, stdout=said, stderr=said, preexec_fn=heed_signals)
-        wait_for(lambda: self.is_up() or self.process.poll() is not None, lambda: os.path.getsize(f'{self.folder}/said'))
+        wait_for(lambda: self.is_up() or self.process.poll() is not None, self.worked)
         if self.process.poll() is not None or not self.is_up():
             raise OSError(f'{self.name} was not started: {self.folder}/said')
+
+    def worked(self):
+        """What the broker said, and how long it had a processor."""
+        try:
+            with open(f'/proc/{self.process.pid}/stat') as file:
+                times = file.read().rsplit(') ', 1)[1].split()[11:13]
+        except OSError:
+            times = None
+        return os.path.getsize(f'{self.folder}/said'), times
 
     def is_up(self):
         try:

@@ -13,6 +13,7 @@ import sys
 import threading
 import time
 
+from crash import IN_FLIGHT, Crash
 from machine import Machine, wait_for
 from stage import EXACT, Stage, Wrong, all_of, heed_ends, judge, make_lines, part, require
 
@@ -21,6 +22,8 @@ words = sys.argv[4:]
 whole = '--whole' in words
 names = [word for word in words if word != '--whole']
 COUNT = 100000 if whole else 2000
+# How many lines a broker sends to machine B before it waits for an acknowledgement. Machine B asks Redis for them.
+UNDER_WAY = {'redis': 0, 'redis-plain': 0, 'mosquitto': 20, 'mosquitto-plain': 20, 'nats': 10000, 'rabbitmq': 100}
 passed, failed = [], []
 
 
@@ -37,11 +40,23 @@ def look_at_screen(machine):
     require('whether the screen has lines of the file in order', all(line in at for line in shown))
 
 
+def wait_until_quiet(machine):
+    """Waits until nothing has come for five seconds: where nothing tells which line is the last."""
+    came = -1
+    while came != len(machine.told()):
+        came = len(machine.told())
+        time.sleep(5)
+
+
 def settle(stage, receiver, sent):
-    """Waits until all has come that will come, ends machine B, and gives what was counted. A line that is sent last arrives last."""
+    """Waits until all has come that will come, ends machine B, and gives what was counted. A line that is sent last arrives last, unless the
+    lines before it have QoS 2."""
     if stage.mqtt:
-        stage.probe('probe: the last')
-        require('whether the last line comes', receiver.has(b'probe: the last'))
+        # Where the broker drops what doesn't fit, this one may be dropped, too.
+        require('whether the last line comes', wait_for(lambda: stage.probe('probe: the last') and b'probe: the last' in receiver.lines(),
+                                                        receiver.moved))
+        if stage.variables['QOS'] == '2':
+            wait_until_quiet(receiver)
     else:
         require('whether all lines come', receiver.holds(len(all_of(sent))))
     require('the status of machine B', receiver.finish(), 0)
@@ -51,8 +66,7 @@ def settle(stage, receiver, sent):
 
 def require_exact(stage, found):
     """Each line came once, in order. NATS may send lines again if the row took longer than its `ack_wait`, as on a busy machine."""
-    late = stage.broker.name == 'nats' and time.monotonic() - stage.begun > 9
-    require('what came', {**found, 'twice': 0} if late else found, EXACT)
+    require('what came', {**found, **({'twice': 0} if stage.outlives_ack_wait() else {})}, EXACT)
 
 
 def flow(row, broker, **variables):
@@ -69,8 +83,9 @@ def flow(row, broker, **variables):
         return found
 
 
-def stands_still(row, broker, free=(), **variables):
-    """Machine B stands still for two seconds, and until all was sent. What is free may be as it is, but not nothing if lines are to be lost."""
+def stands_still(row, broker, queue=None, **variables):
+    """Machine B stands still for two seconds, and until all was sent. Nothing is lost, unless the broker has a queue of some lines: then
+    machine B gets the first ones, as many as it holds, and those that were under way."""
     with Stage(f'{top}/{row}', program, broker, **variables) as stage:
         sent = make_lines(count_of(broker))
         receiver = stage.receiver()
@@ -82,13 +97,18 @@ def stands_still(row, broker, free=(), **variables):
         time.sleep(max(0.0, begun + 2 - time.monotonic()))
         receiver.signal(signal.SIGCONT)
         found = settle(stage, receiver, sent)
-        require('what came', {**found, **dict.fromkeys(free, 0)}, EXACT)
-        require('whether lines are lost', found['lost'] > 0, 'lost' in free)
+        if queue is None:
+            require_exact(stage, found)
+        else:
+            came = count_of(broker) - found['lost']
+            require('what came', {**found, 'lost': 0}, EXACT)
+            require('whether %d lines are those that wait and those under way' % came, queue < came <= queue + UNDER_WAY[broker])
+            require('whether these are the first', receiver.told() == sender.lines('a.log')[:came])
         return found
 
 
-def killed_amid(row, broker, wanted, free=(), **variables):
-    """The broker is killed while lines go through, and started again. Lines that come after that arrive, unless the lost ones are free."""
+def killed_amid(row, broker, rule, lost_later=False, **variables):
+    """The broker is killed while lines go through, and started again. What comes is by the rule, and lines that are sent after that arrive."""
     with Stage(f'{top}/{row}', program, broker, **variables) as stage:
         sent = make_lines(count_of(broker))
         receiver = stage.receiver()
@@ -98,23 +118,66 @@ def killed_amid(row, broker, wanted, free=(), **variables):
         sender = stage.sender()
         sender.feed(part(sent, 0, 0.5))
         require('whether a quarter comes', receiver.holds(count_of(broker) // 4))
-        stage.broker.kill()
+        crash = Crash(stage, receiver)
         time.sleep(0.5)
         stage.broker.start()
         sender.feed(part(sent, 0.5, 1))
         status = sender.close()
+        require('what machine A kept', judge(sender.lines('a.log'), sent), EXACT)
         if stage.mqtt:
             require('the status of machine A', status, 0)
         else:
             # The client of Redis ends, and machine A sends again what the broker hasn't got.
             require('whether machine A says that a sink failed', status not in (0, None))
-            require('what machine A kept', judge(sender.lines('a.log'), sent), EXACT)
             Machine.run(sender, 'redis-again')
             require('the status of machine A', sender.wait(), 0)
+        crash.wait(receiver, sent)
         found = settle(stage, receiver, sent)
-        require('what came', {what: found[what] for what in wanted}, wanted)
-        if 'lost' not in free:
+        require('how many lines of no source came', found['foreign'], 0)
+        crash.look(receiver.told(), sender.lines('a.log'))
+        rule(crash)
+        if not lost_later:
             require('what is lost of the lines after the kill', judge(receiver.told(), part(sent, 0.5, 1))['lost'], 0)
+        return found
+
+
+def killed_behind_a_save(row, broker, rule, **variables):
+    """Machine B stands still, and another one doesn't. The broker is killed when a quarter is saved, and the other one has lines that are not:
+    machine B loses all behind the save, but what machine A sends again."""
+    with Stage(f'{top}/{row}', program, broker, **variables) as stage:
+        count = count_of(broker)
+        sent = make_lines(count)
+        receiver, other = stage.receiver(), stage.receiver(name='other')
+        stage.wait_for_saves()
+        receiver.signal(signal.SIGSTOP)
+        sender = stage.sender()
+        sender.feed(part(sent, 0, 0.25))
+        stage.wait_until_saved(all_of(part(sent, 0, 0.25)), other.moved)
+        # The broker saves once a second, so a save may come between: then some more lines are sent.
+        for fed in range(30, 80, 5):
+            sender.feed(part(sent, (fed - 5) / 100, fed / 100))
+            require('whether lines come', other.holds(count * (2 * fed - 5) // 200))
+            stage.broker.signal(signal.SIGSTOP)
+            unsaved = set(other.told()) - stage.saved()
+            if len(unsaved) > 2 * IN_FLIGHT:
+                break
+            stage.broker.signal(signal.SIGCONT)
+        crash = Crash(stage, receiver)
+        require('whether some lines are not saved', len(unsaved) > 2 * IN_FLIGHT)
+        stage.broker.start()
+        receiver.signal(signal.SIGCONT)
+        sender.feed(part(sent, fed / 100, 1))
+        require('the status of machine A', sender.close(), 0)
+        require('what machine A kept', judge(sender.lines('a.log'), sent), EXACT)
+        crash.wait(receiver, sent)
+        found = settle(stage, receiver, sent)
+        require('how many lines of no source came', found['foreign'], 0)
+        crash.look(receiver.told(), sender.lines('a.log'))
+        require('whether a quarter was saved', len(crash.places(crash.saved)) >= count // 4)
+        require('the first lost line', crash.lost[:1], [crash.places(crash.saved)[-1] + 1])
+        kept = set(crash.places(unsaved)) - set(crash.lost)
+        require('whether %d lines that were not saved and not lost are more than were in flight' % len(kept), len(kept) > IN_FLIGHT, False)
+        rule(crash)
         return found
 
 
@@ -149,19 +212,18 @@ def sender_killed(row, broker, **variables):
         sender = stage.sender()
         sender.feed(part(sent, 0, 0.5))
         require('whether a quarter comes', receiver.holds(count_of(broker) // 4))
-        stage.broker.kill()
+        crash = Crash(stage, receiver)
         stage.broker.start()
         sender.feed(part(sent, 0.5, 1))
         require('whether machine A says that a sink failed', sender.close() not in (0, None))
         require('what machine A kept', judge(sender.lines('a.log'), sent), EXACT)
-        came = -1
-        while came != len(receiver.told()):
-            came = len(receiver.told())
-            time.sleep(5)
+        wait_until_quiet(receiver)
         require('the status of machine B', receiver.finish(), 0)
         found = judge(receiver.told(), sent)
-        require('what is out of order or foreign', (found['disorder'], found['foreign']), (0, 0))
-        require('whether at least half is lost', found['lost'] >= count_of(broker) // 2)
+        require('how many lines of no source came', found['foreign'], 0)
+        crash.look(receiver.told(), sender.lines('a.log'))
+        crash.beginning()
+        require('how many came of those that were fed later', count_of(broker) // 2 - judge(receiver.told(), part(sent, 0.5, 1))['lost'], 0)
         return found
 
 
@@ -175,11 +237,11 @@ def killed_full(row, broker, kept, **variables):
         sender.feed(sent)
         require('the status of machine A', sender.close(), 0)
         if broker == 'mosquitto':
-            stage.wait_for_saves()
+            stage.wait_until_saved(all_of(sent))
         if broker == 'rabbitmq':
             # It saves a moment later, and tells nobody who doesn't ask.
             time.sleep(5)
-        stage.broker.kill()
+        crash = Crash(stage, receiver)
         stage.broker.start()
         receiver.signal(signal.SIGCONT)
         if broker == 'redis-plain':
@@ -192,12 +254,18 @@ def killed_full(row, broker, kept, **variables):
             require('whether machine B comes back', wait_for(lambda: stage.probe('probe: back') and b'probe: back' in receiver.lines()))
         if broker == 'nats':
             # It sends again what machine B has not acknowledged, after a while.
-            require('whether all lines come', wait_for(lambda: judge(receiver.told(), sent)['lost'] == 0))
+            crash.wait(receiver, sent)
         found = settle(stage, receiver, sent)
-        require('whether no lines are lost', found['lost'] == 0, kept)
-        require('what is out of order or foreign', (found['disorder'], found['foreign']), (0, 0))
-        if stage.family == 'redis':
-            require('what came', found, EXACT)
+        crash.look(receiver.told(), sender.lines('a.log'))
+        came = count_of(broker) - found['lost']
+        if kept:
+            require('how many lines came', came, count_of(broker))
+        else:
+            require('whether %d lines that came are more than were under way' % came, came > UNDER_WAY[broker], False)
+        require('how many lines of no source came', found['foreign'], 0)
+        require('whether %d lines that came twice are more than were under way' % found['twice'], found['twice'] > UNDER_WAY[broker], False)
+        # NATS sends what was under way once it has waited for an answer, behind other lines.
+        require('whether the order of a.log is broken at %d places' % crash.breaks, crash.breaks > (broker == 'nats'), False)
         return found
 
 
@@ -299,8 +367,8 @@ def hostile(row, broker, lost, nul=False, **variables):
         return {'lost': len(lines) - len(wanted)}
 
 
-def broker_stands(row, broker, **variables):
-    """The broker stands still: the sources wait, once the pipes and the client have what they hold."""
+def broker_stands(row, broker, most, **variables):
+    """The broker stands still: the sources wait, once the pipes and the client have what they hold, at most so many KiB."""
     with Stage(f'{top}/{row}', program, broker, **variables) as stage:
         receiver = stage.receiver()
         sender = stage.sender()
@@ -317,14 +385,14 @@ def broker_stands(row, broker, **variables):
             return time.monotonic() - stood[0] > 3
 
         require('whether the sources wait in the end', wait_for(stands, lambda: sender.taken))
-        require('whether they have lines left', sender.taken < 80000 * 1008)
+        require('whether %d KiB are more than is held' % (sender.taken // 1024), sender.taken // 1024 > most, False)
         return {'KiB taken in': sender.taken // 1024}
 
 
 ROWS = [
     ('redis-flow', 'redis', flow, ()),
     ('redis-stands-still', 'redis', stands_still, ()),
-    ('redis-killed-amid', 'redis', killed_amid, (EXACT,)),
+    ('redis-killed-amid', 'redis', killed_amid, (Crash.nothing,)),
     ('redis-killed-full', 'redis', killed_full, (True,)),
     ('redis-receiver-killed', 'redis', receiver_killed, ()),
     ('redis-plain-killed-full', 'redis-plain', killed_full, (True,)),
@@ -332,41 +400,44 @@ ROWS = [
     ('redis-each', 'redis', each, ()),
     ('redis-late', 'redis', late, (True,)),
     ('redis-hostile', 'redis', hostile, ([], True)),
-    ('redis-broker-stands', 'redis', broker_stands, ()),
+    ('redis-broker-stands', 'redis', broker_stands, (8000,)),
     ('mosquitto-flow-1', 'mosquitto', flow, (), '1'),
     ('mosquitto-flow-2', 'mosquitto', flow, (), '2'),
     ('mosquitto-stands-still', 'mosquitto', stands_still, (), '1'),
-    ('mosquitto-plain-stands-still', 'mosquitto-plain', stands_still, (['lost'],), '1'),
-    ('mosquitto-killed-amid-1', 'mosquitto', killed_amid, ({'disorder': 0, 'foreign': 0},), '1'),
-    ('mosquitto-killed-amid-2', 'mosquitto', killed_amid, ({'foreign': 0}, ['lost']), '2'),
+    ('mosquitto-plain-stands-still', 'mosquitto-plain', stands_still, (1000,), '1'),
+    ('mosquitto-killed-amid-1', 'mosquitto', killed_amid, (Crash.lost_behind_saves,), '1'),
+    ('mosquitto-killed-amid-2', 'mosquitto', killed_amid, (Crash.saves_arrive, True), '2'),
+    ('mosquitto-killed-behind-a-save-1', 'mosquitto', killed_behind_a_save, (Crash.lost_behind_saves,), '1'),
+    ('mosquitto-killed-behind-a-save-2', 'mosquitto', killed_behind_a_save, (Crash.saves_arrive,), '2'),
     ('mosquitto-killed-full', 'mosquitto', killed_full, (True,), '1'),
     ('mosquitto-plain-killed-full', 'mosquitto-plain', killed_full, (False,), '1'),
     ('mosquitto-share', 'mosquitto', share, ('mqtt-share',), '1'),
     ('mosquitto-each', 'mosquitto', each, (), '1'),
     ('mosquitto-late', 'mosquitto', late, (False,), '1'),
     ('mosquitto-hostile', 'mosquitto', hostile, ([b''],), '1'),
-    ('mosquitto-broker-stands', 'mosquitto', broker_stands, (), '1'),
+    ('mosquitto-broker-stands', 'mosquitto', broker_stands, (12000,), '1'),
     ('mosquitto-client-alone', 'mosquitto', client_alone, (), '1'),
     ('nats-flow', 'nats', flow, (), '1'),
-    ('nats-stands-still', 'nats', stands_still, (['twice'],), '1'),
-    ('nats-killed-amid', 'nats', killed_amid, ({'lost': 0, 'disorder': 0, 'foreign': 0},), '1'),
+    ('nats-stands-still', 'nats', stands_still, (), '1'),
+    ('nats-killed-amid', 'nats', killed_amid, (Crash.told_again,), '1'),
     ('nats-killed-full', 'nats', killed_full, (True,), '1'),
     ('nats-each', 'nats', each, (), '1'),
     ('nats-late', 'nats', late, (False,), '1'),
     ('nats-hostile', 'nats', hostile, ([b''],), '1'),
-    ('nats-broker-stands', 'nats', broker_stands, (), '1'),
+    ('nats-broker-stands', 'nats', broker_stands, (12000,), '1'),
     ('rabbitmq-flow', 'rabbitmq', flow, ()),
     ('rabbitmq-stands-still', 'rabbitmq', stands_still, ()),
     ('rabbitmq-killed-amid', 'rabbitmq', sender_killed, ()),
     ('rabbitmq-killed-full', 'rabbitmq', killed_full, (True,)),
     ('rabbitmq-hostile', 'rabbitmq', hostile, ([],)),
     ('rabbitmq-share', 'rabbitmq', share, ('rabbitmq-receive',)),
-    ('rabbitmq-broker-stands', 'rabbitmq', broker_stands, ()),
+    ('rabbitmq-broker-stands', 'rabbitmq', broker_stands, (8000,)),
     ('kafka-mock-flow', 'kafka-mock', flow, ()),
     ('kafka-mock-late', 'kafka-mock', late, (True,)),
 ]
 # Rows that take long, and only run with --whole or by their names: RabbitMQ needs half a minute to start.
-LONG = ['mosquitto-killed-amid-2', 'mosquitto-client-alone'] + [name for name, broker, *_ in ROWS if broker == 'rabbitmq']
+LONG = ['mosquitto-killed-amid-2', 'mosquitto-killed-behind-a-save-2', 'mosquitto-client-alone']
+LONG += [name for name, broker, *_ in ROWS if broker == 'rabbitmq']
 
 
 def play(broker):

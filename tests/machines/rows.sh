@@ -4,7 +4,7 @@
 # is neither passed nor failed. tools/machines.sh installs the brokers, and starts them.
 # It needs the native program, which `rt ci` leaves in crates/fanout/out, Python 3 and Perl.
 # Usage: tests/machines/rows.sh [--whole] [ROW..]: with --whole 100,000 lines in place of 2,000 (RabbitMQ: 5,000), and the rows that
-# take long, in some ten minutes; without it the rows take less than a minute.
+# take long, in some ten minutes; without it the rows take a minute or two.
 set -eu
 cd "$(dirname "$0")/../.."
 there=

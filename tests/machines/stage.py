@@ -1,5 +1,6 @@
 """A row's broker with its machines, the lines that go through it, and what is counted of those."""
 import os
+import re
 import signal
 import subprocess
 import time
@@ -66,6 +67,22 @@ class Stage:
         for _ in range(2):
             last = os.stat(saved).st_mtime_ns if os.path.exists(saved) else 0
             require('whether the broker saves', wait_for(lambda: os.path.exists(saved) and os.stat(saved).st_mtime_ns != last))
+
+    def outlives_ack_wait(self):
+        """Whether NATS may have sent lines again that had no answer for 10 seconds."""
+        return self.broker.name == 'nats' and time.monotonic() - self.begun > 9
+
+    def saved(self):
+        """The lines that stand in the file of mosquitto, which has them as they are."""
+        path = f'{self.broker.folder}/mosquitto.db'
+        if not os.path.exists(path):
+            return set()
+        with open(path, 'rb') as file:
+            return set(re.findall(rb'[ab] \d{7} \.*', file.read()))
+
+    def wait_until_saved(self, lines, moved=lambda: None):
+        """Waits until mosquitto has saved these, of which machine B has none."""
+        require('whether the broker saves what it has', wait_for(lambda: self.saved() >= set(lines), moved))
 
     def probe(self, text='probe'):
         """Sends a line by itself."""
