@@ -4,7 +4,7 @@ import os
 import subprocess
 import threading
 
-from common import LINGER, SECONDS, driver, expect, feed, split_lines, wait_for
+from common import LINGER, SECONDS, driver, expect, feed, fill, split_lines, wait_for, waits_in
 
 
 def counts_lines():
@@ -71,7 +71,7 @@ def stuck():
         data = b''.join(lines)
         process = driver.start('copy', '--lossy', 'pipe%d' % count, 'other', '--linger', LINGER)
         feed(process.stdin, data)
-        wait_for(lambda: driver.size('copy') == driver.size('other') == len(data))
+        wait_for(lambda: driver.size('copy') == driver.size('other') == len(data) and waits_in(reader))
         expect('stuck', 'the copies', driver.read('copy') == driver.read('other') == data, True)
         peaks.append(memory_of(process)[0])
         os.set_blocking(reader, True)
@@ -112,7 +112,7 @@ def beside_a_deaf_sink(count, run):
     process = driver.start('copy', '--grep', '77', 'some', '--lossy', pipe, '--linger', LINGER, stdin=numbers.stdout)
     numbers.stdout.close()
     numbers.wait()
-    wait_for(lambda: ends_with(driver.path('copy'), b'\n%d\n' % count))
+    wait_for(lambda: ends_with(driver.path('copy'), b'\n%d\n' % count) and waits_in(reader))
     figures = memory_of(process)
     os.set_blocking(reader, True)
     told = read_all(reader).split()
@@ -170,8 +170,8 @@ def slow():
 
 def lingers():
     """A lossy sink that is stuck at the end is given up after --linger seconds."""
-    os.mkfifo(driver.path('unread'))
-    reader = os.open(driver.path('unread'), os.O_RDONLY | os.O_NONBLOCK)
+    reader = driver.pipe('unread')
+    fill('unread')
     process = driver.start('copy', '--lossy', 'unread', '--linger', '1')
     run = driver.end(process, b'a line of some length\n' * 100000)
     expect('lingers', 'the status', run.status, 3)
