@@ -1,7 +1,11 @@
 """What the rows of fanout have in common: the program, and what was found wrong."""
+import fcntl
+import itertools
 import os
 import select
+import struct
 import sys
+import termios
 import time
 
 from drive import SECONDS, Driver
@@ -61,6 +65,39 @@ def is_full(name):
         return not select.select([], [writer], [], 0)[1]
     finally:
         os.close(writer)
+
+
+def fill(name):
+    """Writes to a named pipe, which somebody has open for reading, until it takes no more: who writes to it from now on is stuck."""
+    writer = os.open(driver.path(name), os.O_WRONLY | os.O_NONBLOCK)
+    try:
+        while True:
+            os.write(writer, b'x' * 4096)
+    except BlockingIOError:
+        pass
+    finally:
+        os.close(writer)
+
+
+def feed_until_full(stdin, name, parts):
+    """Feeds parts until the program has filled a named pipe that nobody reads, and then one more, of which some waits for the pipe. What was
+    fed. (One part need not be enough, however long it is: of what comes before the thread of a lossy sink runs it gets no more than a
+    buffer has.)"""
+    fed = b''
+    was_full = False
+    for part in itertools.islice(parts, SECONDS):
+        stdin.write(part)
+        stdin.flush()
+        fed += part
+        if was_full:
+            break
+        was_full = wait_for(lambda: is_full(name), 1)
+    return fed
+
+
+def waits_in(reader):
+    """How many bytes wait in a pipe."""
+    return struct.unpack('i', fcntl.ioctl(reader, termios.FIONREAD, bytes(4)))[0]
 
 
 def drain(reader):

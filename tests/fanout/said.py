@@ -5,38 +5,42 @@ import os
 import re
 import subprocess
 
-from common import SECONDS, driver, expect, feed, moody, read_until
+from common import SECONDS, driver, expect, feed, fill, moody, read_until
 
 NAMES = ['quo"te', 'back\\slash', 'line\nfeed', 'escape\x1b[31m', 'control\x9b', 'tab\t', 'ümlaut, space']
 SHOWN = ['quo"te', 'back\\slash', 'line\\nfeed', 'escape\\x1b[31m', 'control\\u{9b}', 'tab\\t', 'ümlaut, space']
 
 
 def progress():
-    """--progress writes a line a second, whatever the report is: the buffer of a sink that nobody reads is full, and the other goes on."""
-    os.mkfifo(driver.path('slack'))
-    reader = os.open(driver.path('slack'), os.O_RDONLY | os.O_NONBLOCK)
+    """--progress writes a line a second, whatever the report is: the buffer of a sink that is stuck is full, and the other goes on."""
+    reader = driver.pipe('slack')
+    fill('slack')
     process = driver.start('copy', '--lossy', 'slack', '--linger', '0', '--progress', '--cap', '4')
-    process.stdin.write(b'a line of some length\n' * 20000)
-    process.stdin.flush()
-
-    def lines_in(said):
-        return re.findall(rb'(?m)^fanout: (\d+) lines/s, (\d+) bytes/s; copy (\d+)/4; slack (\d+)/4$', said)
-
-    def is_settled(said):
-        """Whether all lines are told, and the last one of at least two finds that the sink that is read has taken them."""
-        lines = lines_in(said)
-        return len(lines) >= 2 and sum(int(line[0]) for line in lines) >= 20000 and lines[-1][2:] == (b'0', b'4')
-
-    said = read_until(process.stderr.fileno(), is_settled)
+    fed, said, lines = 0, b'', []
+    # A line comes each second: up to one that tells that all was taken by the sink that is read, and before it another one.
+    for _ in range(SECONDS):
+        if len(lines) >= 2 and lines_in(lines) >= fed and lines[-1][2:] == (b'0', b'4'):
+            break
+        if lines_in(lines) == fed and (not lines or lines[-1][3] != b'4'):
+            # Of what came before the thread of the stuck sink ran it has got no more than a buffer has, which it has taken since.
+            process.stdin.write(b'a line of some length\n' * 20000)
+            process.stdin.flush()
+            fed += 20000
+        said += read_until(process.stderr.fileno(), lambda said: said.endswith(b'\n'))
+        lines = re.findall(rb'(?m)^fanout: (\d+) lines/s, (\d+) bytes/s; copy (\d+)/4; slack (\d+)/4$', said)
     process.stdin.close()
     run = driver.end(process)
     os.close(reader)
-    lines = lines_in(said)
     expect('progress', 'whether two lines are in %r' % said, len(lines) >= 2, True)
-    expect('progress', 'the lines', sum(int(line[0]) for line in lines), 20000)
-    expect('progress', 'the bytes', sum(int(line[1]) for line in lines), 440000)
+    expect('progress', 'the lines', lines_in(lines), fed)
+    expect('progress', 'the bytes', sum(int(line[1]) for line in lines), 22 * fed)
     expect('progress', 'the last line', lines[-1][2:], (b'0', b'4'))
-    expect('progress', 'what is reported', (run.sink('copy')['lines'], run.sink('slack')['end']), (20000, 'not ended'))
+    expect('progress', 'what is reported', (run.sink('copy')['lines'], run.sink('slack')['end']), (fed, 'not ended'))
+
+
+def lines_in(told):
+    """How many lines were published in all the seconds of which this is told."""
+    return sum(int(second[0]) for second in told)
 
 
 def wrong_words():
@@ -113,6 +117,7 @@ def any_bytes():
 def end_words():
     """What has not ended, could not be opened and failed later has three words in each format, with those of the system."""
     reader = driver.pipe('deaf')
+    fill('deaf')
     words = ['--lossy', 'deaf', 'no/folder', '/dev/full', 'copy', '--linger', '0', '--report']
     data = b'a line of some length\n' * 20000
     wanted = ['not ended', 'cannot open: No such file or directory', 'cannot write: No space left on device', 'complete']

@@ -4,7 +4,7 @@ import os
 import subprocess
 import threading
 
-from common import LINGER, SECONDS, driver, expect, feed, split_lines, wait_for
+from common import LINGER, SECONDS, driver, expect, feed, fill, split_lines, wait_for, waits_in
 
 
 def counts_lines():
@@ -70,10 +70,13 @@ def stuck():
         lines = [b'%08d %s\n' % (n, b'-' * (n % 60)) for n in range(count)]
         data = b''.join(lines)
         process = driver.start('copy', '--lossy', 'pipe%d' % count, 'other', '--linger', LINGER)
-        feed(process.stdin, data)
-        wait_for(lambda: driver.size('copy') == driver.size('other') == len(data))
+        # It isn't to end before its memory was looked at, also if the thread of the lossy sink has come late and isn't stuck.
+        process.stdin.write(data)
+        process.stdin.flush()
+        wait_for(lambda: driver.size('copy') == driver.size('other') == len(data) and waits_in(reader))
         expect('stuck', 'the copies', driver.read('copy') == driver.read('other') == data, True)
         peaks.append(memory_of(process)[0])
+        process.stdin.close()
         os.set_blocking(reader, True)
         found = b''
         while part := os.read(reader, 65536):
@@ -108,12 +111,11 @@ def beside_a_deaf_sink(count, run):
     pipe = 'deaf%d-%d' % (count, run)
     os.mkfifo(driver.path(pipe))
     reader = os.open(driver.path(pipe), os.O_RDONLY | os.O_NONBLOCK)
-    numbers = subprocess.Popen(['seq', str(count)], stdout=subprocess.PIPE)
-    process = driver.start('copy', '--grep', '77', 'some', '--lossy', pipe, '--linger', LINGER, stdin=numbers.stdout)
-    numbers.stdout.close()
-    numbers.wait()
-    wait_for(lambda: ends_with(driver.path('copy'), b'\n%d\n' % count))
+    process = driver.start('copy', '--grep', '77', 'some', '--lossy', pipe, '--linger', LINGER)
+    subprocess.run(['seq', str(count)], stdout=process.stdin)
+    wait_for(lambda: ends_with(driver.path('copy'), b'\n%d\n' % count) and waits_in(reader))
     figures = memory_of(process)
+    process.stdin.close()
     os.set_blocking(reader, True)
     told = read_all(reader).split()
     ended = driver.end(process)
@@ -170,8 +172,8 @@ def slow():
 
 def lingers():
     """A lossy sink that is stuck at the end is given up after --linger seconds."""
-    os.mkfifo(driver.path('unread'))
-    reader = os.open(driver.path('unread'), os.O_RDONLY | os.O_NONBLOCK)
+    reader = driver.pipe('unread')
+    fill('unread')
     process = driver.start('copy', '--lossy', 'unread', '--linger', '1')
     run = driver.end(process, b'a line of some length\n' * 100000)
     expect('lingers', 'the status', run.status, 3)

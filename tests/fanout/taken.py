@@ -1,9 +1,10 @@
 """Rows about what was written: a sink that fails, or is given up, tells the lines and bytes that its file has."""
+import itertools
 import json
 import os
 import resource
 
-from common import SECONDS, drain, driver, expect, feed, is_full, moody, read_until, wait_for
+from common import SECONDS, drain, driver, expect, feed, feed_until_full, fill, moody, read_until, wait_for
 
 
 def limited(size):
@@ -54,12 +55,11 @@ def given_up():
     """A lossy sink that is given up tells what is in its pipe, of which nobody has read; and what waited for it."""
     for number, length in enumerate((70, 1000, 4000, 6000)):
         reader = driver.pipe('unread%d' % number)
-        lines = [b'%06d %s\n' % (n, b'-' * length) for n in range(400000 // length + 100)]
-        data = b''.join(lines)
         process = driver.start('copy', '--lossy', 'unread%d' % number, '--linger', '1')
-        feed_part(process.stdin, data)
         # It is given up in the middle of a write, and not before that.
-        wait_for(lambda: driver.size('copy') == len(data) and is_full('unread%d' % number))
+        data = feed_until_full(process.stdin, 'unread%d' % number, numbered(length))
+        lines = data.splitlines(True)
+        wait_for(lambda: driver.size('copy') == len(data))
         run = driver.end(process)
         expect('given up', 'the status', run.status, 3)
         row = run.sink('unread%d' % number)
@@ -75,9 +75,16 @@ def given_up():
         expect('given up', 'the backlog', row['backlog'], 32)
 
 
+def numbered(length):
+    """Parts of 400,000 bytes and more, of lines that are so long and have numbers."""
+    for first in itertools.count(0, 400000 // length + 100):
+        yield b''.join(b'%06d %s\n' % (n, b'-' * length) for n in range(first, first + 400000 // length + 100))
+
+
 def lingers_alone():
     """A sink that may lose is given up so many seconds after the sources have ended, also if there is no other sink."""
     reader = driver.pipe('alone')
+    fill('alone')
     process = driver.start('--lossy', 'alone', '--linger', '1')
     feed_part(process.stdin, b'a line of some length\n' * 20000)
     ended = wait_for(lambda: process.poll() is not None, 4)
@@ -135,9 +142,11 @@ def sums():
     driver.write('endless', b''.join(b'%d\n' % n for n in range(300000)))
     for _ in range(40):
         process = driver.start('--from', 'endless', '--from', 'also', '-', '--grep', '7', '/dev/full')
+        # It may end before its second source has failed, if that isn't waited for.
+        said = read_until(process.stderr.fileno(), lambda said: b'fanout: also: No such file or directory\n' in said)
         process.stdout.read(500)
         process.stdout.close()
-        said = process.stderr.read()
+        said += process.stderr.read()
         expect('sums', 'the status', process.wait(SECONDS), 1)
         report = json.loads(said.splitlines()[-1])
         published = sum(row['lines'] for row in report['sources'])
