@@ -14,10 +14,9 @@ mod session;
 mod site;
 mod source;
 mod terminal;
-mod verdict;
 
 use clap::error::ErrorKind;
-use commands::OutputFault;
+use commands::{FAULT, GONE, OutputFault, Verdict, WRONG_USE, command_words};
 use fault::ConsoleFault;
 use flow_rules::Refusal;
 use inbox::Queue;
@@ -32,22 +31,12 @@ use std::marker::Brand;
 use std::process::ExitCode;
 use std::rt::Env;
 use std::sync::{Arc, Wait};
+use std::thread;
 use std::thread::Threads;
 use std::time::{Clock, Instant};
-use std::{env, io, thread};
-use verdict::Verdict;
 
 /// What the program says first to a person.
 const GREETING: &str = "`help` lists the commands, Ctrl-D ends";
-
-/// The exit status of a fault.
-const FAULT: u8 = 1;
-
-/// The exit status of a wrong command line.
-const WRONG_USE: u8 = 2;
-
-/// The exit status if nobody reads standard output any more, that of a program which the signal SIGPIPE ends.
-const GONE: u8 = 141;
 
 fn main(rt: HostRuntime) -> ExitCode {
     let terminals = Terminals {
@@ -117,7 +106,12 @@ fn start<
 fn open<
     R: Print + Clock + AllocGlobal + Threads + Wait + Copy + Send + Sync + 'static,
     I: Read + Send + Drop + 'static,
->(rt: R, reader: I, options: Options, verdict: Arc<Verdict>) -> Result<(), ConsoleFault> {
+>(
+    rt: R,
+    reader: I,
+    options: Options,
+    verdict: Arc<Verdict<ConsoleFault>>,
+) -> Result<(), ConsoleFault> {
     let alloc = rt.alloc();
     let start = if options.is_stamped {
         Some(Instant::now(&rt).map_err(|_| ConsoleFault::Read)?)
@@ -157,19 +151,5 @@ fn status_of(fault: &ConsoleFault) -> u8 {
         ConsoleFault::Refused(Refusal::BadCapacity | Refusal::BadWorkers | Refusal::BadCommand) =>
             WRONG_USE,
         _ => FAULT,
-    }
-}
-
-/// The words of the command line, or `None` if one of them is not UTF-8.
-fn command_words<R: Env + AllocGlobal>(rt: &R) -> Result<Option<Vec<String>>, ConsoleFault> {
-    match env::args(rt) {
-        Ok(words) => match words.collect::<Vec<String>>(rt.alloc()) {
-            Ok(words) => Ok(Some(words)),
-            Err(_) => Err(ConsoleFault::Memory),
-        },
-        Err(error) => match error.kind() {
-            io::ErrorKind::OutOfMemory => Err(ConsoleFault::Memory),
-            _ => Ok(None),
-        },
     }
 }

@@ -2,7 +2,7 @@
 use clap::builder::ValueParser;
 use clap::{Arg, ArgAction, ArgMatches, Command};
 use flow_rules::ErrorOrder;
-use publisher::PublisherOptions;
+use publisher::{MOST_WORKERS, PublisherOptions};
 use std::alloc::{AllocError, Global};
 
 const WORKERS: &str = "workers";
@@ -12,9 +12,6 @@ const CAPACITY: &str = "cap";
 const LATE: &str = "late";
 
 const STAMP: &str = "stamp";
-
-/// The most threads that a publisher takes.
-const MOST_WORKERS: u64 = 8;
 
 /// What `--version` prints after the name.
 const VERSION: &str = "0.1.0";
@@ -87,7 +84,7 @@ pub fn command_line<'a>(alloc: Global) -> Result<Command<'a>, AllocError> {
         .long("workers")
         .value_name("W")
         .action(ArgAction::Set)
-        .value_parser(ValueParser::Unsigned(1, MOST_WORKERS))
+        .value_parser(ValueParser::Unsigned(1, MOST_WORKERS as u64))
         .help("How many threads run callbacks, 1 to 8 [2]");
     let capacity = Arg::new(alloc, CAPACITY)
         .long("cap")

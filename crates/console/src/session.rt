@@ -10,7 +10,7 @@ use crate::screen::Screen;
 use crate::site::Site;
 use crate::source::MOST_SOURCES;
 use crate::terminal::Terminal;
-use crate::verdict::Verdict;
+use commands::Verdict;
 use flow_rules::Refusal;
 use inbox::Queue;
 use publisher::{
@@ -34,7 +34,7 @@ pub fn run_session<
     options: PublisherOptions,
     screen: Arc<Screen<R>>,
     input: &Queue<Heard>,
-    verdict: Arc<Verdict>,
+    verdict: Arc<Verdict<ConsoleFault>>,
 ) -> Result<(), ConsoleFault>
     requires blanks { AreBlanksOf blanks L.publications L.drops L.history }
 {

@@ -1,7 +1,8 @@
 //! The site: what the terminal and the threads of its sources have in common. What each of them does stands in its own file.
 use crate::echo::Echoes;
+use crate::fault::ConsoleFault;
 use crate::screen::Screen;
-use crate::verdict::Verdict;
+use commands::Verdict;
 use flow_rules::{NoMemory, Refusal};
 use publisher::{Ledgers, Publisher, Submitter};
 use std::alloc::Global;
@@ -22,7 +23,7 @@ pub struct Site<L: Ledgers + Send, R: Print + Clock + Wait + Copy + Send + Sync 
     /// The submitters of the sources that have ended. There is room for those of all sources.
     pub submitters: Mutex<Vec<Submitter<L, Echoes<R>>>>,
     /// Where it is said that the session can't end.
-    pub verdict: Arc<Verdict>,
+    pub verdict: Arc<Verdict<ConsoleFault>>,
 }
 
 impl<L: Ledgers + Send, R: Print + Clock + Wait + Copy + Send + Sync + 'static> Site<L, R> {

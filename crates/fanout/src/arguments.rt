@@ -1,10 +1,9 @@
 //! Arguments: the words of the command line, whatever bytes they have. Options are read from texts, so words that are no
 //! UTF-8 are spelled with a character for each byte, and spelled back.
+use commands::command_words;
 use std::alloc::{AllocError, Global};
 use std::env::FillError;
-use std::io::ErrorKind;
 use std::rt::Env;
-use std::{env, io};
 
 /// How much room the first try to read a word has. Each further one has twice as much.
 const ROOM: usize = 256;
@@ -36,13 +35,11 @@ impl Spelling {
 }
 
 /// The words of the command line, and how they are spelled.
-pub fn command_words<R: Env + AllocGlobal>(rt: &R) -> Result<(Vec<String>, Spelling), AllocError> {
-    let words = match env::args(rt) {
-        Ok(words) => words.collect::<Vec<String>>(rt.alloc())?,
-        Err(error) if error.kind() == ErrorKind::OutOfMemory => return Err(AllocError),
-        Err(_) => return Ok((spelled_words(rt)?, Spelling::Bytes)),
-    };
-    Ok((words, Spelling::Utf8))
+pub fn all_words<R: Env + AllocGlobal>(rt: &R) -> Result<(Vec<String>, Spelling), AllocError> {
+    match command_words(rt)? {
+        Some(words) => Ok((words, Spelling::Utf8)),
+        None => Ok((spelled_words(rt)?, Spelling::Bytes)),
+    }
 }
 
 /// The words of the command line, with a character for each byte.

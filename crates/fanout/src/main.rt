@@ -28,12 +28,12 @@ mod source;
 mod strand;
 mod strands;
 mod tap;
-mod verdict;
 
-use arguments::command_words;
+use arguments::all_words;
 use board::Board;
 use clap::error::ErrorKind;
 use clash::find_clash;
+use commands::{FAULT, Verdict, WRONG_USE};
 use doors::Doors;
 use fault::{EndFault, FanoutFault};
 use notice::{say, say_given_up};
@@ -51,13 +51,6 @@ use std::sync::{Arc, Wait};
 use std::thread;
 use std::thread::Threads;
 use std::time::{Clock, Duration};
-use verdict::Verdict;
-
-/// The exit status if a source failed, the program, or its report.
-const FAULT: u8 = 1;
-
-/// The exit status of a wrong command line.
-const WRONG_USE: u8 = 2;
 
 /// The exit status if a sink failed.
 const SINK_FAULT: u8 = 3;
@@ -91,7 +84,7 @@ fn run<
         + 'static,
 >(rt: R) -> Result<u8, FanoutFault> {
     rt.open_standard();
-    let (words, spelling) = command_words(&rt)?;
+    let (words, spelling) = all_words(&rt)?;
     let command = command_line(rt.alloc())?;
     let error = match command.try_get_matches_from(words.as_slice()) {
         Ok(matches) => match read_plan(rt.alloc(), &matches, spelling) {

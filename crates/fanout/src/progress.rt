@@ -5,7 +5,7 @@ use crate::notice::say;
 use crate::report::NameText;
 use crate::sink::name_of;
 use crate::site::Site;
-use crate::verdict::Verdict;
+use commands::Verdict;
 use flow_rules::{Listener, Name};
 use publisher::{Ledgers, Publisher, Stats};
 use std::sync::Wait;
@@ -24,7 +24,7 @@ pub fn watch<L: Ledgers + Send, B: Listener + Send, R: Doors + Clock + Wait>(
     rt: &R,
     site: &Site,
     publisher: &Publisher<L, B>,
-    over: &Verdict,
+    over: &Verdict<FanoutFault>,
 ) {
     let mut pace = Pace { lines: 0, bytes: 0 };
     for _ in rt.forever() {

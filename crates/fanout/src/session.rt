@@ -10,7 +10,7 @@ use crate::progress::watch;
 use crate::sink::{Sink, name_of, run_sink};
 use crate::site::{Inlets, Site};
 use crate::source::run_source;
-use crate::verdict::Verdict;
+use commands::Verdict;
 use flow_rules::{Listener, Name, NoMemory, Refusal, Watching};
 use inbox::Inbox;
 use publisher::{

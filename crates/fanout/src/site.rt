@@ -1,7 +1,8 @@
 //! The site: what all threads of a session have in common, apart from its publisher and the runtime.
 use crate::board::Board;
+use crate::fault::FanoutFault;
 use crate::plan::Plan;
-use crate::verdict::Verdict;
+use commands::Verdict;
 use flow_rules::Watching;
 use inbox::Inlet;
 use std::alloc::Global;
@@ -22,5 +23,5 @@ pub struct Site {
     /// How many bytes a file may have that is written, if that is limited.
     pub limit: Option<u64>,
     /// Where it is said how the session ends.
-    pub verdict: Arc<Verdict>,
+    pub verdict: Arc<Verdict<FanoutFault>>,
 }

@@ -5,7 +5,7 @@
 
 use clap::error::ErrorKind;
 use clap::{Arg, ArgAction, ArgMatches, Command};
-use commands::OutputFault;
+use commands::{FAULT, GONE, OutputFault, WRONG_USE, command_words};
 use flow_rules::Refusal;
 use script::{Keeping, ScriptFault, explain_standard_input, play_standard_input};
 use std::alloc::{AllocError, Global};
@@ -14,21 +14,11 @@ use std::process::ExitCode;
 use std::rt::Env;
 use std::sync::Wait;
 use std::thread::Threads;
-use std::{env, io};
 use threads::{CAPACITY, FAIL, LinesFault, SUBSCRIBERS, WORKERS, run_standard_input};
 
 mod reader;
 mod script;
 mod threads;
-
-/// The exit status of a fault.
-const FAULT: u8 = 1;
-
-/// The exit status of a wrong command line or input.
-const WRONG_USE: u8 = 2;
-
-/// The exit status if nobody reads standard output any more, that of a program which the signal SIGPIPE ends.
-const GONE: u8 = 141;
 
 /// What `--version` prints after the name.
 const VERSION: &str = "0.1.0";
@@ -108,7 +98,7 @@ fn main(rt: HostRuntime) -> ExitCode {
 fn run<
     R: Input + Print + Eprint + Env + AllocGlobal + Threads + Wait + Copy + Send + Sync + 'static,
 >(rt: R) -> Result<ExitCode, ScriptFault> {
-    let Some(words) = command_words(&rt)? else {
+    let Some(words) = command_words(&rt).map_err(|_| ScriptFault::Memory)? else {
         let _ = eprintln!(rt; "lines_demo: an argument is not UTF-8");
         return Ok(ExitCode::from(WRONG_USE));
     };
@@ -196,20 +186,6 @@ fn is_wanted(matches: &ArgMatches<'_>, flag: &str) -> bool {
     match matches.subcommand_matches(SCRIPT) {
         Some(script) => script.get_flag(flag),
         None => false,
-    }
-}
-
-/// The words of the command line, or `None` if one of them is not UTF-8.
-fn command_words<R: Env + AllocGlobal>(rt: &R) -> Result<Option<Vec<String>>, ScriptFault> {
-    match env::args(rt) {
-        Ok(words) => match words.collect::<Vec<String>>(rt.alloc()) {
-            Ok(words) => Ok(Some(words)),
-            Err(_) => Err(ScriptFault::Memory),
-        },
-        Err(error) => match error.kind() {
-            io::ErrorKind::OutOfMemory => Err(ScriptFault::Memory),
-            _ => Ok(None),
-        },
     }
 }
 

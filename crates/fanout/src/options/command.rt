@@ -1,6 +1,7 @@
 //! The command line, as its help tells it.
 use clap::builder::ValueParser;
 use clap::{Arg, ArgAction, Command};
+use publisher::MOST_WORKERS;
 use std::alloc::{AllocError, Global};
 
 pub(super) const FILE: &str = "file";
@@ -26,9 +27,6 @@ pub(super) const LINGER: &str = "linger";
 pub(super) const WORKERS: &str = "workers";
 
 pub(super) const CAPACITY: &str = "cap";
-
-/// The most threads that a publisher takes.
-const MOST_WORKERS: u64 = 8;
 
 /// The most texts that wait for a sink in its buffer.
 const MOST_TEXTS: u64 = 65_536;
@@ -109,7 +107,7 @@ fn add_settings<'a>(alloc: Global, command: Command<'a>) -> Result<Command<'a>, 
     let linger = number(alloc, LINGER, "SECONDS", 0, u64::MAX).help(
         "How long a stuck lossy sink is waited for at the end [2]",
     );
-    let workers = number(alloc, WORKERS, "W", 1, MOST_WORKERS).help(
+    let workers = number(alloc, WORKERS, "W", 1, MOST_WORKERS as u64).help(
         "How many threads hand lines to sinks, 1 to 8 [2]",
     );
     let capacity = number(alloc, CAPACITY, "N", 1, MOST_TEXTS).help(
