@@ -120,10 +120,18 @@ impl<F: Feed> Trial<F> {
             Ask::Names(letters) => self.are_names(letters),
             Ask::Figures(want) => self.are_figures(want),
             Ask::Subscribed(letter, want) => Ok(self.hub.is_subscribed(name_of(letter)?) == want),
-            Ask::Dropped(number, want) => Ok(self.hub.dropped(number) == want),
+            Ask::Dropped(number, want) => Ok(self.dropped(number) == want),
             Ask::TakesTicket(number, want) => Ok(self.spend_ticket(number) == want),
             Ask::TakesFeed(number, want) => Ok(self.hub.take_feed(number).is_some() == want),
             Ask::Ends(want) => Ok(self.end()? == want),
+        }
+    }
+
+    /// How many items the subscription of this number has dropped, if it is there.
+    fn dropped(&self, number: u32) -> Option<u64> {
+        match self.hub.facts(number) {
+            Some(facts) => Some(facts.dropped),
+            None => None,
         }
     }
 

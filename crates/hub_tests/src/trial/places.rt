@@ -33,8 +33,16 @@ impl Trial<Desk<Collector>> {
             Spot::AddsAt(place, letter, most, want) => {
                 Ok(self.add_at(place, name_of(letter)?, most)? == want)
             }
-            Spot::Since(number, want) => Ok(self.hub.since(number) == want),
+            Spot::Since(number, want) => Ok(self.since(number) == want),
             Spot::Goes(row) => self.goes(row),
+        }
+    }
+
+    /// Since which serial number the subscription of this number takes part, if it is there.
+    fn since(&self, number: u32) -> Option<u64> {
+        match self.hub.facts(number) {
+            Some(facts) => Some(facts.since),
+            None => None,
         }
     }
 

@@ -5,7 +5,9 @@ use Rattle.std.proofs.lemmas.Bool.{cases_lt}
 use Rattle.std.proofs.lemmas.Option.{slice_get-map, slice_get_cases, slice_get_within}
 use Rattle.feed_core.specs.Feed.{end_of}
 use Rattle.publisher_hub.specs.Entry.{EntryState, entry_of}
+use Rattle.publisher_hub.specs.Facts.{facts_of}
 use Rattle.publisher_hub.specs.declared.entry.Entry.{Entry}
+use Rattle.publisher_hub.specs.declared.hub.Facts.{Facts}
 use Rattle.lines_demo.specs.Prelude.{DeskState}
 use Rattle.commands.specs.Word.{is_word}
 use Rattle.lines_demo.specs.Script.Playing.{IsLatest}
@@ -27,14 +29,18 @@ pub record Searched (name : List ℕ) (subscriptions : List SubscriptionState) (
   pub within : past ≤ length subscriptions
   pub found : IsLatestBelow name subscriptions past latest
 
+-- what a publisher knows of a subscription without its end
+abbrev pub known_facts : List (Entry DeskState) → ℕ → Option Facts
+known_facts entries k = option_map facts_of (slice_get (map (entry_of end_of) entries) k)
+
 -- the name that a publisher knows of a subscription is the one that a script sees
 pub known_name : (entries : List (Entry DeskState)) (k : ℕ)
-    → option_map (λ (entry : EntryState). entry.name) (slice_get (map (entry_of end_of) entries) k) ≡ option_map (λ (s : SubscriptionState). s.name) (slice_get (map subscription_of entries) k)
+    → option_map (λ (facts : Facts). facts.name) (known_facts entries k) ≡ option_map (λ (s : SubscriptionState). s.name) (slice_get (map subscription_of entries) k)
 known_name entries k =
-    ap (option_map (λ (entry : EntryState). entry.name)) (slice_get-map (entry_of end_of) entries k)
+    ap (λ (found : Option EntryState). option_map (λ (facts : Facts). facts.name) (option_map facts_of found)) (slice_get-map (entry_of end_of) entries k)
     ∙ by (slice_get entries k) ∙ sym (ap (option_map (λ (s : SubscriptionState). s.name)) (slice_get-map subscription_of entries k)) where
       by : (entry : Option (Entry DeskState))
-          → option_map (λ (e : EntryState). e.name) (option_map (entry_of end_of) entry) ≡ option_map (λ (s : SubscriptionState). s.name) (option_map subscription_of entry)
+          → option_map (λ (facts : Facts). facts.name) (option_map facts_of (option_map (entry_of end_of) entry)) ≡ option_map (λ (s : SubscriptionState). s.name) (option_map subscription_of entry)
       by None = refl
       by (Some entry) = refl
 

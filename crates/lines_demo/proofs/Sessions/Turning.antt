@@ -5,8 +5,8 @@ use Rattle.feed_core.specs.declared.cause.Causes.{Causes}
 use Rattle.feed_core.specs.Desk.{Owes}
 use Rattle.feed_core.specs.Feed.{end_of}
 use Rattle.feed_core.specs.Turn.{causes_after, is_again}
-use Rattle.publisher_hub.specs.Entry.{EntryState, entry_of}
 use Rattle.publisher_hub.specs.Lending.{MayBecome, feed_at}
+use Rattle.publisher_hub.specs.declared.hub.Facts.{Facts}
 use Rattle.publisher_hub.specs.declared.hub.Hub.{Hub}
 use Rattle.lines_demo.specs.Prelude.{DeskState, How, Outlook, Signal, desk_after_turn, owes}
 use Rattle.lines_demo.specs.Script.Acting.{OwesTurn, TurnsOn}
@@ -19,7 +19,7 @@ use Rattle.lines_demo.specs.declared.script.session.Session.TheInside.{Inside}
 use Rattle.lines_demo.proofs.HubCalls.Looks.{with_desk}
 use Rattle.lines_demo.proofs.Sessions.Inside.{state_inside, woken_with}
 use Rattle.lines_demo.proofs.Sessions.Lent.{end_there, lent_one, lent_publisher, lent_stands, lent_state, steady_there}
-use Rattle.lines_demo.proofs.Kept.SearchedNames.{known_name}
+use Rattle.lines_demo.proofs.Kept.SearchedNames.{known_facts, known_name}
 use Rattle.lines_demo.proofs.Sessions.Turns.{first_owes, turn_reached}
 use Rattle.lines_demo.proofs.Scripts.Turns.{turn_fewer}
 use Rattle.lines_demo.specs.declared.script.session.beginning.Beginning.{Beginning}
@@ -32,6 +32,11 @@ owes_there subscriptions number owed = by (slice_get subscriptions number) refl 
       → (s : SubscriptionState) × (slice_get subscriptions number ≡ Some s)
   by None is owes = cc
   by (Some s) is owes = (s, is)
+
+-- what has a name is known
+named_there : (found : Option Facts) (name : List ℕ) → option_map (λ (facts : Facts). facts.name) found ≡ Some name → is_some found ≡ true
+named_there None name is = cc
+named_there (Some facts) name is = refl
 
 -- it owes it, as its call asks for it
 owed_by : (desk : DeskState) → owes desk ≡ true → Owes desk
@@ -70,9 +75,11 @@ module _ {B : Type 0} (session : Inside B) (is : IsSession session.hub (length s
   there : (s : SubscriptionState) × (slice_get state.subscriptions number ≡ Some s)
   there = owes_there state.subscriptions number (first_owes state number rest is.reached first)
 
-  -- it has a name
-  pub first_named : is_some (option_map (λ (entry : EntryState). entry.name) (slice_get (map (entry_of end_of) session.hub.entries.items) number)) ≡ true
-  first_named = ap is_some (known_name session.hub.entries.items number ∙ ap (option_map (λ (s : SubscriptionState). s.name)) there.1)
+  -- it is known
+  pub first_known : is_some (known_facts session.hub.entries.items number) ≡ true
+  first_known =
+      named_there (known_facts session.hub.entries.items number) there.0.name
+      (known_name session.hub.entries.items number ∙ ap (option_map (λ (s : SubscriptionState). s.name)) there.1)
 
   owed : (before : DeskState) → feed_at session.hub number ≡ Some before → Owes before
   owed before at = owed_by before (sym (ap owes_if_there (lent_stands session.hub number before before at)) ∙ first_owes state number rest is.reached first)
@@ -84,7 +91,7 @@ module _ {B : Type 0} (session : Inside B) (is : IsSession session.hub (length s
       record { desk = desk.0; stands = desk.1; owed = owed desk.0 desk.1; steady = steady_there session.hub number desk.0 is.publisher desk.1 }
 
   module _ (new : Hub DeskState) (told : List Signal) (outlook : Outlook) (name : List ℕ) (again : Bool) (turns : TurnsOn number session.hub told outlook new)
-      (named : option_map (λ (entry : EntryState). entry.name) (slice_get (map (entry_of end_of) session.hub.entries.items) number) ≡ Some name) (woken_again : again ≡ is_again outlook) where
+      (named : option_map (λ (facts : Facts). facts.name) (known_facts session.hub.entries.items number) ≡ Some name) (woken_again : again ≡ is_again outlook) where
     -- the desk of the subscription whose turn it was, before and after
     abbrev pub before : DeskState
     before = turns.before

@@ -42,8 +42,8 @@ impl<B: Listener> Session<B> {
     {
         let mut latest = None;
         let mut entry = 0;
-        while let Some(other) = self.hub.name_of(entry) {
-            if other == name {
+        while let Some(other) = self.hub.facts(entry) {
+            if other.name == name {
                 latest = Some(entry);
             }
             entry += 1;

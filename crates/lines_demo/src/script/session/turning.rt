@@ -18,7 +18,7 @@ impl<B: Listener> Session<B> {
         ensures fewer { most_turns self.new < most_turns self.old }
     {
         let entry = self.woken.pop().unwrap();
-        let name = self.hub.name_of(entry).unwrap();
+        let name = self.hub.facts(entry).unwrap().name;
         let outlook = turn_at(&mut self.hub, entry, seen);
         self.woken.push_if(entry, matches!(outlook, Outlook::Again));
         (name, outlook)
