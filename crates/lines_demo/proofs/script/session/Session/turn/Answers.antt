@@ -30,14 +30,14 @@ push_if-requires g c = record {
 -- what the turn leaves
 done : (g : Over) (c : After-push_if g)
     → HasTurned (state_inside c.self.inside) c.turn_at-outlook.new.hub (length c.self.inside.stock.items) (woken_with c.pop.new.self c.unwrap-entry.result c.match-matches.matches) c.self.inside.beginning
-    c.unwrap.result.name c.turn_at-outlook.new.seen.signals c.turn_at-outlook.result
+    c.unwrap-name.result.name c.turn_at-outlook.new.seen.signals c.turn_at-outlook.result
 done g c =
     let again : c.match-matches.matches ≡ is_again c.turn_at-outlook.result = elim c.match-matches.branch [
       | in-Again m ↦ m.matches-is ∙ sym (ap is_again m.in-Again.is)
       | in_default m ↦ m.matches-is ∙ sym (not_again c.turn_at-outlook.result m.in_default.not-Again)
     ] in
     turned c.self.inside c.self.invariant.2 c.unwrap-entry.result c.pop.new.self (first g (goal.at.After-push_if g c).After-unwrap-entry) c.turn_at-outlook.new.hub c.turn_at-outlook.new.seen.signals c.turn_at-outlook.result
-    c.unwrap.result.name c.match-matches.matches c.turn_at-outlook.ensures (ap (option_map (λ (facts : Facts). facts.name)) (sym c.facts.ensures ∙ c.unwrap.ensures)) again
+    c.unwrap-name.result.name c.match-matches.matches c.turn_at-outlook.ensures (ap (option_map (λ (facts : Facts). facts.name)) (sym c.facts.ensures ∙ c.unwrap-name.ensures)) again
 
 pub invariant_of-self : goal.invariant_of-self
 invariant_of-self g c = rw c.push_if.ensures (c.self.invariant.0, c.self.invariant.1, (done g (goal.at.invariant_of-self g c).After-push_if).session, c.self.invariant.3)
