@@ -3,7 +3,7 @@ use Rattle.std.proofs.Common.{◌≡◌, ℕ, ◌<◌, ◌≤◌, true, false, L
 use Rattle.std.specs.Prelude.{slice_get, option_to_list, IfNone, IsSome, count_by}
 use Rattle.std.proofs.lemmas.Option.{slice_get-get_or}
 use Rattle.feed_core.specs.Turn.{is_again}
-use Rattle.lines_demo.specs.Prelude.{Signal, Outlook, owes}
+use Rattle.lines_demo.specs.Prelude.{Signal, Outlook}
 use Rattle.lines_demo.specs.Script.Kept.{IsLawful, IsReachable}
 use Rattle.lines_demo.specs.Script.Laws.{places_of}
 use Rattle.lines_demo.specs.Script.Playing.{MakesTurn}
