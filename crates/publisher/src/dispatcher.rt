@@ -54,6 +54,7 @@ impl<L: Ledgers + Send, B: Listener + Send, F: FailHandler + Send> Dispatcher<L,
     }
 
     /// Schedules all started tasks, in order. None is due then.
+    #[inline(always)]
     pub fn start_all<R: Wait>(&mut self, rt: &R, due: &mut Vec<Work<Task<B>>>) {
         for work in due.drain(..) {
             self.start(rt, work.entry, work.task);

@@ -1,5 +1,5 @@
 -- What holds of a Hub between any two calls.
-use Rattle.std.specs.Prelude.{◌≡◌, ℕ, ◌+◌, ◌<◌, ◌≤◌, true, false, None, Some, IsSome, List, length, slice_get}
+use Rattle.std.specs.Prelude.{◌≡◌, ℕ, ◌+◌, ◌<◌, ◌≤◌, true, false, Some, IsSome, List, length, slice_get}
 use Rattle.flow_rules.specs.Feed.{End, is_gone}
 use Rattle.flow_rules.specs.declared.ending.Ending.{Ending}
 use Rattle.flow_rules.specs.declared.item.Item.{Item}

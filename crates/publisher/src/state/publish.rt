@@ -34,6 +34,7 @@ pub struct Stopped<W: Drop> {
 impl<L: Ledgers, B: Listener> State<L, B> {
     /// Publishes texts in order, up to one that is not published, each time as many at once as the Hub does. The answer
     /// is what became of them.
+    #[inline(always)]
     pub fn publish(
         &mut self,
         own: &mut Own<L>,
@@ -78,6 +79,7 @@ impl<L: Ledgers, B: Listener> State<L, B> {
 
     /// Publishes the first of some texts: as many as the Hub does at once. Only then the submitter's share rises, by
     /// their number, that of the drops by how many of them any subscription lost, and they are the last that it sent.
+    #[inline(always)]
     fn publish_first(
         &mut self,
         own: &mut Own<L>,

@@ -17,6 +17,7 @@ use std::sync::Wait;
 impl<L: Ledgers + Send, B: Listener + Send, F: FailHandler + Send> Submitter<L, B, F> {
     /// Publishes texts in order, and waits as long as a subscription whose room is needed has none. A refusal comes with
     /// what was published before.
+    #[inline(always)]
     pub(super) fn send<R: Wait>(
         &mut self,
         rt: &R,

@@ -36,9 +36,13 @@ impl Gathering {
         }
     }
 
-    /// Makes this many shares of the item with this text, and forgets what was gathered before.
+    /// Makes this many shares of the item with this text, once all that was gathered is forgotten.
     #[inline(always)]
     pub fn begin(&mut self, stamp: Stamp, text: &Text, many: usize) -> Result<(), NoMemory>
+        requires no_share { self.old.shares.items ≡ [] }
+        requires none_missed { self.old.missed.items ≡ [] }
+        requires no_lag { self.old.lag ≡ 0 }
+        requires no_drops { self.old.drops ≡ 0 }
         ensures shares { OnOk result (AreShares (item_of stamp text.now) self.new.shares.items) }
         ensures as_many { OnOk result (vec_len self.new.shares ≡ many) }
         ensures missed { OnOk result (self.new.missed.items ≡ []) }
@@ -47,7 +51,6 @@ impl Gathering {
         ensures drops { self.new.drops ≡ 0 }
         ensures no_share { OnErr result (self.new.shares.items ≡ []) }
     {
-        self.forget();
         self.missed.reserve(many)?;
         self.shares.reserve(many)?;
         let made = share_out(&mut self.shares, stamp, text, many);

@@ -49,6 +49,7 @@ impl<F: Feed> Hub<F> {
 
     /// Takes all that a publication needs, and looks at each live subscription. The answer is what that showed of their
     /// room.
+    #[inline(always)]
     pub(super) fn prepare_publication(
         &mut self,
         stamp: Stamp,

@@ -75,6 +75,7 @@ impl<F: Feed> Hub<F> {
     /// Refused 5 if a growth is refused, 2 if the Hub is closed, and 13 once
     /// [`MOST_PUBLICATIONS`](flow_rules::MOST_PUBLICATIONS) were made; else `NoRoom` if a buffer is full whose room is
     /// needed. Then no list and no count has changed.
+    #[inline(always)]
     pub fn publish(
         &mut self,
         source: u32,
@@ -189,6 +190,7 @@ impl<F: Feed> Hub<F> {
     }
 
     /// Offers the item with this text to each live subscription.
+    #[inline(always)]
     pub(super) fn put(&mut self, stamp: Stamp, text: &Text, due: &mut Vec<Work<F::Task>>)
         requires sound { IsSound (hub_of F.meaning self.old) }
         requires can { CanAllPut (map (entry_of F.meaning) self.old.entries.items) }
