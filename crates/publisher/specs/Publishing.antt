@@ -4,7 +4,7 @@ use Rattle.feed_cell.specs.Offering.{DoesCall}
 use Rattle.feed_cell.specs.Parties.{ProducerState, TaskState}
 use Rattle.flow_rules.specs.declared.feed.standing.Standing.{Standing}
 use Rattle.publisher_hub.specs.Looking.{IsRoom, IsRoomForWaiters, LooksAtAll}
-use Rattle.publisher_hub.specs.Publishing.{PublishesTexts, RefusesTexts, both, nothing_published}
+use Rattle.publisher_hub.specs.Publishing.{PublishesTexts, RefusesTexts, both}
 use Rattle.publisher_hub.specs.declared.entry.Entry.{Entry}
 use Rattle.publisher_hub.specs.declared.hub.Hub.{Hub}
 use Rattle.publisher_hub.specs.declared.hub.publish.Publication.{Publication}
@@ -13,7 +13,6 @@ use Rattle.publisher_hub.specs.declared.policy.Need.TheVariants.{All, Waiters}
 use Rattle.publisher_hub.specs.declared.work.Work.{Work}
 use Rattle.publisher.specs.Handles.{NotPublishedState}
 use Rattle.publisher.specs.State.{PublisherState, producer_end}
-use Rattle.publisher.specs.declared.state.publish.Stopped.{Stopped}
 
 -- this says whether looks showed room at those whose room is needed
 abbrev pub IsRoomFor : Need → Bool → ℕ → List (Entry ProducerState) → List (Option Standing) → Type 0
@@ -35,31 +34,31 @@ abbrev pub drop_of : ℤ → ℕ
 drop_of (pos lag) = 0
 drop_of (negsuc drops) = 1
 
--- texts of this source were published in their order, by these publications, the last one first, each of which needs this
--- room; and this is what they did together
-abbrev pub PublishesBy : Need → ℕ → List (List ℕ) → List Publication → Publication
+-- after what was done with these texts of this source before, more of them were published in their order, by these
+-- publications, the last one first, each of which needs this room; and this is what was done then
+abbrev pub PublishesBy : Need → ℕ → List (List ℕ) → List Publication → Publication → Publication
     → Hub ProducerState → Hub ProducerState → List (Work TaskState) → List (Work TaskState) → Type 0
-PublishesBy need source texts [] all old new due_old due_new =
-    (all ≡ nothing_published) × ((new ≡ old) × (due_new ≡ due_old))
-PublishesBy need source texts (last ∷ publications) all old new due_old due_new =
-    (middle : Hub ProducerState) × ((due : List (Work TaskState)) × ((before : Publication)
-    × (PublishesBy need source texts publications before old middle due_old due
-    × (PublishesTexts producer_end DoesCall need source (drop before.many texts)
+PublishesBy need source texts [] before done old new due_old due_new =
+    (done ≡ before) × ((new ≡ old) × (due_new ≡ due_old))
+PublishesBy need source texts (last ∷ publications) before done old new due_old due_new =
+    (middle : Hub ProducerState) × ((due : List (Work TaskState)) × ((so_far : Publication)
+    × (PublishesBy need source texts publications before so_far old middle due_old due
+    × (PublishesTexts producer_end DoesCall need source (drop so_far.many texts)
     middle new due due_new last
-    × (all ≡ both before last)))))
+    × (done ≡ both so_far last)))))
 
--- the first of these texts were published by this source, in their order, which did this
-abbrev pub PublishesFirst : Need → ℕ → List (List ℕ) → Publication
+-- the next of these texts were published by this source, in their order
+abbrev pub PublishesNext : Need → ℕ → List (List ℕ) → Publication → Publication
     → Hub ProducerState → Hub ProducerState → List (Work TaskState) → List (Work TaskState) → Type 0
-PublishesFirst need source texts all old new due_old due_new = (publications : List Publication)
-    × PublishesBy need source texts publications all old new due_old due_new
+PublishesNext need source texts before done old new due_old due_new = (publications : List Publication)
+    × PublishesBy need source texts publications before done old new due_old due_new
 
--- the first of these texts were published, and the next one was not
+-- the next of these texts were published, and the one after them was not
 pub record StopsAt (need : Need) (source : ℕ) (texts : List (List ℕ))
-    (stopped : Stopped NotPublishedState) (old new : PublisherState)
+    (before done : Publication) (why : NotPublishedState) (old new : PublisherState)
     (due_old due_new : List (Work TaskState)) : Type 0 where
-  pub less : stopped.before.many < length texts
+  pub less : done.many < length texts
   pub middle : PublisherState
-  pub first : PublishesFirst need source texts stopped.before old.hub middle.hub due_old due_new
-  pub why : RefusesTexts producer_end DoesCall need middle.hub new.hub stopped.why.reason
-  pub needs : stopped.why.need ≡ need
+  pub next : PublishesNext need source texts before done old.hub middle.hub due_old due_new
+  pub why_not : RefusesTexts producer_end DoesCall need middle.hub new.hub why.reason
+  pub needs : why.need ≡ need

@@ -27,7 +27,7 @@ use flow_rules::{Listener, Refusal, capacity};
 use history::History;
 pub(crate) use lock::StateLock;
 pub(crate) use look::{Drained, Ended};
-pub(crate) use publish::{NoRoom, Refused, Stopped};
+pub(crate) use publish::{NoRoom, Refused};
 use publisher_hub::{Hub, MOST_LIVE};
 pub use sources::Own;
 pub use stats::Stats;

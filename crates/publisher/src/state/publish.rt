@@ -4,12 +4,12 @@
 //! vain in `unpublished`. Nothing here waits.
 mod unpublished;
 
-ghost use Rattle.std.specs.Prelude.{◌≡◌, ◌+◌, ◌<◌, ◌≤◌, [], ◌∷◌, ◌++◌, IfErr, IfOk, OnErr, OnOk, is_none, length, take};
+ghost use Rattle.std.specs.Prelude.{◌≡◌, ◌+◌, ◌-◌, ◌<◌, ◌≤◌, [], ◌∷◌, ◌++◌, IfErr, IfOk, OnErr, OnOk, drop, is_none, length, take};
 ghost use Rattle.feed_cell.specs.Offering.{DoesCall};
 ghost use Rattle.publisher_hub.specs.Publishing.{OffersItem, PublishesTexts, RefusesOffer, RefusesTexts, loss_of};
 ghost use Rattle.publisher_hub.specs.declared.policy.Need.TheVariants as Need;
 ghost use Rattle.publisher.specs.Content.{pages_of};
-ghost use Rattle.publisher.specs.Publishing.{PublishesFirst, StopsAt, drop_of};
+ghost use Rattle.publisher.specs.Publishing.{PublishesNext, StopsAt, drop_of};
 ghost use Rattle.publisher.specs.State.{producer_end};
 
 use super::{Own, State};
@@ -22,18 +22,9 @@ use std::snapshot::Snapshot;
 use std::sync::ledger::{Book, Ledger, Share};
 pub use unpublished::{NoRoom, NotPublished, Refused};
 
-/// Says how far texts were published, in order, before one was not.
-#[derive(Drop)]
-pub struct Stopped<W: Drop> {
-    /// What was published before.
-    pub before: Publication,
-    /// Why that one was not.
-    pub why: W,
-}
-
 impl<L: Ledgers, B: Listener> State<L, B> {
-    /// Publishes texts in order, up to one that is not published, each time as many at once as the Hub does. The answer
-    /// is what became of them.
+    /// Publishes those of the texts that are not published yet, in order, up to one that is not published, each time as
+    /// many at once as the Hub does. What that did is added to what was done before: that says how many are published.
     #[inline(always)]
     pub fn publish(
         &mut self,
@@ -41,40 +32,35 @@ impl<L: Ledgers, B: Listener> State<L, B> {
         texts: &[Text],
         need: Need,
         due: &mut Vec<Work<Task<B>>>,
-    ) -> Result<Publication, Stopped<NotPublished>>
-        ensures ok { IfOk result (λ all. PublishesFirst need own.old.source texts.now all
+        done: &mut Publication,
+    ) -> Result<(), NotPublished>
+        requires within { done.old.many ≤ length texts.now }
+        requires few { done.old.lost ≤ done.old.many }
+        ensures ok { OnOk result (PublishesNext need own.old.source texts.now done.old done.new
             self.old.hub self.new.hub due.old.items due.new.items) }
-        ensures whole { IfOk result (λ all. all.many ≡ length texts.now) }
-        ensures stopped { IfErr result (λ stopped. StopsAt need own.old.source texts.now stopped
-            self.old self.new due.old.items due.new.items) }
-        ensures all { OnOk result (own.new.publications.amount
-            ≡ own.old.publications.amount + length texts.now) }
-        ensures some { IfErr result (λ stopped. own.new.publications.amount
-            ≡ own.old.publications.amount + stopped.before.many) }
-        ensures lost { IfOk result
-            (λ all. own.new.drops.amount ≡ own.old.drops.amount + all.lost) }
-        ensures lost_before { IfErr result
-            (λ stopped. own.new.drops.amount ≡ own.old.drops.amount + stopped.before.lost) }
-        ensures few { IfOk result (λ all. all.lost ≤ length texts.now) }
-        ensures few_before { IfErr result (λ stopped. stopped.before.lost ≤ stopped.before.many) }
-        ensures none_lost { need ≡ Need.All → IfOk result (λ all. all.lost ≡ 0) }
-        ensures none_lost_before { need ≡ Need.All
-            → IfErr result (λ stopped. stopped.before.lost ≡ 0) }
-        ensures one { length texts.now ≡ 1
-            → IfOk result (λ all. all.lost ≡ loss_of all.dropped) }
-        ensures sent { OnOk result (own.new.pass.sent ≡ own.old.pass.sent ++ texts.now) }
-        ensures sent_before { IfErr result (λ stopped. own.new.pass.sent
-            ≡ own.old.pass.sent ++ take stopped.before.many texts.now) }
+        ensures whole { OnOk result (done.new.many ≡ length texts.now) }
+        ensures stopped { IfErr result (λ why. StopsAt need own.old.source texts.now
+            done.old done.new why self.old self.new due.old.items due.new.items) }
+        ensures more { own.new.publications.amount + done.old.many
+            ≡ own.old.publications.amount + done.new.many }
+        ensures lost { own.new.drops.amount + done.old.lost
+            ≡ own.old.drops.amount + done.new.lost }
+        ensures goes_on { done.old.many ≤ done.new.many }
+        ensures few { done.new.lost ≤ done.new.many }
+        ensures none_lost { need ≡ Need.All → done.new.lost ≡ done.old.lost }
+        ensures one { length texts.now ≡ 1 → done.old.many ≡ 0
+            → OnOk result (done.new.lost ≡ loss_of done.new.dropped) }
+        ensures sent { own.new.pass.sent ≡ own.old.pass.sent
+            ++ take (done.new.many - done.old.many) (drop done.old.many texts.now) }
         ensures source { own.new.source ≡ own.old.source }
     {
-        let mut done = Publication::nothing();
         while done.many < texts.len() {
             match self.publish_first(own, &texts[done.many..], need, due) {
                 Ok(first) => done.add(&first),
-                Err(why) => return Err(Stopped { before: done, why }),
+                Err(why) => return Err(why),
             }
         }
-        Ok(done)
+        Ok(())
     }
 
     /// Publishes the first of some texts: as many as the Hub does at once. Only then the submitter's share rises, by

@@ -9,7 +9,7 @@ ghost use Rattle.publisher_hub.specs.declared.policy.Need.TheVariants as Need;
 
 use super::Submitter;
 use crate::ledgers::Ledgers;
-use crate::state::Stopped;
+use crate::submitter::send::Stopped;
 use flow_rules::{FailHandler, Listener, Refusal, Text};
 use publisher_hub::{Need, Publication};
 use std::alloc::Global;

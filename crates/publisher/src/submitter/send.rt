@@ -1,6 +1,8 @@
 //! How a submitter publishes: as far as there is room, behind the lock; and outside it, it waits for more.
 //!
-//! All calls of a submitter that wait go through this one. What is published behind the lock stands in `state`.
+//! All calls of a submitter that wait go through this one. What is published behind the lock stands in `state`. From here
+//! on all is inlined down to the round over the subscriptions: where a text alone is sent, its loops, and the parts of the
+//! answers that only a batch needs, are gone then, a third of the steps of a publication.
 ghost use Rattle.std.specs.Prelude.{◌≡◌, ◌<◌, ◌≤◌, IfErr, IfOk, length};
 ghost use Rattle.publisher.specs.Submitting.{CountsAll, CountsFirst};
 ghost use Rattle.publisher_hub.specs.Publishing.{loss_of};
@@ -8,11 +10,20 @@ ghost use Rattle.publisher_hub.specs.declared.policy.Need.TheVariants as Need;
 
 use super::Submitter;
 use crate::ledgers::Ledgers;
-use crate::state::{Refused, Stopped};
+use crate::state::Refused;
 use crossbeam_utils::Backoff;
 use flow_rules::{FailHandler, Listener, Text};
 use publisher_hub::{Need, Publication};
 use std::sync::Wait;
+
+/// Says how far texts were published, in order, before one was refused.
+#[derive(Drop)]
+pub(super) struct Stopped {
+    /// What was published before.
+    pub before: Publication,
+    /// Why that one was refused.
+    pub why: Refused,
+}
 
 impl<L: Ledgers + Send, B: Listener + Send, F: FailHandler + Send> Submitter<L, B, F> {
     /// Publishes texts in order, and waits as long as a subscription whose room is needed has none. A refusal comes with
@@ -23,7 +34,7 @@ impl<L: Ledgers + Send, B: Listener + Send, F: FailHandler + Send> Submitter<L, 
         rt: &R,
         texts: &[Text],
         need: Need,
-    ) -> Result<Publication, Stopped<Refused>>
+    ) -> Result<Publication, Stopped>
         ensures ok { IfOk result (λ all. CountsAll texts.now all.lost self.old self.new) }
         ensures few { IfOk result (λ all. all.lost ≤ length texts.now) }
         ensures one { length texts.now ≡ 1 → IfOk result (λ all. all.lost ≡ loss_of all.dropped) }
@@ -45,21 +56,14 @@ impl<L: Ledgers + Send, B: Listener + Send, F: FailHandler + Send> Submitter<L, 
         let mut looks = 0;
         let backoff = Backoff::new();
         for _ in rt.forever() {
-            let left = &texts[done.many..];
-            let sent = dispatcher
+            let tried = dispatcher
                 .shared
                 .lock_to_publish(rt)
-                .publish(own, left, need, due);
+                .publish(own, texts, need, due, &mut done);
             dispatcher.start_all(rt, due);
-            let why = match sent {
-                Ok(more) => {
-                    done.add(&more);
-                    return Ok(done);
-                }
-                Err(Stopped { before, why }) => {
-                    done.add(&before);
-                    why
-                }
+            let why = match tried {
+                Ok(()) => return Ok(done),
+                Err(why) => why,
             };
             let no_room = match why.no_room() {
                 Ok(no_room) => no_room,
