@@ -1,8 +1,8 @@
 //! How a submitter publishes: as far as there is room, behind the lock; and outside it, it waits for more.
 //!
 //! All calls of a submitter that wait go through this one. What is published behind the lock stands in `state`. From here
-//! on all is inlined down to the round over the subscriptions: where a text alone is sent, its loops, and the parts of the
-//! answers that only a batch needs, are gone then, a third of the steps of a publication.
+//! on all is inlined down to the round over the subscriptions: where a text alone is sent, the loops and the parts of
+//! answers that only a batch needs fall away then. With one subscriber that is a sixth of a publication's instructions.
 ghost use Rattle.std.specs.Prelude.{◌≡◌, ◌<◌, ◌≤◌, IfErr, IfOk, length};
 ghost use Rattle.publisher.specs.Submitting.{CountsAll, CountsFirst};
 ghost use Rattle.publisher_hub.specs.Publishing.{loss_of};
