@@ -47,7 +47,10 @@ def report(command):
     with tempfile.TemporaryDirectory() as folder:
         file = Path(folder, "report")
         valgrind = ["valgrind", "-q", "--tool=callgrind", "--dump-instr=yes", f"--callgrind-out-file={file}"]
-        subprocess.run([*valgrind, *command], check=True, stdout=subprocess.DEVNULL)
+        try:
+            subprocess.run([*valgrind, *command], check=True, stdout=subprocess.DEVNULL)
+        except (OSError, subprocess.CalledProcessError) as fault:
+            sys.exit(f"steps.py: {fault}")
         return file.read_text(errors="replace").splitlines()
 
 
